@@ -1,0 +1,4 @@
+-- Tests and lists.
+pub mod Tests
+pub mod Distinct
+pub mod Appended

@@ -1,0 +1,12 @@
+-- The canonical form of a fragment: the tokens of its walk.
+pub mod Images
+pub mod SameShells
+pub mod Ancestors
+pub mod OnceInLists
+pub mod Once
+pub mod Tested
+pub mod Events
+pub mod LockStep
+pub mod Tokens
+pub mod Hashes
+pub mod Canonical

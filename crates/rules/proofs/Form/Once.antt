@@ -1,0 +1,125 @@
+-- A walk over a fragment of a sound store comes to each operation and block once, and so defines each value and each block once: what
+-- it comes to lies in one branch only. Assumes nothing.
+use Prim.Native.Nat.{ℕ, zero, suc, _<_}
+use mathlib.Core.Bool.{true}
+use mathlib.Core.List.{List, [], _∷_, List·Memᴰ, List·Memᴰ·eq-of-singleton, List·Memᴰ·not-nil, List·Memᴰ·cases-cons}
+use mathlib.Core.Logic.{⊎-elim}
+use mathlib.Core.Option.{some}
+use mathlib.Core.Path.{_≡_, sym, ap, subst, _∙_}
+use borrow.Author.Tests.{ltb-true}
+use lib.ListN.{length, getD}
+use Rattle.rules.specs.Lists.{concatMap}
+use Rattle.rules.specs.Store.{Store, Owner, ofOp, ofBlock, blocksOf, regionsOf, valuesOf, blockAt, opAround, ownerExists, opExists, blockExists}
+use Rattle.rules.specs.Fragments.{Sort, op, block, region, exists, levels, Step, fullOp, regionSteps, steps, stepDefines, blockOwner, definesOwners, definesValues, definesBlocks}
+use Rattle.rules.proofs.Soundness.Sound.{Sound}
+use Rattle.rules.proofs.Soundness.Grown.{owner-op}
+use Rattle.rules.proofs.Basics.Distinct.{Distinct, distinct-concatMap, mem-concatMap, concatMap-concatMap}
+use Rattle.rules.proofs.Soundness.Children.{blocks-in, regions-in, values-in, blocks-distinct, regions-distinct, values-distinct}
+use Rattle.rules.proofs.Form.Ancestors.{up, next, around-from, not-around-itself, same-from}
+use Rattle.rules.proofs.Form.OnceInLists.{defined, OpPart, BlocksPart, Blocks, list-part}
+
+module _ (s : Store) (sd : Sound s) where
+  -- ---- a full operation
+
+  region-blocks : (r : ℕ) → Blocks s (blocksOf s r)
+  unfolding up opAround
+  region-blocks r =
+      record {
+        here = λ b m. blocks-in s r m .0;
+        once = blocks-distinct s r;
+        around = λ b c mb mc. ap (λ (q : ℕ). some (ofOp (getD (s .regions) q 0))) (blocks-in s r mb .1 ∙ sym (blocks-in s r mc .1));
+      }
+
+  -- the operation around a block of its region
+  region-up : (n r b : ℕ) → List·Memᴰ r (regionsOf s n) → List·Memᴰ b (blocksOf s r) → up s (ofBlock b) ≡ some (ofOp n)
+  unfolding up opAround
+  region-up n r b mr mb =
+      ap (λ (q : ℕ). some (ofOp (getD (s .regions) q 0))) (blocks-in s r mb .1) ∙ ap (λ (m : ℕ). some (ofOp m)) (regions-in s n mr .1)
+
+  op-part : (inRegion : ℕ → List Step) → ((r : ℕ) → BlocksPart s (inRegion r) (blocksOf s r)) → (n : ℕ) → OpPart s (fullOp s inRegion) n
+  unfolding fullOp defined concatMap stepDefines
+  op-part inRegion parts n =
+      record {
+        inside = λ y m.
+            let w = mem-concatMap part (regionsOf s n) (subst (List·Memᴰ y) flat m) in
+            let i = parts (w .0) .inside y (w .2) in
+            (i .0, around-from (next (region-up n (w .0) (i .1 .0) (w .1) (i .1 .1))) (i .1 .2));
+        once = subst Distinct (sym flat)
+            (distinct-concatMap part (regionsOf s n) (regions-distinct s n) (λ r m. parts r .once)
+            (λ r q mr mq y k l.
+            let i = parts r .inside y k in
+            let j = parts q .inside y l in
+            let e : ofBlock (i .1 .0) ≡ ofBlock (j .1 .0) = same-from s sd (region-up n r (i .1 .0) mr (i .1 .1) ∙ sym (region-up n q (j .1 .0) mq (j .1 .1))) (i .0) (i .1 .2) (j .1 .2) in
+            let f : i .1 .0 ≡ j .1 .0 = cc in
+            sym (blocks-in s r (i .1 .1) .1) ∙ ap (λ (b : ℕ). blockAt s b .region) f ∙ blocks-in s q (j .1 .1) .1));
+      }
+    where
+      part : ℕ → List Owner
+      part r = defined (inRegion r)
+
+      flat : concatMap stepDefines (concatMap inRegion (regionsOf s n)) ≡ concatMap part (regionsOf s n)
+      flat = concatMap-concatMap stepDefines inRegion (regionsOf s n)
+
+  -- ---- a region, whatever the number of regions that may be entered
+
+  region-part : (k r : ℕ) → BlocksPart s (regionSteps k s r) (blocksOf s r)
+  unfolding regionSteps defined concatMap
+  region-part zero r = record { inside = λ y m. absurd (List·Memᴰ·not-nil m); once = tt }
+  region-part (suc k) r = list-part s sd (fullOp s (regionSteps k s)) (λ n l. op-part (regionSteps k s) (region-part k) n) (blocksOf s r) (region-blocks r)
+
+  full-part : (n : ℕ) → OpPart s (fullOp s (regionSteps levels s)) n
+  full-part = op-part (regionSteps levels s) (region-part levels)
+
+  one-block-alone : (b : ℕ) → b < length (s .blocks) → Blocks s (b ∷ [])
+  one-block-alone b l =
+      record {
+        here = λ c m. subst (λ (n : ℕ). n < length (s .blocks)) (sym (List·Memᴰ·eq-of-singleton m)) l;
+        once = (λ m. List·Memᴰ·not-nil m, tt);
+        around = λ c d mc md. ap (λ (n : ℕ). up s (ofBlock n)) (List·Memᴰ·eq-of-singleton mc ∙ sym (List·Memᴰ·eq-of-singleton md));
+      }
+
+  -- ---- a fragment
+
+  pub owners-once : (f : Sort) (n : ℕ) → exists s f n ≡ true → Distinct (definesOwners s f n)
+  unfolding definesOwners steps exists opExists blockExists concatMap stepDefines defined
+  owners-once op n h =
+      (λ m. not-around-itself s sd (owner-op s sd n (ltb-true _ _ h)) (full-part n .inside (ofOp n) m .1), full-part n .once)
+  owners-once block n h = list-part s sd (fullOp s (regionSteps levels s)) (λ m l. full-part m) (n ∷ []) (one-block-alone n (ltb-true _ _ h)) .once
+  owners-once region n h = region-part levels n .once
+
+  pub owners-here : (f : Sort) (n : ℕ) → exists s f n ≡ true → (w : Owner) → List·Memᴰ w (definesOwners s f n) → ownerExists s w ≡ true
+  unfolding definesOwners steps exists opExists blockExists concatMap stepDefines defined
+  owners-here op n h w m = ⊎-elim (λ e. subst (λ (x : Owner). ownerExists s x ≡ true) (sym e) (owner-op s sd n (ltb-true _ _ h))) (λ k. full-part n .inside w k .0) (List·Memᴰ·cases-cons m)
+  owners-here block n h w m = list-part s sd (fullOp s (regionSteps levels s)) (λ m l. full-part m) (n ∷ []) (one-block-alone n (ltb-true _ _ h)) .inside w m .0
+  owners-here region n h w m = region-part levels n .inside w m .0
+
+  pub values-once : (f : Sort) (n : ℕ) → exists s f n ≡ true → Distinct (definesValues s f n)
+  unfolding definesValues
+  values-once f n h =
+      distinct-concatMap (valuesOf s) (definesOwners s f n) (owners-once f n h) (λ w m. values-distinct s w)
+      (λ w x mw mx v k l. sym (values-in s w k .1) ∙ values-in s x l .1)
+
+  pub values-here : (f : Sort) (n : ℕ) (v : ℕ) → List·Memᴰ v (definesValues s f n) → v < length (s .values)
+  unfolding definesValues
+  values-here f n v m = let w = mem-concatMap (valuesOf s) (definesOwners s f n) m in values-in s (w .0) (w .2) .0
+
+  block-owner : (w : Owner) {b : ℕ} → List·Memᴰ b (blockOwner w) → w ≡ ofBlock b
+  unfolding blockOwner
+  block-owner (ofOp n) m = absurd (List·Memᴰ·not-nil m)
+  block-owner (ofBlock c) m = ap ofBlock (sym (List·Memᴰ·eq-of-singleton m))
+
+  pub blocks-once-in : (f : Sort) (n : ℕ) → exists s f n ≡ true → Distinct (definesBlocks s f n)
+  unfolding definesBlocks blockOwner
+  blocks-once-in f n h =
+      distinct-concatMap blockOwner (definesOwners s f n) (owners-once f n h) (λ w m. alone w)
+      (λ w x mw mx b k l. block-owner w k ∙ sym (block-owner x l))
+    where
+      alone : (w : Owner) → Distinct (blockOwner w)
+      alone (ofOp m) = tt
+      alone (ofBlock b) = (λ m. List·Memᴰ·not-nil m, tt)
+
+  pub blocks-here : (f : Sort) (n : ℕ) → exists s f n ≡ true → (b : ℕ) → List·Memᴰ b (definesBlocks s f n) → b < length (s .blocks)
+  unfolding definesBlocks ownerExists blockExists
+  blocks-here f n h b m =
+      let w = mem-concatMap blockOwner (definesOwners s f n) m in
+      ltb-true _ _ (subst (λ (x : Owner). ownerExists s x ≡ true) (block-owner (w .0) (w .2)) (owners-here f n h (w .0) (w .1)))

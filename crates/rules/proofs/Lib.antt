@@ -1,0 +1,9 @@
+-- The laws over the rules.
+pub mod Basics
+pub mod Soundness
+pub mod Walking
+pub mod Form
+pub mod Laws
+pub mod Attributes
+pub mod Starred
+pub mod Needed

@@ -1,0 +1,133 @@
+-- 01, "Twins and near twins": the starred cases, as one list, and cases that a porter's mistakes fail. Each says what calls are made
+-- from the empty store, what is then asked, and what the answer is.
+use Prim.Native.Nat.{ℕ}
+use mathlib.Core.Bool.{Bool, true, false}
+use mathlib.Core.Option.{none, some}
+use mathlib.Core.List.{List, [], _∷_, _++_}
+use mathlib.Core.Path.{_≡_}
+use lib.ListN.{replicate}
+use Rattle.rules.specs.Store.{Attribute, ofOp, emptyStore, sound}
+use Rattle.rules.specs.Fragments.{Sort, op, block, region}
+use Rattle.rules.specs.Building.{Call, newOperation, newBlock, setAttribute, setOperand, Built, made, accepted, refused, answer, after}
+use Rattle.rules.specs.Shells.{Ignore}
+use Rattle.rules.specs.Mapping.{emptyMapping, image}
+use Rattle.rules.specs.Comparison.{pairOf}
+use Rattle.rules.specs.Answers.{Compared, eq, neq, comparison}
+
+pub data Case : Type 0 where
+  -- after these calls, comparing from an empty mapping under this rule two fragments of this sort answers this
+  compares : List Call → Ignore → Sort → ℕ → ℕ → Compared → Case
+  -- the same comparison leaves a mapping in which this block has this image
+  maps : List Call → Ignore → Sort → ℕ → ℕ → ℕ → ℕ → Case
+  -- after these calls, this one answers this
+  builds : List Call → Call → Built → Case
+
+unfoldable pub Holds : Case → Type 0
+Holds (compares calls ig f l r a) =
+    comparison (sound (after emptyStore calls)) (after emptyStore calls) emptyMapping ig f l r .answer ≡ a
+Holds (maps calls ig f l r b i) =
+    image (comparison (sound (after emptyStore calls)) (after emptyStore calls) emptyMapping ig f l r .mapping .blocks) b ≡ i
+Holds (builds calls c a) = answer (after emptyStore calls) c ≡ a
+
+unfoldable pub AllHold : List Case → Type 0
+AllHold [] = Unit {0}
+AllHold (c ∷ cs) = Holds c × AllHold cs
+
+unfoldable pub ignoring : Bool → ℕ → Ignore
+ignoring locations bits = record { locations = locations; bits = bits }
+
+unfoldable pub attribute : ℕ → ℕ → ℕ → Attribute
+attribute key kind content = record { key = key; kind = kind; content = content }
+
+-- the listing of "Listings"
+unfoldable pub example : List Call
+example =
+    newOperation 7 none 5 1 [] [] []
+    ∷ newBlock 0 0 5 (3 ∷ [])
+    ∷ newOperation 8 (some 0) 5 0 (3 ∷ []) (0 ∷ []) []
+    ∷ newOperation 7 none 6 1 [] [] []
+    ∷ newBlock 1 0 6 (3 ∷ [])
+    ∷ newOperation 8 (some 1) 6 0 (3 ∷ []) (2 ∷ []) []
+    ∷ []
+
+-- an operation with two regions, that many blocks in the first and so many in the second
+unfoldable pub twoRegions : ℕ → ℕ → List Call
+twoRegions m n = newOperation 1 none 0 2 [] [] [] ∷ replicate m (newBlock 0 0 0 []) ++ replicate n (newBlock 1 0 0 [])
+
+-- two operations of one kind
+unfoldable pub twoOps : List Call
+twoOps = newOperation 1 none 0 0 [] [] [] ∷ newOperation 1 none 0 0 [] [] [] ∷ []
+
+-- two operations of one kind, after one with two results; each has one operand, the second one of this number
+unfoldable pub twoUsers : ℕ → List Call
+twoUsers v =
+    newOperation 1 none 0 0 (3 ∷ 3 ∷ []) [] []
+    ∷ newOperation 2 none 0 0 [] (0 ∷ []) []
+    ∷ newOperation 2 none 0 0 [] (v ∷ []) []
+    ∷ []
+
+unfoldable pub starred : List Case
+starred =
+    -- both queries above
+    compares example (ignoring true 0) op 0 2 (eq 3)
+    ∷ compares example (ignoring false 0) op 0 2 (neq (pairOf op 0 2) 0)
+    -- two regions without blocks: eq, paired 0
+    ∷ compares (twoRegions 0 0) (ignoring false 0) region 0 1 (eq 0)
+    -- 2 blocks against 1, 3 against 1, 1 against 2, pairs alike: region
+    ∷ compares (twoRegions 2 1) (ignoring false 0) region 0 1 (neq (pairOf region 0 1) 1)
+    ∷ compares (twoRegions 3 1) (ignoring false 0) region 0 1 (neq (pairOf region 0 1) 1)
+    ∷ compares (twoRegions 1 2) (ignoring false 0) region 0 1 (neq (pairOf region 0 1) 1)
+    -- one operation against none in a block: block
+    ∷ compares (twoRegions 2 0 ++ (newOperation 2 (some 0) 0 0 [] [] [] ∷ [])) (ignoring false 0) block 0 1 (neq (pairOf block 0 1) 1)
+    -- same keys set in another order: eq
+    ∷ compares
+    (twoOps
+    ++ (setAttribute (ofOp 0) (attribute 1 5 10)
+    ∷ setAttribute (ofOp 0) (attribute 2 6 20)
+    ∷ setAttribute (ofOp 1) (attribute 2 6 20)
+    ∷ setAttribute (ofOp 1) (attribute 1 5 10)
+    ∷ []))
+    (ignoring false 0) op 0 1 (eq 1)
+    -- an attribute on the left only: op; eq when its bit is set
+    ∷ compares (twoOps ++ (setAttribute (ofOp 0) (attribute 1 5 10) ∷ [])) (ignoring false 0) op 0 1 (neq (pairOf op 0 1) 0)
+    ∷ compares (twoOps ++ (setAttribute (ofOp 0) (attribute 1 5 10) ∷ [])) (ignoring false 32) op 0 1 (eq 1)
+    -- both name one outside value: eq; two different ones: op
+    ∷ compares (twoUsers 0) (ignoring false 0) op 1 2 (eq 1)
+    ∷ compares (twoUsers 1) (ignoring false 0) op 1 2 (neq (pairOf op 1 2) 1)
+    -- 16 results accepted, 17 give 4
+    ∷ builds [] (newOperation 1 none 0 0 (replicate 16 3) [] []) (made 0)
+    ∷ builds [] (newOperation 1 none 0 0 (replicate 17 3) [] []) (refused 4)
+    -- kind 63 accepted, 64 gives 6
+    ∷ builds twoOps (setAttribute (ofOp 0) (attribute 1 63 10)) accepted
+    ∷ builds twoOps (setAttribute (ofOp 0) (attribute 1 64 10)) (refused 6)
+    ∷ []
+
+-- two operations, each with a block in its one region; the operand of each is the argument of its own block
+unfoldable pub namesInner : List Call
+namesInner =
+    newOperation 1 none 0 0 (3 ∷ []) [] []
+    ∷ newOperation 2 none 0 1 [] (0 ∷ []) []
+    ∷ newBlock 0 0 0 (3 ∷ [])
+    ∷ newOperation 2 none 0 1 [] (0 ∷ []) []
+    ∷ newBlock 1 0 0 (3 ∷ [])
+    ∷ setOperand 1 0 1
+    ∷ setOperand 2 0 2
+    ∷ []
+
+-- "Mistakes a porter makes", and one of each kind of builder's mistake
+unfoldable pub mistakes : List Case
+mistakes =
+    -- undoing entries after a failure
+    maps (twoRegions 2 1) (ignoring false 0) region 0 1 0 2
+    -- a twin that names its own inner value early is unequal
+    ∷ compares namesInner (ignoring false 0) op 1 2 (neq (pairOf op 1 2) 1)
+    -- a value that does not exist is found before a list that is too long
+    ∷ builds [] (newOperation 1 none 0 0 (replicate 17 3) (0 ∷ []) []) (refused 2)
+    -- an attribute's kind before its owner
+    ∷ builds [] (setAttribute (ofOp 0) (attribute 1 64 10)) (refused 6)
+    ∷ builds [] (setAttribute (ofOp 0) (attribute 1 63 10)) (refused 2)
+    -- an operand's value before its index
+    ∷ builds twoOps (setOperand 0 0 0) (refused 2)
+    ∷ builds (twoUsers 0) (setOperand 1 0 1) accepted
+    ∷ builds (twoUsers 0) (setOperand 1 1 1) (refused 7)
+    ∷ []
