@@ -1,0 +1,13 @@
+-- A call that adds an operation or a block, column by column.
+pub mod Entries
+pub mod Grew
+pub mod Rows
+pub mod OperationAdded
+pub mod OperationLaid
+pub mod BlockAdded
+pub mod Extended
+pub mod Layers
+pub mod NewBlock
+pub mod OperationWritten
+pub mod OperationColumns
+pub mod NewOperation

@@ -1,0 +1,209 @@
+-- The call that adds a block writes its row behind the old ones, its arguments behind the old values, and extends its region's range; so it does what the rules say and keeps the columns laid out. Assumes nothing.
+use Prim.Native.Nat.{ℕ, _+_, _<_, _≤_}
+use native.Mathlib.Omega.{arith}
+use mathlib.Core.Bool.{false}
+use mathlib.Core.List.{List}
+use mathlib.Core.Path.{_≡_, refl, ap, ap₂, _∙_}
+use lib.Dec.{eqb}
+use lib.ListN.{length, getD, set, replicate, length-replicate, getD-replicate}
+use Rattle.rules.specs.Store.{ofBlock}
+use Rattle.rules.specs.Building.{newBlock, applied}
+use Rattle.layout.specs.Columns.{Cols, at, pasted, write, pour, counts, opKind, opParent, opLocation, opDepth, opRegionFirst, opRegionEnd, opResultFirst, opResultEnd, opOperandFirst, opOperandEnd, opSuccessorFirst, opSuccessorEnd, opAttributes, regionOp, regionBlockFirst, regionBlockEnd, blockRegion, blockLabel, blockLocation, blockArgumentFirst, blockArgumentEnd, blockOpFirst, blockOpEnd, blockAttributes, valueType, valueOwner, operandWords, successorWords, slotKey, slotKind, slotContent}
+use Rattle.layout.specs.Reading.{part, opCount, blockCount, regionCount, valueCount, operandCount, successorCount, attributeCount, ownerCode, storeOf}
+use Rattle.layout.proofs.Laid.{Shaped, Within, Laid}
+use Rattle.building.specs.Raw.{withValues, extended, blockWritten, withBlock}
+use Rattle.building.proofs.Adding.Entries.{Put, put, Run, run, same}
+use Rattle.layout.proofs.Buffer.{write-shaped}
+use Rattle.building.proofs.Adding.Grew.{Grew}
+use Rattle.building.proofs.Adding.Rows.{ValuesAdded}
+use Rattle.building.proofs.Adding.BlockAdded.{BlockAdded, BlockRoom, added-reads, added-laid}
+use Rattle.building.proofs.Adding.Extended.{Wider, extended-shaped, extended-other, extended-wider, extended-place}
+use Rattle.building.proofs.Adding.Layers.{count-same, count-other, values-shaped, values-count, values-counts}
+
+module _ (C : Cols) (region label location : ℕ) (types : List ℕ) where
+  -- the block's row, and its region's range
+  abbrev row : Cols
+  row = blockWritten C (blockCount C) region label location (length types)
+
+  abbrev placed : Cols
+  placed = extended row regionBlockFirst regionBlockEnd region (blockCount C)
+
+  abbrev made : Cols
+  made = withBlock C region label location types
+
+  placed-other : (j : ℕ) → eqb j regionBlockFirst ≡ false → eqb j regionBlockEnd ≡ false → placed j ≡ row j
+  placed-other j e q = extended-other row regionBlockFirst regionBlockEnd region (blockCount C) refl refl j e q
+
+  pub counts-placed : (j : ℕ) → at placed counts j ≡ at C counts j
+  unfolding at blockWritten write
+  counts-placed j = ap (λ (l : List ℕ). getD l j 0) (placed-other counts refl refl)
+
+  module _ (sh : Shaped C) (room : BlockRoom C types) where
+    placed-shaped : Shaped placed
+    unfolding blockWritten
+    placed-shaped =
+        extended-shaped _ regionBlockFirst regionBlockEnd region (blockCount C)
+        (write-shaped _ blockAttributes _ _
+        (write-shaped _ blockOpEnd _ _
+        (write-shaped _ blockOpFirst _ _
+        (write-shaped _ blockArgumentEnd _ _
+        (write-shaped _ blockArgumentFirst _ _ (write-shaped _ blockLocation _ _ (write-shaped _ blockLabel _ _ (write-shaped C blockRegion _ _ sh))))))))
+
+    values-room : valueCount placed + length types ≤ 2048
+    unfolding valueCount
+    values-room = let e = counts-placed 3 in let r = room .values in omega arith
+
+    filled-shaped : Shaped (withValues placed (ofBlock (blockCount C)) types)
+    filled-shaped = values-shaped placed (ofBlock (blockCount C)) types placed-shaped values-room
+
+    -- ---- the counts
+
+    counts-else : (j : ℕ) → (j ≡ 1 → ⊥) → (j ≡ 3 → ⊥) → at made counts j ≡ at C counts j
+    unfolding withBlock
+    counts-else j p q =
+        count-other (withValues placed (ofBlock (blockCount C)) types) 1 (blockCount C + 1) j p
+        ∙ values-counts placed (ofBlock (blockCount C)) types placed-shaped values-room j q
+        ∙ counts-placed j
+
+    blocks-count : at made counts 1 ≡ blockCount C + 1
+    unfolding withBlock
+    blocks-count = count-same (withValues placed (ofBlock (blockCount C)) types) 1 (blockCount C + 1) filled-shaped (omega arith)
+
+    values-counted : at made counts 3 ≡ valueCount C + length types
+    unfolding withBlock valueCount
+    values-counted =
+        count-other (withValues placed (ofBlock (blockCount C)) types) 1 (blockCount C + 1) 3 (λ e. omega arith)
+        ∙ values-count placed (ofBlock (blockCount C)) types placed-shaped values-room
+        ∙ ap (λ (n : ℕ). n + length types) (counts-placed 3)
+
+    -- ---- the columns
+
+    row-put : (k v : ℕ) → length (C k) ≡ 256 → made k ≡ set (C k) (blockCount C) v → Put C made k (blockCount C) v
+    row-put k v long e = let l = room .blocks in put C made k (blockCount C) v e (omega arith)
+
+    type-run : Run C made valueType (valueCount C) types
+    unfolding withBlock withValues blockWritten write pour valueCount
+    type-run =
+        run C made valueType (valueCount C) types
+        (ap₂ (λ (l : List ℕ) (n : ℕ). pasted l n types) (placed-other valueType refl refl) (counts-placed 3))
+        (let e : length (C valueType) ≡ 2048 = sh valueType in let l = room .values in omega arith)
+
+    owner-run : Run C made valueOwner (valueCount C) (replicate (length types) (ownerCode (ofBlock (blockCount C))))
+    unfolding withBlock withValues blockWritten write pour valueCount
+    owner-run =
+        let vs = replicate (length types) (ownerCode (ofBlock (blockCount C))) in
+        run C made valueOwner (valueCount C) vs
+        (ap₂ (λ (l : List ℕ) (n : ℕ). pasted l n vs) (placed-other valueOwner refl refl) (counts-placed 3))
+        (let e : length (C valueOwner) ≡ 2048 = sh valueOwner in let l = room .values in rw length-replicate (omega arith))
+
+    values-added : ValuesAdded C made (ofBlock (blockCount C)) types
+    unfolding valueCount
+    values-added =
+        record {
+          count = values-counted;
+          type = type-run .new;
+          owner = λ i l. owner-run .new i (rw length-replicate l) ∙ getD-replicate (length types) i _ 0 l;
+        }
+
+    module _ (h : Laid C) where
+      range-wider : (r : ℕ) → r < regionCount C → Wider (at C regionBlockFirst r) (at C regionBlockEnd r) (at made regionBlockFirst r) (at made regionBlockEnd r) (blockCount C)
+      unfolding withBlock withValues blockWritten write pour at
+      range-wider r l =
+          let c = h .counts .regions in
+          let f : length (C regionBlockFirst) ≡ 256 = sh regionBlockFirst in
+          let e : length (C regionBlockEnd) ≡ 256 = sh regionBlockEnd in
+          extended-wider row regionBlockFirst regionBlockEnd region (blockCount C) refl refl r (omega arith) (omega arith) (h .region r l .blocks)
+
+      range-place : region < regionCount C → Within (at made regionBlockFirst region) (at made regionBlockEnd region) (blockCount C)
+      unfolding withBlock withValues blockWritten write pour at
+      range-place l =
+          let c = h .counts .regions in
+          let f : length (C regionBlockFirst) ≡ 256 = sh regionBlockFirst in
+          let e : length (C regionBlockEnd) ≡ 256 = sh regionBlockEnd in
+          extended-place row regionBlockFirst regionBlockEnd region (blockCount C) refl refl (omega arith) (omega arith) (h .region region l .blocks)
+
+      first-put : Put C made blockOpFirst (blockCount C) 0
+      unfolding withBlock withValues blockWritten write pour
+      first-put = row-put blockOpFirst 0 (sh blockOpFirst) (placed-other blockOpFirst refl refl)
+
+      end-put : Put C made blockOpEnd (blockCount C) 0
+      unfolding withBlock withValues blockWritten write pour
+      end-put = row-put blockOpEnd 0 (sh blockOpEnd) (placed-other blockOpEnd refl refl)
+
+      block-grew : Grew C made
+      unfolding withBlock withValues blockWritten write pour opCount blockCount regionCount valueCount operandCount successorCount
+      block-grew =
+          let e0 = counts-else 0 (λ e. omega arith) (λ e. omega arith) in
+          let e1 = blocks-count in
+          let e2 = counts-else 2 (λ e. omega arith) (λ e. omega arith) in
+          let e3 = values-counted in
+          let e4 = counts-else 4 (λ e. omega arith) (λ e. omega arith) in
+          let e5 = counts-else 5 (λ e. omega arith) (λ e. omega arith) in
+          record {
+            ops = omega arith;
+            blocks = omega arith;
+            regions = omega arith;
+            values = omega arith;
+            operands = omega arith;
+            successors = omega arith;
+            kind = λ i l. same C made opKind (placed-other opKind refl refl) i;
+            parent = λ i l. same C made opParent (placed-other opParent refl refl) i;
+            location = λ i l. same C made opLocation (placed-other opLocation refl refl) i;
+            depth = λ i l. same C made opDepth (placed-other opDepth refl refl) i;
+            regionFirst = λ i l. same C made opRegionFirst (placed-other opRegionFirst refl refl) i;
+            regionEnd = λ i l. same C made opRegionEnd (placed-other opRegionEnd refl refl) i;
+            resultFirst = λ i l. same C made opResultFirst (placed-other opResultFirst refl refl) i;
+            resultEnd = λ i l. same C made opResultEnd (placed-other opResultEnd refl refl) i;
+            operandFirst = λ i l. same C made opOperandFirst (placed-other opOperandFirst refl refl) i;
+            operandEnd = λ i l. same C made opOperandEnd (placed-other opOperandEnd refl refl) i;
+            successorFirst = λ i l. same C made opSuccessorFirst (placed-other opSuccessorFirst refl refl) i;
+            successorEnd = λ i l. same C made opSuccessorEnd (placed-other opSuccessorEnd refl refl) i;
+            keys = λ i l. same C made opAttributes (placed-other opAttributes refl refl) i;
+            around = λ i l. same C made regionOp (placed-other regionOp refl refl) i;
+            region = row-put blockRegion region (sh blockRegion) (placed-other blockRegion refl refl) .old;
+            label = row-put blockLabel label (sh blockLabel) (placed-other blockLabel refl refl) .old;
+            blockPlace = row-put blockLocation location (sh blockLocation) (placed-other blockLocation refl refl) .old;
+            argumentFirst = row-put blockArgumentFirst (valueCount C) (sh blockArgumentFirst) (placed-other blockArgumentFirst refl refl) .old;
+            argumentEnd = row-put blockArgumentEnd (valueCount C + length types) (sh blockArgumentEnd) (placed-other blockArgumentEnd refl refl) .old;
+            blockKeys = row-put blockAttributes 0 (sh blockAttributes) (placed-other blockAttributes refl refl) .old;
+            type = type-run .old;
+            owner = owner-run .old;
+            operandParts = λ a b m. ap (λ (xs : List ℕ). part xs a b) (placed-other operandWords refl refl);
+            successorParts = λ a b m. ap (λ (xs : List ℕ). part xs a b) (placed-other successorWords refl refl);
+            slotKeys = placed-other slotKey refl refl;
+            slotKinds = placed-other slotKind refl refl;
+            slotContents = placed-other slotContent refl refl;
+            opsIn = λ m n l w. let f = first-put .old m l in let e = end-put .old m l in record { from = omega arith; below = omega arith };
+            blocksIn = λ r m l w. range-wider r l .holds m w;
+            opEnds = λ m l. let e = end-put .old m l in let b = h .block m l .ops in omega arith;
+            blockEnds = λ r l. let w = range-wider r l .ends in omega arith;
+          }
+
+      block-added : BlockAdded C made region label location types
+      unfolding withBlock withValues blockWritten write pour opCount blockCount regionCount operandCount successorCount attributeCount
+      block-added =
+          record {
+            grew = block-grew;
+            values = values-added;
+            opCounted = counts-else 0 (λ e. omega arith) (λ e. omega arith);
+            blockCounted = blocks-count;
+            regionCounted = counts-else 2 (λ e. omega arith) (λ e. omega arith);
+            operandCounted = counts-else 4 (λ e. omega arith) (λ e. omega arith);
+            successorCounted = counts-else 5 (λ e. omega arith) (λ e. omega arith);
+            attributeCounted = counts-else 6 (λ e. omega arith) (λ e. omega arith);
+            regionWord = row-put blockRegion region (sh blockRegion) (placed-other blockRegion refl refl) .new;
+            labelWord = row-put blockLabel label (sh blockLabel) (placed-other blockLabel refl refl) .new;
+            locationWord = row-put blockLocation location (sh blockLocation) (placed-other blockLocation refl refl) .new;
+            argumentFirst = row-put blockArgumentFirst (valueCount C) (sh blockArgumentFirst) (placed-other blockArgumentFirst refl refl) .new;
+            argumentEnd = row-put blockArgumentEnd (valueCount C + length types) (sh blockArgumentEnd) (placed-other blockArgumentEnd refl refl) .new;
+            opless = row-put blockOpEnd 0 (sh blockOpEnd) (placed-other blockOpEnd refl refl) .new;
+            keys = row-put blockAttributes 0 (sh blockAttributes) (placed-other blockAttributes refl refl) .new;
+          }
+
+      -- ---- the call
+
+      pub block-reads : storeOf (withBlock C region label location types) ≡ applied (storeOf C) (newBlock region label location types)
+      block-reads = added-reads C made region label location types h block-added
+
+      pub block-laid : region < regionCount C → Laid (withBlock C region label location types)
+      block-laid l = added-laid C made region label location types h block-added room (range-place l) l

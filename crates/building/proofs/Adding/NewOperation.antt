@@ -1,0 +1,158 @@
+-- The call that adds an operation writes its row, its regions, its results and its lists behind the old ones, and extends its parent's range; so it does what the rules say and keeps the columns laid out. Assumes nothing.
+use Prim.Native.Nat.{ℕ, _<_, _≤_}
+use native.Mathlib.Omega.{arith}
+use mathlib.Core.Bool.{false}
+use mathlib.Core.Option.{Option, none, some}
+use mathlib.Core.List.{List}
+use mathlib.Core.Path.{_≡_, refl, sym, subst, _∙_}
+use lib.Dec.{eqb}
+use lib.ListN.{length, replicate, length-replicate, getD-replicate}
+use Rattle.rules.specs.Building.{newOperation, applied}
+use Rattle.layout.specs.Columns.{Cols, at, write, pour, counts, regionBlockEnd, blockRegion, blockLabel, blockLocation, blockArgumentFirst, blockArgumentEnd, blockOpFirst, blockOpEnd, blockAttributes, slotKey, slotKind, slotContent}
+use Rattle.layout.specs.Reading.{opCount, blockCount, regionCount, valueCount, operandCount, successorCount, attributeCount, storeOf}
+use Rattle.layout.proofs.Laid.{Shaped, Within, Laid}
+use Rattle.building.specs.Raw.{withValues, opPlaced, withRegions, withPart, opLeaves, opRange, opRanges, opWritten, withOperation}
+use Rattle.building.proofs.Adding.Entries.{Run, same}
+use Rattle.building.proofs.Adding.Grew.{Grew}
+use Rattle.building.proofs.Adding.OperationAdded.{OperationAdded, added-reads}
+use Rattle.building.proofs.Adding.OperationLaid.{OpRoom, ParentIn, added-laid}
+use Rattle.building.proofs.Adding.Extended.{Wider, wider-same, extended-wider, extended-place}
+use Rattle.building.proofs.Adding.OperationColumns.{Row, row-puts, around-run, first-run, end-run, type-run, owner-run, operand-run, successor-run, values-added}
+use Rattle.building.proofs.Adding.OperationWritten.{row, placed, made, placed-other, counts-else, ops-count, regions-counted, values-counted, operands-counted, successors-counted}
+
+-- ---- the parent's range
+
+wider-under : (C : Cols) (parent : Option ℕ) (n m : ℕ) → m < length (C blockOpFirst) → m < length (C blockOpEnd) → at C blockOpEnd m ≤ n
+    → Wider (at C blockOpFirst m) (at C blockOpEnd m) (at (opPlaced C parent n) blockOpFirst m) (at (opPlaced C parent n) blockOpEnd m) n
+unfolding opPlaced
+wider-under C none n m lf le l = wider-same _ _ _ _ n refl refl l
+wider-under C (some b) n m lf le l = extended-wider C blockOpFirst blockOpEnd b n refl refl m lf le l
+
+place-under : (C : Cols) (parent : Option ℕ) (n b : ℕ) → parent ≡ some b → b < length (C blockOpFirst) → b < length (C blockOpEnd) → at C blockOpEnd b ≤ n
+    → Within (at (opPlaced C parent n) blockOpFirst b) (at (opPlaced C parent n) blockOpEnd b) n
+unfolding opPlaced
+place-under C parent n b e lf le l =
+    subst (λ (p : Option ℕ). Within (at (opPlaced C p n) blockOpFirst b) (at (opPlaced C p n) blockOpEnd b) n) (sym e)
+    (extended-place C blockOpFirst blockOpEnd b n refl refl lf le l)
+
+module _ (C : Cols) (kind : ℕ) (parent : Option ℕ) (location regions : ℕ) (types operands successors : List ℕ) (sh : Shaped C) (room : OpRoom C regions types operands successors) where
+  abbrev D : Cols
+  D = made C kind parent location regions types operands successors
+
+  counts-kept : (j : ℕ) → (j ≡ 0 → ⊥) → (j ≡ 2 → ⊥) → (j ≡ 3 → ⊥) → (j ≡ 4 → ⊥) → (j ≡ 5 → ⊥) → at D counts j ≡ at C counts j
+  counts-kept = counts-else C kind parent location regions types operands successors sh room
+
+  -- what the columns hold
+  puts : Row C D kind parent location regions types operands successors
+  puts = row-puts C kind parent location regions types operands successors sh room
+
+  ends : Run C D regionBlockEnd (regionCount C) (replicate regions 0)
+  ends = end-run C kind parent location regions types operands successors sh room
+
+  unwritten : (j : ℕ) → eqb j blockOpFirst ≡ false → eqb j blockOpEnd ≡ false → placed C kind parent location regions types operands successors j ≡ row C kind parent location regions types operands successors j
+  unwritten = placed-other C kind parent location regions types operands successors
+
+  module _ (h : Laid C) where
+    range-wider : (m : ℕ) → m < blockCount C → Wider (at C blockOpFirst m) (at C blockOpEnd m) (at D blockOpFirst m) (at D blockOpEnd m) (opCount C)
+    unfolding withOperation opWritten withRegions withValues withPart opRanges opRange opLeaves write pour at
+    range-wider m l =
+        let c = h .counts .blocks in
+        let f : length (C blockOpFirst) ≡ 256 = sh blockOpFirst in
+        let e : length (C blockOpEnd) ≡ 256 = sh blockOpEnd in
+        wider-under (row C kind parent location regions types operands successors) parent (opCount C) m (omega arith) (omega arith) (h .block m l .ops)
+
+    range-place : (b : ℕ) → parent ≡ some b → b < blockCount C → Within (at D blockOpFirst b) (at D blockOpEnd b) (opCount C)
+    unfolding withOperation opWritten withRegions withValues withPart opRanges opRange opLeaves write pour at
+    range-place b q l =
+        let c = h .counts .blocks in
+        let f : length (C blockOpFirst) ≡ 256 = sh blockOpFirst in
+        let e : length (C blockOpEnd) ≡ 256 = sh blockOpEnd in
+        place-under (row C kind parent location regions types operands successors) parent (opCount C) b q (omega arith) (omega arith) (h .block b l .ops)
+
+    operation-grew : Grew C D
+    unfolding withOperation opWritten withRegions withValues withPart opRanges opRange opLeaves write pour opCount blockCount regionCount valueCount operandCount successorCount
+    operation-grew =
+        let e0 = ops-count C kind parent location regions types operands successors sh room in
+        let e1 = counts-kept 1 (λ q. omega arith) (λ q. omega arith) (λ q. omega arith) (λ q. omega arith) (λ q. omega arith) in
+        let e2 = regions-counted C kind parent location regions types operands successors sh room in
+        let e3 = values-counted C kind parent location regions types operands successors sh room in
+        let e4 = operands-counted C kind parent location regions types operands successors sh room in
+        let e5 = successors-counted C kind parent location regions types operands successors sh room in
+        record {
+          ops = omega arith;
+          blocks = omega arith;
+          regions = omega arith;
+          values = omega arith;
+          operands = omega arith;
+          successors = omega arith;
+          kind = puts .kindPut .old;
+          parent = puts .parentPut .old;
+          location = puts .locationPut .old;
+          depth = puts .depthPut .old;
+          regionFirst = puts .regionFirst .old;
+          regionEnd = puts .regionEnd .old;
+          resultFirst = puts .resultFirst .old;
+          resultEnd = puts .resultEnd .old;
+          operandFirst = puts .operandFirst .old;
+          operandEnd = puts .operandEnd .old;
+          successorFirst = puts .successorFirst .old;
+          successorEnd = puts .successorEnd .old;
+          keys = puts .keys .old;
+          around = around-run C kind parent location regions types operands successors sh room .old;
+          region = λ i l. same C D blockRegion (unwritten blockRegion refl refl) i;
+          label = λ i l. same C D blockLabel (unwritten blockLabel refl refl) i;
+          blockPlace = λ i l. same C D blockLocation (unwritten blockLocation refl refl) i;
+          argumentFirst = λ i l. same C D blockArgumentFirst (unwritten blockArgumentFirst refl refl) i;
+          argumentEnd = λ i l. same C D blockArgumentEnd (unwritten blockArgumentEnd refl refl) i;
+          blockKeys = λ i l. same C D blockAttributes (unwritten blockAttributes refl refl) i;
+          type = type-run C kind parent location regions types operands successors sh room .old;
+          owner = owner-run C kind parent location regions types operands successors sh room .old;
+          operandParts = operand-run C kind parent location regions types operands successors sh room .parts;
+          successorParts = successor-run C kind parent location regions types operands successors sh room .parts;
+          slotKeys = unwritten slotKey refl refl;
+          slotKinds = unwritten slotKind refl refl;
+          slotContents = unwritten slotContent refl refl;
+          opsIn = λ m n l w. range-wider m l .holds n w;
+          blocksIn = λ r m l w. let f = first-run C kind parent location regions types operands successors sh room .old r l in let e = ends .old r l in record { from = omega arith; below = omega arith };
+          opEnds = λ m l. let w = range-wider m l .ends in omega arith;
+          blockEnds = λ r l. let e = ends .old r l in let b = h .region r l .blocks in omega arith;
+        }
+
+    operation-added : OperationAdded C D kind parent location regions types operands successors
+    unfolding withOperation opWritten withRegions withValues withPart opRanges opRange opLeaves write pour opCount blockCount regionCount valueCount operandCount successorCount attributeCount
+    operation-added =
+        record {
+          grew = operation-grew;
+          values = values-added C kind parent location regions types operands successors sh room;
+          opCounted = ops-count C kind parent location regions types operands successors sh room;
+          blockCounted = counts-kept 1 (λ q. omega arith) (λ q. omega arith) (λ q. omega arith) (λ q. omega arith) (λ q. omega arith);
+          regionCounted = regions-counted C kind parent location regions types operands successors sh room;
+          operandCounted = operands-counted C kind parent location regions types operands successors sh room;
+          successorCounted = successors-counted C kind parent location regions types operands successors sh room;
+          attributeCounted = counts-kept 6 (λ q. omega arith) (λ q. omega arith) (λ q. omega arith) (λ q. omega arith) (λ q. omega arith);
+          kindWord = puts .kindPut .new;
+          parentWord = puts .parentPut .new;
+          locationWord = puts .locationPut .new;
+          depthWord = puts .depthPut .new;
+          regionFirst = puts .regionFirst .new;
+          regionEnd = puts .regionEnd .new;
+          resultFirst = puts .resultFirst .new;
+          resultEnd = puts .resultEnd .new;
+          operandFirst = puts .operandFirst .new;
+          operandEnd = puts .operandEnd .new;
+          successorFirst = puts .successorFirst .new;
+          successorEnd = puts .successorEnd .new;
+          keys = puts .keys .new;
+          around = λ i l. around-run C kind parent location regions types operands successors sh room .new i (rw length-replicate l) ∙ getD-replicate regions i _ 0 l;
+          blockless = λ i l. ends .new i (rw length-replicate l) ∙ getD-replicate regions i _ 0 l;
+          operandPart = operand-run C kind parent location regions types operands successors sh room .last;
+          successorPart = successor-run C kind parent location regions types operands successors sh room .last;
+        }
+
+    -- ---- the call
+
+    pub operation-reads : storeOf (withOperation C kind parent location regions types operands successors) ≡ applied (storeOf C) (newOperation kind parent location regions types operands successors)
+    operation-reads = added-reads C D kind parent location regions types operands successors h operation-added
+
+    pub operation-laid : ParentIn C parent → Laid (withOperation C kind parent location regions types operands successors)
+    operation-laid p = added-laid C D kind parent location regions types operands successors h operation-added room (λ b e. range-place b e (subst (ParentIn C) e p)) p

@@ -1,0 +1,124 @@
+-- What the columns hold after the call that adds an operation: its row, its regions, its results and its lists, behind what was there. Assumes nothing.
+use Prim.Native.Nat.{ℕ, _+_}
+use native.Mathlib.Omega.{arith}
+use mathlib.Core.Bool.{false}
+use mathlib.Core.Option.{Option}
+use mathlib.Core.List.{List}
+use mathlib.Core.Path.{_≡_, refl, ap₂, _∙_}
+use lib.Dec.{eqb}
+use lib.ListN.{length, set, replicate, length-replicate, getD-replicate}
+use Rattle.rules.specs.Store.{ofOp}
+use Rattle.layout.specs.Columns.{Cols, at, pasted, write, pour, opKind, opParent, opLocation, opDepth, opRegionFirst, opRegionEnd, opResultFirst, opResultEnd, opOperandFirst, opOperandEnd, opSuccessorFirst, opSuccessorEnd, opAttributes, regionOp, regionBlockFirst, regionBlockEnd, blockOpFirst, blockOpEnd, valueType, valueOwner, operandWords, successorWords}
+use Rattle.layout.specs.Reading.{opCount, regionCount, valueCount, operandCount, successorCount, ownerCode}
+use Rattle.layout.proofs.Laid.{Shaped}
+use Rattle.building.specs.Raw.{withValues, parentCode, depthUnder, withRegions, withPart, opLeaves, opRange, opRanges, opWritten, withOperation}
+use Rattle.building.proofs.Adding.Entries.{Put, put, Run, run}
+use Rattle.building.proofs.Adding.Rows.{ValuesAdded}
+use Rattle.building.proofs.Adding.OperationLaid.{OpRoom}
+use Rattle.building.proofs.Adding.OperationWritten.{row, placed, made, placed-other, counts-placed, k₁, k₂, k₃, values-counted}
+
+-- the operation's row in D
+pub record Row (C D : Cols) (kind : ℕ) (parent : Option ℕ) (location regions : ℕ) (types operands successors : List ℕ) : Type 0 where
+  pub kindPut : Put C D opKind (opCount C) kind
+  pub parentPut : Put C D opParent (opCount C) (parentCode parent)
+  pub locationPut : Put C D opLocation (opCount C) location
+  pub depthPut : Put C D opDepth (opCount C) (depthUnder C parent)
+  pub regionFirst : Put C D opRegionFirst (opCount C) (regionCount C)
+  pub regionEnd : Put C D opRegionEnd (opCount C) (regionCount C + regions)
+  pub resultFirst : Put C D opResultFirst (opCount C) (valueCount C)
+  pub resultEnd : Put C D opResultEnd (opCount C) (valueCount C + length types)
+  pub operandFirst : Put C D opOperandFirst (opCount C) (operandCount C)
+  pub operandEnd : Put C D opOperandEnd (opCount C) (operandCount C + length operands)
+  pub successorFirst : Put C D opSuccessorFirst (opCount C) (successorCount C)
+  pub successorEnd : Put C D opSuccessorEnd (opCount C) (successorCount C + length successors)
+  pub keys : Put C D opAttributes (opCount C) 0
+
+module _ (C : Cols) (kind : ℕ) (parent : Option ℕ) (location regions : ℕ) (types operands successors : List ℕ) (sh : Shaped C) (room : OpRoom C regions types operands successors) where
+  abbrev pub D : Cols
+  D = made C kind parent location regions types operands successors
+
+  pub other : (j : ℕ) → eqb j blockOpFirst ≡ false → eqb j blockOpEnd ≡ false → placed C kind parent location regions types operands successors j ≡ row C kind parent location regions types operands successors j
+  other = placed-other C kind parent location regions types operands successors
+
+  row-put : (k v : ℕ) → length (C k) ≡ 512 → D k ≡ set (C k) (opCount C) v → Put C D k (opCount C) v
+  row-put k v long e = let l = room .ops in put C D k (opCount C) v e (omega arith)
+
+  pub row-puts : Row C D kind parent location regions types operands successors
+  unfolding withOperation opWritten withRegions withValues withPart opRanges opRange opLeaves write pour at regionCount valueCount operandCount successorCount
+  row-puts =
+      record {
+        kindPut = row-put opKind kind (sh opKind) (other opKind refl refl);
+        parentPut = row-put opParent (parentCode parent) (sh opParent) (other opParent refl refl);
+        locationPut = row-put opLocation location (sh opLocation) (other opLocation refl refl);
+        depthPut = row-put opDepth (depthUnder C parent) (sh opDepth) (other opDepth refl refl);
+        regionFirst = row-put opRegionFirst (regionCount C) (sh opRegionFirst) (other opRegionFirst refl refl);
+        regionEnd = row-put opRegionEnd (regionCount C + regions) (sh opRegionEnd) (other opRegionEnd refl refl);
+        resultFirst = row-put opResultFirst (valueCount C) (sh opResultFirst) (other opResultFirst refl refl);
+        resultEnd = row-put opResultEnd (valueCount C + length types) (sh opResultEnd) (other opResultEnd refl refl);
+        operandFirst = row-put opOperandFirst (operandCount C) (sh opOperandFirst) (other opOperandFirst refl refl);
+        operandEnd = row-put opOperandEnd (operandCount C + length operands) (sh opOperandEnd) (other opOperandEnd refl refl);
+        successorFirst = row-put opSuccessorFirst (successorCount C) (sh opSuccessorFirst) (other opSuccessorFirst refl refl);
+        successorEnd = row-put opSuccessorEnd (successorCount C + length successors) (sh opSuccessorEnd) (other opSuccessorEnd refl refl);
+        keys = row-put opAttributes 0 (sh opAttributes) (other opAttributes refl refl);
+      }
+
+  -- its row is written, and its parent's range
+  abbrev begun : Cols
+  begun = placed C kind parent location regions types operands successors
+
+  region-run : (k v : ℕ) → length (C k) ≡ 256 → D k ≡ pasted (begun k) (regionCount begun) (replicate regions v) → begun k ≡ C k → Run C D k (regionCount C) (replicate regions v)
+  unfolding regionCount
+  region-run k v long e q =
+      run C D k (regionCount C) (replicate regions v)
+      (e ∙ ap₂ (λ (l : List ℕ) (n : ℕ). pasted l n (replicate regions v)) q (counts-placed C kind parent location regions types operands successors 2))
+      (let l = room .regions in rw length-replicate (omega arith))
+
+  pub around-run : Run C D regionOp (regionCount C) (replicate regions (opCount C))
+  unfolding withOperation opWritten withRegions withValues withPart opRanges opRange opLeaves write pour
+  around-run = region-run regionOp (opCount C) (sh regionOp) refl (other regionOp refl refl)
+
+  pub first-run : Run C D regionBlockFirst (regionCount C) (replicate regions 0)
+  unfolding withOperation opWritten withRegions withValues withPart opRanges opRange opLeaves write pour
+  first-run = region-run regionBlockFirst 0 (sh regionBlockFirst) refl (other regionBlockFirst refl refl)
+
+  pub end-run : Run C D regionBlockEnd (regionCount C) (replicate regions 0)
+  unfolding withOperation opWritten withRegions withValues withPart opRanges opRange opLeaves write pour
+  end-run = region-run regionBlockEnd 0 (sh regionBlockEnd) refl (other regionBlockEnd refl refl)
+
+  pub type-run : Run C D valueType (valueCount C) types
+  unfolding withOperation opWritten withRegions withValues withPart opRanges opRange opLeaves write pour valueCount
+  type-run =
+      run C D valueType (valueCount C) types
+      (ap₂ (λ (l : List ℕ) (n : ℕ). pasted l n types) (other valueType refl refl) (k₁ C kind parent location regions types operands successors sh room 3 (λ q. omega arith)))
+      (let e : length (C valueType) ≡ 2048 = sh valueType in let l = room .values in omega arith)
+
+  pub owner-run : Run C D valueOwner (valueCount C) (replicate (length types) (ownerCode (ofOp (opCount C))))
+  unfolding withOperation opWritten withRegions withValues withPart opRanges opRange opLeaves write pour valueCount
+  owner-run =
+      let vs = replicate (length types) (ownerCode (ofOp (opCount C))) in
+      run C D valueOwner (valueCount C) vs
+      (ap₂ (λ (l : List ℕ) (n : ℕ). pasted l n vs) (other valueOwner refl refl) (k₁ C kind parent location regions types operands successors sh room 3 (λ q. omega arith)))
+      (let e : length (C valueOwner) ≡ 2048 = sh valueOwner in let l = room .values in rw length-replicate (omega arith))
+
+  pub operand-run : Run C D operandWords (operandCount C) operands
+  unfolding withOperation opWritten withRegions withValues withPart opRanges opRange opLeaves write pour operandCount
+  operand-run =
+      run C D operandWords (operandCount C) operands
+      (ap₂ (λ (l : List ℕ) (n : ℕ). pasted l n operands) (other operandWords refl refl) (k₂ C kind parent location regions types operands successors sh room 4 (λ q. omega arith) (λ q. omega arith)))
+      (let e : length (C operandWords) ≡ 2048 = sh operandWords in let l = room .operands in omega arith)
+
+  pub successor-run : Run C D successorWords (successorCount C) successors
+  unfolding withOperation opWritten withRegions withValues withPart opRanges opRange opLeaves write pour successorCount
+  successor-run =
+      run C D successorWords (successorCount C) successors
+      (ap₂ (λ (l : List ℕ) (n : ℕ). pasted l n successors) (other successorWords refl refl) (k₃ C kind parent location regions types operands successors sh room 5 (λ q. omega arith) (λ q. omega arith) (λ q. omega arith)))
+      (let e : length (C successorWords) ≡ 512 = sh successorWords in let l = room .successors in omega arith)
+
+  pub values-added : ValuesAdded C D (ofOp (opCount C)) types
+  unfolding valueCount
+  values-added =
+      record {
+        count = values-counted C kind parent location regions types operands successors sh room;
+        type = type-run .new;
+        owner = λ i l. owner-run .new i (rw length-replicate l) ∙ getD-replicate (length types) i _ 0 l;
+      }

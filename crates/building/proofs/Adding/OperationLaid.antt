@@ -1,0 +1,134 @@
+-- Columns with one operation more are laid out: the old rows are, and the new rows are by what was written. Assumes nothing.
+use Prim.Native.Nat.{ℕ, _+_, _<_}
+use native.Mathlib.Numerals.{add-one}
+use native.Mathlib.Omega.{arith}
+use mathlib.Core.Bool.{true}
+use mathlib.Core.Option.{Option, none, some}
+use mathlib.Core.List.{List}
+use mathlib.Core.Logic.{_⊎_, inl, inr}
+use mathlib.Core.Path.{_≡_, refl, sym, ap, ap₂, subst, _∙_}
+use borrow.Author.Tests.{lt-ltb, eq-eqb}
+use lib.ListN.{length}
+use Rattle.rules.specs.Lists.{sum}
+use Rattle.rules.specs.Store.{ofOp}
+use Rattle.rules.proofs.Basics.Tests.{and-both}
+use Rattle.layout.specs.Columns.{Cols, at, opRegionFirst, opRegionEnd, opResultFirst, opResultEnd, opOperandEnd, opSuccessorEnd, opAttributes, regionOp, blockOpFirst, blockOpEnd, blockAttributes}
+use Rattle.layout.specs.Reading.{opCount, blockCount, regionCount, valueCount, attributeCount, parentFrom}
+use Rattle.layout.specs.Soundness.{endBefore, placed, inOwner, attributeSum}
+use Rattle.layout.proofs.Laid.{Within, OpLaid, RegionLaid, Laid, within-of}
+use Rattle.building.specs.Raw
+use Rattle.building.specs.Raw.{depthUnder}
+use Rattle.building.proofs.Adding.Grew.{placed-under, end-kept, op-kept, block-kept, region-kept}
+use Rattle.building.proofs.Adding.Rows.{values-laid, new-owned, old-or-last, old-or-new, rows-last, rows-kept, sum-last}
+use Rattle.building.proofs.Adding.OperationAdded.{OperationAdded, parent-read}
+
+-- there is room for an operation with so many regions and with these lists
+abbrev pub OpRoom : Cols → ℕ → List ℕ → List ℕ → List ℕ → Type 0
+OpRoom C r ts os ss = Raw.OpRoom C r (length ts) (length os) (length ss)
+
+-- the parent, if any, exists
+abbrev pub ParentIn : Cols → Option ℕ → Type 0
+ParentIn C none = Unit {0}
+ParentIn C (some b) = b < blockCount C
+
+module _ (C D : Cols) (kind : ℕ) (parent : Option ℕ) (location regions : ℕ) (types operands successors : List ℕ) (h : Laid C) (a : OperationAdded C D kind parent location regions types operands successors) where
+  -- ---- the new operation
+
+  -- its parent's range holds it
+  abbrev Place : Type 0
+  Place = (b : ℕ) → parent ≡ some b → Within (at D blockOpFirst b) (at D blockOpEnd b) (opCount C)
+
+  new-placed : Place → (p : Option ℕ) → parent ≡ p → ParentIn C p → placed D (opCount C) p ≡ true
+  unfolding placed depthUnder
+  new-placed place none e i = eq-eqb _ _ (a .depthWord ∙ ap (depthUnder C) e)
+  new-placed place (some b) e i =
+      placed-under C D h (a .grew) (opCount C) b i (h .region _ (h .block b i .regionIn) .opIn) (a .depthWord ∙ ap (depthUnder C) e) (place b e)
+
+  new-op : Place → ParentIn C parent → OpLaid D (opCount C)
+  new-op place i =
+      let g = a .grew in
+      let er = a .regionCounted in
+      let ev = a .values .count in
+      let eo = a .operandCounted in
+      let es = a .successorCounted in
+      let of = a .operandFirst in
+      let oe = a .operandEnd in
+      let sf = a .successorFirst in
+      let se = a .successorEnd in
+      let ek = a .keys in
+      record {
+        place = subst (λ (p : Option ℕ). placed D (opCount C) p ≡ true) (sym (ap parentFrom (a .parentWord) ∙ parent-read parent)) (new-placed place parent refl i);
+        regions = new-owned D _ _ _ (regionCount C) regions _ _ (a .regionFirst) (a .regionEnd) (omega arith) (a .around);
+        results = new-owned D _ _ _ (valueCount C) (length types) _ _ (a .resultFirst) (a .resultEnd) (omega arith) (a .values .owner);
+        operands = record { follows = of ∙ sym (h .operandEnd) ∙ sym (end-kept C D opOperandEnd (opCount C) (opCount C) (omega arith) (g .operandEnd)); range = record { rises = omega arith; fits = omega arith } };
+        successors = record { follows = sf ∙ sym (h .successorEnd) ∙ sym (end-kept C D opSuccessorEnd (opCount C) (opCount C) (omega arith) (g .successorEnd)); range = record { rises = omega arith; fits = omega arith } };
+        keys = omega arith;
+      }
+
+  -- ---- the rows
+
+  ops-laid : Place → ParentIn C parent → (n : ℕ) → n < opCount D → OpLaid D n
+  ops-laid place p n l = go (old-or-last n (opCount C) (subst (λ (m : ℕ). n < m) (a .opCounted) l))
+    where
+      go : (n < opCount C) ⊎ (n ≡ opCount C) → OpLaid D n
+      go (inl b) = op-kept C D h (a .grew) n b
+      go (inr e) = subst (OpLaid D) (sym e) (new-op place p)
+
+  new-region : (i : ℕ) → i < regions → RegionLaid D (regionCount C + i)
+  new-region i l =
+      let eo = a .around i l in
+      let ec = a .opCounted in
+      let eb = a .blockless i l in
+      let ef : at D opRegionFirst (at D regionOp (regionCount C + i)) ≡ regionCount C = ap (at D opRegionFirst) eo ∙ a .regionFirst in
+      let ee : at D opRegionEnd (at D regionOp (regionCount C + i)) ≡ regionCount C + regions = ap (at D opRegionEnd) eo ∙ a .regionEnd in
+      record { opIn = omega arith; place = record { from = omega arith; below = omega arith }; blocks = omega arith }
+
+  regions-laid : (r : ℕ) → r < regionCount D → RegionLaid D r
+  regions-laid r l = go (old-or-new r (regionCount C) regions (subst (λ (m : ℕ). r < m) (a .regionCounted) l))
+    where
+      go : (r < regionCount C) ⊎ ((i : ℕ) × (i < regions) × (r ≡ regionCount C + i)) → RegionLaid D r
+      go (inl b) = region-kept C D h (a .grew) r b
+      go (inr n) = subst (RegionLaid D) (sym (n .2)) (new-region (n .0) (n .1))
+
+  new-value : (i : ℕ) → i < length types → inOwner D (valueCount C + i) (ofOp (opCount C)) ≡ true
+  unfolding inOwner
+  new-value i l =
+      let ef = a .resultFirst in
+      let ee = a .resultEnd in
+      let ec = a .opCounted in
+      and-both _ _ (lt-ltb (opCount C) (opCount D) (omega arith)) (within-of (at D opResultFirst (opCount C)) (at D opResultEnd (opCount C)) (valueCount C + i) (record { from = omega arith; below = omega arith }))
+
+  -- ---- the counts
+
+  last-end : (k : ℕ) → endBefore D k (opCount D) ≡ at D k (opCount C)
+  unfolding endBefore
+  last-end k = ap (endBefore D k) (a .opCounted ∙ add-one (opCount C))
+
+  keys-counted : attributeSum D ≡ attributeCount D
+  unfolding attributeSum
+  keys-counted =
+      ap₂ _+_
+      (ap sum (rows-last (opCount D) (opCount C) (at D opAttributes) (at C opAttributes) (a .grew .keys) 0 (a .opCounted) (a .keys)) ∙ sum-last _)
+      (ap sum (rows-kept (blockCount D) (blockCount C) (at D blockAttributes) (at C blockAttributes) (a .grew .blockKeys) (a .blockCounted)))
+      ∙ h .attributes ∙ sym (a .attributeCounted)
+
+  pub added-laid : OpRoom C regions types operands successors → Place → ParentIn C parent → Laid D
+  added-laid room place p =
+      let c = h .counts in
+      let e1 = a .opCounted in
+      let e2 = a .blockCounted in
+      let e3 = a .regionCounted in
+      let e4 = a .values .count in
+      let e5 = a .operandCounted in
+      let e6 = a .successorCounted in
+      let e7 = a .attributeCounted in
+      record {
+        counts = record { ops = omega arith; blocks = omega arith; regions = omega arith; values = omega arith; operands = omega arith; successors = omega arith; attributes = omega arith };
+        op = ops-laid place p;
+        block = λ m l. block-kept C D h (a .grew) m (omega arith);
+        region = regions-laid;
+        value = values-laid C D (ofOp (opCount C)) types h (a .grew) (a .values) new-value;
+        operandEnd = last-end opOperandEnd ∙ a .operandEnd ∙ sym e5;
+        successorEnd = last-end opSuccessorEnd ∙ a .successorEnd ∙ sym e6;
+        attributes = keys-counted;
+      }

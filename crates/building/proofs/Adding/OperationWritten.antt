@@ -1,0 +1,157 @@
+-- The call that adds an operation, layer by layer: it keeps the columns' lengths, counts what it adds, and writes behind the old rows. Assumes nothing.
+use Prim.Native.Nat.{ℕ, _+_, _≤_}
+use native.Mathlib.Omega.{arith}
+use mathlib.Core.Bool.{false}
+use mathlib.Core.Option.{Option, none, some}
+use mathlib.Core.List.{List}
+use mathlib.Core.Path.{_≡_, refl, ap, _∙_}
+use lib.Dec.{eqb}
+use lib.ListN.{length, getD}
+use Rattle.rules.specs.Store.{ofOp}
+use Rattle.layout.specs.Columns.{Cols, size, at, write, counts, opKind, opParent, opLocation, opDepth, opRegionFirst, opRegionEnd, opResultFirst, opResultEnd, opOperandFirst, opOperandEnd, opSuccessorFirst, opSuccessorEnd, opAttributes, blockOpFirst, blockOpEnd, operandWords, successorWords}
+use Rattle.layout.specs.Reading.{opCount, regionCount, valueCount, operandCount, successorCount}
+use Rattle.layout.proofs.Laid.{Shaped}
+use Rattle.building.specs.Raw.{withValues, parentCode, depthUnder, opPlaced, withRegions, withPart, opLeaves, opRange, opRanges, opWritten, withOperation}
+use Rattle.layout.proofs.Buffer.{write-shaped}
+use Rattle.building.proofs.Adding.OperationLaid.{OpRoom}
+use Rattle.building.proofs.Adding.Extended.{extended-shaped, extended-other}
+use Rattle.building.proofs.Adding.Layers.{count-same, count-other, regions-shaped, regions-count, regions-counts, values-shaped, values-count, values-counts, part-shaped, part-count, part-counts}
+
+other-under : (C : Cols) (parent : Option ℕ) (n j : ℕ) → eqb j blockOpFirst ≡ false → eqb j blockOpEnd ≡ false → opPlaced C parent n j ≡ C j
+unfolding opPlaced
+other-under C none n j e q = refl
+other-under C (some b) n j e q = extended-other C blockOpFirst blockOpEnd b n refl refl j e q
+
+shaped-under : (C : Cols) (parent : Option ℕ) (n : ℕ) → Shaped C → Shaped (opPlaced C parent n)
+unfolding opPlaced
+shaped-under C none n sh = sh
+shaped-under C (some b) n sh = extended-shaped C blockOpFirst blockOpEnd b n sh
+
+range-shaped : (C : Cols) (first end n from count : ℕ) → Shaped C → Shaped (opRange C first end n from count)
+unfolding opRange
+range-shaped C first end n from count sh = write-shaped _ end _ _ (write-shaped C first _ _ sh)
+
+module _ (C : Cols) (kind : ℕ) (parent : Option ℕ) (location regions : ℕ) (types operands successors : List ℕ) where
+  -- the operation's row, and its parent's range
+  abbrev pub row : Cols
+  row = opRanges (opLeaves C (opCount C) kind (parentCode parent) location (depthUnder C parent)) (opCount C) regions (length types) (length operands) (length successors)
+
+  abbrev pub placed : Cols
+  placed = opPlaced row parent (opCount C)
+
+  -- with its regions, its results, its operands and its successors
+  abbrev pub c₁ : Cols
+  c₁ = withRegions placed (opCount C) regions
+
+  abbrev pub c₂ : Cols
+  c₂ = withValues c₁ (ofOp (opCount C)) types
+
+  abbrev pub c₃ : Cols
+  c₃ = withPart c₂ operandWords 4 operands
+
+  abbrev c₄ : Cols
+  c₄ = withPart c₃ successorWords 5 successors
+
+  abbrev pub made : Cols
+  made = withOperation C kind parent location regions types operands successors
+
+  pub placed-other : (j : ℕ) → eqb j blockOpFirst ≡ false → eqb j blockOpEnd ≡ false → placed j ≡ row j
+  placed-other j e q = other-under row parent (opCount C) j e q
+
+  pub counts-placed : (j : ℕ) → at placed counts j ≡ at C counts j
+  unfolding at opRanges opRange opLeaves write
+  counts-placed j = ap (λ (l : List ℕ). getD l j 0) (placed-other counts refl refl)
+
+  module _ (sh : Shaped C) (room : OpRoom C regions types operands successors) where
+    -- ---- layer by layer
+
+    s₀ : Shaped placed
+    unfolding opRanges opLeaves
+    s₀ =
+        shaped-under row parent (opCount C)
+        (range-shaped _ opSuccessorFirst opSuccessorEnd _ _ _
+        (range-shaped _ opOperandFirst opOperandEnd _ _ _
+        (range-shaped _ opResultFirst opResultEnd _ _ _
+        (range-shaped _ opRegionFirst opRegionEnd _ _ _
+        (write-shaped _ opAttributes _ _ (write-shaped _ opDepth _ _ (write-shaped _ opLocation _ _ (write-shaped _ opParent _ _ (write-shaped C opKind _ _ sh)))))))))
+
+    pub r₁ : regionCount placed + regions ≤ 256
+    unfolding regionCount
+    r₁ = let e = counts-placed 2 in let r = room .regions in omega arith
+
+    s₁ : Shaped c₁
+    s₁ = regions-shaped placed (opCount C) regions s₀ r₁
+
+    pub k₁ : (j : ℕ) → (j ≡ 2 → ⊥) → at c₁ counts j ≡ at C counts j
+    k₁ j n2 = regions-counts placed (opCount C) regions s₀ r₁ j n2 ∙ counts-placed j
+
+    pub r₂ : valueCount c₁ + length types ≤ 2048
+    unfolding valueCount
+    r₂ = let e = k₁ 3 (λ q. omega arith) in let r = room .values in omega arith
+
+    s₂ : Shaped c₂
+    s₂ = values-shaped c₁ (ofOp (opCount C)) types s₁ r₂
+
+    pub k₂ : (j : ℕ) → (j ≡ 2 → ⊥) → (j ≡ 3 → ⊥) → at c₂ counts j ≡ at C counts j
+    k₂ j n2 n3 = values-counts c₁ (ofOp (opCount C)) types s₁ r₂ j n3 ∙ k₁ j n2
+
+    pub r₃ : at c₂ counts 4 + length operands ≤ size operandWords
+    unfolding operandCount
+    r₃ = let e = k₂ 4 (λ q. omega arith) (λ q. omega arith) in let r = room .operands in omega arith
+
+    s₃ : Shaped c₃
+    s₃ = part-shaped c₂ operandWords 4 operands s₂ r₃
+
+    pub k₃ : (j : ℕ) → (j ≡ 2 → ⊥) → (j ≡ 3 → ⊥) → (j ≡ 4 → ⊥) → at c₃ counts j ≡ at C counts j
+    k₃ j n2 n3 n4 = part-counts c₂ operandWords 4 operands s₂ r₃ refl j n4 ∙ k₂ j n2 n3
+
+    pub r₄ : at c₃ counts 5 + length successors ≤ size successorWords
+    unfolding successorCount
+    r₄ = let e = k₃ 5 (λ q. omega arith) (λ q. omega arith) (λ q. omega arith) in let r = room .successors in omega arith
+
+    s₄ : Shaped c₄
+    s₄ = part-shaped c₃ successorWords 5 successors s₃ r₄
+
+    -- ---- the counts
+
+    after₃ : (j : ℕ) → (j ≡ 0 → ⊥) → (j ≡ 5 → ⊥) → at made counts j ≡ at c₃ counts j
+    unfolding withOperation opWritten
+    after₃ j n0 n5 = count-other c₄ 0 (opCount C + 1) j n0 ∙ part-counts c₃ successorWords 5 successors s₃ r₄ refl j n5
+
+    pub counts-else : (j : ℕ) → (j ≡ 0 → ⊥) → (j ≡ 2 → ⊥) → (j ≡ 3 → ⊥) → (j ≡ 4 → ⊥) → (j ≡ 5 → ⊥) → at made counts j ≡ at C counts j
+    counts-else j n0 n2 n3 n4 n5 = after₃ j n0 n5 ∙ k₃ j n2 n3 n4
+
+    pub ops-count : at made counts 0 ≡ opCount C + 1
+    unfolding withOperation opWritten
+    ops-count = count-same c₄ 0 (opCount C + 1) s₄ (omega arith)
+
+    pub regions-counted : at made counts 2 ≡ regionCount C + regions
+    unfolding regionCount
+    regions-counted =
+        after₃ 2 (λ q. omega arith) (λ q. omega arith)
+        ∙ part-counts c₂ operandWords 4 operands s₂ r₃ refl 2 (λ q. omega arith)
+        ∙ values-counts c₁ (ofOp (opCount C)) types s₁ r₂ 2 (λ q. omega arith)
+        ∙ regions-count placed (opCount C) regions s₀ r₁
+        ∙ ap (λ (n : ℕ). n + regions) (counts-placed 2)
+
+    pub values-counted : at made counts 3 ≡ valueCount C + length types
+    unfolding valueCount
+    values-counted =
+        after₃ 3 (λ q. omega arith) (λ q. omega arith)
+        ∙ part-counts c₂ operandWords 4 operands s₂ r₃ refl 3 (λ q. omega arith)
+        ∙ values-count c₁ (ofOp (opCount C)) types s₁ r₂
+        ∙ ap (λ (n : ℕ). n + length types) (k₁ 3 (λ q. omega arith))
+
+    pub operands-counted : at made counts 4 ≡ operandCount C + length operands
+    unfolding operandCount
+    operands-counted =
+        after₃ 4 (λ q. omega arith) (λ q. omega arith)
+        ∙ part-count c₂ operandWords 4 operands s₂ r₃ (omega arith)
+        ∙ ap (λ (n : ℕ). n + length operands) (k₂ 4 (λ q. omega arith) (λ q. omega arith))
+
+    pub successors-counted : at made counts 5 ≡ successorCount C + length successors
+    unfolding withOperation opWritten successorCount
+    successors-counted =
+        count-other c₄ 0 (opCount C + 1) 5 (λ q. omega arith)
+        ∙ part-count c₃ successorWords 5 successors s₃ r₄ (omega arith)
+        ∙ ap (λ (n : ℕ). n + length successors) (k₃ 5 (λ q. omega arith) (λ q. omega arith) (λ q. omega arith))

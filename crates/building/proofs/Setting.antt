@@ -1,0 +1,13 @@
+-- A call that sets an attribute or an operand, column by column.
+pub mod Changed
+pub mod Patched
+pub mod SetOperand
+pub mod Place
+pub mod Inserted
+pub mod Written
+pub mod Replaced
+pub mod Added
+pub mod SetAttribute
+pub mod Owners
+pub mod Seeking
+pub mod Causes

@@ -1,0 +1,44 @@
+-- `new_block` meets its contract: by the soundness check, and by the call on a sound buffer. Assumes nothing.
+use mathlib.Core.Path.{refl}
+use Rattle.rules.specs.Building.{newBlock}
+use Rattle.layout.proofs.Scans.{failed, held}
+use Rattle.layout.proofs.Empty.{sound-facts}
+use Rattle.building.specs.Types.{builtOf}
+use Rattle.building.proofs.Answering.{turned-down, taken-up}
+use borrow.Author.Needs.{needs}
+use Rattle.building.proofs.calls.new_block.Statement.{statement}
+use Rattle.building.proofs.calls.new_block.Tie as tie
+use Rattle.building.proofs.calls.new_block.Reads as reads
+use Rattle.building.proofs.calls.new_block.Lts as lts
+use Rattle.building.proofs.blocks.new_block.Reads as new-block-reads
+use Rattle.layout.proofs.sound.is_sound.Reads as is-sound-reads
+
+is-sound-requires : tie.Need-is-sound-requires
+is-sound-requires c κs = search needs
+
+same-length : tie.Need-same-length
+same-length c = search needs
+
+returns : tie.Need-returns
+unfolding builtOf
+returns c =
+    let a = c .before .before .before .before .before .args in
+    turned-down (a .store .now) (newBlock (a .region) (a .label) (a .location) (a .types .now)) _ (failed (c .before .is-sound .ensures) (c .if1 .taken)) refl
+
+new-block-requires : tie.Need-new-block-requires
+new-block-requires c κs = sound-facts _ (held (c .before .before .is-sound .ensures) (c .before .if1 .left))
+
+same-length-2 : tie.Need-same-length-2
+same-length-2 c = search needs
+
+returns-2 : tie.Need-returns-2
+returns-2 c =
+    let a = c .before .before .before .before .before .before .before .before .before .args in
+    taken-up (a .store .now)
+    (newBlock (a .region) (a .label) (a .location) (a .types .now)) _ _ (held (c .before .before .before .before .before .is-sound .ensures) (c .before .before .before .before .if1 .left))
+    (c .before .before .new-block .ensures)
+
+pub new-block-spec : {M : Type 1} → statement M
+new-block-spec =
+    tie.close
+    (tie.spec is-sound-requires same-length returns new-block-requires same-length-2 returns-2)

@@ -1,0 +1,42 @@
+-- `set_operand` meets its contract: by the soundness check, and by the call on a sound buffer. Assumes nothing.
+use mathlib.Core.Path.{refl}
+use Rattle.rules.specs.Building.{setOperand}
+use Rattle.layout.proofs.Scans.{failed, held}
+use Rattle.layout.proofs.Empty.{sound-facts}
+use Rattle.building.specs.Types.{builtOf}
+use Rattle.building.proofs.Answering.{turned-down, taken-up}
+use borrow.Author.Needs.{needs}
+use Rattle.building.proofs.calls.set_operand.Statement.{statement}
+use Rattle.building.proofs.calls.set_operand.Tie as tie
+use Rattle.building.proofs.calls.set_operand.Reads as reads
+use Rattle.building.proofs.calls.set_operand.Lts as lts
+use Rattle.building.proofs.operands.set_operand.Reads as set-operand-reads
+use Rattle.layout.proofs.sound.is_sound.Reads as is-sound-reads
+
+is-sound-requires : tie.Need-is-sound-requires
+is-sound-requires c κs = search needs
+
+same-length : tie.Need-same-length
+same-length c = search needs
+
+returns : tie.Need-returns
+unfolding builtOf
+returns c =
+    let a = c .before .before .before .before .args in
+    turned-down (a .store .now) (setOperand (a .n) (a .i) (a .v)) _ (failed (c .before .is-sound .ensures) (c .if1 .taken)) refl
+
+set-operand-requires : tie.Need-set-operand-requires
+set-operand-requires c κs = sound-facts _ (held (c .before .before .is-sound .ensures) (c .before .if1 .left))
+
+same-length-2 : tie.Need-same-length-2
+same-length-2 c = search needs
+
+returns-2 : tie.Need-returns-2
+returns-2 c =
+    let a = c .before .before .before .before .before .before .before .before .args in
+    taken-up (a .store .now) (setOperand (a .n) (a .i) (a .v)) _ _ (held (c .before .before .before .before .before .is-sound .ensures) (c .before .before .before .before .if1 .left)) (c .before .before .set-operand .ensures)
+
+pub set-operand-spec : {M : Type 1} → statement M
+set-operand-spec =
+    tie.close
+    (tie.spec is-sound-requires same-length returns set-operand-requires same-length-2 returns-2)

@@ -1,0 +1,77 @@
+-- `put_regions` meets its contract: the regions are written behind the old ones, and counted. Assumes nothing.
+use Prim.Native.Nat.{ℕ, _+_}
+use native.Mathlib.Omega.{arith}
+use mathlib.Core.Path.{ap, ap₂, _∙_}
+use lib.ListN.{replicate}
+use Rattle.layout.specs.Columns.{Cols, columns, write, pour}
+use Rattle.layout.specs.Reading.{regionCount}
+use Rattle.building.specs.Raw.{withRegions}
+use borrow.Author.Needs.{needs}
+use Rattle.building.proofs.writes.put_regions.Statement.{statement}
+use Rattle.building.proofs.writes.put_regions.Tie as tie
+use Rattle.building.proofs.writes.put_regions.Reads as reads
+use Rattle.building.proofs.writes.put_regions.Lts as lts
+use Rattle.layout.proofs.columns.number.Reads as number-reads
+use Rattle.layout.proofs.columns.put.Reads as put-reads
+use Rattle.layout.proofs.columns.put_same.Reads as put-same-reads
+
+number-requires : tie.Need-number-requires
+number-requires c κs = search needs
+
+cast-put-same : tie.Need-cast-put-same
+cast-put-same c = search needs
+
+put-same-requires : tie.Need-put-same-requires
+unfolding regionCount
+put-same-requires c κs = omega arith
+
+put-same-requires-2 : tie.Need-put-same-requires-2
+unfolding regionCount
+put-same-requires-2 c κs = omega arith
+
+put-same-requires-3 : tie.Need-put-same-requires-3
+unfolding regionCount
+put-same-requires-3 c κs = omega arith
+
+add-put : tie.Need-add-put
+unfolding regionCount
+add-put c = omega arith
+
+cast-put : tie.Need-cast-put
+unfolding regionCount
+cast-put c = omega arith
+
+put-requires : tie.Need-put-requires
+put-requires c κs = search needs
+
+same-length : tie.Need-same-length
+same-length c = search needs
+
+returns : tie.Need-returns
+unfolding withRegions regionCount
+returns c =
+    let a = c .before .before .before .before .before .before .before .before .before .before .before .before .before .before .before .before .before .before .before .args in
+    let C = columns (a .store .now) in
+    let n = c .before .before .before .before .before .before .before .before .before .before .before .before .before .before .before .before .number .ensures in
+    c .before .before .put .ensures
+    ∙ ap₂ (λ (X : Cols) (v : ℕ). write X 0 2 (v + a .regions))
+    (c .before .before .before .before .before .before .put-same3 .ensures
+    ∙ ap₂ (λ (X : Cols) (v : ℕ). pour X 16 v (replicate (a .regions) 0))
+    (c .before .before .before .before .before .before .before .before .before .before .put-same2 .ensures
+    ∙ ap₂ (λ (X : Cols) (v : ℕ). pour X 15 v (replicate (a .regions) 0))
+    (c .before .before .before .before .before .before .before .before .before .before .before .before .before .before .put-same .ensures ∙ ap (λ (v : ℕ). pour C 14 v (replicate (a .regions) (a .n))) n) n) n) n
+
+pub put-regions-spec : {M : Type 1} → statement M
+put-regions-spec =
+    tie.close
+    (tie.spec
+    number-requires
+    cast-put-same
+    put-same-requires
+    put-same-requires-2
+    put-same-requires-3
+    add-put
+    cast-put
+    put-requires
+    same-length
+    returns)

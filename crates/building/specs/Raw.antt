@@ -1,0 +1,173 @@
+-- What each accepted building call writes, column by column.
+use Prim.Native.Nat.{ℕ, zero, suc, _+_, _<_, _≤_}
+use mathlib.Core.Bool.{Bool, cond, _&&_}
+use mathlib.Core.Option.{Option, none, some}
+use mathlib.Core.List.{List, _∷_}
+use lib.Dec.{eqb, leb, ltb}
+use lib.ListN.{length, replicate}
+use Rattle.rules.specs.Store.{Attribute, Owner, ofOp, ofBlock, maxOps, maxRegions, maxValues, maxOperands, maxSuccessors}
+use Rattle.layout.specs.Columns.{Cols, at, write, pour, counts, opKind, opParent, opLocation, opDepth, opRegionFirst, opRegionEnd, opResultFirst, opResultEnd, opOperandFirst, opOperandEnd, opSuccessorFirst, opSuccessorEnd, opAttributes, regionOp, regionBlockFirst, regionBlockEnd, blockRegion, blockLabel, blockLocation, blockArgumentFirst, blockArgumentEnd, blockOpFirst, blockOpEnd, blockAttributes, valueType, valueOwner, operandWords, successorWords, slotKey, slotKind, slotContent}
+use Rattle.layout.specs.Reading.{opCount, blockCount, regionCount, valueCount, operandCount, successorCount, attributeCount, ownerCode, slotsOf, part}
+
+-- ---- new values, of an operation or of a block
+
+-- by the owner's code
+unfoldable pub withValuesBy : Cols → ℕ → List ℕ → Cols
+withValuesBy C code types =
+    write (pour (pour C valueType (valueCount C) types) valueOwner (valueCount C) (replicate (length types) code))
+    counts 3 (valueCount C + length types)
+
+unfoldable pub withValues : Cols → Owner → List ℕ → Cols
+unfolding withValuesBy
+withValues C w types = withValuesBy C (ownerCode w) types
+
+-- ---- new operation
+
+unfoldable pub parentCode : Option ℕ → ℕ
+parentCode none = 0
+parentCode (some b) = b + 1
+
+-- the parent, if there is one, is below n
+unfoldable pub parentBelow : ℕ → Option ℕ → Type 0
+parentBelow n none = Unit {0}
+parentBelow n (some b) = b < n
+
+-- there is room for so many of each
+pub record OpRoom (C : Cols) (r v o s : ℕ) : Type 0 where
+  pub ops : opCount C + 1 ≤ maxOps
+  pub regions : regionCount C + r ≤ maxRegions
+  pub values : valueCount C + v ≤ maxValues
+  pub operands : operandCount C + o ≤ maxOperands
+  pub successors : successorCount C + s ≤ maxSuccessors
+
+-- the nesting of an operation with this parent
+unfoldable pub depthUnder : Cols → Option ℕ → ℕ
+depthUnder C none = 0
+depthUnder C (some b) = at C opDepth (at C regionOp (at C blockRegion b)) + 1
+
+-- where a range of children begins once n is in it: with n if it was empty
+unfoldable pub begun : ℕ → ℕ → ℕ → ℕ
+begun first end n = cond (leb end first) n first
+
+-- a child, number n, goes to the end of its owner's range
+unfoldable pub extended : Cols → ℕ → ℕ → ℕ → ℕ → Cols
+extended C first end owner n = write (write C first owner (begun (at C first owner) (at C end owner) n)) end owner (n + 1)
+
+unfoldable pub opPlaced : Cols → Option ℕ → ℕ → Cols
+opPlaced C none n = C
+opPlaced C (some b) n = extended C blockOpFirst blockOpEnd b n
+
+-- so many regions, of operation n, without blocks
+unfoldable pub withRegions : Cols → ℕ → ℕ → Cols
+withRegions C n regions =
+    write
+    (pour (pour (pour C regionOp (regionCount C) (replicate regions n)) regionBlockFirst (regionCount C) (replicate regions 0)) regionBlockEnd (regionCount C) (replicate regions 0))
+    counts 2 (regionCount C + regions)
+
+-- a part of a shared list, at its end; the count of the list is word c
+unfoldable pub withPart : Cols → ℕ → ℕ → List ℕ → Cols
+withPart C k c xs = write (pour C k (at C counts c) xs) counts c (at C counts c + length xs)
+
+-- the words of operation n, by themselves
+unfoldable pub opLeaves : Cols → ℕ → ℕ → ℕ → ℕ → ℕ → Cols
+opLeaves C n kind parent location depth =
+    write (write (write (write (write C opKind n kind) opParent n parent) opLocation n location) opDepth n depth) opAttributes n 0
+
+-- a range of operation n
+unfoldable pub opRange : Cols → ℕ → ℕ → ℕ → ℕ → ℕ → Cols
+opRange C first end n from count = write (write C first n from) end n (from + count)
+
+unfoldable pub opRanges : Cols → ℕ → ℕ → ℕ → ℕ → ℕ → Cols
+opRanges C n regions results operands successors =
+    opRange
+    (opRange (opRange (opRange C opRegionFirst opRegionEnd n (regionCount C) regions) opResultFirst opResultEnd n (valueCount C) results) opOperandFirst opOperandEnd n (operandCount C) operands)
+    opSuccessorFirst opSuccessorEnd n (successorCount C) successors
+
+unfoldable pub opWritten : Cols → ℕ → Option ℕ → ℕ → ℕ → ℕ → ℕ → ℕ → Cols
+opWritten C kind parent location regions results operands successors =
+    opPlaced
+    (opRanges (opLeaves C (opCount C) kind (parentCode parent) location (depthUnder C parent)) (opCount C) regions results operands successors)
+    parent (opCount C)
+
+unfoldable pub withOperation : Cols → ℕ → Option ℕ → ℕ → ℕ → List ℕ → List ℕ → List ℕ → Cols
+withOperation C kind parent location regions types operands successors =
+    write
+    (withPart
+    (withPart
+    (withValues
+    (withRegions (opWritten C kind parent location regions (length types) (length operands) (length successors)) (opCount C) regions)
+    (ofOp (opCount C)) types)
+    operandWords 4 operands)
+    successorWords 5 successors)
+    counts 0 (opCount C + 1)
+
+-- ---- new block
+
+unfoldable pub blockWritten : Cols → ℕ → ℕ → ℕ → ℕ → ℕ → Cols
+blockWritten C m region label location arguments =
+    write
+    (write
+    (write
+    (write (write (write (write (write C blockRegion m region) blockLabel m label) blockLocation m location) blockArgumentFirst m (valueCount C)) blockArgumentEnd m (valueCount C + arguments))
+    blockOpFirst m 0)
+    blockOpEnd m 0)
+    blockAttributes m 0
+
+unfoldable pub withBlock : Cols → ℕ → ℕ → ℕ → List ℕ → Cols
+withBlock C region label location types =
+    write
+    (withValues
+    (extended (blockWritten C (blockCount C) region label location (length types)) regionBlockFirst regionBlockEnd region (blockCount C))
+    (ofBlock (blockCount C)) types)
+    counts 1 (blockCount C + 1)
+
+-- ---- set attribute
+
+-- the column of attribute counts of operations or of blocks, and the owner's number
+unfoldable pub countColumn : Owner → ℕ
+countColumn (ofOp n) = opAttributes
+countColumn (ofBlock b) = blockAttributes
+
+unfoldable pub ownerNumber : Owner → ℕ
+ownerNumber (ofOp n) = n
+ownerNumber (ofBlock b) = b
+
+unfoldable pub keyCount : Cols → Owner → ℕ
+keyCount C w = at C (countColumn w) (ownerNumber w)
+
+-- of so many slots from slot i on, the first whose key is not below this one
+unfoldable pub seek : Cols → ℕ → ℕ → ℕ → ℕ
+seek C key i zero = i
+seek C key i (suc left) = cond (ltb (at C slotKey i) key) (seek C key (suc i) left) i
+
+unfoldable pub slotFor : Cols → Owner → ℕ → ℕ
+slotFor C w key = seek C key (slotsOf w) (keyCount C w)
+
+-- the key stands at that slot already
+unfoldable pub keyThere : Cols → Owner → ℕ → Bool
+keyThere C w key = ltb (slotFor C w key) (slotsOf w + keyCount C w) && eqb (at C slotKey (slotFor C w key)) key
+
+-- a word put before the words of a column from slot i up to slot e
+unfoldable pub inserted : Cols → ℕ → ℕ → ℕ → ℕ → Cols
+inserted C k i e v = pour C k i (v ∷ part (C k) i e)
+
+unfoldable pub replaced : Cols → ℕ → Attribute → Cols
+replaced C i a = write (write C slotKind i (a .kind)) slotContent i (a .content)
+
+unfoldable pub added : Cols → Owner → ℕ → Attribute → Cols
+added C w i a =
+    write
+    (write
+    (inserted
+    (inserted (inserted C slotKey i (slotsOf w + keyCount C w) (a .key)) slotKind i (slotsOf w + keyCount C w) (a .kind))
+    slotContent i (slotsOf w + keyCount C w) (a .content))
+    (countColumn w) (ownerNumber w) (keyCount C w + 1))
+    counts 6 (attributeCount C + 1)
+
+unfoldable pub withAttribute : Cols → Owner → Attribute → Cols
+withAttribute C w a = cond (keyThere C w (a .key)) (replaced C (slotFor C w (a .key)) a) (added C w (slotFor C w (a .key)) a)
+
+-- ---- set operand
+
+unfoldable pub withOperand : Cols → ℕ → ℕ → ℕ → Cols
+withOperand C n i v = write C operandWords (at C opOperandFirst n + i) v

@@ -1,0 +1,209 @@
+// The call that sets an attribute: its owner's slots, where a key belongs among them, what is tested and what is written.
+use crate::types::Attribute;
+use crate::types::Built;
+use crate::types::Cause;
+use crate::types::Owner;
+use layout::columns::ATTRIBUTES;
+use layout::columns::BLOCK_ATTRIBUTES;
+use layout::columns::BLOCKS;
+use layout::columns::COUNTS;
+use layout::columns::OP_ATTRIBUTES;
+use layout::columns::OPS;
+use layout::columns::SLOT_CONTENT;
+use layout::columns::SLOT_KEY;
+use layout::columns::SLOT_KIND;
+use layout::columns::at;
+use layout::columns::insert;
+use layout::columns::number;
+use layout::columns::put;
+ghost use mathlib.Core.Path.{_≡_};
+ghost use mathlib.Core.Bool.{true};
+ghost use mathlib.Core.Option.{none};
+ghost use Prim.Native.Nat.{_+_, _<_, _≤_};
+ghost use lib.ListN.{length};
+ghost use Rattle.rules.specs.Store.{ownerExists};
+ghost use Rattle.rules.specs.Building.{setAttribute, tests, firstFailed};
+ghost use Rattle.layout.specs.Columns.{bufferLength, columns};
+ghost use Rattle.layout.specs.Reading.{slotsOf};
+ghost use Rattle.layout.specs.Soundness.{IsSound};
+ghost use Rattle.building.specs.Types.{ownerOf, attributeOf, causeOf};
+ghost use Rattle.building.specs.Raw.{countColumn, ownerNumber, keyCount, seek, slotFor, keyThere, replaced, added, withAttribute};
+ghost use Rattle.building.specs.Calls.{bufferStore, Did};
+
+// The column of attribute counts that the owner's stands in.
+fn count_column(owner: Owner) -> usize
+    ensures { λ r. ⌜ r ≡ countColumn (ownerOf owner) ⌝ }
+{
+    match owner {
+        Owner::Op(_) => OP_ATTRIBUTES,
+        Owner::Block(_) => BLOCK_ATTRIBUTES,
+    }
+}
+
+// The owner's number.
+fn owner_number(owner: Owner) -> usize
+    ensures { λ r. ⌜ r ≡ ownerNumber (ownerOf owner) ⌝ }
+{
+    match owner {
+        Owner::Op(n) => n as usize,
+        Owner::Block(b) => b as usize,
+    }
+}
+
+// The owner's first attribute slot.
+fn first_slot(owner: Owner) -> usize
+    ensures { λ r. ⌜ r ≡ slotsOf (ownerOf owner) ⌝ }
+{
+    match owner {
+        Owner::Op(n) => 8 * n as usize,
+        Owner::Block(b) => 4096 + 8 * b as usize,
+    }
+}
+
+// The owner exists.
+fn owner_exists(store: &[u32], owner: Owner) -> bool
+    requires { ⌜ IsSound (now store) ⌝ }
+    ensures { λ r. ⌜ r ≡ ownerExists (bufferStore (now (store .entry))) (ownerOf owner) ⌝ }
+{
+    match owner {
+        Owner::Op(n) => n < at(store, COUNTS, OPS),
+        Owner::Block(b) => b < at(store, COUNTS, BLOCKS),
+    }
+}
+
+// How many keys the owner has.
+fn key_count(store: &[u32], owner: Owner) -> usize
+    requires { ⌜ IsSound (now store) ⌝ }
+    requires { ⌜ ownerExists (bufferStore (now store)) (ownerOf owner) ≡ true ⌝ }
+    ensures { λ r. ⌜ r ≡ keyCount (columns (now (store .entry))) (ownerOf owner) ⌝ }
+{
+    number(store, count_column(owner), owner_number(owner))
+}
+
+// Of so many slots from `first` on, the first whose key is not below this one.
+fn slot_from(store: &[u32], first: usize, count: usize, key: u32) -> usize
+    requires { ⌜ length (now store) ≡ bufferLength ⌝ }
+    requires { ⌜ count ≤ 8 ⌝ }
+    requires { ⌜ first + 8 ≤ 6144 ⌝ }
+    ensures { λ r. ⌜ r ≡ seek (columns (now (store .entry))) key first count ⌝ }
+{
+    let mut i = 0;
+    while i < count {
+        if at(store, SLOT_KEY, first + i) >= key {
+            return first + i;
+        }
+        i += 1;
+    }
+    first + count
+}
+
+// The owner's slot where the key belongs.
+fn slot_for(store: &[u32], owner: Owner, key: u32) -> usize
+    requires { ⌜ IsSound (now store) ⌝ }
+    requires { ⌜ ownerExists (bufferStore (now store)) (ownerOf owner) ≡ true ⌝ }
+    ensures { λ r. ⌜ r ≡ slotFor (columns (now (store .entry))) (ownerOf owner) key ⌝ }
+{
+    slot_from(store, first_slot(owner), key_count(store, owner), key)
+}
+
+// The key stands already at that slot.
+fn key_there(store: &[u32], owner: Owner, slot: usize, key: u32) -> bool
+    requires { ⌜ IsSound (now store) ⌝ }
+    requires { ⌜ ownerExists (bufferStore (now store)) (ownerOf owner) ≡ true ⌝ }
+    requires { ⌜ slot ≡ slotFor (columns (now store)) (ownerOf owner) key ⌝ }
+    ensures { λ r. ⌜ r ≡ keyThere (columns (now (store .entry))) (ownerOf owner) key ⌝ }
+{
+    if slot >= first_slot(owner) + key_count(store, owner) {
+        return false;
+    }
+    at(store, SLOT_KEY, slot) == key
+}
+
+// The attribute at a slot is replaced.
+fn put_replaced(store: &mut [u32], slot: usize, attribute: Attribute)
+    requires { ⌜ length (now store) ≡ bufferLength ⌝ }
+    requires { ⌜ slot < 6144 ⌝ }
+    ensures { λ _. ⌜ columns (now (store .exit)) ≡ replaced (columns (now (store .entry))) slot (attributeOf attribute) ⌝ }
+{
+    put(store, SLOT_KIND, slot, attribute.kind);
+    put(store, SLOT_CONTENT, slot, attribute.content);
+}
+
+// An attribute is put before those from a slot on, and counted.
+fn put_added(store: &mut [u32], owner: Owner, slot: usize, attribute: Attribute)
+    requires { ⌜ IsSound (now store) ⌝ }
+    requires { ⌜ ownerExists (bufferStore (now store)) (ownerOf owner) ≡ true ⌝ }
+    requires { ⌜ slot ≤ slotsOf (ownerOf owner) + keyCount (columns (now store)) (ownerOf owner) ⌝ }
+    requires { ⌜ keyCount (columns (now store)) (ownerOf owner) < 8 ⌝ }
+    ensures { λ _. ⌜ columns (now (store .exit)) ≡ added (columns (now (store .entry))) (ownerOf owner) slot (attributeOf attribute) ⌝ }
+{
+    let count = key_count(store, owner);
+    let total = number(store, COUNTS, ATTRIBUTES);
+    let end = first_slot(owner) + count;
+    insert(store, SLOT_KEY, slot, end, attribute.key);
+    insert(store, SLOT_KIND, slot, end, attribute.kind);
+    insert(store, SLOT_CONTENT, slot, end, attribute.content);
+    put(
+        store,
+        count_column(owner),
+        owner_number(owner),
+        (count + 1) as u32,
+    );
+    put(store, COUNTS, ATTRIBUTES, (total + 1) as u32);
+}
+
+// What the accepted call writes.
+fn put_attribute(store: &mut [u32], owner: Owner, attribute: Attribute)
+    requires { ⌜ IsSound (now store) ⌝ }
+    requires { ⌜ firstFailed (tests (bufferStore (now store)) (setAttribute (ownerOf owner) (attributeOf attribute))) ≡ none ⌝ }
+    ensures { λ _. ⌜ columns (now (store .exit)) ≡ withAttribute (columns (now (store .entry))) (ownerOf owner) (attributeOf attribute) ⌝ }
+{
+    let slot = slot_for(store, owner, attribute.key);
+    if key_there(store, owner, slot, attribute.key) {
+        put_replaced(store, slot, attribute);
+        return;
+    }
+    put_added(store, owner, slot, attribute);
+}
+
+// The cause of the call's refusal, if there is one.
+fn attribute_cause(store: &[u32], owner: Owner, attribute: Attribute) -> Cause
+    requires { ⌜ IsSound (now store) ⌝ }
+    ensures { λ r. ⌜ causeOf r ≡ firstFailed (tests (bufferStore (now (store .entry))) (setAttribute (ownerOf owner) (attributeOf attribute))) ⌝ }
+{
+    if attribute.kind > 63 {
+        return Cause::Is(6);
+    }
+    if !owner_exists(store, owner) {
+        return Cause::Is(2);
+    }
+    if key_there(
+        store,
+        owner,
+        slot_for(store, owner, attribute.key),
+        attribute.key,
+    ) {
+        return Cause::None;
+    }
+    if key_count(store, owner) >= 8 {
+        return Cause::Is(4);
+    }
+    if at(store, COUNTS, ATTRIBUTES) >= 1024 {
+        return Cause::Is(3);
+    }
+    Cause::None
+}
+
+// Sets an attribute, on a sound buffer.
+pub fn set_attribute(store: &mut [u32], owner: Owner, attribute: Attribute) -> Built
+    requires { ⌜ IsSound (now store) ⌝ }
+    ensures { λ r. ⌜ Did (now (store .entry)) (now (store .exit)) (setAttribute (ownerOf owner) (attributeOf attribute)) r ⌝ }
+{
+    match attribute_cause(store, owner, attribute) {
+        Cause::Is(cause) => Built::Refused(cause),
+        Cause::None => {
+            put_attribute(store, owner, attribute);
+            Built::Accepted
+        }
+    }
+}

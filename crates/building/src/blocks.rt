@@ -1,0 +1,120 @@
+// The call that adds a block.
+use crate::types::Built;
+use crate::types::Cause;
+use crate::writes::extend;
+use crate::writes::put_range;
+use crate::writes::put_values;
+use layout::columns::BLOCK_ARGUMENT_END;
+use layout::columns::BLOCK_ARGUMENT_FIRST;
+use layout::columns::BLOCK_ATTRIBUTES;
+use layout::columns::BLOCK_LABEL;
+use layout::columns::BLOCK_LOCATION;
+use layout::columns::BLOCK_OP_END;
+use layout::columns::BLOCK_OP_FIRST;
+use layout::columns::BLOCK_REGION;
+use layout::columns::BLOCKS;
+use layout::columns::COUNTS;
+use layout::columns::REGION_BLOCK_END;
+use layout::columns::REGION_BLOCK_FIRST;
+use layout::columns::REGIONS;
+use layout::columns::VALUES;
+use layout::columns::at;
+use layout::columns::number;
+use layout::columns::put;
+ghost use mathlib.Core.Path.{_≡_};
+ghost use Prim.Native.Nat.{ℕ, _+_, _<_, _≤_};
+ghost use lib.ListN.{length};
+ghost use Rattle.rules.specs.Building.{tests, firstFailed, newBlock};
+ghost use Rattle.layout.specs.Columns.{bufferLength, columns};
+ghost use Rattle.layout.specs.Reading.{blockCount, valueCount};
+ghost use Rattle.layout.specs.Soundness.{IsSound};
+ghost use Rattle.building.specs.Types.{causeOf};
+ghost use Rattle.building.specs.Raw.{blockWritten, withBlock};
+ghost use Rattle.building.specs.Calls.{bufferStore, Did};
+
+// The cause for which the call is refused, if there is one; label and location are never it.
+fn block_cause(store: &[u32], region: u32, types: &[u32]) -> Cause
+    requires { ⌜ IsSound (now store) ⌝ }
+    ensures { λ r. ⌜ ((label location : ℕ) → causeOf r ≡ firstFailed (tests (bufferStore (now (store .entry))) (newBlock region label location (now (types .entry))))) ⌝ }
+{
+    if region >= at(store, COUNTS, REGIONS) {
+        return Cause::Is(2);
+    }
+    if types.len() > 16 {
+        return Cause::Is(4);
+    }
+    if number(store, COUNTS, BLOCKS) >= 256 {
+        return Cause::Is(3);
+    }
+    if number(store, COUNTS, VALUES) + types.len() > 2048 {
+        return Cause::Is(3);
+    }
+    Cause::None
+}
+
+// The row of block m, with so many arguments from the next value on.
+fn put_block_row(
+    store: &mut [u32],
+    m: usize,
+    region: u32,
+    label: u32,
+    location: u32,
+    arguments: usize,
+)
+    requires { ⌜ length (now store) ≡ bufferLength ⌝ }
+    requires { ⌜ m < 256 ⌝ }
+    requires { ⌜ valueCount (columns (now store)) + arguments ≤ 2048 ⌝ }
+    ensures { λ _. ⌜ columns (now (store .exit)) ≡ blockWritten (columns (now (store .entry))) m region label location arguments ⌝ }
+{
+    let from = number(store, COUNTS, VALUES);
+    put(store, BLOCK_REGION, m, region);
+    put(store, BLOCK_LABEL, m, label);
+    put(store, BLOCK_LOCATION, m, location);
+    put_range(
+        store,
+        BLOCK_ARGUMENT_FIRST,
+        BLOCK_ARGUMENT_END,
+        m,
+        from,
+        arguments,
+    );
+    put(store, BLOCK_OP_FIRST, m, 0);
+    put(store, BLOCK_OP_END, m, 0);
+    put(store, BLOCK_ATTRIBUTES, m, 0);
+}
+
+// The block, its place in its region, and its arguments.
+fn put_block(store: &mut [u32], region: u32, label: u32, location: u32, types: &[u32])
+    requires { ⌜ length (now store) ≡ bufferLength ⌝ }
+    requires { ⌜ region < 256 ⌝ }
+    requires { ⌜ blockCount (columns (now store)) + 1 ≤ 256 ⌝ }
+    requires { ⌜ valueCount (columns (now store)) + length (now types) ≤ 2048 ⌝ }
+    ensures { λ _. ⌜ columns (now (store .exit)) ≡ withBlock (columns (now (store .entry))) region label location (now (types .entry)) ⌝ }
+{
+    let m = number(store, COUNTS, BLOCKS);
+    put_block_row(store, m, region, label, location, types.len());
+    extend(
+        store,
+        REGION_BLOCK_FIRST,
+        REGION_BLOCK_END,
+        region as usize,
+        m,
+    );
+    put_values(store, (2 * m + 1) as u32, types);
+    put(store, COUNTS, BLOCKS, (m + 1) as u32);
+}
+
+// The call, on a sound buffer.
+pub fn new_block(store: &mut [u32], region: u32, label: u32, location: u32, types: &[u32]) -> Built
+    requires { ⌜ IsSound (now store) ⌝ }
+    ensures { λ r. ⌜ Did (now (store .entry)) (now (store .exit)) (newBlock region label location (now (types .entry))) r ⌝ }
+{
+    match block_cause(store, region, types) {
+        Cause::Is(k) => Built::Refused(k),
+        Cause::None => {
+            let m = at(store, COUNTS, BLOCKS);
+            put_block(store, region, label, location, types);
+            Built::Made(m)
+        }
+    }
+}

@@ -1,0 +1,221 @@
+// New operation.
+use crate::tests::depth_under;
+use crate::tests::nesting_holds;
+use crate::tests::operation_fits;
+use crate::tests::operation_names;
+use crate::tests::operation_room;
+use crate::types::Built;
+use crate::types::Cause;
+use crate::types::Parent;
+use crate::writes::extend;
+use crate::writes::put_op_leaves;
+use crate::writes::put_part;
+use crate::writes::put_range;
+use crate::writes::put_regions;
+use crate::writes::put_values;
+use layout::columns::BLOCK_OP_END;
+use layout::columns::BLOCK_OP_FIRST;
+use layout::columns::COUNTS;
+use layout::columns::OP_OPERAND_END;
+use layout::columns::OP_OPERAND_FIRST;
+use layout::columns::OP_REGION_END;
+use layout::columns::OP_REGION_FIRST;
+use layout::columns::OP_RESULT_END;
+use layout::columns::OP_RESULT_FIRST;
+use layout::columns::OP_SUCCESSOR_END;
+use layout::columns::OP_SUCCESSOR_FIRST;
+use layout::columns::OPERAND_WORDS;
+use layout::columns::OPERANDS;
+use layout::columns::OPS;
+use layout::columns::REGIONS;
+use layout::columns::SUCCESSOR_WORDS;
+use layout::columns::SUCCESSORS;
+use layout::columns::VALUES;
+use layout::columns::at;
+use layout::columns::number;
+use layout::columns::put;
+ghost use mathlib.Core.Path.{_≡_};
+ghost use mathlib.Core.Bool.{true};
+ghost use Prim.Native.Nat.{_<_};
+ghost use lib.ListN.{length};
+ghost use Rattle.rules.specs.Store.{parentExists};
+ghost use Rattle.rules.specs.Building.{newOperation, firstFailed};
+ghost use Rattle.layout.specs.Columns.{bufferLength, columns};
+ghost use Rattle.layout.specs.Soundness.{IsSound};
+ghost use Rattle.building.specs.Types.{parentOf, causeOf};
+ghost use Rattle.building.specs.Raw.{OpRoom, parentBelow, parentCode, opRanges, opPlaced, opWritten, withOperation};
+ghost use Rattle.building.specs.Calls.{bufferStore, operationTests, Did};
+
+// The ranges of operation n: so many of each, behind the old ones.
+fn put_ranges(
+    store: &mut [u32],
+    n: usize,
+    regions: usize,
+    results: usize,
+    operands: usize,
+    successors: usize,
+)
+    requires { ⌜ length (now store) ≡ bufferLength ⌝ }
+    requires { ⌜ n < 512 ⌝ }
+    requires { ⌜ OpRoom (columns (now store)) regions results operands successors ⌝ }
+    ensures { λ _. ⌜ columns (now (store .exit)) ≡ opRanges (columns (now (store .entry))) n regions results operands successors ⌝ }
+{
+    let r = number(store, COUNTS, REGIONS);
+    let v = number(store, COUNTS, VALUES);
+    let o = number(store, COUNTS, OPERANDS);
+    let s = number(store, COUNTS, SUCCESSORS);
+    put_range(store, OP_REGION_FIRST, OP_REGION_END, n, r, regions);
+    put_range(store, OP_RESULT_FIRST, OP_RESULT_END, n, v, results);
+    put_range(store, OP_OPERAND_FIRST, OP_OPERAND_END, n, o, operands);
+    put_range(
+        store,
+        OP_SUCCESSOR_FIRST,
+        OP_SUCCESSOR_END,
+        n,
+        s,
+        successors,
+    );
+}
+
+// Operation n goes to the end of its block.
+fn place_op(store: &mut [u32], parent: Parent, n: usize)
+    requires { ⌜ length (now store) ≡ bufferLength ⌝ }
+    requires { ⌜ parentBelow 256 (parentOf parent) ⌝ }
+    requires { ⌜ n < 512 ⌝ }
+    ensures { λ _. ⌜ columns (now (store .exit)) ≡ opPlaced (columns (now (store .entry))) (parentOf parent) n ⌝ }
+{
+    match parent {
+        Parent::None => {}
+        Parent::Block(b) => extend(store, BLOCK_OP_FIRST, BLOCK_OP_END, b as usize, n),
+    }
+}
+
+// A parent as a word.
+fn parent_word(parent: Parent) -> u32
+    requires { ⌜ parentBelow 256 (parentOf parent) ⌝ }
+    ensures { λ r. ⌜ r ≡ parentCode (parentOf parent) ⌝ }
+{
+    match parent {
+        Parent::None => 0,
+        Parent::Block(b) => b + 1,
+    }
+}
+
+// The words of a new operation, its number at the end of its block among them.
+fn put_op(
+    store: &mut [u32],
+    kind: u32,
+    parent: Parent,
+    location: u32,
+    regions: usize,
+    results: usize,
+    operands: usize,
+    successors: usize,
+)
+    requires { ⌜ IsSound (now store) ⌝ }
+    requires { ⌜ parentExists (bufferStore (now store)) (parentOf parent) ≡ true ⌝ }
+    requires { ⌜ OpRoom (columns (now store)) regions results operands successors ⌝ }
+    ensures { λ _. ⌜ columns (now (store .exit)) ≡ opWritten (columns (now (store .entry))) kind (parentOf parent) location regions results operands successors ⌝ }
+{
+    let n = number(store, COUNTS, OPS);
+    let depth = depth_under(store, parent);
+    let word = parent_word(parent);
+    put_op_leaves(store, n, kind, word, location, depth);
+    put_ranges(store, n, regions, results, operands, successors);
+    place_op(store, parent, n);
+}
+
+// All that a new operation writes.
+fn put_operation(
+    store: &mut [u32],
+    kind: u32,
+    parent: Parent,
+    location: u32,
+    regions: u32,
+    types: &[u32],
+    operands: &[u32],
+    successors: &[u32],
+)
+    requires { ⌜ IsSound (now store) ⌝ }
+    requires { ⌜ parentExists (bufferStore (now store)) (parentOf parent) ≡ true ⌝ }
+    requires { ⌜ OpRoom (columns (now store)) regions (length (now types)) (length (now operands)) (length (now successors)) ⌝ }
+    ensures { λ _. ⌜ columns (now (store .exit)) ≡ withOperation (columns (now (store .entry))) kind (parentOf parent) location regions (now (types .entry)) (now (operands .entry)) (now (successors .entry)) ⌝ }
+{
+    let n = number(store, COUNTS, OPS);
+    let count = regions as usize;
+    put_op(
+        store,
+        kind,
+        parent,
+        location,
+        count,
+        types.len(),
+        operands.len(),
+        successors.len(),
+    );
+    put_regions(store, n, count);
+    put_values(store, (2 * n) as u32, types);
+    put_part(store, OPERAND_WORDS, OPERANDS, operands);
+    put_part(store, SUCCESSOR_WORDS, SUCCESSORS, successors);
+    put(store, COUNTS, OPS, (n + 1) as u32);
+}
+
+// The first test of a new operation that fails, if one does.
+fn operation_cause(
+    store: &[u32],
+    parent: Parent,
+    regions: u32,
+    types: &[u32],
+    operands: &[u32],
+    successors: &[u32],
+) -> Cause
+    requires { ⌜ IsSound (now store) ⌝ }
+    ensures { λ r. ⌜ causeOf r ≡ firstFailed (operationTests (bufferStore (now (store .entry))) (parentOf parent) regions (now (types .entry)) (now (operands .entry)) (now (successors .entry))) ⌝ }
+{
+    if !operation_names(store, parent, operands, successors) {
+        return Cause::Is(2);
+    }
+    if !operation_fits(regions, types, operands, successors) {
+        return Cause::Is(4);
+    }
+    if !nesting_holds(store, parent) {
+        return Cause::Is(5);
+    }
+    if !operation_room(store, regions, types, operands, successors) {
+        return Cause::Is(3);
+    }
+    Cause::None
+}
+
+// New operation, on a buffer that is known to be sound.
+pub fn new_operation(
+    store: &mut [u32],
+    kind: u32,
+    parent: Parent,
+    location: u32,
+    regions: u32,
+    types: &[u32],
+    operands: &[u32],
+    successors: &[u32],
+) -> Built
+    requires { ⌜ IsSound (now store) ⌝ }
+    ensures { λ r. ⌜ Did (now (store .entry)) (now (store .exit)) (newOperation kind (parentOf parent) location regions (now (types .entry)) (now (operands .entry)) (now (successors .entry))) r ⌝ }
+{
+    match operation_cause(store, parent, regions, types, operands, successors) {
+        Cause::Is(cause) => Built::Refused(cause),
+        Cause::None => {
+            let n = at(store, COUNTS, OPS);
+            put_operation(
+                store,
+                kind,
+                parent,
+                location,
+                regions,
+                types,
+                operands,
+                successors,
+            );
+            Built::Made(n)
+        }
+    }
+}

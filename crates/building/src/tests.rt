@@ -1,0 +1,126 @@
+// The tests of the calls, in the order of their causes. Each asks for a sound buffer.
+use crate::types::Parent;
+use layout::columns::BLOCK_REGION;
+use layout::columns::BLOCKS;
+use layout::columns::COUNTS;
+use layout::columns::OP_DEPTH;
+use layout::columns::OPERANDS;
+use layout::columns::OPS;
+use layout::columns::REGION_OP;
+use layout::columns::REGIONS;
+use layout::columns::SUCCESSORS;
+use layout::columns::VALUES;
+use layout::columns::at;
+use layout::columns::number;
+use layout::lists::all_below;
+ghost use mathlib.Core.Path.{_≡_};
+ghost use mathlib.Core.Bool.{true};
+ghost use mathlib.Core.Option.{some};
+ghost use Prim.Native.Nat.{_≤_, _<_};
+ghost use lib.ListN.{length};
+ghost use Rattle.rules.specs.Store.{parentExists, nestingHolds, blockExists};
+ghost use Rattle.rules.specs.Building.{operationNames, operationFits, operationRoom};
+ghost use Rattle.layout.specs.Columns.{columns};
+ghost use Rattle.layout.specs.Soundness.{IsSound};
+ghost use Rattle.building.specs.Types.{parentOf};
+ghost use Rattle.building.specs.Raw.{depthUnder};
+ghost use Rattle.building.specs.Calls.{bufferStore};
+
+// The parent, if there is one, exists.
+pub fn parent_exists(store: &[u32], parent: Parent) -> bool
+    requires { ⌜ IsSound (now store) ⌝ }
+    ensures { λ r. ⌜ r ≡ parentExists (bufferStore (now (store .entry))) (parentOf parent) ⌝ }
+{
+    match parent {
+        Parent::None => true,
+        Parent::Block(b) => b < at(store, COUNTS, BLOCKS),
+    }
+}
+
+// Everything that a new operation names exists.
+pub fn operation_names(store: &[u32], parent: Parent, operands: &[u32], successors: &[u32]) -> bool
+    requires { ⌜ IsSound (now store) ⌝ }
+    ensures { λ r. ⌜ r ≡ operationNames (bufferStore (now (store .entry))) (parentOf parent) (now (operands .entry)) (now (successors .entry)) ⌝ }
+{
+    if !parent_exists(store, parent) {
+        return false;
+    }
+    if !all_below(operands, at(store, COUNTS, VALUES)) {
+        return false;
+    }
+    all_below(successors, at(store, COUNTS, BLOCKS))
+}
+
+// Its lists and regions are within the limits of one owner.
+pub fn operation_fits(regions: u32, types: &[u32], operands: &[u32], successors: &[u32]) -> bool
+    ensures { λ r. ⌜ r ≡ operationFits regions (now (types .entry)) (now (operands .entry)) (now (successors .entry)) ⌝ }
+{
+    if regions > 8 {
+        return false;
+    }
+    if types.len() > 16 {
+        return false;
+    }
+    if operands.len() > 16 {
+        return false;
+    }
+    successors.len() <= 8
+}
+
+// The nesting of an operation in block b.
+fn depth_in(store: &[u32], b: usize) -> u32
+    requires { ⌜ IsSound (now store) ⌝ }
+    requires { ⌜ blockExists (bufferStore (now store)) b ≡ true ⌝ }
+    ensures { λ r. ⌜ r ≡ depthUnder (columns (now (store .entry))) (some b) ⌝ }
+{
+    let around = number(store, REGION_OP, number(store, BLOCK_REGION, b));
+    at(store, OP_DEPTH, around) + 1
+}
+
+// The nesting of an operation with this parent.
+pub fn depth_under(store: &[u32], parent: Parent) -> u32
+    requires { ⌜ IsSound (now store) ⌝ }
+    requires { ⌜ parentExists (bufferStore (now store)) (parentOf parent) ≡ true ⌝ }
+    ensures { λ r. ⌜ r ≡ depthUnder (columns (now (store .entry))) (parentOf parent) ⌝ }
+{
+    match parent {
+        Parent::None => 0,
+        Parent::Block(b) => depth_in(store, b as usize),
+    }
+}
+
+// Nesting would not pass 32.
+pub fn nesting_holds(store: &[u32], parent: Parent) -> bool
+    requires { ⌜ IsSound (now store) ⌝ }
+    requires { ⌜ parentExists (bufferStore (now store)) (parentOf parent) ≡ true ⌝ }
+    ensures { λ r. ⌜ r ≡ nestingHolds (bufferStore (now (store .entry))) (parentOf parent) ⌝ }
+{
+    depth_under(store, parent) <= 32
+}
+
+// No total would be passed by a new operation.
+pub fn operation_room(
+    store: &[u32],
+    regions: u32,
+    types: &[u32],
+    operands: &[u32],
+    successors: &[u32],
+) -> bool
+    requires { ⌜ IsSound (now store) ⌝ }
+    requires { ⌜ operationFits regions (now types) (now operands) (now successors) ≡ true ⌝ }
+    ensures { λ r. ⌜ r ≡ operationRoom (bufferStore (now (store .entry))) regions (now (types .entry)) (now (operands .entry)) (now (successors .entry)) ⌝ }
+{
+    if number(store, COUNTS, OPS) + 1 > 512 {
+        return false;
+    }
+    if number(store, COUNTS, REGIONS) + regions as usize > 256 {
+        return false;
+    }
+    if number(store, COUNTS, VALUES) + types.len() > 2048 {
+        return false;
+    }
+    if number(store, COUNTS, OPERANDS) + operands.len() > 2048 {
+        return false;
+    }
+    number(store, COUNTS, SUCCESSORS) + successors.len() <= 512
+}

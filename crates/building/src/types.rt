@@ -1,0 +1,32 @@
+// What the calls take and answer.
+
+// The parent of a new operation: a block, or none.
+pub enum Parent {
+    None,
+    Block(u32),
+}
+
+// What an attribute is set on.
+pub enum Owner {
+    Op(u32),
+    Block(u32),
+}
+
+pub struct Attribute {
+    pub key: u32,
+    pub kind: u32,
+    pub content: u32,
+}
+
+// The answer of a building call: the new number, that it was accepted, or the cause of its refusal.
+pub enum Built {
+    Made(u32),
+    Accepted,
+    Refused(u32),
+}
+
+// The cause of a refusal, if there is one.
+pub enum Cause {
+    None,
+    Is(u32),
+}

@@ -1,0 +1,117 @@
+// What an accepted call writes. Each function writes what the definition of its contract says, column by column, and nothing else.
+use layout::columns::COUNTS;
+use layout::columns::OP_ATTRIBUTES;
+use layout::columns::OP_DEPTH;
+use layout::columns::OP_KIND;
+use layout::columns::OP_LOCATION;
+use layout::columns::OP_PARENT;
+use layout::columns::REGION_BLOCK_END;
+use layout::columns::REGION_BLOCK_FIRST;
+use layout::columns::REGION_OP;
+use layout::columns::REGIONS;
+use layout::columns::VALUE_OWNER;
+use layout::columns::VALUE_TYPE;
+use layout::columns::VALUES;
+use layout::columns::at;
+use layout::columns::number;
+use layout::columns::put;
+use layout::columns::put_all;
+use layout::columns::put_same;
+ghost use mathlib.Core.Path.{_≡_};
+ghost use Prim.Native.Nat.{_+_, _<_, _≤_};
+ghost use lib.ListN.{length};
+ghost use Rattle.layout.specs.Columns.{bufferLength, size, columns, counts};
+ghost use Rattle.layout.specs.Reading.{regionCount, valueCount, ownerCode};
+ghost use Rattle.building.specs.Raw.{opLeaves, opRange, extended, withPart, withRegions, withValuesBy};
+
+// The words of operation n by themselves.
+pub fn put_op_leaves(store: &mut [u32], n: usize, kind: u32, parent: u32, location: u32, depth: u32)
+    requires { ⌜ length (now store) ≡ bufferLength ⌝ }
+    requires { ⌜ n < 512 ⌝ }
+    ensures { λ _. ⌜ columns (now (store .exit)) ≡ opLeaves (columns (now (store .entry))) n kind parent location depth ⌝ }
+{
+    put(store, OP_KIND, n, kind);
+    put(store, OP_PARENT, n, parent);
+    put(store, OP_LOCATION, n, location);
+    put(store, OP_DEPTH, n, depth);
+    put(store, OP_ATTRIBUTES, n, 0);
+}
+
+// A range of operation n: so many numbers, from `from` on.
+pub fn put_range(store: &mut [u32], first: usize, end: usize, n: usize, from: usize, count: usize)
+    requires { ⌜ length (now store) ≡ bufferLength ⌝ }
+    requires { ⌜ first < 32 ⌝ }
+    requires { ⌜ end < 32 ⌝ }
+    requires { ⌜ n < size first ⌝ }
+    requires { ⌜ n < size end ⌝ }
+    requires { ⌜ from + count ≤ 2048 ⌝ }
+    ensures { λ _. ⌜ columns (now (store .exit)) ≡ opRange (columns (now (store .entry))) first end n from count ⌝ }
+{
+    put(store, first, n, from as u32);
+    put(store, end, n, (from + count) as u32);
+}
+
+// A child, number n, goes to the end of its owner's range.
+pub fn extend(store: &mut [u32], first: usize, end: usize, owner: usize, n: usize)
+    requires { ⌜ length (now store) ≡ bufferLength ⌝ }
+    requires { ⌜ first < 32 ⌝ }
+    requires { ⌜ end < 32 ⌝ }
+    requires { ⌜ owner < size first ⌝ }
+    requires { ⌜ owner < size end ⌝ }
+    requires { ⌜ n < 512 ⌝ }
+    ensures { λ _. ⌜ columns (now (store .exit)) ≡ extended (columns (now (store .entry))) first end owner n ⌝ }
+{
+    let begun = begin(at(store, first, owner), at(store, end, owner), n as u32);
+    put(store, first, owner, begun);
+    put(store, end, owner, (n + 1) as u32);
+}
+
+// Where a range of children begins once n is in it: with n if it was empty.
+fn begin(first: u32, end: u32, n: u32) -> u32
+    ensures { λ r. ⌜ r ≡ Rattle.building.specs.Raw.begun first end n ⌝ }
+{
+    if end <= first {
+        return n;
+    }
+    first
+}
+
+// So many regions, of operation n, without blocks.
+pub fn put_regions(store: &mut [u32], n: usize, regions: usize)
+    requires { ⌜ length (now store) ≡ bufferLength ⌝ }
+    requires { ⌜ n < 512 ⌝ }
+    requires { ⌜ regionCount (columns (now store)) + regions ≤ 256 ⌝ }
+    ensures { λ _. ⌜ columns (now (store .exit)) ≡ withRegions (columns (now (store .entry))) n regions ⌝ }
+{
+    let from = number(store, COUNTS, REGIONS);
+    put_same(store, REGION_OP, from, regions, n as u32);
+    put_same(store, REGION_BLOCK_FIRST, from, regions, 0);
+    put_same(store, REGION_BLOCK_END, from, regions, 0);
+    put(store, COUNTS, REGIONS, (from + regions) as u32);
+}
+
+// The values of a new owner, by its code.
+pub fn put_values(store: &mut [u32], owner: u32, types: &[u32])
+    requires { ⌜ length (now store) ≡ bufferLength ⌝ }
+    requires { ⌜ valueCount (columns (now store)) + length (now types) ≤ 2048 ⌝ }
+    ensures { λ _. ⌜ columns (now (store .exit)) ≡ withValuesBy (columns (now (store .entry))) owner (now (types .entry)) ⌝ }
+{
+    let from = number(store, COUNTS, VALUES);
+    put_all(store, VALUE_TYPE, from, types);
+    put_same(store, VALUE_OWNER, from, types.len(), owner);
+    put(store, COUNTS, VALUES, (from + types.len()) as u32);
+}
+
+// A part of a shared list, at its end; the list's count is word `word` of the counts.
+pub fn put_part(store: &mut [u32], column: usize, word: usize, list: &[u32])
+    requires { ⌜ length (now store) ≡ bufferLength ⌝ }
+    requires { ⌜ column < 32 ⌝ }
+    requires { ⌜ word < 8 ⌝ }
+    requires { ⌜ Rattle.layout.specs.Columns.at (columns (now store)) counts word + length (now list) ≤ size column ⌝ }
+    requires { ⌜ size column ≤ 2048 ⌝ }
+    ensures { λ _. ⌜ columns (now (store .exit)) ≡ withPart (columns (now (store .entry))) column word (now (list .entry)) ⌝ }
+{
+    let from = number(store, COUNTS, word);
+    put_all(store, column, from, list);
+    put(store, COUNTS, word, (from + list.len()) as u32);
+}

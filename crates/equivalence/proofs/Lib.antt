@@ -1,0 +1,5 @@
+-- The comparison on lent buffers is the rules'.
+pub mod Entries
+pub mod Pairs
+pub mod Kept
+pub mod Alike

@@ -1,0 +1,101 @@
+-- Two lists pair by pair: a scan up to the shorter end. Images are read off the lent words, and a value's type off its column. Assumes
+-- nothing.
+use Prim.Native.Nat.{ℕ, zero, suc, _+_, _-_, _<_, _≤_, min}
+use native.Mathlib.Nat.{not-suc-le-zero, le-of-suc-le-suc}
+use native.Mathlib.Omega.{arith}
+use mathlib.Core.Bool.{Bool, true, false, _&&_}
+use mathlib.Core.List.{List, [], _∷_}
+use native.Mathlib.Decide.{ℕ-discrete}
+use mathlib.Core.Path.{_≡_, refl, sym, ap, subst, _∙_}
+use borrow.Author.Tests.{ltb-true}
+use lib.Dec.{eqb, ltb}
+use lib.ListN.{length, getD, drop}
+use lib.Seq.{getD-take, getD-drop, ext-getD}
+use Rattle.rules.specs.Lists.{all, allPairs, sameList}
+use Rattle.rules.specs.Store.{typeOf}
+use Rattle.rules.specs.Mapping.{orSelf, image, noImage}
+use Rattle.rules.proofs.Basics.Tests.{and-both, all-at, numbers-same}
+use Rattle.rules.proofs.Basics.Appended.{mem-getD}
+use Rattle.layout.specs.Columns.{Cols, at, valueType}
+use Rattle.layout.specs.Reading.{storeOf, valueCount, valueOf}
+use Rattle.layout.proofs.Tabulate.{value-read}
+use Rattle.layout.proofs.Scans.{Before, and-false}
+use Rattle.equivalence.specs.Lent.{mappingLength, mappingOf}
+
+-- the pair at place i
+abbrev pub Pairs : (ℕ → ℕ → Bool) → List ℕ → List ℕ → ℕ → Bool
+Pairs p xs ys i = p (getD xs i 0) (getD ys i 0)
+
+pub pairs-pass : (p : ℕ → ℕ → Bool) (xs ys : List ℕ) (n : ℕ) → min (length xs) (length ys) ≤ n → Before (Pairs p xs ys) n → allPairs p xs ys ≡ true
+unfolding allPairs
+pairs-pass p [] ys n l b = refl
+pairs-pass p (x ∷ xs) [] n l b = refl
+pairs-pass p (x ∷ xs) (y ∷ ys) n l b =
+    and-both (p x y) (allPairs p xs ys) (b 0 (omega arith)) (pairs-pass p xs ys (n - 1) (omega arith) (λ k h. b (suc k) (omega arith)))
+
+pub pairs-fail : (p : ℕ → ℕ → Bool) (xs ys : List ℕ) (i : ℕ) → i < length xs → i < length ys → p (getD xs i 0) (getD ys i 0) ≡ false → allPairs p xs ys ≡ false
+unfolding allPairs
+pairs-fail p [] ys i l r h = absurd (not-suc-le-zero l)
+pairs-fail p (x ∷ xs) [] i l r h = absurd (not-suc-le-zero r)
+pairs-fail p (x ∷ xs) (y ∷ ys) zero l r h = ap (λ (b : Bool). b && allPairs p xs ys) h
+pairs-fail p (x ∷ xs) (y ∷ ys) (suc i) l r h =
+    and-false (p x y) (allPairs p xs ys) (pairs-fail p xs ys i (le-of-suc-le-suc l) (le-of-suc-le-suc r) h)
+
+-- an entry of a list that is all below n
+pub below-at : (n : ℕ) (xs : List ℕ) → all (λ (v : ℕ). ltb v n) xs ≡ true → (i : ℕ) → i < length xs → getD xs i 0 < n
+below-at n xs h i l = ltb-true _ n (all-at (λ (v : ℕ). ltb v n) xs h (mem-getD xs i 0 l))
+
+-- ---- images
+
+any-default : (xs : List ℕ) (i d e : ℕ) → i < length xs → getD xs i d ≡ getD xs i e
+any-default [] i d e l = absurd (not-suc-le-zero l)
+any-default (x ∷ xs) zero d e l = refl
+any-default (x ∷ xs) (suc i) d e l = any-default xs i d e (le-of-suc-le-suc l)
+
+pub value-image : (b : List ℕ) (v : ℕ) → length b ≡ mappingLength → v < 2048 → orSelf (getD b v 0) v ≡ image (mappingOf b .values) v
+unfolding image mappingOf
+value-image b v long l = ap (λ (e : ℕ). orSelf e v) (any-default b v 0 noImage (omega arith) ∙ sym (getD-take 2048 b v noImage l))
+
+pub block-image : (b : List ℕ) (v : ℕ) → length b ≡ mappingLength → v < 256 → orSelf (getD b (2048 + v) 0) v ≡ image (mappingOf b .blocks) v
+unfolding image mappingOf
+block-image b v long l =
+    ap (λ (e : ℕ). orSelf e v) (any-default b (2048 + v) 0 noImage (omega arith) ∙ sym (getD-take 256 (drop 2048 b) v noImage l ∙ getD-drop 2048 b v noImage))
+
+-- ---- types
+
+pub type-read : (C : Cols) (v : ℕ) → v < valueCount C → typeOf (storeOf C) v ≡ at C valueType v
+unfolding typeOf valueOf
+type-read C v l = ap (λ x. x .type) (value-read C v l)
+
+-- ---- equal lists
+
+pub same-length : (xs ys : List ℕ) → (length xs ≡ length ys → ⊥) → sameList eqb xs ys ≡ false
+unfolding sameList
+same-length [] [] ne = absurd (ne refl)
+same-length [] (y ∷ ys) ne = refl
+same-length (x ∷ xs) [] ne = refl
+same-length (x ∷ xs) (y ∷ ys) ne = and-false (eqb x y) (sameList eqb xs ys) (same-length xs ys (λ e. ne (ap suc e)))
+
+pub same-fail : (xs ys : List ℕ) (i : ℕ) → i < length xs → i < length ys → (getD xs i 0 ≡ getD ys i 0 → ⊥) → sameList eqb xs ys ≡ false
+same-fail xs ys i l r ne = not-same (sameList eqb xs ys) refl
+  where
+    not-same : (t : Bool) → sameList eqb xs ys ≡ t → sameList eqb xs ys ≡ false
+    not-same true e = absurd (ne (ap (λ (zs : List ℕ). getD zs i 0) (numbers-same xs ys .0 e)))
+    not-same false e = e
+
+pub same-pass : (xs ys : List ℕ) → length xs ≡ length ys → ((i : ℕ) → i < length xs → getD xs i 0 ≡ getD ys i 0) → sameList eqb xs ys ≡ true
+same-pass xs ys e f = numbers-same xs ys .1 (ext-getD 0 xs ys e f)
+
+-- the entries before i are equal
+abbrev pub Matched : List ℕ → List ℕ → ℕ → Type 0
+Matched xs ys i = (k : ℕ) → k < i → getD xs k 0 ≡ getD ys k 0
+
+pub matched-zero : (xs ys : List ℕ) → Matched xs ys 0
+matched-zero xs ys k h = absurd (not-suc-le-zero h)
+
+pub matched-next : (xs ys : List ℕ) (i : ℕ) → Matched xs ys i → getD xs i 0 ≡ getD ys i 0 → Matched xs ys (i + 1)
+matched-next xs ys i m e k h = go (ℕ-discrete k i)
+  where
+    go : Dec (k ≡ i) → getD xs k 0 ≡ getD ys k 0
+    go (yes q) = subst (λ (j : ℕ). getD xs j 0 ≡ getD ys j 0) (sym q) e
+    go (no ne) = m k (omega arith)

@@ -1,0 +1,17 @@
+-- `bit_set` meets its contract: a shift is a division by a power of two. Assumes nothing.
+use Rattle.equivalence.specs.Lent.{bitSet}
+use borrow.Author.Needs.{needs}
+use Rattle.equivalence.proofs.leaves.bit_set.Statement.{statement}
+use Rattle.equivalence.proofs.leaves.bit_set.Tie as tie
+use Rattle.equivalence.proofs.leaves.bit_set.Reads as reads
+use Rattle.equivalence.proofs.leaves.bit_set.Lts as lts
+
+shr-result : tie.Need-shr-result
+shr-result c = search needs
+
+returns : tie.Need-returns
+unfolding bitSet
+returns c = search needs
+
+pub bit-set-spec : {M : Type 1} → statement M
+bit-set-spec = tie.close (tie.spec shr-result returns)

@@ -1,0 +1,110 @@
+-- `successors_agree` meets its contract: the pairs that were passed agree, and the first that does not ends the scan. Assumes nothing.
+use Prim.Native.Nat.{_-_, _≤_}
+use native.Mathlib.Omega.{arith}
+use mathlib.Core.Path.{sym, _∙_}
+use borrow.Author.Tests.{not-true, not-false}
+use Rattle.layout.proofs.Scans.{Before, before-zero, before-next}
+use Rattle.equivalence.specs.Lent.{mappingOf, sameSuccessor}
+use Rattle.equivalence.proofs.Pairs.{Pairs, pairs-pass, pairs-fail, below-at}
+use borrow.Author.Needs.{needs}
+use Rattle.equivalence.proofs.names.successors_agree.Statement.{statement}
+use Rattle.equivalence.proofs.names.successors_agree.Tie as tie
+use Rattle.equivalence.proofs.names.successors_agree.Reads as reads
+use Rattle.equivalence.proofs.names.successors_agree.Lts as lts
+use Rattle.equivalence.proofs.names.block_agrees.Reads as block-agrees-reads
+use Rattle.equivalence.proofs.names.shorter.Reads as shorter-reads
+
+abbrev Inv-loop : tie.InvT-loop
+Inv-loop mapping l r n i₀ i = (i ≤ n) × Before (Pairs (sameSuccessor (mappingOf mapping)) l r) i
+
+abbrev μ-loop : tie.MeasureT-loop
+μ-loop mapping l r n i₀ i = n - i
+
+shorter-requires : tie.Need-shorter-requires Inv-loop μ-loop
+shorter-requires c κs = search needs
+
+loop-holds : tie.Need-loop-holds Inv-loop μ-loop
+loop-holds c = (omega arith, before-zero _)
+
+mul-block-agrees : tie.Need-mul-block-agrees Inv-loop μ-loop
+mul-block-agrees c = search needs
+
+shared-slice-read-block-agrees : tie.Need-shared-slice-read-block-agrees Inv-loop μ-loop
+shared-slice-read-block-agrees c =
+    let s = c .before .before .before .before .before .before .before in
+    let a = s .args in
+    let i = c .before .before .loop .i in
+    let en = c .before .before .before .shorter .ensures in
+    let h = c .before .loop-test .taken in
+    omega arith
+
+mul-block-agrees-2 : tie.Need-mul-block-agrees-2 Inv-loop μ-loop
+mul-block-agrees-2 c = search needs
+
+shared-slice-read-block-agrees-2 : tie.Need-shared-slice-read-block-agrees-2 Inv-loop μ-loop
+shared-slice-read-block-agrees-2 c =
+    let s = c .before .before .before .before .before .before .before .before in
+    let a = s .args in
+    let i = c .before .before .before .loop .i in
+    let en = c .before .before .before .before .shorter .ensures in
+    let h = c .before .before .loop-test .taken in
+    omega arith
+
+block-agrees-requires : tie.Need-block-agrees-requires Inv-loop μ-loop
+block-agrees-requires c κs =
+    let s = c .before .before .before .before .before .before .before .before in
+    let a = s .args in
+    let i = c .before .before .before .loop .i in
+    let en = c .before .before .before .before .shorter .ensures in
+    let h = c .before .before .loop-test .taken in
+    (s .pre .0, below-at 256 (a .l .now) (s .pre .1) i (omega arith))
+
+returns : tie.Need-returns Inv-loop μ-loop
+returns c =
+    let s = c .before .before .before .before .before .before .before .before .before .before in
+    let a = s .args in
+    let i = c .before .before .before .before .before .loop .i in
+    let en = c .before .before .before .before .before .before .shorter .ensures in
+    let h = c .before .before .before .before .loop-test .taken in
+    sym (pairs-fail (sameSuccessor (mappingOf (a .mapping .now))) (a .l .now) (a .r .now) i (omega arith) (omega arith) (sym (c .before .block-agrees .ensures) ∙ not-true _ (c .if1 .taken)))
+
+add-i : tie.Need-add-i Inv-loop μ-loop
+add-i c = search needs
+
+loop-less : tie.Need-loop-less Inv-loop μ-loop
+loop-less c = omega arith
+
+loop-again : tie.Need-loop-again Inv-loop μ-loop
+loop-again c =
+    let s = c .before .before .before .before .before .before .before .before .before .before in
+    let a = s .args in
+    let i = c .before .before .before .before .before .loop .i in
+    let en = c .before .before .before .before .before .before .shorter .ensures in
+    let h = c .before .before .before .before .loop-test .taken in
+    (omega arith, before-next (Pairs (sameSuccessor (mappingOf (a .mapping .now))) (a .l .now) (a .r .now)) i (c .before .before .before .before .before .loop .inv .1) (sym (c .before .block-agrees .ensures) ∙ not-false _ (c .if1 .left)))
+
+returns-2 : tie.Need-returns-2 Inv-loop μ-loop
+returns-2 c =
+    let s = c .before .before .before .before .before .before in
+    let a = s .args in
+    let en = c .before .before .shorter .ensures in
+    sym (pairs-pass (sameSuccessor (mappingOf (a .mapping .now))) (a .l .now) (a .r .now) (c .before .loop .i) (omega (arith, c .loop-test .left)) (c .before .loop .inv .1))
+
+pub successors-agree-spec : {M : Type 1} → statement M
+successors-agree-spec =
+    tie.close
+    (tie.spec
+    Inv-loop
+    μ-loop
+    shorter-requires
+    loop-holds
+    mul-block-agrees
+    shared-slice-read-block-agrees
+    mul-block-agrees-2
+    shared-slice-read-block-agrees-2
+    block-agrees-requires
+    returns
+    add-i
+    loop-less
+    loop-again
+    returns-2)

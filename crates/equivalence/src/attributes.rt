@@ -1,0 +1,92 @@
+// Attributes, by their slots: `attributes_eq`, and the slots that an ignore rule leaves.
+use crate::leaves::bit_set;
+use crate::types::Ignore;
+use layout::columns::SLOT_CONTENT;
+use layout::columns::SLOT_KEY;
+use layout::columns::SLOT_KIND;
+use layout::columns::at;
+ghost use mathlib.Core.Path.{_≡_};
+ghost use Prim.Native.Nat.{_<_, _≤_};
+ghost use lib.ListN.{length};
+ghost use Rattle.rules.specs.Shells.{ignored, sameAttribute};
+ghost use Rattle.layout.specs.Columns.{bufferLength, columns, slotKind};
+ghost use Rattle.layout.specs.Reading.{attributeAt};
+ghost use Rattle.equivalence.specs.Types.{ignoreOf};
+ghost use Rattle.equivalence.specs.Slots.{sameKept, Kinds, Skipped};
+
+// The attribute at a slot is ignored.
+fn slot_ignored(store: &[u32], ignore: Ignore, slot: usize) -> bool
+    requires { ⌜ length (now store) ≡ bufferLength ⌝ }
+    requires { ⌜ slot < 6144 ⌝ }
+    requires { ⌜ Rattle.layout.specs.Columns.at (columns (now store)) slotKind slot < 64 ⌝ }
+    ensures { λ q. ⌜ q ≡ ignored (ignoreOf ignore) (attributeAt (columns (now (store .entry))) slot) ⌝ }
+{
+    bit_set(ignore.bits, at(store, SLOT_KIND, slot))
+}
+
+// The first slot from `from` on that is not ignored, or `end`.
+fn next_kept(store: &[u32], ignore: Ignore, from: usize, end: usize) -> usize
+    requires { ⌜ length (now store) ≡ bufferLength ⌝ }
+    requires { ⌜ end ≤ 6144 ⌝ }
+    requires { ⌜ from ≤ end ⌝ }
+    requires { ⌜ Kinds (columns (now store)) from end ⌝ }
+    ensures { λ i. ⌜ Skipped (columns (now (store .entry))) (ignoreOf ignore) from end i ⌝ }
+{
+    let mut i = from;
+    while i < end {
+        if !slot_ignored(store, ignore, i) {
+            return i;
+        }
+        i += 1;
+    }
+    end
+}
+
+// The attributes at two slots are equal.
+fn attribute_eq(store: &[u32], l: usize, r: usize) -> bool
+    requires { ⌜ length (now store) ≡ bufferLength ⌝ }
+    requires { ⌜ l < 6144 ⌝ }
+    requires { ⌜ r < 6144 ⌝ }
+    ensures { λ q. ⌜ q ≡ sameAttribute (attributeAt (columns (now (store .entry))) l) (attributeAt (columns (now (store .entry))) r) ⌝ }
+{
+    if at(store, SLOT_KEY, l) != at(store, SLOT_KEY, r) {
+        return false;
+    }
+    if at(store, SLOT_KIND, l) != at(store, SLOT_KIND, r) {
+        return false;
+    }
+    at(store, SLOT_CONTENT, l) == at(store, SLOT_CONTENT, r)
+}
+
+// The unignored attributes of two runs of slots are equal.
+pub fn attributes_eq(
+    store: &[u32],
+    ignore: Ignore,
+    l: usize,
+    lend: usize,
+    r: usize,
+    rend: usize,
+) -> bool
+    requires { ⌜ length (now store) ≡ bufferLength ⌝ }
+    requires { ⌜ lend ≤ 6144 ⌝ }
+    requires { ⌜ l ≤ lend ⌝ }
+    requires { ⌜ Kinds (columns (now store)) l lend ⌝ }
+    requires { ⌜ rend ≤ 6144 ⌝ }
+    requires { ⌜ r ≤ rend ⌝ }
+    requires { ⌜ Kinds (columns (now store)) r rend ⌝ }
+    ensures { λ q. ⌜ q ≡ sameKept (columns (now (store .entry))) (ignoreOf ignore) l lend r rend ⌝ }
+{
+    let mut i = next_kept(store, ignore, l, lend);
+    let mut j = next_kept(store, ignore, r, rend);
+    while i < lend {
+        if j >= rend {
+            return false;
+        }
+        if !attribute_eq(store, i, j) {
+            return false;
+        }
+        i = next_kept(store, ignore, i + 1, lend);
+        j = next_kept(store, ignore, j + 1, rend);
+    }
+    j >= rend
+}

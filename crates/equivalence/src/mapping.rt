@@ -1,0 +1,69 @@
+// The check of a lent mapping, and its words.
+use layout::columns::BLOCKS;
+use layout::columns::COUNTS;
+use layout::columns::OPS;
+use layout::columns::VALUES;
+use layout::columns::at;
+ghost use mathlib.Core.Path.{_≡_};
+ghost use Rattle.rules.specs.Mapping.{entriesAllowed};
+ghost use Rattle.layout.specs.Columns.{columns};
+ghost use Rattle.layout.specs.Reading.{storeOf};
+ghost use Rattle.layout.specs.Soundness.{Arranged};
+ghost use Rattle.equivalence.specs.Lent.{entryAllowed, allowedMapping};
+
+// The entry of a number that has no image.
+pub const NONE: u32 = 4294967295;
+
+pub const LENGTH: usize = 2816;
+
+// Where the entries of blocks and of operations begin.
+pub const BLOCK_ENTRIES: usize = 2048;
+
+pub const OP_ENTRIES: usize = 2304;
+
+// Number n and its image exist among so many, if it has one.
+fn entry_allowed(count: u32, n: usize, image: u32) -> bool
+    ensures { λ r. ⌜ r ≡ entryAllowed count n image ⌝ }
+{
+    if image == NONE {
+        return true;
+    }
+    if n >= count as usize {
+        return false;
+    }
+    image < count
+}
+
+// Each entry is allowed.
+fn entries_allowed(count: u32, entries: &[u32]) -> bool
+    ensures { λ r. ⌜ r ≡ entriesAllowed count 0 (now (entries .entry)) ⌝ }
+{
+    let mut i = 0;
+    while i < entries.len() {
+        if !entry_allowed(count, i, entries[i]) {
+            return false;
+        }
+        i += 1;
+    }
+    true
+}
+
+// The mapping is of the right length, and each left number and image in it exists in the store.
+pub fn is_allowed(store: &[u32], mapping: &[u32]) -> bool
+    requires { ⌜ Arranged (now store) ⌝ }
+    ensures { λ r. ⌜ r ≡ allowedMapping (storeOf (columns (now (store .entry)))) (now (mapping .entry)) ⌝ }
+{
+    if mapping.len() != LENGTH {
+        return false;
+    }
+    if !entries_allowed(at(store, COUNTS, VALUES), &mapping[0..BLOCK_ENTRIES]) {
+        return false;
+    }
+    if !entries_allowed(
+        at(store, COUNTS, BLOCKS),
+        &mapping[BLOCK_ENTRIES..OP_ENTRIES],
+    ) {
+        return false;
+    }
+    entries_allowed(at(store, COUNTS, OPS), &mapping[OP_ENTRIES..LENGTH])
+}

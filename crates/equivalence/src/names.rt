@@ -1,0 +1,97 @@
+// What two operations name, pair by pair: operands and successors, as `op_eq_mapped` checks them.
+use crate::mapping::BLOCK_ENTRIES;
+use crate::mapping::NONE;
+use layout::columns::VALUE_TYPE;
+use layout::columns::at;
+ghost use mathlib.Core.Path.{_≡_};
+ghost use mathlib.Core.Bool.{true, _&&_};
+ghost use Prim.Native.Nat.{_<_};
+ghost use lib.Dec.{eqb, ltb};
+ghost use lib.ListN.{length, getD};
+ghost use Rattle.rules.specs.Lists.{all, allPairs};
+ghost use Rattle.rules.specs.Mapping.{orSelf};
+ghost use Rattle.layout.specs.Columns.{columns};
+ghost use Rattle.layout.specs.Reading.{storeOf, valueCount};
+ghost use Rattle.layout.specs.Soundness.{Arranged};
+ghost use Rattle.equivalence.specs.Lent.{mappingLength, mappingOf, sameOperand, sameSuccessor};
+
+// The entry at i, or n itself where there is none.
+fn image_at(mapping: &[u32], i: usize, n: u32) -> u32
+    requires { ⌜ i < length (now mapping) ⌝ }
+    ensures { λ r. ⌜ r ≡ orSelf (getD (now (mapping .entry)) i 0) n ⌝ }
+{
+    let image = mapping[i];
+    if image == NONE {
+        return n;
+    }
+    image
+}
+
+// The left value's image is the right one, and their types are the same.
+fn value_agrees(store: &[u32], mapping: &[u32], l: u32, r: u32) -> bool
+    requires { ⌜ Arranged (now store) ⌝ }
+    requires { ⌜ length (now mapping) ≡ mappingLength ⌝ }
+    requires { ⌜ l < valueCount (columns (now store)) ⌝ }
+    requires { ⌜ r < valueCount (columns (now store)) ⌝ }
+    ensures { λ q. ⌜ q ≡ sameOperand (storeOf (columns (now (store .entry)))) (mappingOf (now (mapping .entry))) l r ⌝ }
+{
+    if image_at(mapping, l as usize, l) != r {
+        return false;
+    }
+    at(store, VALUE_TYPE, l as usize) == at(store, VALUE_TYPE, r as usize)
+}
+
+// The left block's image is the right one.
+fn block_agrees(mapping: &[u32], l: u32, r: u32) -> bool
+    requires { ⌜ length (now mapping) ≡ mappingLength ⌝ }
+    requires { ⌜ l < 256 ⌝ }
+    ensures { λ q. ⌜ q ≡ sameSuccessor (mappingOf (now (mapping .entry))) l r ⌝ }
+{
+    image_at(mapping, BLOCK_ENTRIES + l as usize, l) == r
+}
+
+// The shorter length.
+fn shorter(l: &[u32], r: &[u32]) -> usize
+    ensures { λ n. ⌜ n ≡ Prim.Native.Nat.min (length (now (l .entry))) (length (now (r .entry))) ⌝ }
+{
+    if l.len() < r.len() {
+        return l.len();
+    }
+    r.len()
+}
+
+// Each operand's image is the right operand, and left and right have equal types.
+pub fn operands_agree(store: &[u32], mapping: &[u32], l: &[u32], r: &[u32]) -> bool
+    requires { ⌜ Arranged (now store) ⌝ }
+    requires { ⌜ length (now mapping) ≡ mappingLength ⌝ }
+    requires { ⌜ all (λ v. ltb v (valueCount (columns (now store)))) (now l) ≡ true ⌝ }
+    requires { ⌜ all (λ v. ltb v (valueCount (columns (now store)))) (now r) ≡ true ⌝ }
+    ensures { λ q. ⌜ q ≡ allPairs (sameOperand (storeOf (columns (now (store .entry)))) (mappingOf (now (mapping .entry)))) (now (l .entry)) (now (r .entry)) ⌝ }
+{
+    let n = shorter(l, r);
+    let mut i = 0;
+    while i < n {
+        if !value_agrees(store, mapping, l[i], r[i]) {
+            return false;
+        }
+        i += 1;
+    }
+    true
+}
+
+// Each successor's image is the right one.
+pub fn successors_agree(mapping: &[u32], l: &[u32], r: &[u32]) -> bool
+    requires { ⌜ length (now mapping) ≡ mappingLength ⌝ }
+    requires { ⌜ all (λ b. ltb b 256) (now l) ≡ true ⌝ }
+    ensures { λ q. ⌜ q ≡ allPairs (sameSuccessor (mappingOf (now (mapping .entry)))) (now (l .entry)) (now (r .entry)) ⌝ }
+{
+    let n = shorter(l, r);
+    let mut i = 0;
+    while i < n {
+        if !block_agrees(mapping, l[i], r[i]) {
+            return false;
+        }
+        i += 1;
+    }
+    true
+}

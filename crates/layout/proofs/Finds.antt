@@ -1,0 +1,79 @@
+-- The search for a child, word by word: what a word that was looked at leaves to search, and that the end of the search is the child list's first entry. Assumes nothing.
+use Prim.Native.Nat.{ℕ, zero, suc, _+_, _-_, _<_, _≤_}
+use native.Mathlib.Decide.{ℕ-discrete}
+use native.Mathlib.Numerals.{add-one}
+use native.Mathlib.Omega.{arith}
+use mathlib.Core.Bool.{Bool, cond}
+use mathlib.Core.List.{List}
+use mathlib.Core.Option.{none, some}
+use mathlib.Core.Path.{_≡_, refl, sym, ap, subst, _∙_}
+use borrow.Author.Tests.{eq-eqb, ne-eqb}
+use lib.Dec.{eqb}
+use Rattle.rules.specs.Store.{opsOf, blocksOf}
+use Rattle.layout.specs.Columns.{Cols, at, opParent, regionBlockFirst, regionBlockEnd, blockRegion, blockOpFirst, blockOpEnd}
+use Rattle.layout.specs.Reading.{blockCount, regionCount, storeOf}
+use Rattle.layout.specs.Children.{firstFrom, firstWord}
+use Rattle.layout.proofs.Laid.{Laid}
+use Rattle.layout.proofs.ChildList.{Scan, ops-scan, ops-facts, ops-mem, blocks-scan, blocks-facts, blocks-mem}
+
+module _ (C : Cols) (k w : ℕ) where
+  step : (a n : ℕ) → firstWord C k w a (suc n) ≡ cond (eqb (at C k a) w) (some a) (firstWord C k w (suc a) n)
+  unfolding firstWord
+  step a n = refl
+
+  pub word-none : (a e : ℕ) → e ≤ a → firstWord C k w a (e - a) ≡ none
+  unfolding firstWord
+  word-none a e l = ap (firstWord C k w a) (let z : e - a ≡ 0 = omega arith in z)
+
+  first-step : (a e : ℕ) → a < e → firstWord C k w a (e - a) ≡ cond (eqb (at C k a) w) (some a) (firstWord C k w (a + 1) (e - (a + 1)))
+  first-step a e l =
+      let z : e - a ≡ suc (e - (a + 1)) = omega arith in
+      let s : suc a ≡ a + 1 = omega arith in
+      ap (firstWord C k w a) z ∙ step a (e - (a + 1)) ∙ ap (λ (b : ℕ). cond (eqb (at C k a) w) (some a) (firstWord C k w b (e - (a + 1)))) s
+
+  pub word-here : (a e : ℕ) → a < e → at C k a ≡ w → firstWord C k w a (e - a) ≡ some a
+  word-here a e l h = first-step a e l ∙ ap (λ (b : Bool). cond b (some a) (firstWord C k w (a + 1) (e - (a + 1)))) (eq-eqb _ w h)
+
+  pub word-next : (a e : ℕ) → a < e → (at C k a ≡ w → ⊥) → firstWord C k w a (e - a) ≡ firstWord C k w (a + 1) (e - (a + 1))
+  word-next a e l h = first-step a e l ∙ ap (λ (b : Bool). cond b (some a) (firstWord C k w (a + 1) (e - (a + 1)))) (ne-eqb _ w h)
+
+  module _ (e : ℕ) (xs : List ℕ) (scan : Scan (at C k) w e xs) (n : ℕ) where
+    -- no child stands from n on and before a
+    abbrev Passed : ℕ → Type 0
+    Passed a = (i : ℕ) → n ≤ i → i < a → i < e → at C k i ≡ w → ⊥
+
+    scan-from : (m a : ℕ) → n ≤ a → m ≡ e - a → Passed a → firstFrom n xs ≡ firstWord C k w a (e - a)
+    scan-from zero a l h passed = scan .missing n (λ i p q. passed i p (omega arith) q) ∙ sym (word-none a e (omega arith))
+    scan-from (suc m) a l h passed = go (ℕ-discrete (at C k a) w) (λ f. scan-from m (a + 1) (omega arith) (omega arith) f)
+      where
+        more : (at C k a ≡ w → ⊥) → (i : ℕ) → n ≤ i → i < a + 1 → i < e → Dec (i ≡ a) → at C k i ≡ w → ⊥
+        more ne i p b f (yes q) v = ne (subst (λ (j : ℕ). at C k j ≡ w) q v)
+        more ne i p b f (no o) v = passed i p (omega arith) f v
+
+        go : Dec (at C k a ≡ w) → (Passed (a + 1) → firstFrom n xs ≡ firstWord C k w (a + 1) (e - (a + 1))) → firstFrom n xs ≡ firstWord C k w a (e - a)
+        go (yes q) rest = scan .found n a l (omega arith) q (λ i p b. passed i p b (omega arith)) ∙ sym (word-here a e (omega arith) q)
+        go (no ne) rest = rest (λ i p b f. more ne i p b f (ℕ-discrete i a)) ∙ sym (word-next a e (omega arith) ne)
+
+    scan-first : (a : ℕ) → n ≤ a → Passed a → firstFrom n xs ≡ firstWord C k w a (e - a)
+    scan-first a l passed = scan-from (e - a) a l refl passed
+
+-- ---- to search from n on, or from the range's begin on where that is later, is to look for the first child from n on
+
+module _ (C : Cols) (h : Laid C) where
+  module _ (b : ℕ) (l : b < blockCount C) where
+    pub op-from : (n : ℕ) → firstFrom n (opsOf (storeOf C) b) ≡ firstWord C opParent (b + 1) n (at C blockOpEnd b - n)
+    op-from n = scan-first C opParent (b + 1) (at C blockOpEnd b) _ (ops-scan C h b l) n n (omega arith) (λ i p q. absurd (omega arith))
+
+    pub op-first : (n : ℕ) → n ≤ at C blockOpFirst b → firstFrom n (opsOf (storeOf C) b) ≡ firstWord C opParent (b + 1) (at C blockOpFirst b) (at C blockOpEnd b - at C blockOpFirst b)
+    op-first n m =
+        scan-first C opParent (b + 1) (at C blockOpEnd b) _ (ops-scan C h b l) n (at C blockOpFirst b) m
+        (λ i p q f e. let t = h .block b l .ops in let s = ops-facts C h b (ops-mem C h b i (omega arith) (e ∙ add-one b)) .place in omega arith)
+
+  module _ (r : ℕ) (l : r < regionCount C) where
+    pub block-from : (n : ℕ) → firstFrom n (blocksOf (storeOf C) r) ≡ firstWord C blockRegion r n (at C regionBlockEnd r - n)
+    block-from n = scan-first C blockRegion r (at C regionBlockEnd r) _ (blocks-scan C h r l) n n (omega arith) (λ i p q. absurd (omega arith))
+
+    pub block-first : (n : ℕ) → n ≤ at C regionBlockFirst r → firstFrom n (blocksOf (storeOf C) r) ≡ firstWord C blockRegion r (at C regionBlockFirst r) (at C regionBlockEnd r - at C regionBlockFirst r)
+    block-first n m =
+        scan-first C blockRegion r (at C regionBlockEnd r) _ (blocks-scan C h r l) n (at C regionBlockFirst r) m
+        (λ i p q f e. let t = h .region r l .blocks in let s = blocks-facts C h r (blocks-mem C h r i (omega arith) e) .place in omega arith)

@@ -1,0 +1,146 @@
+-- `op_rules` meets its contract, test by test. Assumes nothing.
+use Prim.Native.Nat.{_*_, _<_, _≤_}
+use native.Mathlib.Omega.{arith}
+use mathlib.Core.Path.{sym, ap, _∙_}
+use borrow.Author.Needs.{needs}
+use borrow.Author.Tests.{le-leb, lt-leb}
+use Rattle.rules.specs.Store.{attributesHold}
+use Rattle.layout.specs.Columns.{columns, at, opDepth}
+use Rattle.layout.specs.Reading.{slotsOf, attributesFrom, opOf}
+use Rattle.layout.specs.Soundness.{opRules}
+use Rattle.layout.proofs.Laid.{laid-facts}
+use Rattle.layout.proofs.Scans.{fails, next, last, failed, held}
+use Rattle.layout.proofs.ruled.op_rules.Statement.{statement}
+use Rattle.layout.proofs.ruled.op_rules.Tie as tie
+
+operands-exist-requires : tie.Need-operands-exist-requires
+operands-exist-requires c κs = search needs
+
+returns : tie.Need-returns
+unfolding opRules
+returns c = sym (fails _ 0 (failed (c .before .operands-exist .ensures) (c .if1 .taken)))
+
+successors-exist-requires : tie.Need-successors-exist-requires
+successors-exist-requires c κs = search needs
+
+returns-2 : tie.Need-returns-2
+unfolding opRules
+returns-2 c = sym (fails _ 1 (failed (c .before .successors-exist .ensures) (c .if2 .taken)))
+
+number-requires : tie.Need-number-requires
+number-requires c κs =
+    let s = c .before .before .before .before .before in
+    let h = laid-facts (columns (s .args .store .now)) (s .pre .0 .laid) in
+    (s .pre .0 .sized, (omega arith, omega (arith, h .counts .ops)))
+
+returns-3 : tie.Need-returns-3
+unfolding opRules
+returns-3 c =
+    let a = c .before .before .before .before .before .before .before .args in
+    let deep : 32 < at (columns (a .store .now)) opDepth (a .n) = omega (arith, c .before .number .ensures) in
+    sym (fails _ 2 (lt-leb _ 32 deep))
+
+at-most-requires : tie.Need-at-most-requires
+at-most-requires c κs =
+    let s = c .before .before .before .before .before .before .before in
+    let h = laid-facts (columns (s .args .store .now)) (s .pre .0 .laid) in
+    (s .pre .0 .sized, (omega arith, (omega arith, (omega (arith, h .counts .ops), (omega (arith, h .counts .ops), h .op (s .args .n) (s .pre .1) .regions .range .rises)))))
+
+returns-4 : tie.Need-returns-4
+unfolding opRules
+returns-4 c = sym (fails _ 3 (failed (c .before .at-most .ensures) (c .if4 .taken)))
+
+at-most-requires-2 : tie.Need-at-most-requires-2
+at-most-requires-2 c κs =
+    let s = c .before .before .before .before .before .before .before .before .before in
+    let h = laid-facts (columns (s .args .store .now)) (s .pre .0 .laid) in
+    (s .pre .0 .sized, (omega arith, (omega arith, (omega (arith, h .counts .ops), (omega (arith, h .counts .ops), h .op (s .args .n) (s .pre .1) .results .range .rises)))))
+
+returns-5 : tie.Need-returns-5
+unfolding opRules
+returns-5 c = sym (fails _ 4 (failed (c .before .at-most2 .ensures) (c .if5 .taken)))
+
+at-most-requires-3 : tie.Need-at-most-requires-3
+at-most-requires-3 c κs =
+    let s = c .before .before .before .before .before .before .before .before .before .before .before in
+    let h = laid-facts (columns (s .args .store .now)) (s .pre .0 .laid) in
+    (s .pre .0 .sized, (omega arith, (omega arith, (omega (arith, h .counts .ops), (omega (arith, h .counts .ops), h .op (s .args .n) (s .pre .1) .operands .range .rises)))))
+
+returns-6 : tie.Need-returns-6
+unfolding opRules
+returns-6 c = sym (fails _ 5 (failed (c .before .at-most3 .ensures) (c .if6 .taken)))
+
+at-most-requires-4 : tie.Need-at-most-requires-4
+at-most-requires-4 c κs =
+    let s = c .before .before .before .before .before .before .before .before .before .before .before .before .before in
+    let h = laid-facts (columns (s .args .store .now)) (s .pre .0 .laid) in
+    (s .pre .0 .sized, (omega arith, (omega arith, (omega (arith, h .counts .ops), (omega (arith, h .counts .ops), h .op (s .args .n) (s .pre .1) .successors .range .rises)))))
+
+returns-7 : tie.Need-returns-7
+unfolding opRules
+returns-7 c = sym (fails _ 6 (failed (c .before .at-most4 .ensures) (c .if7 .taken)))
+
+mul-attributes-hold : tie.Need-mul-attributes-hold
+mul-attributes-hold c =
+    let s = c .before .before .before .before .before .before .before .before .before .before .before .before .before .before .before in
+    let h = laid-facts (columns (s .args .store .now)) (s .pre .0 .laid) in
+    omega (arith, h .counts .ops)
+
+number-requires-2 : tie.Need-number-requires-2
+number-requires-2 c κs =
+    let s = c .before .before .before .before .before .before .before .before .before .before .before .before .before .before .before in
+    let h = laid-facts (columns (s .args .store .now)) (s .pre .0 .laid) in
+    (s .pre .0 .sized, (omega arith, omega (arith, h .counts .ops)))
+
+attributes-hold-requires : tie.Need-attributes-hold-requires
+attributes-hold-requires c κs =
+    let s = c .before .before .before .before .before .before .before .before .before .before .before .before .before .before .before .before in
+    let h = laid-facts (columns (s .args .store .now)) (s .pre .0 .laid) in
+    (s .pre .0 .sized, (omega (arith, c .number2 .ensures, h .op (s .args .n) (s .pre .1) .keys), omega (arith, h .counts .ops)))
+
+returns-8 : tie.Need-returns-8
+unfolding opRules opOf slotsOf
+returns-8 c =
+    let in7 = c .before .before in
+    let in6 = in7 .before .before in
+    let in5 = in6 .before .before in
+    let in4 = in5 .before .before in
+    let in3 = in4 .before .before in
+    let in2 = in3 .before .before in
+    let in1 = in2 .before .before in
+    let a = in1 .before .before .before .args in
+    let C = columns (a .store .now) in
+    let deep : at C opDepth (a .n) ≤ 32 = omega (arith, in3 .before .number .ensures) in
+    let keys = c .attributes-hold .ensures ∙ ap (λ (n : _). attributesHold (attributesFrom C (8 * a .n) n)) (c .before .number2 .ensures) in
+    sym
+    (next _ _ (held (in1 .before .operands-exist .ensures) (in1 .if1 .left))
+    (next _ _ (held (in2 .before .successors-exist .ensures) (in2 .if2 .left))
+    (next _ _ (le-leb _ 32 deep)
+    (next _ _ (held (in4 .before .at-most .ensures) (in4 .if4 .left))
+    (next _ _ (held (in5 .before .at-most2 .ensures) (in5 .if5 .left))
+    (next _ _ (held (in6 .before .at-most3 .ensures) (in6 .if6 .left))
+    (next _ _ (held (in7 .before .at-most4 .ensures) (in7 .if7 .left))
+    (last _ (sym keys)))))))))
+
+pub op-rules-spec : {M : Type 1} → statement M
+op-rules-spec =
+    tie.close
+    (tie.spec
+    operands-exist-requires
+    returns
+    successors-exist-requires
+    returns-2
+    number-requires
+    returns-3
+    at-most-requires
+    returns-4
+    at-most-requires-2
+    returns-5
+    at-most-requires-3
+    returns-6
+    at-most-requires-4
+    returns-7
+    mul-attributes-hold
+    number-requires-2
+    attributes-hold-requires
+    returns-8)

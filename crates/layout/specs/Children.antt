@@ -1,0 +1,24 @@
+-- What a walk asks of a list of children: the next one.
+use Prim.Native.Nat.{ℕ, zero, suc}
+use mathlib.Core.Bool.{cond}
+use mathlib.Core.Option.{Option, none, some}
+use mathlib.Core.List.{List, [], _∷_}
+use lib.Dec.{eqb, leb}
+use Rattle.layout.specs.Columns.{Cols, at}
+use Rattle.layout.specs.declared.children.Found.{Found}
+use Rattle.layout.specs.declared.children.Found.the-variants.{At, Nothing}
+
+-- the first entry not below n
+unfoldable pub firstFrom : ℕ → List ℕ → Option ℕ
+firstFrom n [] = none
+firstFrom n (x ∷ xs) = cond (leb n x) (some x) (firstFrom n xs)
+
+-- of n entries of a column from a on, the first that is w
+unfoldable pub firstWord : Cols → ℕ → ℕ → ℕ → ℕ → Option ℕ
+firstWord C k w a zero = none
+firstWord C k w a (suc n) = cond (eqb (at C k a) w) (some a) (firstWord C k w (suc a) n)
+
+-- the same as the code's answer
+unfoldable pub foundFrom : Option ℕ → Found
+foundFrom none = Nothing
+foundFrom (some n) = At n

@@ -1,0 +1,88 @@
+// The children of a block and of a region: the first, and the next from a number on.
+use crate::columns::BLOCK_OP_END;
+use crate::columns::BLOCK_OP_FIRST;
+use crate::columns::BLOCK_REGION;
+use crate::columns::OP_PARENT;
+use crate::columns::REGION_BLOCK_END;
+use crate::columns::REGION_BLOCK_FIRST;
+use crate::columns::at;
+use crate::columns::number;
+ghost use mathlib.Core.Path.{_≡_};
+ghost use Prim.Native.Nat.{_-_, _<_, _≤_};
+ghost use lib.ListN.{length};
+ghost use Rattle.rules.specs.Store.{opsOf, blocksOf};
+ghost use Rattle.layout.specs.Columns.{bufferLength, size, columns};
+ghost use Rattle.layout.specs.Reading.{blockCount, regionCount, storeOf};
+ghost use Rattle.layout.specs.Soundness.{Arranged};
+ghost use Rattle.layout.specs.Children.{firstFrom, firstWord, foundFrom};
+
+// A child's number, or that there is none.
+pub enum Found {
+    At(usize),
+    Nothing,
+}
+
+// The first entry of a column that is w, from a on and before e.
+fn first_at(store: &[u32], column: usize, w: u32, a: usize, e: usize) -> Found
+    requires { ⌜ length (now store) ≡ bufferLength ⌝ }
+    requires { ⌜ column < 32 ⌝ }
+    requires { ⌜ e ≤ size column ⌝ }
+    ensures { λ r. ⌜ r ≡ foundFrom (firstWord (columns (now (store .entry))) column w a (e - a)) ⌝ }
+{
+    let mut i = a;
+    while i < e {
+        if at(store, column, i) == w {
+            return Found::At(i);
+        }
+        i += 1;
+    }
+    Found::Nothing
+}
+
+// The first operation of a block, from a number on.
+pub fn next_op(store: &[u32], block: usize, from: usize) -> Found
+    requires { ⌜ Arranged (now store) ⌝ }
+    requires { ⌜ block < blockCount (columns (now store)) ⌝ }
+    ensures { λ r. ⌜ r ≡ foundFrom (firstFrom from (opsOf (storeOf (columns (now (store .entry)))) block)) ⌝ }
+{
+    let w = block as u32 + 1;
+    let first = number(store, BLOCK_OP_FIRST, block);
+    let end = number(store, BLOCK_OP_END, block);
+    if from < first {
+        return first_at(store, OP_PARENT, w, first, end);
+    }
+    first_at(store, OP_PARENT, w, from, end)
+}
+
+// The first operation of a block.
+pub fn first_op(store: &[u32], block: usize) -> Found
+    requires { ⌜ Arranged (now store) ⌝ }
+    requires { ⌜ block < blockCount (columns (now store)) ⌝ }
+    ensures { λ r. ⌜ r ≡ foundFrom (firstFrom 0 (opsOf (storeOf (columns (now (store .entry)))) block)) ⌝ }
+{
+    next_op(store, block, 0)
+}
+
+// The first block of a region, from a number on.
+pub fn next_block(store: &[u32], region: usize, from: usize) -> Found
+    requires { ⌜ Arranged (now store) ⌝ }
+    requires { ⌜ region < regionCount (columns (now store)) ⌝ }
+    ensures { λ r. ⌜ r ≡ foundFrom (firstFrom from (blocksOf (storeOf (columns (now (store .entry)))) region)) ⌝ }
+{
+    let w = region as u32;
+    let first = number(store, REGION_BLOCK_FIRST, region);
+    let end = number(store, REGION_BLOCK_END, region);
+    if from < first {
+        return first_at(store, BLOCK_REGION, w, first, end);
+    }
+    first_at(store, BLOCK_REGION, w, from, end)
+}
+
+// The first block of a region.
+pub fn first_block(store: &[u32], region: usize) -> Found
+    requires { ⌜ Arranged (now store) ⌝ }
+    requires { ⌜ region < regionCount (columns (now store)) ⌝ }
+    ensures { λ r. ⌜ r ≡ foundFrom (firstFrom 0 (blocksOf (storeOf (columns (now (store .entry)))) region)) ⌝ }
+{
+    next_block(store, region, 0)
+}

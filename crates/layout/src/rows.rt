@@ -1,0 +1,109 @@
+// Tests of a row's ranges, by its words.
+use crate::columns::number;
+use crate::columns::words;
+use crate::lists::all_are;
+ghost use mathlib.Core.Path.{_≡_};
+ghost use Prim.Native.Nat.{_<_, _≤_};
+ghost use lib.ListN.{length};
+ghost use Rattle.layout.specs.Columns.{bufferLength, size, columns, at};
+ghost use Rattle.layout.specs.Soundness.{tiled, owned, ownedWithin};
+
+// The range begins no later than it ends, and ends within so many.
+pub fn ranged(a: usize, e: usize, n: usize) -> bool
+    ensures { λ r. ⌜ r ≡ Rattle.layout.specs.Soundness.ranged a e n ⌝ }
+{
+    if e < a {
+        return false;
+    }
+    e <= n
+}
+
+// The number lies in the range.
+pub fn within(a: usize, e: usize, n: usize) -> bool
+    ensures { λ r. ⌜ r ≡ Rattle.layout.specs.Soundness.within a e n ⌝ }
+{
+    if n < a {
+        return false;
+    }
+    n < e
+}
+
+// Each word of a column in the range is w.
+pub fn all_owned(store: &[u32], column: usize, a: usize, e: usize, w: u32) -> bool
+    requires { ⌜ length (now store) ≡ bufferLength ⌝ }
+    requires { ⌜ column < 32 ⌝ }
+    requires { ⌜ a ≤ e ⌝ }
+    requires { ⌜ e ≤ size column ⌝ }
+    ensures { λ r. ⌜ r ≡ owned (columns (now (store .entry))) column a e w ⌝ }
+{
+    all_are(words(store, column, a, e), w)
+}
+
+// The number lies in the range of a row.
+pub fn holds(store: &[u32], first: usize, end: usize, row: usize, n: usize) -> bool
+    requires { ⌜ length (now store) ≡ bufferLength ⌝ }
+    requires { ⌜ first < 32 ⌝ }
+    requires { ⌜ end < 32 ⌝ }
+    requires { ⌜ row < size first ⌝ }
+    requires { ⌜ row < size end ⌝ }
+    ensures { λ r. ⌜ r ≡ Rattle.layout.specs.Soundness.within (at (columns (now (store .entry))) first row) (at (columns (now (store .entry))) end row) n ⌝ }
+{
+    within(number(store, first, row), number(store, end, row), n)
+}
+
+// The range of a row ends within so many, and each word of a column in it is w.
+pub fn owns(
+    store: &[u32],
+    first: usize,
+    end: usize,
+    row: usize,
+    column: usize,
+    total: usize,
+    w: u32,
+) -> bool
+    requires { ⌜ length (now store) ≡ bufferLength ⌝ }
+    requires { ⌜ first < 32 ⌝ }
+    requires { ⌜ end < 32 ⌝ }
+    requires { ⌜ column < 32 ⌝ }
+    requires { ⌜ row < size first ⌝ }
+    requires { ⌜ row < size end ⌝ }
+    requires { ⌜ total ≤ size column ⌝ }
+    ensures { λ r. ⌜ r ≡ ownedWithin (columns (now (store .entry))) column (at (columns (now (store .entry))) first row) (at (columns (now (store .entry))) end row) total w ⌝ }
+{
+    let a = number(store, first, row);
+    let e = number(store, end, row);
+    if !ranged(a, e, total) {
+        return false;
+    }
+    all_owned(store, column, a, e, w)
+}
+
+// Where the part of a shared list ends that stands before operation n's.
+pub fn end_before(store: &[u32], column: usize, n: usize) -> usize
+    requires { ⌜ length (now store) ≡ bufferLength ⌝ }
+    requires { ⌜ column < 32 ⌝ }
+    requires { ⌜ n ≤ size column ⌝ }
+    ensures { λ r. ⌜ r ≡ Rattle.layout.specs.Soundness.endBefore (columns (now (store .entry))) column n ⌝ }
+{
+    if n == 0 {
+        return 0;
+    }
+    number(store, column, n - 1)
+}
+
+// Operation n's part of a shared list begins where the one before it ends, and ends within so many.
+pub fn is_tiled(store: &[u32], first: usize, end: usize, n: usize, total: usize) -> bool
+    requires { ⌜ length (now store) ≡ bufferLength ⌝ }
+    requires { ⌜ first < 32 ⌝ }
+    requires { ⌜ end < 32 ⌝ }
+    requires { ⌜ n < size first ⌝ }
+    requires { ⌜ n < size end ⌝ }
+    ensures { λ r. ⌜ r ≡ tiled (columns (now (store .entry))) first end n total ⌝ }
+{
+    let a = number(store, first, n);
+    let e = number(store, end, n);
+    if a != end_before(store, end, n) {
+        return false;
+    }
+    ranged(a, e, total)
+}

@@ -1,0 +1,225 @@
+// Document 01's rules of a store, row by row, over a buffer that is laid out.
+use crate::columns::BLOCK_ARGUMENT_END;
+use crate::columns::BLOCK_ARGUMENT_FIRST;
+use crate::columns::BLOCK_ATTRIBUTES;
+use crate::columns::BLOCK_REGION;
+use crate::columns::BLOCKS;
+use crate::columns::COUNTS;
+use crate::columns::OP_ATTRIBUTES;
+use crate::columns::OP_DEPTH;
+use crate::columns::OP_OPERAND_END;
+use crate::columns::OP_OPERAND_FIRST;
+use crate::columns::OP_PARENT;
+use crate::columns::OP_REGION_END;
+use crate::columns::OP_REGION_FIRST;
+use crate::columns::OP_RESULT_END;
+use crate::columns::OP_RESULT_FIRST;
+use crate::columns::OP_SUCCESSOR_END;
+use crate::columns::OP_SUCCESSOR_FIRST;
+use crate::columns::OPERAND_WORDS;
+use crate::columns::OPS;
+use crate::columns::REGION_OP;
+use crate::columns::SLOT_KEY;
+use crate::columns::SLOT_KIND;
+use crate::columns::SUCCESSOR_WORDS;
+use crate::columns::VALUES;
+use crate::columns::at;
+use crate::columns::number;
+use crate::columns::words;
+use crate::lists::all_below;
+ghost use mathlib.Core.Path.{_≡_};
+ghost use Prim.Native.Nat.{_+_, _-_, _<_, _≤_};
+ghost use lib.Dec.{leb, ltb};
+ghost use lib.ListN.{length};
+ghost use Rattle.rules.specs.Lists.{all, allBelow};
+ghost use Rattle.rules.specs.Store.{keysRise, attributesHold, maxAttributeKind, blockAfter, sound};
+ghost use Rattle.layout.specs.Columns.{bufferLength, size, columns, opParent, regionOp, blockRegion};
+ghost use Rattle.layout.specs.Reading.{attributesFrom, opCount, blockCount, valueCount, parentFrom, opOf, storeOf};
+ghost use Rattle.layout.specs.Soundness.{Arranged, opRules, blockRules, rulesHold};
+
+// The keys of so many slots rise.
+fn keys_rise(store: &[u32], first: usize, count: usize) -> bool
+    requires { ⌜ length (now store) ≡ bufferLength ⌝ }
+    requires { ⌜ count ≤ 8 ⌝ }
+    requires { ⌜ first + 8 ≤ 6144 ⌝ }
+    ensures { λ r. ⌜ r ≡ keysRise (attributesFrom (columns (now (store .entry))) first count) ⌝ }
+{
+    let mut i = 0;
+    while i + 1 < count {
+        let next = i + 1;
+        if at(store, SLOT_KEY, first + i) >= at(store, SLOT_KEY, first + next) {
+            return false;
+        }
+        i = next;
+    }
+    true
+}
+
+// The kinds of so many slots are kinds.
+fn kinds_fit(store: &[u32], first: usize, count: usize) -> bool
+    requires { ⌜ length (now store) ≡ bufferLength ⌝ }
+    requires { ⌜ count ≤ 8 ⌝ }
+    requires { ⌜ first + 8 ≤ 6144 ⌝ }
+    ensures { λ r. ⌜ r ≡ all (λ a. leb (a .kind) maxAttributeKind) (attributesFrom (columns (now (store .entry))) first count) ⌝ }
+{
+    all_below(words(store, SLOT_KIND, first, first + count), 64)
+}
+
+// The attributes of so many slots hold.
+fn attributes_hold(store: &[u32], first: usize, count: usize) -> bool
+    requires { ⌜ length (now store) ≡ bufferLength ⌝ }
+    requires { ⌜ count ≤ 8 ⌝ }
+    requires { ⌜ first + 8 ≤ 6144 ⌝ }
+    ensures { λ r. ⌜ r ≡ attributesHold (attributesFrom (columns (now (store .entry))) first count) ⌝ }
+{
+    if !keys_rise(store, first, count) {
+        return false;
+    }
+    kinds_fit(store, first, count)
+}
+
+// A row's range has at most so many entries.
+fn at_most(store: &[u32], first: usize, end: usize, n: usize, most: usize) -> bool
+    requires { ⌜ length (now store) ≡ bufferLength ⌝ }
+    requires { ⌜ first < 32 ⌝ }
+    requires { ⌜ end < 32 ⌝ }
+    requires { ⌜ n < size first ⌝ }
+    requires { ⌜ n < size end ⌝ }
+    requires { ⌜ Rattle.layout.specs.Columns.at (columns (now store)) first n ≤ Rattle.layout.specs.Columns.at (columns (now store)) end n ⌝ }
+    ensures { λ r. ⌜ r ≡ leb (Rattle.layout.specs.Columns.at (columns (now (store .entry))) end n - Rattle.layout.specs.Columns.at (columns (now (store .entry))) first n) most ⌝ }
+{
+    let a = number(store, first, n);
+    let e = number(store, end, n);
+    e - a <= most
+}
+
+// An operation's operands are values of the store.
+fn operands_exist(store: &[u32], n: usize) -> bool
+    requires { ⌜ Arranged (now store) ⌝ }
+    requires { ⌜ n < opCount (columns (now store)) ⌝ }
+    ensures { λ r. ⌜ r ≡ all (λ v. ltb v (valueCount (columns (now (store .entry))))) (opOf (columns (now (store .entry))) n .operands) ⌝ }
+{
+    let a = number(store, OP_OPERAND_FIRST, n);
+    let e = number(store, OP_OPERAND_END, n);
+    let values = at(store, COUNTS, VALUES);
+    all_below(words(store, OPERAND_WORDS, a, e), values)
+}
+
+// An operation's successors are blocks of the store.
+fn successors_exist(store: &[u32], n: usize) -> bool
+    requires { ⌜ Arranged (now store) ⌝ }
+    requires { ⌜ n < opCount (columns (now store)) ⌝ }
+    ensures { λ r. ⌜ r ≡ all (λ b. ltb b (blockCount (columns (now (store .entry))))) (opOf (columns (now (store .entry))) n .successors) ⌝ }
+{
+    let a = number(store, OP_SUCCESSOR_FIRST, n);
+    let e = number(store, OP_SUCCESSOR_END, n);
+    let blocks = at(store, COUNTS, BLOCKS);
+    all_below(words(store, SUCCESSOR_WORDS, a, e), blocks)
+}
+
+// An operation keeps the rules.
+fn op_rules(store: &[u32], n: usize) -> bool
+    requires { ⌜ Arranged (now store) ⌝ }
+    requires { ⌜ n < opCount (columns (now store)) ⌝ }
+    ensures { λ r. ⌜ r ≡ opRules (columns (now (store .entry))) n ⌝ }
+{
+    if !operands_exist(store, n) {
+        return false;
+    }
+    if !successors_exist(store, n) {
+        return false;
+    }
+    if number(store, OP_DEPTH, n) > 32 {
+        return false;
+    }
+    if !at_most(store, OP_REGION_FIRST, OP_REGION_END, n, 8) {
+        return false;
+    }
+    if !at_most(store, OP_RESULT_FIRST, OP_RESULT_END, n, 16) {
+        return false;
+    }
+    if !at_most(store, OP_OPERAND_FIRST, OP_OPERAND_END, n, 16) {
+        return false;
+    }
+    if !at_most(store, OP_SUCCESSOR_FIRST, OP_SUCCESSOR_END, n, 8) {
+        return false;
+    }
+    attributes_hold(store, 8 * n, number(store, OP_ATTRIBUTES, n))
+}
+
+// The block around a block has a smaller number, if there is one.
+fn block_after(store: &[u32], m: usize) -> bool
+    requires { ⌜ Arranged (now store) ⌝ }
+    requires { ⌜ m < blockCount (columns (now store)) ⌝ }
+    ensures { λ r. ⌜ r ≡ blockAfter m (parentFrom (Rattle.layout.specs.Columns.at (columns (now (store .entry))) opParent (Rattle.layout.specs.Columns.at (columns (now (store .entry))) regionOp (Rattle.layout.specs.Columns.at (columns (now (store .entry))) blockRegion m)))) ⌝ }
+{
+    let region = number(store, BLOCK_REGION, m);
+    let around = number(store, REGION_OP, region);
+    number(store, OP_PARENT, around) <= m
+}
+
+// A block keeps the rules.
+fn block_rules(store: &[u32], m: usize) -> bool
+    requires { ⌜ Arranged (now store) ⌝ }
+    requires { ⌜ m < blockCount (columns (now store)) ⌝ }
+    ensures { λ r. ⌜ r ≡ blockRules (columns (now (store .entry))) m ⌝ }
+{
+    if !block_after(store, m) {
+        return false;
+    }
+    if !at_most(store, BLOCK_ARGUMENT_FIRST, BLOCK_ARGUMENT_END, m, 16) {
+        return false;
+    }
+    attributes_hold(store, 4096 + 8 * m, number(store, BLOCK_ATTRIBUTES, m))
+}
+
+// Each operation keeps the rules.
+fn ops_hold(store: &[u32]) -> bool
+    requires { ⌜ Arranged (now store) ⌝ }
+    ensures { λ r. ⌜ r ≡ allBelow (opCount (columns (now (store .entry)))) (opRules (columns (now (store .entry)))) ⌝ }
+{
+    let ops = number(store, COUNTS, OPS);
+    let mut n = 0;
+    while n < ops {
+        if !op_rules(store, n) {
+            return false;
+        }
+        n += 1;
+    }
+    true
+}
+
+// Each block keeps the rules.
+fn blocks_hold(store: &[u32]) -> bool
+    requires { ⌜ Arranged (now store) ⌝ }
+    ensures { λ r. ⌜ r ≡ allBelow (blockCount (columns (now (store .entry)))) (blockRules (columns (now (store .entry)))) ⌝ }
+{
+    let blocks = number(store, COUNTS, BLOCKS);
+    let mut m = 0;
+    while m < blocks {
+        if !block_rules(store, m) {
+            return false;
+        }
+        m += 1;
+    }
+    true
+}
+
+// Each row keeps the rules.
+fn rules_hold(store: &[u32]) -> bool
+    requires { ⌜ Arranged (now store) ⌝ }
+    ensures { λ r. ⌜ r ≡ rulesHold (columns (now (store .entry))) ⌝ }
+{
+    if !ops_hold(store) {
+        return false;
+    }
+    blocks_hold(store)
+}
+
+// What the words are read as is a sound store.
+pub fn is_ruled(store: &[u32]) -> bool
+    requires { ⌜ Arranged (now store) ⌝ }
+    ensures { λ r. ⌜ r ≡ sound (storeOf (columns (now (store .entry)))) ⌝ }
+{
+    rules_hold(store)
+}

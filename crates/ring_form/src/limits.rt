@@ -1,0 +1,176 @@
+// Stores filled to a limit, where the next step is refused.
+use crate::answers::Store;
+use crate::answers::accepted;
+use crate::answers::made;
+use crate::answers::turned_down;
+use crate::refusals::wide_before_deep;
+use crate::steps::Step;
+use crate::steps::take;
+use building::calls::new_block;
+use building::calls::new_operation;
+use building::types::Built;
+use building::types::Owner;
+use building::types::Parent;
+use layout::columns::LENGTH;
+use layout::sound::is_sound;
+
+// 8 regions, 16 results, 16 operands and 8 successors are accepted, and so are 16 arguments.
+pub fn full_lists(store: &mut Store) -> bool {
+    let types = [5; 16];
+    let operands = [0; 16];
+    let successors = [0; 8];
+    if !made(
+        new_operation(
+            store,
+            8,
+            Parent::Block(0),
+            3,
+            8,
+            &types,
+            &operands,
+            &successors,
+        ),
+        3,
+    ) {
+        return false;
+    }
+    made(new_block(store, 8, 4, 2, &types), 1)
+}
+
+// The answer is that of step i where it is accepted.
+fn taken(step: Step, answer: Built, i: u32) -> bool {
+    match step {
+        Step::Key(_) => accepted(answer),
+        Step::Keys => accepted(answer),
+        _ => made(answer, i),
+    }
+}
+
+// The steps from `from` up to `end`, all accepted.
+fn fill(store: &mut Store, step: Step, from: u32, end: u32) -> bool {
+    let mut i = from;
+    while i < end {
+        if !taken(step, take(store, step, i), i) {
+            return false;
+        }
+        i += 1;
+    }
+    true
+}
+
+// Step i is refused by this cause, and no word of the store changes.
+fn stops(store: &mut Store, step: Step, i: u32, cause: u32) -> bool {
+    let kept = *store;
+    let answer = take(store, step, i);
+    turned_down(answer, cause, store, &kept)
+}
+
+fn sound(store: &Store) -> bool {
+    is_sound(store)
+}
+
+// Cause 4: eight keys of an owner, a ninth, and one of the eight replaced.
+pub fn keys(store: &mut Store, owner: Owner) -> bool {
+    if !fill(store, Step::Key(owner), 0, 8) {
+        return false;
+    }
+    if !stops(store, Step::Key(owner), 8, 4) {
+        return false;
+    }
+    fill(store, Step::Key(owner), 7, 8)
+}
+
+// Cause 5: nesting 32 is accepted and nesting 33 refused.
+pub fn nesting() -> bool {
+    let mut store: Store = [0; LENGTH];
+    if !fill(&mut store, Step::Level, 0, 33) {
+        return false;
+    }
+    if !stops(&mut store, Step::Level, 33, 5) {
+        return false;
+    }
+    let kept = store;
+    if !wide_before_deep(&mut store, &kept) {
+        return false;
+    }
+    sound(&store)
+}
+
+// Cause 3, by the totals of regions, values and blocks: 256, 2,048 and 256. A region that doesn't exist is still cause 2.
+fn fill_blocks(store: &mut Store) -> bool {
+    if !fill(store, Step::Regions(8), 0, 32) {
+        return false;
+    }
+    if !stops(store, Step::Regions(1), 32, 3) {
+        return false;
+    }
+    if !fill(store, Step::Arguments, 0, 128) {
+        return false;
+    }
+    if !stops(store, Step::Argument, 128, 3) {
+        return false;
+    }
+    if !stops(store, Step::Result, 32, 3) {
+        return false;
+    }
+    if !fill(store, Step::Block, 128, 256) {
+        return false;
+    }
+    if !stops(store, Step::Block, 0, 3) {
+        return false;
+    }
+    stops(store, Step::Block, 256, 2)
+}
+
+// Cause 3, by the totals of operands and successors: 2,048 and 512.
+fn fill_names(store: &mut Store) -> bool {
+    if !fill(store, Step::Operands, 32, 160) {
+        return false;
+    }
+    if !stops(store, Step::Operand, 160, 3) {
+        return false;
+    }
+    if !fill(store, Step::Successors, 160, 224) {
+        return false;
+    }
+    stops(store, Step::Successor, 224, 3)
+}
+
+// Cause 3, by the totals of attributes and operations: 1,024 and 512. A ninth key and nine regions are
+// still cause 4, and a key already there is replaced.
+fn fill_rest(store: &mut Store) -> bool {
+    if !fill(store, Step::Keys, 0, 1024) {
+        return false;
+    }
+    if !stops(store, Step::Keys, 1024, 3) {
+        return false;
+    }
+    if !stops(store, Step::Key(Owner::Op(0)), 8, 4) {
+        return false;
+    }
+    if !fill(store, Step::Keys, 1023, 1024) {
+        return false;
+    }
+    if !fill(store, Step::Operation, 224, 512) {
+        return false;
+    }
+    if !stops(store, Step::Operation, 512, 3) {
+        return false;
+    }
+    stops(store, Step::Regions(9), 512, 4)
+}
+
+// Every total filled, one after the other, and the full store is sound.
+pub fn totals() -> bool {
+    let mut store: Store = [0; LENGTH];
+    if !fill_blocks(&mut store) {
+        return false;
+    }
+    if !fill_names(&mut store) {
+        return false;
+    }
+    if !fill_rest(&mut store) {
+        return false;
+    }
+    sound(&store)
+}
