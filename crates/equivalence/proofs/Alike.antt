@@ -1,7 +1,6 @@
 -- The shells of two operations or blocks are compared by their rows: counts are lengths of ranges, attributes stand in slots, and the
 -- types of an owner's values stand side by side. Assumes nothing.
 use Prim.Native.Nat.{ℕ, zero, suc, _+_, _-_, _<_, _≤_}
-use native.Mathlib.Nat.{not-suc-le-zero, le-of-suc-le-suc}
 use native.Mathlib.Omega.{arith}
 use mathlib.Core.Bool.{Bool, true, false, cond, and-true}
 use mathlib.Core.Option.{none, some}
@@ -9,7 +8,7 @@ use mathlib.Core.List.{List, [], _∷_, map}
 use mathlib.Core.Path.{_≡_, refl, sym, ap, ap₂, subst, _∙_}
 use borrow.Author.Tests.{leb-true}
 use lib.Dec.{eqb, leb}
-use lib.ListN.{length, getD}
+use lib.ListN.{length}
 use lib.Seq.{ext-getD}
 use Rattle.rules.specs.Lists.{every, allBelow, sameList}
 use Rattle.rules.specs.Store.{Op, Block, Attribute, ofOp, ofBlock, typeOf, attributesHold}
@@ -20,7 +19,7 @@ use Rattle.layout.specs.Columns.{Cols, columns, at, slotKind, opKind, opRegionF
 use Rattle.layout.specs.Reading.{tabulateFrom, part, opCount, blockCount, valueCount, slotsOf, attributeAt, attributesFrom, opOf, blockOf, storeOf}
 use Rattle.layout.specs.Soundness.{opRules, blockRules, rulesHold, IsSound}
 use Rattle.layout.proofs.Laid.{Shaped, Laid}
-use Rattle.layout.proofs.Tabulate.{length-from, length-tabulate, getD-tabulate, op-read, block-read}
+use Rattle.layout.proofs.Tabulate.{length-from, getD-from, length-tabulate, getD-tabulate, op-read, block-read}
 use Rattle.layout.proofs.Scans.{part-length, part-at}
 use Rattle.layout.proofs.Buffer.{columns-shaped}
 use Rattle.layout.proofs.Ranges.{range, length-range, regions-range, results-range, arguments-range}
@@ -37,12 +36,6 @@ unfolding tabulateFrom
 map-from f a zero = refl
 map-from f a (suc n) = ap (λ (xs : List ℕ). f a ∷ xs) (map-from f (suc a) n)
 
-from-at : (f : ℕ → ℕ) (a n i : ℕ) → i < n → getD (tabulateFrom a n f) i 0 ≡ f (a + i)
-unfolding tabulateFrom
-from-at f a zero i l = absurd (not-suc-le-zero l)
-from-at f a (suc n) zero l = let z : a ≡ a + 0 = omega arith in ap f z
-from-at f a (suc n) (suc i) l = from-at f (suc a) n i (le-of-suc-le-suc l) ∙ (let z : suc a + i ≡ a + suc i = omega arith in ap f z)
-
 module _ (C : Cols) (shaped : Shaped C) (h : Laid C) where
   types-read : (a e : ℕ) → e ≤ valueCount C → map (typeOf (storeOf C)) (range a e) ≡ part (C valueType) a e
   unfolding range at
@@ -52,7 +45,7 @@ module _ (C : Cols) (shaped : Shaped C) (h : Laid C) where
       ∙ ext-getD 0 _ _ (length-from a (e - a) (typeOf (storeOf C)) ∙ sym long)
       (λ i l.
       let b : i < e - a = subst (λ (k : ℕ). i < k) (length-from a (e - a) (typeOf (storeOf C))) l in
-      from-at (typeOf (storeOf C)) a (e - a) i b ∙ type-read C (a + i) (omega arith) ∙ sym (part-at (C valueType) a e i b))
+      getD-from a (e - a) (typeOf (storeOf C)) i 0 b ∙ type-read C (a + i) (omega arith) ∙ sym (part-at (C valueType) a e i b))
 
   -- ---- rows
 

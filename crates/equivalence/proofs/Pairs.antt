@@ -5,28 +5,23 @@ use native.Mathlib.Nat.{not-suc-le-zero, le-of-suc-le-suc}
 use native.Mathlib.Omega.{arith}
 use mathlib.Core.Bool.{Bool, true, false, _&&_}
 use mathlib.Core.List.{List, [], _∷_}
-use native.Mathlib.Decide.{ℕ-discrete}
-use mathlib.Core.Path.{_≡_, refl, sym, ap, subst, _∙_}
+use mathlib.Core.Path.{_≡_, refl, sym, ap, _∙_}
 use borrow.Author.Tests.{ltb-true}
-use lib.Dec.{eqb, ltb}
+use lib.Dec.{ltb}
 use lib.ListN.{length, getD, drop}
-use lib.Seq.{getD-take, getD-drop, ext-getD}
-use Rattle.rules.specs.Lists.{all, allPairs, sameList}
+use lib.Seq.{getD-take, getD-drop}
+use Rattle.rules.specs.Lists.{all, allPairs}
 use Rattle.rules.specs.Store.{typeOf}
 use Rattle.rules.specs.Mapping.{orSelf, image, noImage}
-use Rattle.rules.proofs.Basics.Tests.{and-both, all-at, numbers-same}
+use Rattle.rules.proofs.Basics.Tests.{and-both, all-at}
 use Rattle.rules.proofs.Basics.Appended.{mem-getD}
 use Rattle.layout.specs.Columns.{Cols, at, valueType}
 use Rattle.layout.specs.Reading.{storeOf, valueCount, valueOf}
 use Rattle.layout.proofs.Tabulate.{value-read}
-use Rattle.layout.proofs.Scans.{Before, and-false}
+use Rattle.layout.proofs.Scans.{Before, AtBoth, and-false}
 use Rattle.equivalence.specs.Lent.{mappingLength, mappingOf}
 
--- the pair at place i
-abbrev pub Pairs : (ℕ → ℕ → Bool) → List ℕ → List ℕ → ℕ → Bool
-Pairs p xs ys i = p (getD xs i 0) (getD ys i 0)
-
-pub pairs-pass : (p : ℕ → ℕ → Bool) (xs ys : List ℕ) (n : ℕ) → min (length xs) (length ys) ≤ n → Before (Pairs p xs ys) n → allPairs p xs ys ≡ true
+pub pairs-pass : (p : ℕ → ℕ → Bool) (xs ys : List ℕ) (n : ℕ) → min (length xs) (length ys) ≤ n → Before (AtBoth p xs ys) n → allPairs p xs ys ≡ true
 unfolding allPairs
 pairs-pass p [] ys n l b = refl
 pairs-pass p (x ∷ xs) [] n l b = refl
@@ -66,36 +61,3 @@ block-image b v long l =
 pub type-read : (C : Cols) (v : ℕ) → v < valueCount C → typeOf (storeOf C) v ≡ at C valueType v
 unfolding typeOf valueOf
 type-read C v l = ap (λ x. x .type) (value-read C v l)
-
--- ---- equal lists
-
-pub same-length : (xs ys : List ℕ) → (length xs ≡ length ys → ⊥) → sameList eqb xs ys ≡ false
-unfolding sameList
-same-length [] [] ne = absurd (ne refl)
-same-length [] (y ∷ ys) ne = refl
-same-length (x ∷ xs) [] ne = refl
-same-length (x ∷ xs) (y ∷ ys) ne = and-false (eqb x y) (sameList eqb xs ys) (same-length xs ys (λ e. ne (ap suc e)))
-
-pub same-fail : (xs ys : List ℕ) (i : ℕ) → i < length xs → i < length ys → (getD xs i 0 ≡ getD ys i 0 → ⊥) → sameList eqb xs ys ≡ false
-same-fail xs ys i l r ne = not-same (sameList eqb xs ys) refl
-  where
-    not-same : (t : Bool) → sameList eqb xs ys ≡ t → sameList eqb xs ys ≡ false
-    not-same true e = absurd (ne (ap (λ (zs : List ℕ). getD zs i 0) (numbers-same xs ys .0 e)))
-    not-same false e = e
-
-pub same-pass : (xs ys : List ℕ) → length xs ≡ length ys → ((i : ℕ) → i < length xs → getD xs i 0 ≡ getD ys i 0) → sameList eqb xs ys ≡ true
-same-pass xs ys e f = numbers-same xs ys .1 (ext-getD 0 xs ys e f)
-
--- the entries before i are equal
-abbrev pub Matched : List ℕ → List ℕ → ℕ → Type 0
-Matched xs ys i = (k : ℕ) → k < i → getD xs k 0 ≡ getD ys k 0
-
-pub matched-zero : (xs ys : List ℕ) → Matched xs ys 0
-matched-zero xs ys k h = absurd (not-suc-le-zero h)
-
-pub matched-next : (xs ys : List ℕ) (i : ℕ) → Matched xs ys i → getD xs i 0 ≡ getD ys i 0 → Matched xs ys (i + 1)
-matched-next xs ys i m e k h = go (ℕ-discrete k i)
-  where
-    go : Dec (k ≡ i) → getD xs k 0 ≡ getD ys k 0
-    go (yes q) = subst (λ (j : ℕ). getD xs j 0 ≡ getD ys j 0) (sym q) e
-    go (no ne) = m k (omega arith)

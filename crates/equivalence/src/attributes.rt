@@ -1,5 +1,4 @@
 // Attributes, by their slots: `attributes_eq`, and the slots that an ignore rule leaves.
-use crate::leaves::bit_set;
 use crate::types::Ignore;
 use layout::columns::SLOT_CONTENT;
 use layout::columns::SLOT_KEY;
@@ -11,8 +10,17 @@ ghost use lib.ListN.{length};
 ghost use Rattle.rules.specs.Shells.{ignored, sameAttribute};
 ghost use Rattle.layout.specs.Columns.{bufferLength, columns, slotKind};
 ghost use Rattle.layout.specs.Reading.{attributeAt};
+ghost use Rattle.equivalence.specs.Lent.{bitSet};
 ghost use Rattle.equivalence.specs.Types.{ignoreOf};
 ghost use Rattle.equivalence.specs.Slots.{sameKept, Kinds, Skipped};
+
+// The bit of an attribute kind is set.
+fn bit_set(bits: u64, kind: u32) -> bool
+    requires { ⌜ kind < 64 ⌝ }
+    ensures { λ q. ⌜ q ≡ bitSet bits kind ⌝ }
+{
+    (bits >> kind) % 2 == 1
+}
 
 // The attribute at a slot is ignored.
 fn slot_ignored(store: &[u32], ignore: Ignore, slot: usize) -> bool

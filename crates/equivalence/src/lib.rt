@@ -1,6 +1,5 @@
 // Structural equality of operations, blocks and regions.
 pub mod attributes;
-pub mod leaves;
 pub mod mapping;
 pub mod names;
 pub mod shells;

@@ -1,7 +1,6 @@
 // What is compared of two operations or two blocks by themselves, before anything is entered: the first half of `op_eq_map` and of
 // `block_eq_map`.
 use crate::attributes::attributes_eq;
-use crate::leaves::words_eq;
 use crate::types::Ignore;
 use layout::columns::BLOCK_ARGUMENT_END;
 use layout::columns::BLOCK_ARGUMENT_FIRST;
@@ -22,6 +21,7 @@ use layout::columns::VALUE_TYPE;
 use layout::columns::at;
 use layout::columns::number;
 use layout::columns::words;
+use layout::lists::words_eq;
 ghost use mathlib.Core.Path.{_≡_};
 ghost use Prim.Native.Nat.{_<_, _≤_};
 ghost use lib.Dec.{eqb};

@@ -6,12 +6,12 @@ use native.Mathlib.Omega.{arith}
 use mathlib.Core.Bool.{Bool, true, false, not, _&&_}
 use mathlib.Core.List.{List, [], _∷_}
 use mathlib.Core.Path.{_≡_, refl, sym, ap, ap₂, subst, _∙_}
-use borrow.Author.Tests.{not-true, not-false}
+use borrow.Author.Tests.{eqb-true, not-true, not-false}
 use lib.Dec.{eqb}
 use lib.ListN.{length, getD, drop, length-drop}
-use lib.Seq.{length-take-le, getD-take, getD-drop}
-use Rattle.rules.specs.Lists.{every, all, allBelow}
-use Rattle.rules.proofs.Basics.Tests.{and-left, and-right, and-both, all-at, allBelow-at, allBelow-of}
+use lib.Seq.{length-take-le, getD-take, getD-drop, ext-getD}
+use Rattle.rules.specs.Lists.{every, all, allBelow, sameList}
+use Rattle.rules.proofs.Basics.Tests.{and-left, and-right, and-both, all-at, allBelow-at, allBelow-of, numbers-same}
 use Rattle.rules.proofs.Basics.Appended.{mem-getD}
 use Rattle.layout.specs.Columns.{Cols, at}
 use Rattle.layout.specs.Reading.{part}
@@ -152,3 +152,26 @@ pub later-end : (C : Cols) (k n : ℕ) → (n ≡ 0 → ⊥) → at C k (n - 1) 
 unfolding endBefore
 later-end C k zero h = absurd (h refl)
 later-end C k (suc n) h = ap (at C k) (let e : suc n - 1 ≡ n = omega arith in e)
+
+-- two lists, at one place
+abbrev pub AtBoth : (ℕ → ℕ → Bool) → List ℕ → List ℕ → ℕ → Bool
+AtBoth p xs ys i = p (getD xs i 0) (getD ys i 0)
+
+-- ---- equal lists
+
+pub same-length : (xs ys : List ℕ) → (length xs ≡ length ys → ⊥) → sameList eqb xs ys ≡ false
+unfolding sameList
+same-length [] [] ne = absurd (ne refl)
+same-length [] (y ∷ ys) ne = refl
+same-length (x ∷ xs) [] ne = refl
+same-length (x ∷ xs) (y ∷ ys) ne = and-false (eqb x y) (sameList eqb xs ys) (same-length xs ys (λ e. ne (ap suc e)))
+
+pub same-fail : (xs ys : List ℕ) (i : ℕ) → i < length xs → i < length ys → (getD xs i 0 ≡ getD ys i 0 → ⊥) → sameList eqb xs ys ≡ false
+same-fail xs ys i l r ne = not-same (sameList eqb xs ys) refl
+  where
+    not-same : (t : Bool) → sameList eqb xs ys ≡ t → sameList eqb xs ys ≡ false
+    not-same true e = absurd (ne (ap (λ (zs : List ℕ). getD zs i 0) (numbers-same xs ys .0 e)))
+    not-same false e = e
+
+pub same-pass : (xs ys : List ℕ) → length xs ≡ length ys → Before (AtBoth eqb xs ys) (length xs) → sameList eqb xs ys ≡ true
+same-pass xs ys e b = numbers-same xs ys .1 (ext-getD 0 xs ys e (λ i l. eqb-true _ _ (b i l)))

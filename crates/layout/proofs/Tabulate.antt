@@ -15,7 +15,7 @@ module _ {A : Type 0} where
   length-from i zero f = refl
   length-from i (suc n) f = ap suc (length-from (suc i) n f)
 
-  getD-from : (i n : ℕ) (f : ℕ → A) (k : ℕ) (d : A) → k < n → getD (tabulateFrom i n f) k d ≡ f (i + k)
+  pub getD-from : (i n : ℕ) (f : ℕ → A) (k : ℕ) (d : A) → k < n → getD (tabulateFrom i n f) k d ≡ f (i + k)
   unfolding tabulateFrom
   getD-from i zero f k d h = absurd (not-suc-le-zero h)
   getD-from i (suc n) f zero d h = ap f (sym (add-zero i))

@@ -5,7 +5,7 @@ ghost use Prim.Native.Nat.{_+_, _<_, _≤_};
 ghost use lib.Dec.{eqb, ltb};
 ghost use lib.ListN.{length, replicate, take, drop};
 ghost use Rattle.layout.specs.Columns.{pasted};
-ghost use Rattle.rules.specs.Lists.{all};
+ghost use Rattle.rules.specs.Lists.{all, sameList};
 
 // Each entry is w.
 pub fn all_are(list: &[u32], w: u32) -> bool
@@ -28,6 +28,23 @@ pub fn all_below(list: &[u32], n: u32) -> bool
     let mut i = 0;
     while i < list.len() {
         if list[i] >= n {
+            return false;
+        }
+        i += 1;
+    }
+    true
+}
+
+// Two lists of words are equal.
+pub fn words_eq(l: &[u32], r: &[u32]) -> bool
+    ensures { λ q. ⌜ q ≡ sameList eqb (now (l .entry)) (now (r .entry)) ⌝ }
+{
+    if l.len() != r.len() {
+        return false;
+    }
+    let mut i = 0;
+    while i < l.len() {
+        if l[i] != r[i] {
             return false;
         }
         i += 1;

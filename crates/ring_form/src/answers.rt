@@ -1,6 +1,7 @@
 // What an answer is held to.
 use building::types::Built;
 use layout::columns::LENGTH;
+use layout::lists::words_eq;
 
 // A buffer of the right length.
 pub type Store = [u32; LENGTH];
@@ -30,25 +31,10 @@ fn refused(answer: Built, cause: u32) -> bool {
     }
 }
 
-// The two buffers hold the same words.
-fn same(store: &[u32], kept: &[u32]) -> bool {
-    if store.len() != kept.len() {
-        return false;
-    }
-    let mut i = 0;
-    while i < store.len() {
-        if store[i] != kept[i] {
-            return false;
-        }
-        i += 1;
-    }
-    true
-}
-
 // The answer is a refusal by this cause, and the store is as the copy that was kept before the call.
 pub fn turned_down(answer: Built, cause: u32, store: &[u32], kept: &[u32]) -> bool {
     if !refused(answer, cause) {
         return false;
     }
-    same(store, kept)
+    words_eq(store, kept)
 }

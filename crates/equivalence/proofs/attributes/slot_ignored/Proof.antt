@@ -11,7 +11,7 @@ use Rattle.equivalence.proofs.attributes.slot_ignored.Statement.{statem
 use Rattle.equivalence.proofs.attributes.slot_ignored.Tie as tie
 use Rattle.equivalence.proofs.attributes.slot_ignored.Reads as reads
 use Rattle.equivalence.proofs.attributes.slot_ignored.Lts as lts
-use Rattle.equivalence.proofs.leaves.bit_set.Reads as bit-set-reads
+use Rattle.equivalence.proofs.attributes.bit_set.Reads as bit-set-reads
 use Rattle.layout.proofs.columns.at.Reads as at-reads
 
 at-requires : tie.Need-at-requires

@@ -5,9 +5,9 @@ use mathlib.Core.Path.{sym, _∙_}
 use borrow.Author.Tests.{not-true, not-false}
 use Rattle.layout.specs.Columns.{columns}
 use Rattle.layout.specs.Reading.{storeOf}
-use Rattle.layout.proofs.Scans.{Before, before-zero, before-next}
+use Rattle.layout.proofs.Scans.{Before, AtBoth, before-zero, before-next}
 use Rattle.equivalence.specs.Lent.{mappingOf, sameOperand}
-use Rattle.equivalence.proofs.Pairs.{Pairs, pairs-pass, pairs-fail, below-at}
+use Rattle.equivalence.proofs.Pairs.{pairs-pass, pairs-fail, below-at}
 use borrow.Author.Needs.{needs}
 use Rattle.equivalence.proofs.names.operands_agree.Statement.{statement}
 use Rattle.equivalence.proofs.names.operands_agree.Tie as tie
@@ -17,7 +17,7 @@ use Rattle.equivalence.proofs.names.shorter.Reads as shorter-reads
 use Rattle.equivalence.proofs.names.value_agrees.Reads as value-agrees-reads
 
 abbrev Inv-loop : tie.InvT-loop
-Inv-loop store mapping l r n i₀ i = (i ≤ n) × Before (Pairs (sameOperand (storeOf (columns store)) (mappingOf mapping)) l r) i
+Inv-loop store mapping l r n i₀ i = (i ≤ n) × Before (AtBoth (sameOperand (storeOf (columns store)) (mappingOf mapping)) l r) i
 
 abbrev μ-loop : tie.MeasureT-loop
 μ-loop store mapping l r n i₀ i = n - i
@@ -83,7 +83,7 @@ loop-again c =
     let i = c .before .before .before .before .before .loop .i in
     let en = c .before .before .before .before .before .before .shorter .ensures in
     let h = c .before .before .before .before .loop-test .taken in
-    (omega arith, before-next (Pairs (sameOperand (storeOf (columns (a .store .now))) (mappingOf (a .mapping .now))) (a .l .now) (a .r .now)) i (c .before .before .before .before .before .loop .inv .1) (sym (c .before .value-agrees .ensures) ∙ not-false _ (c .if1 .left)))
+    (omega arith, before-next (AtBoth (sameOperand (storeOf (columns (a .store .now))) (mappingOf (a .mapping .now))) (a .l .now) (a .r .now)) i (c .before .before .before .before .before .loop .inv .1) (sym (c .before .value-agrees .ensures) ∙ not-false _ (c .if1 .left)))
 
 returns-2 : tie.Need-returns-2 Inv-loop μ-loop
 returns-2 c =

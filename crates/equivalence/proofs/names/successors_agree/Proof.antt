@@ -3,9 +3,9 @@ use Prim.Native.Nat.{_-_, _≤_}
 use native.Mathlib.Omega.{arith}
 use mathlib.Core.Path.{sym, _∙_}
 use borrow.Author.Tests.{not-true, not-false}
-use Rattle.layout.proofs.Scans.{Before, before-zero, before-next}
+use Rattle.layout.proofs.Scans.{Before, AtBoth, before-zero, before-next}
 use Rattle.equivalence.specs.Lent.{mappingOf, sameSuccessor}
-use Rattle.equivalence.proofs.Pairs.{Pairs, pairs-pass, pairs-fail, below-at}
+use Rattle.equivalence.proofs.Pairs.{pairs-pass, pairs-fail, below-at}
 use borrow.Author.Needs.{needs}
 use Rattle.equivalence.proofs.names.successors_agree.Statement.{statement}
 use Rattle.equivalence.proofs.names.successors_agree.Tie as tie
@@ -15,7 +15,7 @@ use Rattle.equivalence.proofs.names.block_agrees.Reads as block-agrees-
 use Rattle.equivalence.proofs.names.shorter.Reads as shorter-reads
 
 abbrev Inv-loop : tie.InvT-loop
-Inv-loop mapping l r n i₀ i = (i ≤ n) × Before (Pairs (sameSuccessor (mappingOf mapping)) l r) i
+Inv-loop mapping l r n i₀ i = (i ≤ n) × Before (AtBoth (sameSuccessor (mappingOf mapping)) l r) i
 
 abbrev μ-loop : tie.MeasureT-loop
 μ-loop mapping l r n i₀ i = n - i
@@ -81,7 +81,7 @@ loop-again c =
     let i = c .before .before .before .before .before .loop .i in
     let en = c .before .before .before .before .before .before .shorter .ensures in
     let h = c .before .before .before .before .loop-test .taken in
-    (omega arith, before-next (Pairs (sameSuccessor (mappingOf (a .mapping .now))) (a .l .now) (a .r .now)) i (c .before .before .before .before .before .loop .inv .1) (sym (c .before .block-agrees .ensures) ∙ not-false _ (c .if1 .left)))
+    (omega arith, before-next (AtBoth (sameSuccessor (mappingOf (a .mapping .now))) (a .l .now) (a .r .now)) i (c .before .before .before .before .before .loop .inv .1) (sym (c .before .block-agrees .ensures) ∙ not-false _ (c .if1 .left)))
 
 returns-2 : tie.Need-returns-2 Inv-loop μ-loop
 returns-2 c =

@@ -10,7 +10,7 @@ use Rattle.equivalence.proofs.shells.types_eq.Statement.{statement}
 use Rattle.equivalence.proofs.shells.types_eq.Tie as tie
 use Rattle.equivalence.proofs.shells.types_eq.Reads as reads
 use Rattle.equivalence.proofs.shells.types_eq.Lts as lts
-use Rattle.equivalence.proofs.leaves.words_eq.Reads as words-eq-reads
+use Rattle.layout.proofs.lists.words_eq.Reads as words-eq-reads
 use Rattle.layout.proofs.columns.number.Reads as number-reads
 use Rattle.layout.proofs.columns.words.Reads as words-reads
 

@@ -3,15 +3,17 @@ use Prim.Native.Nat.{_-_, _≤_}
 use native.Mathlib.Omega.{arith}
 use mathlib.Core.Path.{sym}
 use lib.ListN.{length}
-use Rattle.equivalence.proofs.Pairs.{Matched, matched-zero, matched-next, same-length, same-fail, same-pass}
+use borrow.Author.Tests.{eq-eqb}
+use lib.Dec.{eqb}
+use Rattle.layout.proofs.Scans.{Before, AtBoth, before-zero, before-next, same-length, same-fail, same-pass}
 use borrow.Author.Needs.{needs}
-use Rattle.equivalence.proofs.leaves.words_eq.Statement.{statement}
-use Rattle.equivalence.proofs.leaves.words_eq.Tie as tie
-use Rattle.equivalence.proofs.leaves.words_eq.Reads as reads
-use Rattle.equivalence.proofs.leaves.words_eq.Lts as lts
+use Rattle.layout.proofs.lists.words_eq.Statement.{statement}
+use Rattle.layout.proofs.lists.words_eq.Tie as tie
+use Rattle.layout.proofs.lists.words_eq.Reads as reads
+use Rattle.layout.proofs.lists.words_eq.Lts as lts
 
 abbrev Inv-loop : tie.InvT-loop
-Inv-loop l r i₀ i = (i ≤ length l) × Matched l r i
+Inv-loop l r i₀ i = (i ≤ length l) × Before (AtBoth eqb l r) i
 
 abbrev μ-loop : tie.MeasureT-loop
 μ-loop l r i₀ i = length l - i
@@ -20,7 +22,7 @@ returns : tie.Need-returns Inv-loop μ-loop
 returns c = sym (same-length _ _ (c .if1 .taken))
 
 loop-holds : tie.Need-loop-holds Inv-loop μ-loop
-loop-holds c = (omega arith, matched-zero (c .before .args .l .now) (c .before .args .r .now))
+loop-holds c = (omega arith, before-zero _)
 
 mul-if2 : tie.Need-mul-if2 Inv-loop μ-loop
 mul-if2 c = search needs
@@ -50,7 +52,7 @@ loop-again : tie.Need-loop-again Inv-loop μ-loop
 loop-again c =
     let a = c .before .before .before .before .before .before .args in
     let i = c .before .before .before .before .loop .i in
-    (omega arith, matched-next (a .l .now) (a .r .now) i (c .before .before .before .before .loop .inv .1) (c .if2 .left))
+    (omega arith, before-next (AtBoth eqb (a .l .now) (a .r .now)) i (c .before .before .before .before .loop .inv .1) (eq-eqb _ _ (c .if2 .left)))
 
 returns-3 : tie.Need-returns-3 Inv-loop μ-loop
 returns-3 c =

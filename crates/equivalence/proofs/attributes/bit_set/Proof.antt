@@ -1,10 +1,10 @@
 -- `bit_set` meets its contract: a shift is a division by a power of two. Assumes nothing.
 use Rattle.equivalence.specs.Lent.{bitSet}
 use borrow.Author.Needs.{needs}
-use Rattle.equivalence.proofs.leaves.bit_set.Statement.{statement}
-use Rattle.equivalence.proofs.leaves.bit_set.Tie as tie
-use Rattle.equivalence.proofs.leaves.bit_set.Reads as reads
-use Rattle.equivalence.proofs.leaves.bit_set.Lts as lts
+use Rattle.equivalence.proofs.attributes.bit_set.Statement.{statement}
+use Rattle.equivalence.proofs.attributes.bit_set.Tie as tie
+use Rattle.equivalence.proofs.attributes.bit_set.Reads as reads
+use Rattle.equivalence.proofs.attributes.bit_set.Lts as lts
 
 shr-result : tie.Need-shr-result
 shr-result c = search needs
