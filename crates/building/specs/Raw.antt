@@ -8,6 +8,7 @@ use lib.ListN.{length, replicate}
 use Rattle.rules.specs.Store.{Attribute, Owner, ofOp, ofBlock, maxOps, maxRegions, maxValues, maxOperands, maxSuccessors}
 use Rattle.layout.specs.Columns.{Cols, at, write, pour, counts, opKind, opParent, opLocation, opDepth, opRegionFirst, opRegionEnd, opResultFirst, opResultEnd, opOperandFirst, opOperandEnd, opSuccessorFirst, opSuccessorEnd, opAttributes, regionOp, regionBlockFirst, regionBlockEnd, blockRegion, blockLabel, blockLocation, blockArgumentFirst, blockArgumentEnd, blockOpFirst, blockOpEnd, blockAttributes, valueType, valueOwner, operandWords, successorWords, slotKey, slotKind, slotContent}
 use Rattle.layout.specs.Reading.{opCount, blockCount, regionCount, valueCount, operandCount, successorCount, attributeCount, ownerCode, slotsOf, part}
+use Rattle.layout.specs.Owners.{countColumn, ownerNumber, keyCount}
 
 -- ---- new values, of an operation or of a block
 
@@ -122,18 +123,6 @@ withBlock C region label location types =
     counts 1 (blockCount C + 1)
 
 -- ---- set attribute
-
--- the column of attribute counts of operations or of blocks, and the owner's number
-unfoldable pub countColumn : Owner → ℕ
-countColumn (ofOp n) = opAttributes
-countColumn (ofBlock b) = blockAttributes
-
-unfoldable pub ownerNumber : Owner → ℕ
-ownerNumber (ofOp n) = n
-ownerNumber (ofBlock b) = b
-
-unfoldable pub keyCount : Cols → Owner → ℕ
-keyCount C w = at C (countColumn w) (ownerNumber w)
 
 -- of so many slots from slot i on, the first whose key is not below this one
 unfoldable pub seek : Cols → ℕ → ℕ → ℕ → ℕ

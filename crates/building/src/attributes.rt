@@ -1,13 +1,11 @@
-// The call that sets an attribute: its owner's slots, where a key belongs among them, what is tested and what is written.
+// The call that sets an attribute: where a key belongs among its owner's slots, what is tested and what is written.
 use crate::types::Attribute;
 use crate::types::Built;
-use crate::types::Cause;
 use crate::types::Owner;
+use layout::causes::Cause;
 use layout::columns::ATTRIBUTES;
-use layout::columns::BLOCK_ATTRIBUTES;
 use layout::columns::BLOCKS;
 use layout::columns::COUNTS;
-use layout::columns::OP_ATTRIBUTES;
 use layout::columns::OPS;
 use layout::columns::SLOT_CONTENT;
 use layout::columns::SLOT_KEY;
@@ -16,6 +14,10 @@ use layout::columns::at;
 use layout::columns::insert;
 use layout::columns::number;
 use layout::columns::put;
+use layout::owners::count_column;
+use layout::owners::first_slot;
+use layout::owners::key_count;
+use layout::owners::owner_number;
 ghost use mathlib.Core.Path.{_≡_};
 ghost use mathlib.Core.Bool.{true};
 ghost use mathlib.Core.Option.{none};
@@ -26,39 +28,11 @@ ghost use Rattle.rules.specs.Building.{setAttribute, tests, firstFailed};
 ghost use Rattle.layout.specs.Columns.{bufferLength, columns};
 ghost use Rattle.layout.specs.Reading.{slotsOf};
 ghost use Rattle.layout.specs.Soundness.{IsSound};
-ghost use Rattle.building.specs.Types.{ownerOf, attributeOf, causeOf};
-ghost use Rattle.building.specs.Raw.{countColumn, ownerNumber, keyCount, seek, slotFor, keyThere, replaced, added, withAttribute};
+ghost use Rattle.layout.specs.Owners.{ownerOf, keyCount};
+ghost use Rattle.building.specs.Types.{attributeOf};
+ghost use Rattle.layout.specs.Causes.{causeOf};
+ghost use Rattle.building.specs.Raw.{seek, slotFor, keyThere, replaced, added, withAttribute};
 ghost use Rattle.building.specs.Calls.{bufferStore, Did};
-
-// The column of attribute counts that the owner's stands in.
-fn count_column(owner: Owner) -> usize
-    ensures { λ r. ⌜ r ≡ countColumn (ownerOf owner) ⌝ }
-{
-    match owner {
-        Owner::Op(_) => OP_ATTRIBUTES,
-        Owner::Block(_) => BLOCK_ATTRIBUTES,
-    }
-}
-
-// The owner's number.
-fn owner_number(owner: Owner) -> usize
-    ensures { λ r. ⌜ r ≡ ownerNumber (ownerOf owner) ⌝ }
-{
-    match owner {
-        Owner::Op(n) => n as usize,
-        Owner::Block(b) => b as usize,
-    }
-}
-
-// The owner's first attribute slot.
-fn first_slot(owner: Owner) -> usize
-    ensures { λ r. ⌜ r ≡ slotsOf (ownerOf owner) ⌝ }
-{
-    match owner {
-        Owner::Op(n) => 8 * n as usize,
-        Owner::Block(b) => 4096 + 8 * b as usize,
-    }
-}
 
 // The owner exists.
 fn owner_exists(store: &[u32], owner: Owner) -> bool
@@ -69,15 +43,6 @@ fn owner_exists(store: &[u32], owner: Owner) -> bool
         Owner::Op(n) => n < at(store, COUNTS, OPS),
         Owner::Block(b) => b < at(store, COUNTS, BLOCKS),
     }
-}
-
-// How many keys the owner has.
-fn key_count(store: &[u32], owner: Owner) -> usize
-    requires { ⌜ IsSound (now store) ⌝ }
-    requires { ⌜ ownerExists (bufferStore (now store)) (ownerOf owner) ≡ true ⌝ }
-    ensures { λ r. ⌜ r ≡ keyCount (columns (now (store .entry))) (ownerOf owner) ⌝ }
-{
-    number(store, count_column(owner), owner_number(owner))
 }
 
 // Of so many slots from `first` on, the first whose key is not below this one.

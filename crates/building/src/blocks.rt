@@ -1,9 +1,9 @@
 // The call that adds a block.
 use crate::types::Built;
-use crate::types::Cause;
 use crate::writes::extend;
 use crate::writes::put_range;
 use crate::writes::put_values;
+use layout::causes::Cause;
 use layout::columns::BLOCK_ARGUMENT_END;
 use layout::columns::BLOCK_ARGUMENT_FIRST;
 use layout::columns::BLOCK_ATTRIBUTES;
@@ -28,7 +28,7 @@ ghost use Rattle.rules.specs.Building.{tests, firstFailed, newBlock};
 ghost use Rattle.layout.specs.Columns.{bufferLength, columns};
 ghost use Rattle.layout.specs.Reading.{blockCount, valueCount};
 ghost use Rattle.layout.specs.Soundness.{IsSound};
-ghost use Rattle.building.specs.Types.{causeOf};
+ghost use Rattle.layout.specs.Causes.{causeOf};
 ghost use Rattle.building.specs.Raw.{blockWritten, withBlock};
 ghost use Rattle.building.specs.Calls.{bufferStore, Did};
 

@@ -5,7 +5,8 @@ use crate::types::Owner;
 use crate::types::Parent;
 use layout::sound::is_sound;
 ghost use Rattle.rules.specs.Building.{newOperation, newBlock, setAttribute, setOperand};
-ghost use Rattle.building.specs.Types.{parentOf, ownerOf, attributeOf};
+ghost use Rattle.layout.specs.Owners.{ownerOf};
+ghost use Rattle.building.specs.Types.{parentOf, attributeOf};
 ghost use Rattle.building.specs.Calls.{Answered};
 
 pub fn new_operation(

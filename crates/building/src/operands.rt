@@ -1,6 +1,6 @@
 // The call that sets an operand.
 use crate::types::Built;
-use crate::types::Cause;
+use layout::causes::Cause;
 use layout::columns::COUNTS;
 use layout::columns::OP_OPERAND_END;
 use layout::columns::OP_OPERAND_FIRST;
@@ -16,7 +16,7 @@ ghost use lib.ListN.{length};
 ghost use Rattle.rules.specs.Building.{tests, firstFailed, setOperand};
 ghost use Rattle.layout.specs.Columns.{bufferLength, columns, opOperandFirst};
 ghost use Rattle.layout.specs.Soundness.{IsSound};
-ghost use Rattle.building.specs.Types.{causeOf};
+ghost use Rattle.layout.specs.Causes.{causeOf};
 ghost use Rattle.building.specs.Raw.{withOperand};
 ghost use Rattle.building.specs.Calls.{bufferStore, Did};
 

@@ -7,10 +7,7 @@ pub enum Parent {
 }
 
 // What an attribute is set on.
-pub enum Owner {
-    Op(u32),
-    Block(u32),
-}
+pub type Owner = layout::owners::Owner;
 
 pub struct Attribute {
     pub key: u32,
@@ -23,10 +20,4 @@ pub enum Built {
     Made(u32),
     Accepted,
     Refused(u32),
-}
-
-// The cause of a refusal, if there is one.
-pub enum Cause {
-    None,
-    Is(u32),
 }

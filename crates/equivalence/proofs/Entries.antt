@@ -1,14 +1,15 @@
 -- A table of a lent mapping is allowed when each entry is, and each entry is one by itself; a buffer of the right length has tables of the
 -- right lengths. Assumes nothing.
-use Prim.Native.Nat.{ℕ, zero, suc, _+_, _<_}
+use Prim.Native.Nat.{ℕ, zero, suc, _+_, _-_, _<_}
 use native.Mathlib.Nat.{not-suc-le-zero, le-of-suc-le-suc}
 use native.Mathlib.Omega.{arith}
 use mathlib.Core.Bool.{Bool, true, false, _&&_}
 use mathlib.Core.List.{List, [], _∷_}
-use mathlib.Core.Path.{_≡_, refl, ap, subst}
+use mathlib.Core.Path.{_≡_, refl, sym, ap, subst}
 use borrow.Author.Tests.{eq-eqb, ne-eqb}
+use lib.Dec.{eqb}
 use lib.ListN.{length, getD, take, drop, length-drop}
-use lib.Seq.{length-take-le}
+use lib.Seq.{length-take-le, take-all}
 use Rattle.rules.specs.Lists.{every}
 use Rattle.rules.specs.Store.{Store}
 use Rattle.rules.specs.Mapping.{entriesAllowed, tableAllowed, allowed}
@@ -16,8 +17,8 @@ use Rattle.rules.proofs.Basics.Tests.{and-both}
 use Rattle.layout.specs.Columns.{Cols}
 use Rattle.layout.specs.Reading.{valueCount, blockCount, opCount, storeOf}
 use Rattle.layout.proofs.Tabulate.{ops-length, blocks-length, values-length}
-use Rattle.layout.proofs.Scans.{Before, and-false}
-use Rattle.equivalence.specs.Lent.{mappingLength, mappingOf, entryAllowed, allowedMapping}
+use Rattle.layout.proofs.Scans.{Before, and-false, last}
+use Rattle.equivalence.specs.Lent.{mappingLength, mappingOf, entryAllowed}
 
 -- entry i of a table whose first has number n
 abbrev Entry : ℕ → ℕ → List ℕ → ℕ → Bool
@@ -64,9 +65,18 @@ table-is : (size count : ℕ) (es : List ℕ) → length es ≡ size → tableAl
 unfolding tableAllowed
 table-is size count es e = rw (eq-eqb (length es) size e) refl
 
-pub wrong-length : (s : Store) (b : List ℕ) → (length b ≡ mappingLength → ⊥) → allowedMapping s b ≡ false
-unfolding allowedMapping
-wrong-length s b ne = rw (ne-eqb (length b) mappingLength ne) refl
+third-fails : (a b c : Bool) → c ≡ false → every (a ∷ b ∷ c ∷ []) ≡ false
+unfolding every
+third-fails a b c h = and-false a _ (and-false b _ (last c h))
+
+pub wrong-length : (s : Store) (b : List ℕ) → (length b ≡ mappingLength → ⊥) → allowed s (mappingOf b) ≡ false
+unfolding allowed tableAllowed mappingOf every
+wrong-length s b ne =
+    let short : length (drop 2304 b) ≡ length b - 2304 = length-drop 2304 b in
+    let off : length (drop 2304 b) ≡ 512 → ⊥ = λ e. ne (omega arith) in
+    let t : (eqb (length (drop 2304 b)) 512 && entriesAllowed (length (s .ops)) 0 (drop 2304 b)) ≡ false =
+    ap (λ (x : Bool). x && entriesAllowed (length (s .ops)) 0 (drop 2304 b)) (ne-eqb (length (drop 2304 b)) 512 off) in
+    third-fails (tableAllowed 2048 (length (s .values)) (take 2048 b)) (tableAllowed 256 (length (s .blocks)) (take 256 (drop 2048 b))) _ t
 
 -- the three tables of a buffer of the right length, each of a store's count
 abbrev pub tables : Cols → List ℕ → List Bool
@@ -76,14 +86,14 @@ tables C b =
     ∷ entriesAllowed (opCount C) 0 (take 512 (drop 2304 b))
     ∷ []
 
-pub allowed-is : (C : Cols) (b : List ℕ) → length b ≡ mappingLength → allowedMapping (storeOf C) b ≡ every (tables C b)
-unfolding allowedMapping allowed mappingOf
+pub allowed-is : (C : Cols) (b : List ℕ) → length b ≡ mappingLength → allowed (storeOf C) (mappingOf b) ≡ every (tables C b)
+unfolding allowed mappingOf
 allowed-is C b long =
     rw (
-      eq-eqb (length b) mappingLength long,
+      take-all 512 (drop 2304 b) (omega (arith, length-drop 2304 b)),
       table-is 2048 (length (storeOf C .values)) (take 2048 b) (length-take-le 2048 b (omega arith)),
       table-is 256 (length (storeOf C .blocks)) (take 256 (drop 2048 b)) (length-take-le 256 (drop 2048 b) (omega (arith, length-drop 2048 b))),
-      table-is 512 (length (storeOf C .ops)) (take 512 (drop 2304 b)) (length-take-le 512 (drop 2304 b) (omega (arith, length-drop 2304 b))),
+      table-is 512 (length (storeOf C .ops)) (drop 2304 b) (omega (arith, length-drop 2304 b)),
       values-length C,
       blocks-length C,
       ops-length C,

@@ -3,3 +3,11 @@ pub mod Entries
 pub mod Pairs
 pub mod Kept
 pub mod Alike
+pub mod Entering
+pub mod Paired
+pub mod Ordered
+pub mod Telling
+pub mod Named
+pub mod Below
+pub mod Rounds
+pub mod Answering

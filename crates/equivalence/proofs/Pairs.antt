@@ -1,5 +1,4 @@
--- Two lists pair by pair: a scan up to the shorter end. Images are read off the lent words, and a value's type off its column. Assumes
--- nothing.
+-- Two lists pair by pair: a scan up to the shorter end. Images are read off the lent words. Assumes nothing.
 use Prim.Native.Nat.{ℕ, zero, suc, _+_, _-_, _<_, _≤_, min}
 use native.Mathlib.Nat.{not-suc-le-zero, le-of-suc-le-suc}
 use native.Mathlib.Omega.{arith}
@@ -11,13 +10,9 @@ use lib.Dec.{ltb}
 use lib.ListN.{length, getD, drop}
 use lib.Seq.{getD-take, getD-drop}
 use Rattle.rules.specs.Lists.{all, allPairs}
-use Rattle.rules.specs.Store.{typeOf}
 use Rattle.rules.specs.Mapping.{orSelf, image, noImage}
 use Rattle.rules.proofs.Basics.Tests.{and-both, all-at}
 use Rattle.rules.proofs.Basics.Appended.{mem-getD}
-use Rattle.layout.specs.Columns.{Cols, at, valueType}
-use Rattle.layout.specs.Reading.{storeOf, valueCount, valueOf}
-use Rattle.layout.proofs.Tabulate.{value-read}
 use Rattle.layout.proofs.Scans.{Before, AtBoth, and-false}
 use Rattle.equivalence.specs.Lent.{mappingLength, mappingOf}
 
@@ -55,9 +50,3 @@ pub block-image : (b : List ℕ) (v : ℕ) → length b ≡ mappingLength → v 
 unfolding image mappingOf
 block-image b v long l =
     ap (λ (e : ℕ). orSelf e v) (any-default b (2048 + v) 0 noImage (omega arith) ∙ sym (getD-take 256 (drop 2048 b) v noImage l ∙ getD-drop 2048 b v noImage))
-
--- ---- types
-
-pub type-read : (C : Cols) (v : ℕ) → v < valueCount C → typeOf (storeOf C) v ≡ at C valueType v
-unfolding typeOf valueOf
-type-read C v l = ap (λ x. x .type) (value-read C v l)

@@ -1,5 +1,6 @@
-// Attributes, by their slots: `attributes_eq`, and the slots that an ignore rule leaves.
-use crate::types::Ignore;
+// Attributes, by their slots: `attributes_eq`.
+use fragments::ignoring::Ignore;
+use fragments::ignoring::next_kept;
 use layout::columns::SLOT_CONTENT;
 use layout::columns::SLOT_KEY;
 use layout::columns::SLOT_KIND;
@@ -7,48 +8,11 @@ use layout::columns::at;
 ghost use mathlib.Core.Path.{_≡_};
 ghost use Prim.Native.Nat.{_<_, _≤_};
 ghost use lib.ListN.{length};
-ghost use Rattle.rules.specs.Shells.{ignored, sameAttribute};
-ghost use Rattle.layout.specs.Columns.{bufferLength, columns, slotKind};
+ghost use Rattle.rules.specs.Shells.{sameAttribute};
+ghost use Rattle.layout.specs.Columns.{bufferLength, columns};
 ghost use Rattle.layout.specs.Reading.{attributeAt};
-ghost use Rattle.equivalence.specs.Lent.{bitSet};
-ghost use Rattle.equivalence.specs.Types.{ignoreOf};
-ghost use Rattle.equivalence.specs.Slots.{sameKept, Kinds, Skipped};
-
-// The bit of an attribute kind is set.
-fn bit_set(bits: u64, kind: u32) -> bool
-    requires { ⌜ kind < 64 ⌝ }
-    ensures { λ q. ⌜ q ≡ bitSet bits kind ⌝ }
-{
-    (bits >> kind) % 2 == 1
-}
-
-// The attribute at a slot is ignored.
-fn slot_ignored(store: &[u32], ignore: Ignore, slot: usize) -> bool
-    requires { ⌜ length (now store) ≡ bufferLength ⌝ }
-    requires { ⌜ slot < 6144 ⌝ }
-    requires { ⌜ Rattle.layout.specs.Columns.at (columns (now store)) slotKind slot < 64 ⌝ }
-    ensures { λ q. ⌜ q ≡ ignored (ignoreOf ignore) (attributeAt (columns (now (store .entry))) slot) ⌝ }
-{
-    bit_set(ignore.bits, at(store, SLOT_KIND, slot))
-}
-
-// The first slot from `from` on that is not ignored, or `end`.
-fn next_kept(store: &[u32], ignore: Ignore, from: usize, end: usize) -> usize
-    requires { ⌜ length (now store) ≡ bufferLength ⌝ }
-    requires { ⌜ end ≤ 6144 ⌝ }
-    requires { ⌜ from ≤ end ⌝ }
-    requires { ⌜ Kinds (columns (now store)) from end ⌝ }
-    ensures { λ i. ⌜ Skipped (columns (now (store .entry))) (ignoreOf ignore) from end i ⌝ }
-{
-    let mut i = from;
-    while i < end {
-        if !slot_ignored(store, ignore, i) {
-            return i;
-        }
-        i += 1;
-    }
-    end
-}
+ghost use Rattle.fragments.specs.Ignoring.{ignoreOf, Kinds};
+ghost use Rattle.equivalence.specs.Slots.{sameKept};
 
 // The attributes at two slots are equal.
 fn attribute_eq(store: &[u32], l: usize, r: usize) -> bool

@@ -3,6 +3,8 @@ use crate::mapping::BLOCK_ENTRIES;
 use crate::mapping::NONE;
 use layout::columns::VALUE_TYPE;
 use layout::columns::at;
+use layout::parts::operands_of;
+use layout::parts::successors_of;
 ghost use mathlib.Core.Path.{_≡_};
 ghost use mathlib.Core.Bool.{true, _&&_};
 ghost use Prim.Native.Nat.{_<_};
@@ -11,9 +13,11 @@ ghost use lib.ListN.{length, getD};
 ghost use Rattle.rules.specs.Lists.{all, allPairs};
 ghost use Rattle.rules.specs.Mapping.{orSelf};
 ghost use Rattle.layout.specs.Columns.{columns};
-ghost use Rattle.layout.specs.Reading.{storeOf, valueCount};
+ghost use Rattle.rules.specs.Comparison.{operandsAgree, successorsAgree};
+ghost use Rattle.layout.specs.Reading.{storeOf, opCount, valueCount};
 ghost use Rattle.layout.specs.Soundness.{Arranged};
 ghost use Rattle.equivalence.specs.Lent.{mappingLength, mappingOf, sameOperand, sameSuccessor};
+ghost use Rattle.equivalence.specs.Walked.{Ready, storeIn};
 
 // The entry at i, or n itself where there is none.
 fn image_at(mapping: &[u32], i: usize, n: u32) -> u32
@@ -94,4 +98,46 @@ pub fn successors_agree(mapping: &[u32], l: &[u32], r: &[u32]) -> bool
         i += 1;
     }
     true
+}
+
+// Each operand of two operations agrees.
+fn op_operands_agree(store: &[u32], mapping: &[u32], lhs: usize, rhs: usize) -> bool
+    requires { ⌜ Ready (now store) (now mapping) ⌝ }
+    requires { ⌜ lhs < opCount (columns (now store)) ⌝ }
+    requires { ⌜ rhs < opCount (columns (now store)) ⌝ }
+    ensures { λ q. ⌜ q ≡ operandsAgree (storeIn (now (store .entry))) (mappingOf (now (mapping .entry))) lhs rhs ⌝ }
+{
+    operands_agree(
+        store,
+        mapping,
+        operands_of(store, lhs),
+        operands_of(store, rhs),
+    )
+}
+
+// Each successor of two operations agrees.
+fn op_successors_agree(store: &[u32], mapping: &[u32], lhs: usize, rhs: usize) -> bool
+    requires { ⌜ Ready (now store) (now mapping) ⌝ }
+    requires { ⌜ lhs < opCount (columns (now store)) ⌝ }
+    requires { ⌜ rhs < opCount (columns (now store)) ⌝ }
+    ensures { λ q. ⌜ q ≡ successorsAgree (storeIn (now (store .entry))) (mappingOf (now (mapping .entry))) lhs rhs ⌝ }
+{
+    successors_agree(
+        mapping,
+        successors_of(store, lhs),
+        successors_of(store, rhs),
+    )
+}
+
+// What two operations name agrees.
+pub fn names_agree(store: &[u32], mapping: &[u32], lhs: usize, rhs: usize) -> bool
+    requires { ⌜ Ready (now store) (now mapping) ⌝ }
+    requires { ⌜ lhs < opCount (columns (now store)) ⌝ }
+    requires { ⌜ rhs < opCount (columns (now store)) ⌝ }
+    ensures { λ q. ⌜ q ≡ (operandsAgree (storeIn (now (store .entry))) (mappingOf (now (mapping .entry))) lhs rhs && successorsAgree (storeIn (now (store .entry))) (mappingOf (now (mapping .entry))) lhs rhs) ⌝ }
+{
+    if !op_operands_agree(store, mapping, lhs, rhs) {
+        return false;
+    }
+    op_successors_agree(store, mapping, lhs, rhs)
 }

@@ -1,12 +1,10 @@
 // What is compared of two operations or two blocks by themselves, before anything is entered: the first half of `op_eq_map` and of
 // `block_eq_map`.
 use crate::attributes::attributes_eq;
-use crate::types::Ignore;
+use fragments::ignoring::Ignore;
 use layout::columns::BLOCK_ARGUMENT_END;
 use layout::columns::BLOCK_ARGUMENT_FIRST;
-use layout::columns::BLOCK_ATTRIBUTES;
 use layout::columns::BLOCK_LOCATION;
-use layout::columns::OP_ATTRIBUTES;
 use layout::columns::OP_KIND;
 use layout::columns::OP_LOCATION;
 use layout::columns::OP_OPERAND_END;
@@ -22,17 +20,22 @@ use layout::columns::at;
 use layout::columns::number;
 use layout::columns::words;
 use layout::lists::words_eq;
+use layout::owners::Owner;
+use layout::owners::first_slot;
+use layout::owners::key_count;
 ghost use mathlib.Core.Path.{_≡_};
+ghost use mathlib.Core.Bool.{true};
 ghost use Prim.Native.Nat.{_<_, _≤_};
 ghost use lib.Dec.{eqb};
 ghost use lib.ListN.{length};
 ghost use Rattle.rules.specs.Lists.{sameList};
-ghost use Rattle.rules.specs.Store.{ofOp, ofBlock};
+ghost use Rattle.rules.specs.Store.{ofOp, ofBlock, ownerExists};
 ghost use Rattle.rules.specs.Shells.{sameShells};
-ghost use Rattle.layout.specs.Columns.{bufferLength, columns, size, opAttributes, blockAttributes};
+ghost use Rattle.layout.specs.Columns.{bufferLength, columns, size};
 ghost use Rattle.layout.specs.Reading.{storeOf, opCount, blockCount, slotsOf};
 ghost use Rattle.layout.specs.Soundness.{IsSound};
-ghost use Rattle.equivalence.specs.Types.{ignoreOf};
+ghost use Rattle.layout.specs.Owners.{ownerOf, keyCount};
+ghost use Rattle.fragments.specs.Ignoring.{ignoreOf};
 ghost use Rattle.equivalence.specs.Rows.{span, opCounts, sameLocations, sameSlots, typesOf};
 
 // The ranges of two rows are as long.
@@ -114,22 +117,22 @@ fn types_eq(store: &[u32], first: usize, end: usize, l: usize, r: usize) -> bool
     )
 }
 
-// The attributes of two operations.
-fn op_attributes_eq(store: &[u32], ignore: Ignore, l: usize, r: usize) -> bool
+// The attributes of two owners.
+fn owner_attributes_eq(store: &[u32], ignore: Ignore, l: Owner, r: Owner) -> bool
     requires { ⌜ IsSound (now store) ⌝ }
-    requires { ⌜ l < opCount (columns (now store)) ⌝ }
-    requires { ⌜ r < opCount (columns (now store)) ⌝ }
-    ensures { λ q. ⌜ q ≡ sameSlots (columns (now (store .entry))) (ignoreOf ignore) (slotsOf (ofOp l)) (Rattle.layout.specs.Columns.at (columns (now (store .entry))) opAttributes l) (slotsOf (ofOp r)) (Rattle.layout.specs.Columns.at (columns (now (store .entry))) opAttributes r) ⌝ }
+    requires { ⌜ ownerExists (storeOf (columns (now store))) (ownerOf l) ≡ true ⌝ }
+    requires { ⌜ ownerExists (storeOf (columns (now store))) (ownerOf r) ≡ true ⌝ }
+    ensures { λ q. ⌜ q ≡ sameSlots (columns (now (store .entry))) (ignoreOf ignore) (slotsOf (ownerOf l)) (keyCount (columns (now (store .entry))) (ownerOf l)) (slotsOf (ownerOf r)) (keyCount (columns (now (store .entry))) (ownerOf r)) ⌝ }
 {
-    let a = 8 * l;
-    let b = 8 * r;
+    let a = first_slot(l);
+    let b = first_slot(r);
     attributes_eq(
         store,
         ignore,
         a,
-        a + number(store, OP_ATTRIBUTES, l),
+        a + key_count(store, l),
         b,
-        b + number(store, OP_ATTRIBUTES, r),
+        b + key_count(store, r),
     )
 }
 
@@ -146,29 +149,10 @@ pub fn op_shells_eq(store: &[u32], ignore: Ignore, l: usize, r: usize) -> bool
     if !locations_eq(store, ignore, OP_LOCATION, l, r) {
         return false;
     }
-    if !op_attributes_eq(store, ignore, l, r) {
+    if !owner_attributes_eq(store, ignore, Owner::Op(l as u32), Owner::Op(r as u32)) {
         return false;
     }
     types_eq(store, OP_RESULT_FIRST, OP_RESULT_END, l, r)
-}
-
-// The attributes of two blocks.
-fn block_attributes_eq(store: &[u32], ignore: Ignore, l: usize, r: usize) -> bool
-    requires { ⌜ IsSound (now store) ⌝ }
-    requires { ⌜ l < blockCount (columns (now store)) ⌝ }
-    requires { ⌜ r < blockCount (columns (now store)) ⌝ }
-    ensures { λ q. ⌜ q ≡ sameSlots (columns (now (store .entry))) (ignoreOf ignore) (slotsOf (ofBlock l)) (Rattle.layout.specs.Columns.at (columns (now (store .entry))) blockAttributes l) (slotsOf (ofBlock r)) (Rattle.layout.specs.Columns.at (columns (now (store .entry))) blockAttributes r) ⌝ }
-{
-    let a = 4096 + 8 * l;
-    let b = 4096 + 8 * r;
-    attributes_eq(
-        store,
-        ignore,
-        a,
-        a + number(store, BLOCK_ATTRIBUTES, l),
-        b,
-        b + number(store, BLOCK_ATTRIBUTES, r),
-    )
 }
 
 // Two blocks are alike by themselves.
@@ -184,7 +168,12 @@ pub fn block_shells_eq(store: &[u32], ignore: Ignore, l: usize, r: usize) -> boo
     if !locations_eq(store, ignore, BLOCK_LOCATION, l, r) {
         return false;
     }
-    if !block_attributes_eq(store, ignore, l, r) {
+    if !owner_attributes_eq(
+        store,
+        ignore,
+        Owner::Block(l as u32),
+        Owner::Block(r as u32),
+    ) {
         return false;
     }
     types_eq(store, BLOCK_ARGUMENT_FIRST, BLOCK_ARGUMENT_END, l, r)

@@ -11,10 +11,10 @@ use mathlib.Core.Path.{_≡_, refl, sym, ap, subst, _∙_}
 use borrow.Author.Tests.{eqb-true, eq-eqb, le-leb, lt-leb}
 use lib.Dec.{eqb}
 use Rattle.rules.specs.Lists.{numbersFrom, numbersWhere}
-use Rattle.rules.specs.Store.{Op, Block, isParent, opsOf, blocksOf}
+use Rattle.rules.specs.Store.{Op, Block, isParent, opsOf, blocksOf, regionsOf}
 use Rattle.rules.proofs.Basics.Tests.{clash}
 use Rattle.rules.proofs.Soundness.Children.{ops-in, blocks-in}
-use Rattle.layout.specs.Columns.{Cols, at, opParent, regionBlockFirst, regionBlockEnd, blockRegion, blockOpFirst, blockOpEnd}
+use Rattle.layout.specs.Columns.{Cols, at, opParent, regionOp, regionBlockFirst, regionBlockEnd, blockRegion, blockOpFirst, blockOpEnd}
 use Rattle.layout.specs.Reading.{tabulateFrom, tabulate, opCount, blockCount, regionCount, parentFrom, opOf, blockOf, storeOf}
 use Rattle.layout.specs.Soundness.{placed}
 use Rattle.layout.specs.Children.{firstFrom}
@@ -148,3 +148,9 @@ module _ (C : Cols) (h : Laid C) where
   blocks-scan r l =
       child-scan (λ (x : Block). eqb (x .region) r) (blockOf C) (at C blockRegion) r (λ i. (eqb-true _ r, eq-eqb _ r))
       (at C regionBlockFirst r) (at C regionBlockEnd r) (blockCount C) (h .region r l .blocks) (block-inside r)
+
+  -- ---- the regions of an operation
+
+  pub regions-mem : (n r : ℕ) → r < regionCount C → at C regionOp r ≡ n → List·Memᴰ r (regionsOf (storeOf C) n)
+  unfolding regionsOf storeOf
+  regions-mem n = child-mem (λ (o : ℕ). eqb o n) (at C regionOp) (at C regionOp) n (λ i. (eqb-true _ n, eq-eqb _ n)) (regionCount C)

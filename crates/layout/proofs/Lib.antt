@@ -6,11 +6,14 @@ pub mod Pasted
 pub mod Buffer
 pub mod Copies
 pub mod Ranges
+pub mod Types
 pub mod Nesting
 pub mod Sums
 pub mod Totals
 pub mod Rules
 pub mod ChildList
 pub mod Finds
+pub mod Seeking
 pub mod Slots
 pub mod Empty
+pub mod OwnerKeys

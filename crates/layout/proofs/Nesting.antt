@@ -1,20 +1,21 @@
 -- The column of depth is the number of regions around an operation: it is one more than that of the operation around, so each step out takes one of both. Assumes nothing.
-use Prim.Native.Nat.{ℕ, zero, suc, _+_, _<_}
+use Prim.Native.Nat.{ℕ, zero, suc, _+_, _-_, _<_, _≤_}
 use native.Mathlib.Numerals.{add-one}
 use native.Mathlib.Omega.{arith}
 use mathlib.Core.Bool.{true}
 use mathlib.Core.Option.{Option, none, some}
-use mathlib.Core.Path.{_≡_, refl, sym, ap, _∙_}
-use borrow.Author.Tests.{le-leb, lt-leb, ltb-true, lt-ltb, eqb-true, eq-eqb}
+use mathlib.Core.Path.{_≡_, refl, sym, ap, subst, _∙_}
+use borrow.Author.Tests.{leb-true, le-leb, lt-leb, ltb-true, lt-ltb, eqb-true, eq-eqb}
 use lib.Dec.{leb, leb·suc-suc}
 use Rattle.rules.specs.Lists.{isSome}
-use Rattle.rules.specs.Store.{Store, parentOf, levelsLeft, maxNesting, nestingHolds}
+use Rattle.rules.specs.Store.{Store, parentOf, levelsLeft, maxNesting, nestingHolds, sound}
 use Rattle.rules.proofs.Basics.Tests.{passed, every-of}
+use Rattle.rules.proofs.Soundness.Sound.{facts}
 use Rattle.layout.specs.Columns.{Cols, at, opDepth, regionOp, blockRegion, blockOpFirst, blockOpEnd}
 use Rattle.layout.specs.Reading.{opCount, blockCount, regionCount, storeOf}
 use Rattle.layout.specs.Soundness.{placed}
 use Rattle.layout.proofs.Laid.{Laid, Within, within-facts, within-of}
-use Rattle.layout.proofs.Tabulate.{parent-read, around-read}
+use Rattle.layout.proofs.Tabulate.{ops-length, parent-read, around-read}
 
 -- the operation that a block's region belongs to
 abbrev pub around : Cols → ℕ → ℕ
@@ -84,3 +85,26 @@ module _ (C : Cols) (h : Laid C) where
   nesting-at n l =
       ap (λ (q : Option ℕ). isSome (levelsLeft maxNesting (storeOf C) q)) (parent-read C n l)
       ∙ left-at C maxNesting n _ (h .op n l .place) (left-under maxNesting)
+
+  -- ---- what is left of so many levels inside an operation
+
+  levels-in : (k n : ℕ) (q : Option ℕ) → placed C n q ≡ true → at C opDepth n ≤ k → levelsLeft k (storeOf C) q ≡ some (k - at C opDepth n)
+  unfolding levelsLeft placed
+  levels-in zero n none p l = ap some (let e : 0 ≡ 0 - at C opDepth n = omega arith in e)
+  levels-in (suc k) n none p l =
+      let z : at C opDepth n ≡ 0 = eqb-true _ 0 p in ap some (let e : suc k ≡ suc k - at C opDepth n = omega arith in e)
+  levels-in zero n (some b) p l = let d : at C opDepth n ≡ at C opDepth (around C b) + 1 = placed-facts C n b p .depth in absurd (omega arith)
+  levels-in (suc k) n (some b) p l =
+      let w = placed-facts C n b p in
+      let d : at C opDepth n ≡ at C opDepth (around C b) + 1 = w .depth in
+      let o = h .region _ (w .regionIn) .opIn in
+      ap (levelsLeft k (storeOf C)) (ap (parentOf (storeOf C)) (around-read C b (w .blockIn) (w .regionIn)) ∙ parent-read C (around C b) o)
+      ∙ levels-in k (around C b) _ (h .op (around C b) o .place) (omega arith)
+      ∙ ap some (let e : k - at C opDepth (around C b) ≡ suc k - at C opDepth n = omega arith in e)
+
+  module _ (sd : sound (storeOf C) ≡ true) (n : ℕ) (l : n < opCount C) where
+    pub depth-most : at C opDepth n ≤ maxNesting
+    depth-most = leb-true _ _ (sym (nesting-at n l) ∙ facts (storeOf C) sd .op n (subst (λ (k : ℕ). n < k) (sym (ops-length C)) l) .nesting)
+
+    pub levels-at : levelsLeft maxNesting (storeOf C) (parentOf (storeOf C) n) ≡ some (maxNesting - at C opDepth n)
+    levels-at = ap (levelsLeft maxNesting (storeOf C)) (parent-read C n l) ∙ levels-in maxNesting n _ (h .op n l .place) depth-most

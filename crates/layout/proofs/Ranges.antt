@@ -3,7 +3,7 @@ use Prim.Native.Nat.{ℕ, zero, suc, _+_, _-_, _*_, _/_, _%_, _<_, _≤_, max}
 use native.Mathlib.Decide.{decLt}
 use native.Mathlib.Omega.{arith}
 use mathlib.Core.Bool.{Bool, true, false, cond}
-use mathlib.Core.List.{List, [], _∷_}
+use mathlib.Core.List.{List, [], _∷_, List·Memᴰ, List·Memᴰ·head, List·Memᴰ·tail}
 use mathlib.Core.Path.{_≡_, refl, sym, ap, ap₂, subst, _∙_}
 use borrow.Author.Tests.{eqb-true, eq-eqb}
 use lib.Dec.{eqb, ltb}
@@ -27,13 +27,26 @@ pub length-range : (a e : ℕ) → length (range a e) ≡ e - a
 unfolding range
 length-range a e = length-from a (e - a) (λ (i : ℕ). i)
 
-range-empty : (a e : ℕ) → e ≤ a → range a e ≡ []
+pub range-empty : (a e : ℕ) → e ≤ a → range a e ≡ []
 unfolding range tabulateFrom
 range-empty a e h = let k : e - a ≡ 0 = omega arith in ap (λ (n : ℕ). tabulateFrom a n (λ (i : ℕ). i)) k
 
-range-first : (a e : ℕ) → a < e → range a e ≡ a ∷ range (suc a) e
+pub range-first : (a e : ℕ) → a < e → range a e ≡ a ∷ range (suc a) e
 unfolding range tabulateFrom
 range-first a e h = let k : e - a ≡ suc (e - suc a) = omega arith in ap (λ (n : ℕ). tabulateFrom a n (λ (i : ℕ). i)) k
+
+in-from : (a n k : ℕ) → a ≤ k → k < a + n → List·Memᴰ k (tabulateFrom a n (λ (i : ℕ). i))
+unfolding tabulateFrom
+in-from a zero k l h = absurd (omega arith)
+in-from a (suc n) k l h = go (decLt a k) (in-from (suc a) n k)
+  where
+    go : Dec (a < k) → (suc a ≤ k → k < suc a + n → List·Memᴰ k (tabulateFrom (suc a) n (λ (i : ℕ). i))) → List·Memᴰ k (a ∷ tabulateFrom (suc a) n (λ (i : ℕ). i))
+    go (yes m) rest = List·Memᴰ·tail (rest (omega arith) (omega arith))
+    go (no m) rest = let e : k ≡ a = omega arith in List·Memᴰ·head e
+
+pub in-range : (a e k : ℕ) → a ≤ k → k < e → List·Memᴰ k (range a e)
+unfolding range
+in-range a e k l h = in-from a (e - a) k l (omega arith)
 
 module _ {A : Type 0} (p : A → Bool) (f : ℕ → A) where
   numbers-from : (i n a e : ℕ) → a ≤ e → e ≤ i + n → ((j : ℕ) → i ≤ j → j < i + n → p (f j) ≡ true → Within a e j) → ((j : ℕ) → Within a e j → p (f j) ≡ true)

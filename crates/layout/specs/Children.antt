@@ -13,6 +13,11 @@ unfoldable pub firstFrom : ℕ → List ℕ → Option ℕ
 firstFrom n [] = none
 firstFrom n (x ∷ xs) = cond (leb n x) (some x) (firstFrom n xs)
 
+-- the entries from number n on
+unfoldable pub onFrom : ℕ → List ℕ → List ℕ
+onFrom n [] = []
+onFrom n (x ∷ xs) = cond (leb n x) (x ∷ xs) (onFrom n xs)
+
 -- of n entries of a column from a on, the first that is w
 unfoldable pub firstWord : Cols → ℕ → ℕ → ℕ → ℕ → Option ℕ
 firstWord C k w a zero = none

@@ -8,6 +8,7 @@ use crate::columns::REGION_BLOCK_FIRST;
 use crate::columns::at;
 use crate::columns::number;
 ghost use mathlib.Core.Path.{_≡_};
+ghost use mathlib.Core.List.{[], _∷_};
 ghost use Prim.Native.Nat.{_-_, _<_, _≤_};
 ghost use lib.ListN.{length};
 ghost use Rattle.rules.specs.Store.{opsOf, blocksOf};
@@ -85,4 +86,14 @@ pub fn first_block(store: &[u32], region: usize) -> Found
     ensures { λ r. ⌜ r ≡ foundFrom (firstFrom 0 (blocksOf (storeOf (columns (now (store .entry)))) region)) ⌝ }
 {
     next_block(store, region, 0)
+}
+
+// The first of a list of one, from a number on.
+pub fn one_from(n: usize, from: usize) -> Found
+    ensures { λ q. ⌜ q ≡ foundFrom (firstFrom from (n ∷ [])) ⌝ }
+{
+    if from <= n {
+        return Found::At(n);
+    }
+    Found::Nothing
 }

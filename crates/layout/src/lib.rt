@@ -1,8 +1,11 @@
 // The store in memory: one lent buffer of words, in columns. docs/STORE.md has every column.
+pub mod causes;
 pub mod checks;
 pub mod children;
 pub mod columns;
 pub mod lists;
+pub mod owners;
+pub mod parts;
 pub mod rows;
 pub mod ruled;
 pub mod sound;

@@ -27,6 +27,8 @@ use crate::columns::at;
 use crate::columns::number;
 use crate::columns::words;
 use crate::lists::all_below;
+use crate::owners::Owner;
+use crate::owners::first_slot;
 ghost use mathlib.Core.Path.{_≡_};
 ghost use Prim.Native.Nat.{_+_, _-_, _<_, _≤_};
 ghost use lib.Dec.{leb, ltb};
@@ -144,7 +146,8 @@ fn op_rules(store: &[u32], n: usize) -> bool
     if !at_most(store, OP_SUCCESSOR_FIRST, OP_SUCCESSOR_END, n, 8) {
         return false;
     }
-    attributes_hold(store, 8 * n, number(store, OP_ATTRIBUTES, n))
+    let first = first_slot(Owner::Op(n as u32));
+    attributes_hold(store, first, number(store, OP_ATTRIBUTES, n))
 }
 
 // The block around a block has a smaller number, if there is one.
@@ -170,7 +173,8 @@ fn block_rules(store: &[u32], m: usize) -> bool
     if !at_most(store, BLOCK_ARGUMENT_FIRST, BLOCK_ARGUMENT_END, m, 16) {
         return false;
     }
-    attributes_hold(store, 4096 + 8 * m, number(store, BLOCK_ATTRIBUTES, m))
+    let first = first_slot(Owner::Block(m as u32));
+    attributes_hold(store, first, number(store, BLOCK_ATTRIBUTES, m))
 }
 
 // Each operation keeps the rules.

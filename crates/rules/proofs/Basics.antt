@@ -1,4 +1,5 @@
 -- Tests and lists.
 pub mod Tests
 pub mod Distinct
+pub mod Pigeons
 pub mod Appended

@@ -4,6 +4,7 @@ pub mod SameShells
 pub mod Ancestors
 pub mod OnceInLists
 pub mod Once
+pub mod Counted
 pub mod Tested
 pub mod Events
 pub mod LockStep

@@ -6,4 +6,6 @@ pub mod Form
 pub mod Laws
 pub mod Attributes
 pub mod Starred
+pub mod Listings
+pub mod Listed
 pub mod Needed

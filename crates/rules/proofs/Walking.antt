@@ -1,7 +1,10 @@
--- Walks: their depth, their answers, and the Rust's.
+-- Walks: their depth, their answers, the Rust's, and how far they count.
 pub mod Walks
 pub mod Levels
 pub mod Deep
 pub mod Enough
+pub mod EnoughSteps
 pub mod Answered
 pub mod Rust
+pub mod Paired
+pub mod Sizes

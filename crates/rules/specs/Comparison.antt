@@ -35,6 +35,11 @@ pub data Walk : Type 0 where
   on : State → Walk
   ended : Stop → State → Walk
 
+-- where a walk stands: the entries made so far, and how many
+unfoldable pub standing : Walk → State
+standing (on st) = st
+standing (ended why st) = st
+
 infixl 20 _>>=_
 abbrev pub _>>=_ : Walk → (State → Walk) → Walk
 on st >>= f = f st

@@ -8,5 +8,9 @@ pub mod Mapping
 pub mod Comparison
 pub mod Hash
 pub mod Answers
+pub mod Bytes
+pub mod Lines
+pub mod Listings
 pub mod Laws
 pub mod Cases
+pub mod ListingCases

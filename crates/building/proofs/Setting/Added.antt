@@ -14,14 +14,16 @@ use Rattle.rules.specs.Store.{Attribute, Owner, ofOp, ofBlock, maxOwnKeys, maxA
 use Rattle.rules.specs.Building.{putAttribute}
 use Rattle.layout.specs.Columns.{Cols, at, write, pour, size, counts, opAttributes, blockAttributes, operandWords, slotKey, slotKind, slotContent}
 use Rattle.layout.specs.Reading.{slotsOf, attributeCount, attributeAt, attributesFrom}
+use Rattle.layout.specs.Owners.{keyCount, countColumn, ownerNumber}
 use Rattle.layout.proofs.Laid.{Shaped, Laid}
 use Rattle.layout.proofs.Buffer.{write-other, pour-other}
-use Rattle.building.specs.Raw.{keyCount, countColumn, ownerNumber, slotFor, keyThere, inserted, added}
+use Rattle.layout.proofs.OwnerKeys.{ownerIn, slots-fit}
+use Rattle.building.specs.Raw.{slotFor, keyThere, inserted, added}
 use Rattle.building.proofs.Setting.Changed.{attribute-same}
 use Rattle.building.proofs.Setting.Inserted.{insert-tabulate, grown, grown-before, grown-there, grown-behind, grown-past}
 use Rattle.building.proofs.Setting.Patched.{Kept, touched, untouched}
 use Rattle.building.proofs.Setting.Place.{own, place, place-found, slot-found, slot-low, new-put}
-use Rattle.building.proofs.Setting.Written.{ownerIn, Written, slots-fit}
+use Rattle.building.proofs.Setting.Written.{Written}
 
 -- ---- the columns after it
 

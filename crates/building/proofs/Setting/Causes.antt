@@ -14,7 +14,8 @@ use Rattle.rules.proofs.Soundness.Accepted.{firstFailed-none}
 use Rattle.layout.specs.Columns.{columns}
 use Rattle.layout.specs.Reading.{attributeCount}
 use Rattle.layout.specs.Soundness.{IsSound}
-use Rattle.building.specs.Raw.{keyCount, keyThere}
+use Rattle.layout.specs.Owners.{keyCount}
+use Rattle.building.specs.Raw.{keyThere}
 use Rattle.building.specs.Calls.{bufferStore}
 use Rattle.building.proofs.Facts.{attributes-counted}
 use Rattle.building.proofs.Setting.Owners.{key-test, keys-counted}

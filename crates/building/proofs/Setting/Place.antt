@@ -16,8 +16,9 @@ use Rattle.rules.proofs.Basics.Tests.{and-left, and-right, and-both, or-left, o
 use Rattle.rules.proofs.Soundness.KeptAttributes.{put-replaced}
 use Rattle.layout.specs.Columns.{Cols, at, slotKey}
 use Rattle.layout.specs.Reading.{slotsOf, attributeAt, attributesFrom}
+use Rattle.layout.specs.Owners.{keyCount}
 use Rattle.layout.proofs.Tabulate.{length-tabulate, getD-tabulate}
-use Rattle.building.specs.Raw.{seek, slotFor, keyThere, keyCount}
+use Rattle.building.specs.Raw.{seek, slotFor, keyThere}
 
 -- of so many slots from slot i on, the first p have keys below this one, and the next has not
 pub record Sought (C : Cols) (key i left p : ℕ) : Type 0 where

@@ -10,13 +10,15 @@ use Rattle.rules.specs.Store.{Attribute, Owner, ofOp, ofBlock}
 use Rattle.rules.specs.Building.{putAttribute}
 use Rattle.layout.specs.Columns.{Cols, at, write, counts, slotKey, slotKind, slotContent}
 use Rattle.layout.specs.Reading.{slotsOf, attributeCount, attributeAt, attributesFrom}
+use Rattle.layout.specs.Owners.{keyCount, countColumn, ownerNumber}
 use Rattle.layout.proofs.Laid.{Shaped, Laid}
 use Rattle.layout.proofs.Buffer.{write-other}
-use Rattle.building.specs.Raw.{keyCount, countColumn, ownerNumber, slotFor, keyThere, replaced}
+use Rattle.layout.proofs.OwnerKeys.{ownerIn, owner-keys, slots-fit}
+use Rattle.building.specs.Raw.{slotFor, keyThere, replaced}
 use Rattle.building.proofs.Setting.Changed.{update-tabulate, attribute-same, set-update}
 use Rattle.building.proofs.Setting.Patched.{Kept, touched, untouched}
 use Rattle.building.proofs.Setting.Place.{own, place, slot-found, there-within, there-key, there-put}
-use Rattle.building.proofs.Setting.Written.{ownerIn, Written, owner-keys, slots-fit}
+use Rattle.building.proofs.Setting.Written.{Written}
 
 module _ (C : Cols) (w : Owner) (a : Attribute) (sh : Shaped C) (h : Laid C) (l : ownerIn C w) (t : keyThere C w (a .key) ≡ true) where
   abbrev s : ℕ

@@ -11,12 +11,14 @@ use Rattle.rules.specs.Building.{setAttribute, opWithAttribute, blockWithAttrib
 use Rattle.layout.specs.Columns.{Cols, at, opAttributes, opOperandFirst, opOperandEnd, blockAttributes}
 use Rattle.layout.specs.Reading.{part, opCount, blockCount, regionCount, valueCount, attributeCount, slotsOf, attributeAt, attributesFrom, opOf, blockOf, valueOf, storeOf}
 use Rattle.layout.specs.Soundness.{attributeSum}
+use Rattle.layout.specs.Owners.{keyCount, countColumn, ownerNumber}
 use Rattle.layout.proofs.Laid.{Shaped, Laid}
 use Rattle.layout.proofs.Tabulate.{tabulate-cong}
-use Rattle.building.specs.Raw.{keyCount, countColumn, ownerNumber, slotFor, keyThere, replaced, added, withAttribute}
+use Rattle.layout.proofs.OwnerKeys.{ownerIn, owner-keys}
+use Rattle.building.specs.Raw.{slotFor, keyThere, replaced, added, withAttribute}
 use Rattle.building.proofs.Setting.Changed.{update-tabulate, opWith, blockWith, sum-changed}
 use Rattle.building.proofs.Setting.Patched.{touched, patched, patchedCounts, kept-path, laid-patched}
-use Rattle.building.proofs.Setting.Written.{ownerIn, Written, owner-keys, op-block, owner-same, slots-apart}
+use Rattle.building.proofs.Setting.Written.{Written, op-block, owner-same, slots-apart}
 use Rattle.building.proofs.Setting.Replaced.{replaced-written}
 use Rattle.building.proofs.Setting.Added.{added-written}
 

@@ -7,16 +7,12 @@ use mathlib.Core.Path.{_≡_, sym, ap}
 use Rattle.rules.specs.Store.{Attribute, Owner, ofOp, ofBlock, maxOwnKeys, maxAttributes}
 use Rattle.rules.specs.Building.{putAttribute}
 use Rattle.layout.specs.Columns.{Cols, operandWords}
-use Rattle.layout.specs.Reading.{opCount, blockCount, attributeCount, slotsOf, attributeAt, attributesFrom}
+use Rattle.layout.specs.Reading.{attributeCount, slotsOf, attributeAt, attributesFrom}
+use Rattle.layout.specs.Owners.{keyCount}
 use Rattle.layout.proofs.Laid.{Laid}
-use Rattle.building.specs.Raw.{keyCount, countColumn, ownerNumber}
+use Rattle.layout.proofs.OwnerKeys.{ownerIn}
 use Rattle.building.proofs.Setting.Patched.{Kept}
 use Rattle.building.proofs.Setting.Place.{own}
-
--- the owner is in the store
-abbrev pub ownerIn : Cols → Owner → Type 0
-ownerIn C (ofOp n) = n < opCount C
-ownerIn C (ofBlock m) = m < blockCount C
 
 pub record Written (C D : Cols) (w : Owner) (a : Attribute) : Type 0 where
   pub kept : Kept C D
@@ -28,17 +24,7 @@ pub record Written (C D : Cols) (w : Owner) (a : Attribute) : Type 0 where
   pub keys : keyCount D w ≤ maxOwnKeys
   pub most : attributeCount D ≤ maxAttributes
 
-pub owner-keys : (C : Cols) (w : Owner) → Laid C → ownerIn C w → keyCount C w ≤ maxOwnKeys
-unfolding keyCount countColumn ownerNumber
-owner-keys C (ofOp n) h l = h .op n l .keys
-owner-keys C (ofBlock m) h l = h .block m l .keys
-
 -- ---- owners' slots
-
-pub slots-fit : (C : Cols) (w : Owner) → Laid C → ownerIn C w → slotsOf w + 8 ≤ 6144
-unfolding slotsOf
-slots-fit C (ofOp n) h l = omega (arith, h .counts .ops)
-slots-fit C (ofBlock m) h l = omega (arith, h .counts .blocks)
 
 pub op-block : (n m : ℕ) → ofOp n ≡ ofBlock m → ⊥
 op-block n m e = let z : _≡_ {A = ℕ} 0 1 = cc in omega arith

@@ -77,7 +77,11 @@ unfolding concatMap
 concatMap-concatMap f g [] = refl
 concatMap-concatMap {C = C} f g (x ∷ xs) = concatMap-append f (g x) (concatMap g xs) ∙ ap (λ (l : List C). concatMap f (g x) ++ l) (concatMap-concatMap f g xs)
 
-pub concatMap-cong : {B : Type 0} (f g : ℕ → List B) → ((n : ℕ) → f n ≡ g n) → (xs : List ℕ) → concatMap f xs ≡ concatMap g xs
+-- two functions that give the same for each entry
+pub concatMap-same : {A B : Type 0} (f g : A → List B) (xs : List A) → ((x : A) → List·Memᴰ x xs → f x ≡ g x) → concatMap f xs ≡ concatMap g xs
 unfolding concatMap
-concatMap-cong f g same [] = refl
-concatMap-cong f g same (x ∷ xs) = ap₂ _++_ (same x) (concatMap-cong f g same xs)
+concatMap-same f g [] same = refl
+concatMap-same f g (x ∷ xs) same = ap₂ _++_ (same x (List·Memᴰ·head refl)) (concatMap-same f g xs (λ y m. same y (List·Memᴰ·tail m)))
+
+pub concatMap-cong : {B : Type 0} (f g : ℕ → List B) → ((n : ℕ) → f n ≡ g n) → (xs : List ℕ) → concatMap f xs ≡ concatMap g xs
+concatMap-cong f g same xs = concatMap-same f g xs (λ n m. same n)

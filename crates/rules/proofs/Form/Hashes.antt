@@ -6,9 +6,15 @@ use Rattle.rules.specs.Lists.{concatMap}
 use Rattle.rules.specs.Store.{Store, Owner, ofOp, ofBlock, opAt, typeOf}
 use Rattle.rules.specs.Fragments.{Step, shell, names}
 use Rattle.rules.specs.Shells.{Ignore, countsOf, shellOf}
-use Rattle.rules.specs.Hash.{Numbering, numbered, Name, nameOf, nameBytes, leaf, count, headBytes, shellBytes, feeds, allBytes}
+use Rattle.rules.specs.Hash.{fnvByte, fnvFrom, Numbering, numbered, Name, nameOf, nameBytes, leaf, count, headBytes, shellBytes, feeds, allBytes}
 use Rattle.rules.proofs.Form.Events.{Event, step, more, done, unmarked}
 use Rattle.rules.proofs.Form.Tokens.{Token, shellToken, namesToken, moreToken, doneToken, next, token, tokens}
+
+-- what is fed in two parts goes into the word one after the other
+pub fnv-append : (w : ℕ) (xs ys : List ℕ) → fnvFrom w (xs ++ ys) ≡ fnvFrom (fnvFrom w xs) ys
+unfolding fnvFrom
+fnv-append w [] ys = refl
+fnv-append w (x ∷ xs) ys = fnv-append (fnvByte w x) xs ys
 
 -- of an operation's counts the kind and the number of regions are fed, of a block's none
 unfoldable pub countsBytes : List ℕ → List ℕ

@@ -60,6 +60,35 @@ position-at (x ∷ xs) d (suc i) l =
     let h : i < length xs = omega arith in
     rw (ne-eqb (getD xs i 0) x (λ e. d .0 (subst (λ (v : ℕ). List·Memᴰ v xs) e (mem-getD xs i 0 h))), position-at xs (d .1) i h)
 
+-- ---- places in a list that grows at its end: a place that there is stays, and a number that has none gets the next
+
+pub position-kept : (v : ℕ) (xs ys : List ℕ) (i : ℕ) → position v xs ≡ some i → position v (xs ++ ys) ≡ some i
+unfolding position later
+position-kept v [] ys i h = absurd (Option·none-ne-some i h)
+position-kept v (x ∷ xs) ys i h = go (eqb v x) (position v xs) refl (λ j. position-kept v xs ys j) h
+  where
+    go : (b : Bool) (o : Option ℕ) → position v xs ≡ o → ((j : ℕ) → position v xs ≡ some j → position v (xs ++ ys) ≡ some j)
+        → cond b (some 0) (later o) ≡ some i → cond b (some 0) (later (position v (xs ++ ys))) ≡ some i
+    go true o p rest k = k
+    go false none p rest k = absurd (Option·none-ne-some i k)
+    go false (some j) p rest k = rw (rest j p) k
+
+pub position-next : (v : ℕ) (xs ys : List ℕ) → position v xs ≡ none → position v (xs ++ v ∷ ys) ≡ some (length xs)
+unfolding position later
+position-next v [] ys h = rw (eq-eqb v v refl)
+position-next v (x ∷ xs) ys h = go (eqb v x) (position v xs) refl (position-next v xs ys) h
+  where
+    go : (b : Bool) (o : Option ℕ) → position v xs ≡ o → (position v xs ≡ none → position v (xs ++ v ∷ ys) ≡ some (length xs))
+        → cond b (some 0) (later o) ≡ none → cond b (some 0) (later (position v (xs ++ v ∷ ys))) ≡ some (suc (length xs))
+    go true o p rest k = absurd (Option·some-ne-none 0 k)
+    go false none p rest k = rw (rest p)
+    go false (some j) p rest k = absurd (Option·some-ne-none (suc j) k)
+
+pub position-other : (v x : ℕ) (xs : List ℕ) → v ≢ x → position v (xs ++ x ∷ []) ≡ position v xs
+unfolding position later
+position-other v x [] ne = rw (ne-eqb v x ne)
+position-other v x (y ∷ ys) ne = rw (position-other v x ys ne)
+
 -- ---- images
 
 pub image-set-other : (es : List ℕ) (x y v : ℕ) → v ≢ x → image (set es x y) v ≡ image es v

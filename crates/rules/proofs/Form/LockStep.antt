@@ -22,7 +22,7 @@ going (ended why st) = none
 abbrev pub Alike : Walk → Option State → Type 0
 Alike w o = ((st : State) × (w ≡ ended tooDeep st)) ⊎ (going w ≡ o)
 
->>=-assoc : (w : Walk) (f g : State → Walk) → (w >>= f) >>= g ≡ w >>= (λ (st : State). f st >>= g)
+pub >>=-assoc : (w : Walk) (f g : State → Walk) → (w >>= f) >>= g ≡ w >>= (λ (st : State). f st >>= g)
 >>=-assoc (on st) f g = refl
 >>=-assoc (ended why st) f g = refl
 

@@ -67,8 +67,18 @@ module _ (s : Store) (sd : Sound s) where
   region-part zero r = record { inside = λ y m. absurd (List·Memᴰ·not-nil m); once = tt }
   region-part (suc k) r = list-part s sd (fullOp s (regionSteps k s)) (λ n l. op-part (regionSteps k s) (region-part k) n) (blocksOf s r) (region-blocks r)
 
-  full-part : (n : ℕ) → OpPart s (fullOp s (regionSteps levels s)) n
-  full-part = op-part (regionSteps levels s) (region-part levels)
+  full-part : (k n : ℕ) → OpPart s (fullOp s (regionSteps k s)) n
+  full-part k = op-part (regionSteps k s) (region-part k)
+
+  -- an operation and what it defines
+  pub op-once : (k n : ℕ) → opExists s n ≡ true → Distinct (ofOp n ∷ defined (fullOp s (regionSteps k s) n))
+  unfolding opExists
+  op-once k n h = (λ m. not-around-itself s sd (owner-op s sd n (ltb-true _ _ h)) (full-part k n .inside (ofOp n) m .1), full-part k n .once)
+
+  pub op-here : (k n : ℕ) → opExists s n ≡ true → (w : Owner) → List·Memᴰ w (ofOp n ∷ defined (fullOp s (regionSteps k s) n)) → ownerExists s w ≡ true
+  unfolding opExists
+  op-here k n h w m =
+      ⊎-elim (λ e. subst (λ (x : Owner). ownerExists s x ≡ true) (sym e) (owner-op s sd n (ltb-true _ _ h))) (λ i. full-part k n .inside w i .0) (List·Memᴰ·cases-cons m)
 
   one-block-alone : (b : ℕ) → b < length (s .blocks) → Blocks s (b ∷ [])
   one-block-alone b l =
@@ -81,16 +91,15 @@ module _ (s : Store) (sd : Sound s) where
   -- ---- a fragment
 
   pub owners-once : (f : Sort) (n : ℕ) → exists s f n ≡ true → Distinct (definesOwners s f n)
-  unfolding definesOwners steps exists opExists blockExists concatMap stepDefines defined
-  owners-once op n h =
-      (λ m. not-around-itself s sd (owner-op s sd n (ltb-true _ _ h)) (full-part n .inside (ofOp n) m .1), full-part n .once)
-  owners-once block n h = list-part s sd (fullOp s (regionSteps levels s)) (λ m l. full-part m) (n ∷ []) (one-block-alone n (ltb-true _ _ h)) .once
+  unfolding definesOwners steps exists blockExists concatMap stepDefines defined
+  owners-once op n h = op-once levels n h
+  owners-once block n h = list-part s sd (fullOp s (regionSteps levels s)) (λ m l. full-part levels m) (n ∷ []) (one-block-alone n (ltb-true _ _ h)) .once
   owners-once region n h = region-part levels n .once
 
   pub owners-here : (f : Sort) (n : ℕ) → exists s f n ≡ true → (w : Owner) → List·Memᴰ w (definesOwners s f n) → ownerExists s w ≡ true
-  unfolding definesOwners steps exists opExists blockExists concatMap stepDefines defined
-  owners-here op n h w m = ⊎-elim (λ e. subst (λ (x : Owner). ownerExists s x ≡ true) (sym e) (owner-op s sd n (ltb-true _ _ h))) (λ k. full-part n .inside w k .0) (List·Memᴰ·cases-cons m)
-  owners-here block n h w m = list-part s sd (fullOp s (regionSteps levels s)) (λ m l. full-part m) (n ∷ []) (one-block-alone n (ltb-true _ _ h)) .inside w m .0
+  unfolding definesOwners steps exists blockExists concatMap stepDefines defined
+  owners-here op n h w m = op-here levels n h w m
+  owners-here block n h w m = list-part s sd (fullOp s (regionSteps levels s)) (λ m l. full-part levels m) (n ∷ []) (one-block-alone n (ltb-true _ _ h)) .inside w m .0
   owners-here region n h w m = region-part levels n .inside w m .0
 
   pub values-once : (f : Sort) (n : ℕ) → exists s f n ≡ true → Distinct (definesValues s f n)

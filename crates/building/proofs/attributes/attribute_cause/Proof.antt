@@ -5,17 +5,19 @@ use mathlib.Core.Path.{_≡_, sym, _∙_}
 use Rattle.rules.specs.Store.{ownerExists}
 use Rattle.layout.specs.Columns.{columns}
 use Rattle.layout.specs.Reading.{attributeCount}
-use Rattle.building.specs.Types.{ownerOf, attributeOf, causeOf}
+use Rattle.layout.specs.Owners.{ownerOf}
+use Rattle.layout.proofs.Scans.{failed, held}
+use Rattle.building.specs.Types.{attributeOf}
+use Rattle.layout.specs.Causes.{causeOf}
 use Rattle.building.specs.Raw.{keyThere}
 use Rattle.building.specs.Calls.{bufferStore}
 use Rattle.building.proofs.Setting.Causes.{kind-over, no-owner, key-set, many-keys, many-attributes, room-left}
-use Rattle.layout.proofs.Scans.{failed, held}
 use borrow.Author.Needs.{needs}
 use Rattle.building.proofs.attributes.attribute_cause.Statement.{statement}
 use Rattle.building.proofs.attributes.attribute_cause.Tie as tie
 use Rattle.building.proofs.attributes.attribute_cause.Reads as reads
 use Rattle.building.proofs.attributes.attribute_cause.Lts as lts
-use Rattle.building.proofs.attributes.key_count.Reads as key-count-reads
+use Rattle.layout.proofs.owners.key_count.Reads as key-count-reads
 use Rattle.building.proofs.attributes.key_there.Reads as key-there-reads
 use Rattle.building.proofs.attributes.owner_exists.Reads as owner-exists-reads
 use Rattle.building.proofs.attributes.slot_for.Reads as slot-for-reads
@@ -75,6 +77,7 @@ returns-3 c =
     key-set b (s .pre) w t (omega arith) o k
 
 key-count-requires : tie.Need-key-count-requires
+unfolding bufferStore
 key-count-requires c κs =
     let s = c .before .before .before .before .before .before .before .before in
     let a = s .args in

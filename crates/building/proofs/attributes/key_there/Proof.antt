@@ -7,22 +7,24 @@ use borrow.Author.Tests.{lt-ltb, le-ltb}
 use lib.Dec.{eqb}
 use Rattle.layout.specs.Columns.{columns, at}
 use Rattle.layout.specs.Reading.{slotsOf}
-use Rattle.building.specs.Types.{ownerOf}
-use Rattle.building.specs.Raw.{keyCount, slotFor, keyThere}
+use Rattle.layout.specs.Owners.{ownerOf, keyCount}
+use Rattle.building.specs.Raw.{slotFor, keyThere}
+use Rattle.building.specs.Calls.{bufferStore}
 use Rattle.building.proofs.Setting.Owners.{reachable}
 use borrow.Author.Needs.{needs}
 use Rattle.building.proofs.attributes.key_there.Statement.{statement}
 use Rattle.building.proofs.attributes.key_there.Tie as tie
 use Rattle.building.proofs.attributes.key_there.Reads as reads
 use Rattle.building.proofs.attributes.key_there.Lts as lts
-use Rattle.building.proofs.attributes.first_slot.Reads as first-slot-reads
-use Rattle.building.proofs.attributes.key_count.Reads as key-count-reads
+use Rattle.layout.proofs.owners.first_slot.Reads as first-slot-reads
+use Rattle.layout.proofs.owners.key_count.Reads as key-count-reads
 use Rattle.layout.proofs.columns.at.Reads as at-reads
 
 first-slot-requires : tie.Need-first-slot-requires
 first-slot-requires c κs = search needs
 
 key-count-requires : tie.Need-key-count-requires
+unfolding bufferStore
 key-count-requires c κs = search needs
 
 add-if1 : tie.Need-add-if1

@@ -3,8 +3,8 @@ use mathlib.Core.Path.{sym, ap, _∙_}
 use lib.Dec.{ltb}
 use Rattle.rules.specs.Store.{ownerExists}
 use Rattle.layout.specs.Reading.{opCount, blockCount}
-use Rattle.building.specs.declared.types.Owner.{Owner}
-use Rattle.building.specs.Types.{ownerOf}
+use Rattle.layout.specs.Owners.{ownerOf}
+use Rattle.layout.specs.declared.owners.Owner.{Owner}
 use Rattle.building.specs.Calls.{bufferStore}
 use Rattle.building.proofs.Facts.{op-exists, block-exists}
 use borrow.Author.Needs.{needs}

@@ -4,24 +4,28 @@ use native.Mathlib.Omega.{arith}
 use mathlib.Core.Path.{ap, ap₂, _∙_}
 use Rattle.layout.specs.Columns.{Cols, columns, write}
 use Rattle.layout.specs.Reading.{slotsOf, attributeCount}
-use Rattle.building.specs.Types.{ownerOf, attributeOf}
-use Rattle.building.specs.Raw.{keyCount, inserted, added}
+use Rattle.layout.specs.Owners.{ownerOf, keyCount}
+use Rattle.layout.proofs.OwnerKeys.{count-reached}
+use Rattle.building.specs.Types.{attributeOf}
+use Rattle.building.specs.Raw.{inserted, added}
+use Rattle.building.specs.Calls.{bufferStore}
 use Rattle.building.proofs.Facts.{counts}
-use Rattle.building.proofs.Setting.Owners.{reachable, count-reached}
+use Rattle.building.proofs.Setting.Owners.{reachable}
 use borrow.Author.Needs.{needs}
 use Rattle.building.proofs.attributes.put_added.Statement.{statement}
 use Rattle.building.proofs.attributes.put_added.Tie as tie
 use Rattle.building.proofs.attributes.put_added.Reads as reads
 use Rattle.building.proofs.attributes.put_added.Lts as lts
-use Rattle.building.proofs.attributes.count_column.Reads as count-column-reads
-use Rattle.building.proofs.attributes.first_slot.Reads as first-slot-reads
-use Rattle.building.proofs.attributes.key_count.Reads as key-count-reads
-use Rattle.building.proofs.attributes.owner_number.Reads as owner-number-reads
+use Rattle.layout.proofs.owners.count_column.Reads as count-column-reads
+use Rattle.layout.proofs.owners.first_slot.Reads as first-slot-reads
+use Rattle.layout.proofs.owners.key_count.Reads as key-count-reads
+use Rattle.layout.proofs.owners.owner_number.Reads as owner-number-reads
 use Rattle.layout.proofs.columns.insert.Reads as insert-reads
 use Rattle.layout.proofs.columns.number.Reads as number-reads
 use Rattle.layout.proofs.columns.put.Reads as put-reads
 
 key-count-requires : tie.Need-key-count-requires
+unfolding bufferStore
 key-count-requires c κs =
     let s = c .before .before in
     (s .pre .0, s .pre .1 .0)
@@ -84,7 +88,7 @@ put-requires : tie.Need-put-requires
 put-requires c κs =
     let s = c .before .before .before .before .before .before .before .before .before .before .before .before .before .before .before .before .before .before .before .before .before in
     let a = s .args in
-    (omega (arith, s .pre .0 .sized), count-reached (a .store .now) (s .pre .0) (ownerOf (a .owner)) (s .pre .1 .0) _ _ (c .before .count-column .ensures) (c .owner-number .ensures))
+    (omega (arith, s .pre .0 .sized), count-reached (columns (a .store .now)) (ownerOf (a .owner)) (reachable (a .store .now) (s .pre .0) (ownerOf (a .owner)) (s .pre .1 .0)) _ _ (c .before .count-column .ensures) (c .owner-number .ensures))
 
 add-put-2 : tie.Need-add-put-2
 unfolding attributeCount

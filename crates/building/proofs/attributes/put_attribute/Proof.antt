@@ -4,7 +4,8 @@ use native.Mathlib.Omega.{arith}
 use mathlib.Core.Bool.{Bool, true, false, cond}
 use mathlib.Core.Path.{_≡_, sym, ap, _∙_}
 use Rattle.layout.specs.Columns.{columns}
-use Rattle.building.specs.Types.{ownerOf, attributeOf}
+use Rattle.layout.specs.Owners.{ownerOf}
+use Rattle.building.specs.Types.{attributeOf}
 use Rattle.building.specs.Raw.{slotFor, keyThere, replaced, added, withAttribute}
 use Rattle.building.proofs.Setting.Owners.{reachable}
 use Rattle.building.proofs.Setting.Place.{slot-low, slot-among}

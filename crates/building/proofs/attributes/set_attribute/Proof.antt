@@ -4,8 +4,10 @@ use mathlib.Core.Path.{_≡_, refl, sym, ap, subst, _∙_}
 use Rattle.rules.specs.Building.{setAttribute, tests, firstFailed, acceptance}
 use Rattle.layout.specs.Columns.{columns}
 use Rattle.layout.specs.Reading.{storeOf}
+use Rattle.layout.specs.Owners.{ownerOf}
 use Rattle.layout.proofs.Laid.{Laid}
-use Rattle.building.specs.Types.{ownerOf, attributeOf, causeOf, builtOf}
+use Rattle.building.specs.Types.{attributeOf, builtOf}
+use Rattle.layout.specs.Causes.{causeOf}
 use Rattle.building.specs.Calls.{bufferStore}
 use Rattle.building.proofs.Facts.{shaped, laid}
 use Rattle.building.proofs.Doing.{did-refuse, did-work}

@@ -2,22 +2,24 @@
 use native.Mathlib.Omega.{arith}
 use mathlib.Core.Path.{ap₂, _∙_}
 use Rattle.layout.specs.Columns.{columns}
-use Rattle.building.specs.Types.{ownerOf}
+use Rattle.layout.specs.Owners.{ownerOf}
 use Rattle.building.specs.Raw.{seek, slotFor}
+use Rattle.building.specs.Calls.{bufferStore}
 use Rattle.building.proofs.Setting.Owners.{reachable}
 use borrow.Author.Needs.{needs}
 use Rattle.building.proofs.attributes.slot_for.Statement.{statement}
 use Rattle.building.proofs.attributes.slot_for.Tie as tie
 use Rattle.building.proofs.attributes.slot_for.Reads as reads
 use Rattle.building.proofs.attributes.slot_for.Lts as lts
-use Rattle.building.proofs.attributes.first_slot.Reads as first-slot-reads
-use Rattle.building.proofs.attributes.key_count.Reads as key-count-reads
+use Rattle.layout.proofs.owners.first_slot.Reads as first-slot-reads
+use Rattle.layout.proofs.owners.key_count.Reads as key-count-reads
 use Rattle.building.proofs.attributes.slot_from.Reads as slot-from-reads
 
 first-slot-requires : tie.Need-first-slot-requires
 first-slot-requires c κs = search needs
 
 key-count-requires : tie.Need-key-count-requires
+unfolding bufferStore
 key-count-requires c κs = search needs
 
 slot-from-requires : tie.Need-slot-from-requires

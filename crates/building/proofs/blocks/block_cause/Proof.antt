@@ -2,7 +2,7 @@
 use native.Mathlib.Omega.{arith}
 use mathlib.Core.Path.{sym}
 use Rattle.layout.specs.Reading.{blockCount, regionCount, valueCount}
-use Rattle.building.specs.Types.{causeOf}
+use Rattle.layout.specs.Causes.{causeOf}
 use Rattle.building.proofs.Facts.{laid}
 use Rattle.building.proofs.Causes.{no-region, many-arguments, many-blocks, many-values, block-fits}
 use borrow.Author.Needs.{needs}

@@ -6,7 +6,8 @@ use Rattle.rules.specs.Building.{newBlock, made, tests, firstFailed, acceptance
 use Rattle.layout.specs.Columns.{columns}
 use Rattle.layout.specs.Reading.{blockCount, storeOf}
 use Rattle.layout.proofs.Laid.{Laid}
-use Rattle.building.specs.Types.{causeOf, builtOf}
+use Rattle.building.specs.Types.{builtOf}
+use Rattle.layout.specs.Causes.{causeOf}
 use Rattle.building.specs.Calls.{bufferStore}
 use Rattle.building.proofs.Facts.{shaped, laid, blocks-counted}
 use Rattle.building.proofs.Causes.{fits-block}

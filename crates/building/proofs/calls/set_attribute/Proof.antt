@@ -1,9 +1,10 @@
 -- `set_attribute` meets its contract: by the soundness check, and by the call on a sound buffer. Assumes nothing.
 use mathlib.Core.Path.{refl}
 use Rattle.rules.specs.Building.{setAttribute}
+use Rattle.layout.specs.Owners.{ownerOf}
 use Rattle.layout.proofs.Scans.{failed, held}
 use Rattle.layout.proofs.Empty.{sound-facts}
-use Rattle.building.specs.Types.{builtOf, ownerOf, attributeOf}
+use Rattle.building.specs.Types.{builtOf, attributeOf}
 use Rattle.building.proofs.Answering.{turned-down, taken-up}
 use borrow.Author.Needs.{needs}
 use Rattle.building.proofs.calls.set_attribute.Statement.{statement}

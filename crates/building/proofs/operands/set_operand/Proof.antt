@@ -6,7 +6,8 @@ use Rattle.rules.specs.Building.{setOperand, acceptance, tests, firstFailed}
 use Rattle.layout.specs.Columns.{columns}
 use Rattle.layout.specs.Reading.{storeOf}
 use Rattle.layout.proofs.Laid.{Laid}
-use Rattle.building.specs.Types.{causeOf, builtOf}
+use Rattle.building.specs.Types.{builtOf}
+use Rattle.layout.specs.Causes.{causeOf}
 use Rattle.building.specs.Calls.{bufferStore}
 use Rattle.building.proofs.Facts.{shaped, laid}
 use Rattle.building.proofs.Causes.{there-operand}

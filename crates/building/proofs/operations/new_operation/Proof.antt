@@ -4,7 +4,8 @@ use Rattle.rules.specs.Building.{newOperation, made, firstFailed, acceptance}
 use Rattle.layout.specs.Columns.{columns, at}
 use Rattle.layout.specs.Reading.{opCount, storeOf}
 use Rattle.layout.proofs.Laid.{Laid}
-use Rattle.building.specs.Types.{parentOf, causeOf, builtOf}
+use Rattle.building.specs.Types.{parentOf, builtOf}
+use Rattle.layout.specs.Causes.{causeOf}
 use Rattle.building.specs.Raw.{withOperation}
 use Rattle.building.proofs.Facts.{shaped, laid, ops-counted}
 use Rattle.building.proofs.Doing.{did-refuse, did-work}

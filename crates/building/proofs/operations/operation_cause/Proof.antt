@@ -2,7 +2,8 @@
 use mathlib.Core.Path.{sym}
 use Rattle.rules.specs.Building.{tests}
 use Rattle.layout.proofs.Scans.{failed, held}
-use Rattle.building.specs.Types.{parentOf, causeOf}
+use Rattle.building.specs.Types.{parentOf}
+use Rattle.layout.specs.Causes.{causeOf}
 use Rattle.building.specs.Calls.{operationTests}
 use Rattle.building.proofs.Causes.{none-fail, fails, passes}
 use Rattle.building.proofs.Operating.{names-parent}

@@ -4,14 +4,14 @@ use native.Mathlib.Omega.{arith}
 use mathlib.Core.Path.{sym, _∙_}
 use Rattle.layout.specs.Columns.{columns}
 use Rattle.layout.proofs.Scans.{failed, held}
-use Rattle.equivalence.specs.Types.{ignoreOf}
+use Rattle.fragments.specs.Ignoring.{ignoreOf}
 use Rattle.equivalence.proofs.Kept.{ended-right, heads-differ, Walking, walk-begins, walk-goes-on, left-ended}
 use Rattle.equivalence.proofs.attributes.attributes_eq.Statement.{statement}
 use Rattle.equivalence.proofs.attributes.attributes_eq.Tie as tie
 use Rattle.equivalence.proofs.attributes.attributes_eq.Reads as reads
 use Rattle.equivalence.proofs.attributes.attributes_eq.Lts as lts
 use Rattle.equivalence.proofs.attributes.attribute_eq.Reads as attribute-eq-reads
-use Rattle.equivalence.proofs.attributes.next_kept.Reads as next-kept-reads
+use Rattle.fragments.proofs.ignoring.next_kept.Reads as next-kept-reads
 
 abbrev Inv-loop : tie.InvT-loop
 Inv-loop store ignore l lend r rend i₀ j₀ i j = Walking (columns store) (ignoreOf ignore) l lend r rend i j

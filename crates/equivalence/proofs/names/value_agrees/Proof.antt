@@ -9,8 +9,9 @@ use Rattle.rules.specs.Store.{typeOf}
 use Rattle.layout.specs.Columns.{columns}
 use Rattle.layout.specs.Reading.{storeOf, valueCount}
 use Rattle.layout.proofs.Laid.{laid-facts}
+use Rattle.layout.proofs.Types.{type-read}
 use Rattle.equivalence.specs.Lent.{sameOperand}
-use Rattle.equivalence.proofs.Pairs.{value-image, type-read}
+use Rattle.equivalence.proofs.Pairs.{value-image}
 use Rattle.equivalence.proofs.names.value_agrees.Statement.{statement}
 use Rattle.equivalence.proofs.names.value_agrees.Tie as tie
 use Rattle.equivalence.proofs.names.value_agrees.Reads as reads

@@ -2,7 +2,7 @@
 use mathlib.Core.Path.{sym, ap₂, _∙_}
 use lib.Dec.{eqb}
 use Rattle.layout.specs.Columns.{columns, at}
-use Rattle.equivalence.specs.Types.{ignoreOf}
+use Rattle.fragments.specs.Ignoring.{ignoreOf}
 use Rattle.equivalence.proofs.Alike.{location-ignored, location-compared}
 use borrow.Author.Needs.{needs}
 use Rattle.equivalence.proofs.shells.locations_eq.Statement.{statement}

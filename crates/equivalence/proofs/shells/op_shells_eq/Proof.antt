@@ -2,12 +2,15 @@
 use Prim.Native.Nat.{_<_}
 use native.Mathlib.Omega.{arith}
 use mathlib.Core.Path.{sym, _∙_}
+use Rattle.rules.specs.Store.{ofOp}
 use Rattle.layout.specs.Columns.{columns}
 use Rattle.layout.specs.Reading.{opCount}
+use Rattle.layout.specs.Owners.{ownerOf, keyCount, countColumn, ownerNumber}
 use Rattle.layout.proofs.Laid.{laid-facts}
 use Rattle.layout.proofs.Buffer.{columns-shaped}
 use Rattle.layout.proofs.Scans.{stop, next, last, failed, held}
-use Rattle.equivalence.specs.Types.{ignoreOf}
+use Rattle.layout.proofs.OwnerKeys.{in-exists}
+use Rattle.fragments.specs.Ignoring.{ignoreOf}
 use Rattle.equivalence.specs.Rows.{opRowsEq}
 use Rattle.equivalence.proofs.Alike.{op-shells}
 use borrow.Author.Needs.{needs}
@@ -17,7 +20,7 @@ use Rattle.equivalence.proofs.shells.op_shells_eq.Reads as reads
 use Rattle.equivalence.proofs.shells.op_shells_eq.Lts as lts
 use Rattle.equivalence.proofs.shells.counts_eq.Reads as counts-eq-reads
 use Rattle.equivalence.proofs.shells.locations_eq.Reads as locations-eq-reads
-use Rattle.equivalence.proofs.shells.op_attributes_eq.Reads as op-attributes-eq-reads
+use Rattle.equivalence.proofs.shells.owner_attributes_eq.Reads as owner-attributes-eq-reads
 use Rattle.equivalence.proofs.shells.types_eq.Reads as types-eq-reads
 
 counts-eq-requires : tie.Need-counts-eq-requires
@@ -59,11 +62,31 @@ returns-2 c =
     let whole = op-shells C (columns-shaped (a .store .now) (s .pre .0 .sized)) h (ignoreOf (a .ignore)) (a .l) (a .r) ll rl in
     sym (whole ∙ next _ _ (held (c .before .before .before .counts-eq .ensures) (c .before .before .if1 .left)) (stop _ _ (failed (c .before .locations-eq .ensures) (c .if2 .taken))))
 
-op-attributes-eq-requires : tie.Need-op-attributes-eq-requires
-op-attributes-eq-requires c κs = search needs
+cast-t7 : tie.Need-cast-t7
+cast-t7 c =
+    let s = c .before .before .before .before .before in
+    let C = columns (s .args .store .now) in
+    let few = laid-facts C (s .pre .0 .laid) .counts .ops in
+    let ll : s .args .l < opCount C = s .pre .1 .0 in
+    omega arith
+
+cast-t9 : tie.Need-cast-t9
+cast-t9 c =
+    let s = c .before .before .before .before .before in
+    let C = columns (s .args .store .now) in
+    let few = laid-facts C (s .pre .0 .laid) .counts .ops in
+    let rl : s .args .r < opCount C = s .pre .1 .1 in
+    omega arith
+
+owner-attributes-eq-requires : tie.Need-owner-attributes-eq-requires
+unfolding ownerOf
+owner-attributes-eq-requires c κs =
+    let s = c .before .before .before .before .before in
+    let C = columns (s .args .store .now) in
+    (s .pre .0, (in-exists C (ofOp (s .args .l)) (s .pre .1 .0), in-exists C (ofOp (s .args .r)) (s .pre .1 .1)))
 
 returns-3 : tie.Need-returns-3
-unfolding opRowsEq
+unfolding opRowsEq ownerOf keyCount countColumn ownerNumber
 returns-3 c =
     let s = c .before .before .before .before .before .before .before in
     let a = s .args in
@@ -72,7 +95,7 @@ returns-3 c =
     let ll : a .l < opCount C = s .pre .1 .0 in
     let rl : a .r < opCount C = s .pre .1 .1 in
     let whole = op-shells C (columns-shaped (a .store .now) (s .pre .0 .sized)) h (ignoreOf (a .ignore)) (a .l) (a .r) ll rl in
-    sym (whole ∙ next _ _ (held (c .before .before .before .before .before .counts-eq .ensures) (c .before .before .before .before .if1 .left)) (next _ _ (held (c .before .before .before .locations-eq .ensures) (c .before .before .if2 .left)) (stop _ _ (failed (c .before .op-attributes-eq .ensures) (c .if3 .taken)))))
+    sym (whole ∙ next _ _ (held (c .before .before .before .before .before .counts-eq .ensures) (c .before .before .before .before .if1 .left)) (next _ _ (held (c .before .before .before .locations-eq .ensures) (c .before .before .if2 .left)) (stop _ _ (failed (c .before .owner-attributes-eq .ensures) (c .if3 .taken)))))
 
 types-eq-requires : tie.Need-types-eq-requires
 types-eq-requires c κs =
@@ -92,7 +115,7 @@ types-eq-requires c κs =
     (s .pre .0 .sized, (omega arith, (omega arith, (z, (z, (y, (y, (ol .rises, (omega (arith, ol .fits), (or .rises, omega (arith, or .fits)))))))))))
 
 returns-4 : tie.Need-returns-4
-unfolding opRowsEq
+unfolding opRowsEq ownerOf keyCount countColumn ownerNumber
 returns-4 c =
     let s = c .before .before .before .before .before .before .before .before in
     let a = s .args in
@@ -101,7 +124,7 @@ returns-4 c =
     let ll : a .l < opCount C = s .pre .1 .0 in
     let rl : a .r < opCount C = s .pre .1 .1 in
     let whole = op-shells C (columns-shaped (a .store .now) (s .pre .0 .sized)) h (ignoreOf (a .ignore)) (a .l) (a .r) ll rl in
-    sym (whole ∙ next _ _ (held (c .before .before .before .before .before .before .counts-eq .ensures) (c .before .before .before .before .before .if1 .left)) (next _ _ (held (c .before .before .before .before .locations-eq .ensures) (c .before .before .before .if2 .left)) (next _ _ (held (c .before .before .op-attributes-eq .ensures) (c .before .if3 .left)) (last _ (sym (c .types-eq .ensures))))))
+    sym (whole ∙ next _ _ (held (c .before .before .before .before .before .before .counts-eq .ensures) (c .before .before .before .before .before .if1 .left)) (next _ _ (held (c .before .before .before .before .locations-eq .ensures) (c .before .before .before .if2 .left)) (next _ _ (held (c .before .before .owner-attributes-eq .ensures) (c .before .if3 .left)) (last _ (sym (c .types-eq .ensures))))))
 
 pub op-shells-eq-spec : {M : Type 1} → statement M
 op-shells-eq-spec =
@@ -111,7 +134,9 @@ op-shells-eq-spec =
     returns
     locations-eq-requires
     returns-2
-    op-attributes-eq-requires
+    cast-t7
+    cast-t9
+    owner-attributes-eq-requires
     returns-3
     types-eq-requires
     returns-4)

@@ -1,13 +1,14 @@
 -- `op_rules` meets its contract, test by test. Assumes nothing.
-use Prim.Native.Nat.{_*_, _<_, _≤_}
+use Prim.Native.Nat.{ℕ, _*_, _<_, _≤_}
 use native.Mathlib.Omega.{arith}
-use mathlib.Core.Path.{sym, ap, _∙_}
+use mathlib.Core.Path.{_≡_, sym, ap₂, _∙_}
 use borrow.Author.Needs.{needs}
 use borrow.Author.Tests.{le-leb, lt-leb}
 use Rattle.rules.specs.Store.{attributesHold}
 use Rattle.layout.specs.Columns.{columns, at, opDepth}
 use Rattle.layout.specs.Reading.{slotsOf, attributesFrom, opOf}
 use Rattle.layout.specs.Soundness.{opRules}
+use Rattle.layout.specs.Owners.{ownerOf}
 use Rattle.layout.proofs.Laid.{laid-facts}
 use Rattle.layout.proofs.Scans.{fails, next, last, failed, held}
 use Rattle.layout.proofs.ruled.op_rules.Statement.{statement}
@@ -80,28 +81,33 @@ returns-7 : tie.Need-returns-7
 unfolding opRules
 returns-7 c = sym (fails _ 6 (failed (c .before .at-most4 .ensures) (c .if7 .taken)))
 
-mul-attributes-hold : tie.Need-mul-attributes-hold
-mul-attributes-hold c =
+cast-t7 : tie.Need-cast-t7
+cast-t7 c =
     let s = c .before .before .before .before .before .before .before .before .before .before .before .before .before .before .before in
     let h = laid-facts (columns (s .args .store .now)) (s .pre .0 .laid) in
     omega (arith, h .counts .ops)
 
+first-slot-requires : tie.Need-first-slot-requires
+first-slot-requires c κs = search needs
+
 number-requires-2 : tie.Need-number-requires-2
 number-requires-2 c κs =
-    let s = c .before .before .before .before .before .before .before .before .before .before .before .before .before .before .before in
+    let s = c .before .before .before .before .before .before .before .before .before .before .before .before .before .before .before .before in
     let h = laid-facts (columns (s .args .store .now)) (s .pre .0 .laid) in
     (s .pre .0 .sized, (omega arith, omega (arith, h .counts .ops)))
 
 attributes-hold-requires : tie.Need-attributes-hold-requires
+unfolding slotsOf ownerOf
 attributes-hold-requires c κs =
-    let s = c .before .before .before .before .before .before .before .before .before .before .before .before .before .before .before .before in
+    let s = c .before .before .before .before .before .before .before .before .before .before .before .before .before .before .before .before .before in
     let h = laid-facts (columns (s .args .store .now)) (s .pre .0 .laid) in
+    let first : c .before .first-slot .result ≡ 8 * s .args .n = c .before .first-slot .ensures in
     (s .pre .0 .sized, (omega (arith, c .number2 .ensures, h .op (s .args .n) (s .pre .1) .keys), omega (arith, h .counts .ops)))
 
 returns-8 : tie.Need-returns-8
-unfolding opRules opOf slotsOf
+unfolding opRules opOf ownerOf
 returns-8 c =
-    let in7 = c .before .before in
+    let in7 = c .before .before .before in
     let in6 = in7 .before .before in
     let in5 = in6 .before .before in
     let in4 = in5 .before .before in
@@ -111,7 +117,7 @@ returns-8 c =
     let a = in1 .before .before .before .args in
     let C = columns (a .store .now) in
     let deep : at C opDepth (a .n) ≤ 32 = omega (arith, in3 .before .number .ensures) in
-    let keys = c .attributes-hold .ensures ∙ ap (λ (n : _). attributesHold (attributesFrom C (8 * a .n) n)) (c .before .number2 .ensures) in
+    let keys = c .attributes-hold .ensures ∙ ap₂ (λ (f n : ℕ). attributesHold (attributesFrom C f n)) (c .before .before .first-slot .ensures) (c .before .number2 .ensures) in
     sym
     (next _ _ (held (in1 .before .operands-exist .ensures) (in1 .if1 .left))
     (next _ _ (held (in2 .before .successors-exist .ensures) (in2 .if2 .left))
@@ -140,7 +146,8 @@ op-rules-spec =
     returns-6
     at-most-requires-4
     returns-7
-    mul-attributes-hold
+    cast-t7
+    first-slot-requires
     number-requires-2
     attributes-hold-requires
     returns-8)

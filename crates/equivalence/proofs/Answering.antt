@@ -1,0 +1,149 @@
+-- A comparison that is refused by a test answers its cause, and one that is not answers where its walk has come to: in a sound store no
+-- walk is too deep. Assumes nothing.
+use Prim.Native.Nat.{ℕ, _+_, _<_, _≤_}
+use native.Mathlib.Decide.{ℕ-discrete}
+use mathlib.Core.Bool.{Bool, true, false, true≢false, cond, _&&_}
+use mathlib.Core.List.{List, [], _∷_}
+use mathlib.Core.Option.{Option, none, some}
+use mathlib.Core.Path.{_≡_, refl, sym, ap, subst, _∙_}
+use borrow.Author.Tests.{ltb-true}
+use lib.ListN.{length}
+use Rattle.rules.specs.Store.{Store, sound, opExists, blockExists, regionExists}
+use Rattle.rules.specs.Fragments.{Sort, op, block, region, exists, levels}
+use Rattle.rules.specs.Building.{firstFailed}
+use Rattle.rules.specs.Shells.{Ignore}
+use Rattle.rules.specs.Mapping.{Mapping, tableAllowed, allowed}
+use Rattle.rules.specs.Comparison.{State, unequal, oneLonger, tooDeep, Walk, on, ended, standing, _>>=_, paper, pairOps, checkOps, compareRegions, compareLists, compareBy, start, compare}
+use Rattle.rules.specs.Answers.{Compared, Comparison, eq, neq, refused, shallow, compareTests, comparisonOf, comparisonBy, comparison}
+use Rattle.rules.proofs.Basics.Tests.{and-left, and-right, passed}
+use Rattle.rules.proofs.Walking.Deep.{compare-not-deep}
+use Rattle.rules.proofs.Walking.Paired.{paired-most}
+use Rattle.layout.specs.Columns.{Cols, columns}
+use Rattle.layout.specs.Reading.{opCount, blockCount, regionCount, storeOf}
+use Rattle.layout.specs.Soundness.{soundBuffer, IsSound}
+use Rattle.layout.proofs.Tabulate.{ops-length, blocks-length, regions-length}
+use Rattle.equivalence.specs.Lent.{mappingLength, mappingOf}
+use Rattle.equivalence.specs.Walked.{storeIn, answerOf, lent, outcome, Told, Few, lefts, rights, namedBy, regionWalk, opWalk, listsWalk}
+use Rattle.equivalence.specs.Calls.{pairTests, Answered}
+use Rattle.equivalence.specs.declared.types.EqResult.{EqResult}
+use Rattle.equivalence.specs.declared.types.EqResult.the-variants.{Refused}
+use Rattle.equivalence.specs.declared.types.Lists.the-variants.{Alone}
+use Rattle.equivalence.proofs.Entries.{wrong-length}
+
+-- ---- the tests of a pair
+
+two-passed : (a b : Bool) (i j : ℕ) → firstFailed ((a, i) ∷ (b, j) ∷ []) ≡ none → (a ≡ true) × (b ≡ true)
+unfolding firstFailed
+two-passed true true i j h = (refl, refl)
+two-passed true false i j h = let x : _≡_ {A = Bool} true false = cc in absurd (true≢false x)
+two-passed false b i j h = let x : _≡_ {A = Bool} true false = cc in absurd (true≢false x)
+
+pub pair-exists : (s : Store) (f : Sort) (l r : ℕ) → firstFailed (pairTests s f l r) ≡ none → (exists s f l ≡ true) × (exists s f r ≡ true)
+unfolding pairTests
+pair-exists s f l r h =
+    let t = two-passed (exists s f l && exists s f r) (shallow s f l && shallow s f r) 2 12 h .0 in
+    (and-left (exists s f l) (exists s f r) t, and-right (exists s f l) (exists s f r) t)
+
+module _ (s : Store) (f : Sort) (l r : ℕ) where
+  pub left-missing : exists s f l ≡ false → firstFailed (pairTests s f l r) ≡ some 2
+  unfolding pairTests firstFailed
+  left-missing e = rw e refl
+
+  module _ (el : exists s f l ≡ true) where
+    pub right-missing : exists s f r ≡ false → firstFailed (pairTests s f l r) ≡ some 2
+    unfolding pairTests firstFailed
+    right-missing e = rw (el, e) refl
+
+    module _ (er : exists s f r ≡ true) where
+      pub left-deep : shallow s f l ≡ false → firstFailed (pairTests s f l r) ≡ some 12
+      unfolding pairTests firstFailed
+      left-deep e = rw (el, er, e) refl
+
+      pub right-deep : shallow s f l ≡ true → shallow s f r ≡ false → firstFailed (pairTests s f l r) ≡ some 12
+      unfolding pairTests firstFailed
+      right-deep e d = rw (el, er, e, d) refl
+
+      pub both-shallow : shallow s f l ≡ true → shallow s f r ≡ true → firstFailed (pairTests s f l r) ≡ none
+      unfolding pairTests firstFailed
+      both-shallow e d = rw (el, er, e, d) refl
+
+module _ (C : Cols) (n : ℕ) where
+  pub op-there : exists (storeOf C) op n ≡ true → n < opCount C
+  unfolding exists opExists
+  op-there h = subst (λ (k : ℕ). n < k) (ops-length C) (ltb-true n _ h)
+
+  pub block-there : exists (storeOf C) block n ≡ true → n < blockCount C
+  unfolding exists blockExists
+  block-there h = subst (λ (k : ℕ). n < k) (blocks-length C) (ltb-true n _ h)
+
+  pub region-there : exists (storeOf C) region n ≡ true → n < regionCount C
+  unfolding exists regionExists
+  region-there h = subst (λ (k : ℕ). n < k) (regions-length C) (ltb-true n _ h)
+
+-- ---- walks
+
+told-refused : (w : Walk) (c : ℕ) (b : List ℕ) → Told w (Refused c) b → (st : State) × (w ≡ ended tooDeep st)
+unfolding Told outcome comparisonOf standing answerOf
+told-refused (on st) c b h = let a : eq (st .paired) ≡ refused c = ap (λ (x : Comparison). x .answer) h in absurd (true≢false cc)
+told-refused (ended (unequal p) st) c b h = let a : neq p (st .paired) ≡ refused c = ap (λ (x : Comparison). x .answer) h in absurd (true≢false cc)
+told-refused (ended (oneLonger p) st) c b h = let a : neq p (st .paired) ≡ refused c = ap (λ (x : Comparison). x .answer) h in absurd (true≢false cc)
+told-refused (ended tooDeep st) c b h = (st, refl)
+
+outcome-is : (w : Walk) (m : Mapping) → ((st : State) → w ≡ ended tooDeep st → ⊥) → comparisonOf w m ≡ outcome w
+unfolding outcome comparisonOf standing
+outcome-is (on st) m h = refl
+outcome-is (ended (unequal p) st) m h = refl
+outcome-is (ended (oneLonger p) st) m h = refl
+outcome-is (ended tooDeep st) m h = absurd (h st refl)
+
+module _ (b m : List ℕ) (ig : Ignore) (f : Sort) (l r : ℕ) where
+  pub unsound : soundBuffer b ≡ false → Answered b m m ig f l r (Refused 1)
+  unfolding comparison comparisonBy compareTests firstFailed answerOf
+  unsound e = record { told = rw e refl; kept = λ c h. refl }
+
+  pub unallowed : soundBuffer b ≡ true → allowed (storeIn b) (mappingOf m) ≡ false → Answered b m m ig f l r (Refused 8)
+  unfolding comparison comparisonBy compareTests firstFailed answerOf
+  unallowed e a = record { told = rw (e, a) refl; kept = λ c h. refl }
+
+  module _ (sd : soundBuffer b ≡ true) (a : allowed (storeIn b) (mappingOf m) ≡ true) where
+    pub refused-pair : (c : ℕ) → firstFailed (pairTests (storeIn b) f l r) ≡ some c → Answered b m m ig f l r (Refused c)
+    unfolding comparison comparisonBy compareTests firstFailed answerOf pairTests
+    refused-pair c e = record { told = rw (sd, a, e) refl; kept = λ k h. refl }
+
+    pub walked : IsSound b → (q : EqResult) (z : List ℕ) → firstFailed (pairTests (storeIn b) f l r) ≡ none
+        → Told (compareBy paper (storeIn b) ig f l r (lent m 0)) q z → Answered b m z ig f l r q
+    unfolding comparison comparisonBy compareTests firstFailed pairTests compare start lent Told
+    walked h q z e t =
+        let ex = pair-exists (storeIn b) f l r e .0 in
+        let deep = compare-not-deep (storeIn b) (h .ruled) ig f l r ex (mappingOf m) in
+        record {
+          told = rw (sd, a, e) (outcome-is (compareBy paper (storeIn b) ig f l r (start (mappingOf m))) (mappingOf m) deep ∙ t);
+          kept = λ c k. let w = told-refused (compareBy paper (storeIn b) ig f l r (start (mappingOf m))) c z (subst (λ x. Told (compareBy paper (storeIn b) ig f l r (lent m 0)) x z) k t) in absurd (deep (w .0) (w .1));
+        }
+
+-- ---- the walk of each sort, and that it enters no more than there are operations and blocks
+
+pub few-walk : (s : Store) → sound s ≡ true → (ig : Ignore) (f : Sort) (l r : ℕ) → exists s f l ≡ true → (m : List ℕ) → Few (compareBy paper s ig f l r (lent m 0))
+unfolding lent
+few-walk s sd ig f l r e m = paired-most s sd paper ig f l r e (lent m 0)
+
+module _ (s : Store) (ig : Ignore) (l r : ℕ) (st : State) where
+  pub op-walk : compareBy paper s ig op l r st ≡ pairOps s ig l r st >>= opWalk s ig l r
+  unfolding compareBy opWalk
+  op-walk = refl
+
+  pub block-walk : compareBy paper s ig block l r st ≡ listsWalk s ig (Alone l r) st
+  unfolding compareBy listsWalk opWalk lefts rights namedBy
+  block-walk = refl
+
+  pub region-walk : compareBy paper s ig region l r st ≡ regionWalk s ig l r st
+  unfolding compareBy regionWalk
+  region-walk = refl
+
+-- an allowed mapping is of the right length
+pub allowed-long : (s : Store) (b : List ℕ) → allowed s (mappingOf b) ≡ true → length b ≡ mappingLength
+allowed-long s b h = go (ℕ-discrete (length b) mappingLength)
+  where
+    go : Dec (length b ≡ mappingLength) → length b ≡ mappingLength
+    go (yes e) = e
+    go (no ne) = absurd (true≢false (sym h ∙ wrong-length s b ne))

@@ -1,0 +1,34 @@
+-- `names_agree` meets its contract: operands, then successors. Assumes nothing.
+use mathlib.Core.Bool.{Bool, _&&_}
+use mathlib.Core.Path.{sym, ap, _∙_}
+use Rattle.rules.specs.Comparison.{operandsAgree, successorsAgree}
+use Rattle.layout.proofs.Scans.{failed, held}
+use Rattle.equivalence.specs.Lent.{mappingOf}
+use Rattle.equivalence.specs.Walked.{storeIn}
+use borrow.Author.Needs.{needs}
+use Rattle.equivalence.proofs.names.names_agree.Statement.{statement}
+use Rattle.equivalence.proofs.names.names_agree.Tie as tie
+use Rattle.equivalence.proofs.names.names_agree.Reads as reads
+use Rattle.equivalence.proofs.names.names_agree.Lts as lts
+use Rattle.equivalence.proofs.names.op_operands_agree.Reads as op-operands-agree-reads
+use Rattle.equivalence.proofs.names.op_successors_agree.Reads as op-successors-agree-reads
+
+op-operands-agree-requires : tie.Need-op-operands-agree-requires
+op-operands-agree-requires c κs = search needs
+
+returns : tie.Need-returns
+returns c =
+    let a = c .before .before .before .before .args in
+    sym (ap (λ (t : Bool). t && successorsAgree (storeIn (a .store .now)) (mappingOf (a .mapping .now)) (a .lhs) (a .rhs)) (failed (c .before .op-operands-agree .ensures) (c .if1 .taken)))
+
+op-successors-agree-requires : tie.Need-op-successors-agree-requires
+op-successors-agree-requires c κs = search needs
+
+returns-2 : tie.Need-returns-2
+returns-2 c =
+    let a = c .before .before .before .before .before .args in
+    c .op-successors-agree .ensures ∙ sym (ap (λ (t : Bool). t && successorsAgree (storeIn (a .store .now)) (mappingOf (a .mapping .now)) (a .lhs) (a .rhs)) (held (c .before .before .op-operands-agree .ensures) (c .before .if1 .left)))
+
+pub names-agree-spec : {M : Type 1} → statement M
+names-agree-spec =
+    tie.close (tie.spec op-operands-agree-requires returns op-successors-agree-requires returns-2)

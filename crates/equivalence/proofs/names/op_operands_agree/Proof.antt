@@ -1,0 +1,54 @@
+-- `op_operands_agree` meets its contract: the two parts are what the operations are read with. Assumes nothing.
+use Prim.Native.Nat.{ℕ}
+use mathlib.Core.Bool.{true}
+use mathlib.Core.List.{List}
+use mathlib.Core.Path.{_≡_, sym, ap₂, subst, _∙_}
+use lib.Dec.{ltb}
+use Rattle.rules.specs.Lists.{all, allPairs}
+use Rattle.rules.specs.Comparison.{operandsAgree}
+use Rattle.layout.specs.Columns.{columns}
+use Rattle.layout.specs.Reading.{valueCount}
+use Rattle.equivalence.specs.Walked.{storeIn}
+use Rattle.equivalence.specs.Lent.{mappingOf, sameOperand}
+use Rattle.equivalence.proofs.Named.{operands-below}
+use borrow.Author.Needs.{needs}
+use Rattle.equivalence.proofs.names.op_operands_agree.Statement.{statement}
+use Rattle.equivalence.proofs.names.op_operands_agree.Tie as tie
+use Rattle.equivalence.proofs.names.op_operands_agree.Reads as reads
+use Rattle.equivalence.proofs.names.op_operands_agree.Lts as lts
+use Rattle.equivalence.proofs.names.operands_agree.Reads as operands-agree-reads
+use Rattle.layout.proofs.parts.operands_of.Reads as operands-of-reads
+
+operands-of-requires : tie.Need-operands-of-requires
+operands-of-requires c κs =
+    let s = c .before .before in
+    let a = s .args in
+    (record { sized = s .pre .0 .sound .sized; laid = s .pre .0 .sound .laid }, s .pre .1 .0)
+
+operands-of-requires-2 : tie.Need-operands-of-requires-2
+operands-of-requires-2 c κs =
+    let s = c .before .before .before in
+    let a = s .args in
+    (record { sized = s .pre .0 .sound .sized; laid = s .pre .0 .sound .laid }, s .pre .1 .1)
+
+operands-agree-requires : tie.Need-operands-agree-requires
+operands-agree-requires c κs =
+    let s = c .before .before .before .before in
+    let a = s .args in
+    let el = c .before .operands-of .ensures in
+    let er = c .operands-of2 .ensures in
+    let l = subst (λ (xs : List ℕ). all (λ (v : ℕ). ltb v (valueCount (columns (a .store .now)))) xs ≡ true) (sym el) (operands-below (a .store .now) (s .pre .0 .sound) (a .lhs) (s .pre .1 .0)) in
+    let r = subst (λ (xs : List ℕ). all (λ (v : ℕ). ltb v (valueCount (columns (a .store .now)))) xs ≡ true) (sym er) (operands-below (a .store .now) (s .pre .0 .sound) (a .rhs) (s .pre .1 .1)) in
+    (record { sized = s .pre .0 .sound .sized; laid = s .pre .0 .sound .laid }, (s .pre .0 .long, (l, r)))
+
+returns : tie.Need-returns
+unfolding operandsAgree sameOperand
+returns c =
+    let s = c .before .before .before .before .before in
+    let a = s .args in
+    c .operands-agree .ensures ∙ ap₂ (allPairs (sameOperand (storeIn (a .store .now)) (mappingOf (a .mapping .now)))) (c .before .before .operands-of .ensures) (c .before .operands-of2 .ensures)
+
+pub op-operands-agree-spec : {M : Type 1} → statement M
+op-operands-agree-spec =
+    tie.close
+    (tie.spec operands-of-requires operands-of-requires-2 operands-agree-requires returns)

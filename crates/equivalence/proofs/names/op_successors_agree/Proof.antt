@@ -1,0 +1,51 @@
+-- `op_successors_agree` meets its contract: the two parts are what the operations are read with. Assumes nothing.
+use Prim.Native.Nat.{ℕ}
+use mathlib.Core.Bool.{true}
+use mathlib.Core.List.{List}
+use mathlib.Core.Path.{_≡_, sym, ap₂, subst, _∙_}
+use lib.Dec.{ltb}
+use Rattle.rules.specs.Lists.{all, allPairs}
+use Rattle.rules.specs.Comparison.{successorsAgree}
+use Rattle.layout.specs.Columns.{columns}
+use Rattle.equivalence.specs.Walked.{storeIn}
+use Rattle.equivalence.specs.Lent.{mappingOf, sameSuccessor}
+use Rattle.equivalence.proofs.Named.{successors-below}
+use borrow.Author.Needs.{needs}
+use Rattle.equivalence.proofs.names.op_successors_agree.Statement.{statement}
+use Rattle.equivalence.proofs.names.op_successors_agree.Tie as tie
+use Rattle.equivalence.proofs.names.op_successors_agree.Reads as reads
+use Rattle.equivalence.proofs.names.op_successors_agree.Lts as lts
+use Rattle.equivalence.proofs.names.successors_agree.Reads as successors-agree-reads
+use Rattle.layout.proofs.parts.successors_of.Reads as successors-of-reads
+
+successors-of-requires : tie.Need-successors-of-requires
+successors-of-requires c κs =
+    let s = c .before .before in
+    let a = s .args in
+    (record { sized = s .pre .0 .sound .sized; laid = s .pre .0 .sound .laid }, s .pre .1 .0)
+
+successors-of-requires-2 : tie.Need-successors-of-requires-2
+successors-of-requires-2 c κs =
+    let s = c .before .before .before in
+    let a = s .args in
+    (record { sized = s .pre .0 .sound .sized; laid = s .pre .0 .sound .laid }, s .pre .1 .1)
+
+successors-agree-requires : tie.Need-successors-agree-requires
+successors-agree-requires c κs =
+    let s = c .before .before .before .before in
+    let a = s .args in
+    let el = c .before .successors-of .ensures in
+    let l = subst (λ (xs : List ℕ). all (λ (v : ℕ). ltb v 256) xs ≡ true) (sym el) (successors-below (a .store .now) (s .pre .0 .sound) (a .lhs) (s .pre .1 .0)) in
+    (s .pre .0 .long, l)
+
+returns : tie.Need-returns
+unfolding successorsAgree sameSuccessor
+returns c =
+    let s = c .before .before .before .before .before in
+    let a = s .args in
+    c .successors-agree .ensures ∙ ap₂ (allPairs (sameSuccessor (mappingOf (a .mapping .now)))) (c .before .before .successors-of .ensures) (c .before .successors-of2 .ensures)
+
+pub op-successors-agree-spec : {M : Type 1} → statement M
+op-successors-agree-spec =
+    tie.close
+    (tie.spec successors-of-requires successors-of-requires-2 successors-agree-requires returns)

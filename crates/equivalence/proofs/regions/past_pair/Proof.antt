@@ -1,0 +1,21 @@
+-- `past_pair` meets its contract. Assumes nothing.
+use mathlib.Core.Path.{refl}
+use Rattle.equivalence.specs.Order.{past}
+use borrow.Author.Needs.{needs}
+use Rattle.equivalence.proofs.regions.past_pair.Statement.{statement}
+use Rattle.equivalence.proofs.regions.past_pair.Tie as tie
+use Rattle.equivalence.proofs.regions.past_pair.Reads as reads
+use Rattle.equivalence.proofs.regions.past_pair.Lts as lts
+
+add-t2 : tie.Need-add-t2
+add-t2 c = search needs
+
+add-t3 : tie.Need-add-t3
+add-t3 c = search needs
+
+returns : tie.Need-returns
+unfolding past
+returns c = refl
+
+pub past-pair-spec : {M : Type 1} → statement M
+past-pair-spec = tie.close (tie.spec add-t2 add-t3 returns)

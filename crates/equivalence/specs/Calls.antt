@@ -1,0 +1,24 @@
+-- What a comparison gives: the rules' answer and mapping, for every buffer, mapping, ignore rule and pair of numbers.
+use Prim.Native.Nat.{ℕ}
+use mathlib.Core.Bool.{Bool, _&&_}
+use mathlib.Core.List.{List, [], _∷_}
+use mathlib.Core.Path.{_≡_}
+use Rattle.rules.specs.Store.{Store}
+use Rattle.rules.specs.Fragments.{Sort, exists}
+use Rattle.rules.specs.Shells as rules
+use Rattle.rules.specs.Answers.{shallow, comparison}
+use Rattle.layout.specs.Soundness.{soundBuffer}
+use Rattle.equivalence.specs.Lent.{mappingOf}
+use Rattle.equivalence.specs.Walked.{storeIn, answerOf}
+use Rattle.equivalence.specs.declared.types.EqResult.{EqResult}
+use Rattle.equivalence.specs.declared.types.EqResult.the-variants.{Refused}
+
+-- what is tested of two fragments before anything is entered
+unfoldable pub pairTests : Store → Sort → ℕ → ℕ → List (Bool × ℕ)
+pairTests s f l r = (exists s f l && exists s f r, 2) ∷ (shallow s f l && shallow s f r, 12) ∷ []
+
+-- of two fragments of one sort, begun with a lent mapping
+pub record Answered (store before after : List ℕ) (ig : rules.Ignore) (f : Sort) (l r : ℕ) (q : EqResult) : Type 0 where
+  pub told : comparison (soundBuffer store) (storeIn store) (mappingOf before) ig f l r ≡ record { answer = answerOf q; mapping = mappingOf after }
+  -- "refused: ... mapping as they were": every word
+  pub kept : (cause : ℕ) → q ≡ Refused cause → after ≡ before

@@ -1,0 +1,88 @@
+-- What the code tells of a walk: its answer and the words of the mapping stand for the rules' answer and mapping.
+use Prim.Native.Nat.{ℕ, _≤_}
+use mathlib.Core.List.{List, [], _∷_}
+use mathlib.Core.Path.{_≡_}
+use lib.ListN.{length}
+use Rattle.rules.specs.Store.{Store, blocksOf}
+use Rattle.rules.specs.Fragments.{op, block, region, levels}
+use Rattle.rules.specs.Shells as rules
+use Rattle.rules.specs.Comparison.{State, Pair, Walk, standing, paper, pairOf, checkOps, compareLists, compareRegions}
+use Rattle.rules.specs.Answers.{Compared, Comparison, eq, neq, refused, comparisonOf}
+use Rattle.layout.specs.Columns.{columns}
+use Rattle.layout.specs.Reading.{storeOf}
+use Rattle.layout.specs.Soundness.{IsSound}
+use Rattle.equivalence.specs.Lent.{mappingLength, mappingOf}
+use Rattle.equivalence.specs.declared.types.EqResult.{EqResult}
+use Rattle.equivalence.specs.declared.types.EqResult.the-variants.{Eq, FirstNEQOps, FirstNEQRegions, FirstNEQBlocks, Refused}
+use Rattle.equivalence.specs.declared.types.Lists.{Lists}
+use Rattle.equivalence.specs.declared.types.Lists.the-variants.{InRegions, Alone}
+
+-- the rules' store that the words are read as
+abbrev pub storeIn : List ℕ → Store
+storeIn b = storeOf (columns b)
+
+-- 01's answer and numbers for each case
+unfoldable pub answerOf : EqResult → Compared
+answerOf (Eq n) = eq n
+answerOf (FirstNEQOps l r n) = neq (pairOf op l r) n
+answerOf (FirstNEQRegions l r n) = neq (pairOf region l r) n
+answerOf (FirstNEQBlocks l r n) = neq (pairOf block l r) n
+answerOf (Refused cause) = refused cause
+
+-- the state of a walk: lent words, and so many entered
+unfoldable pub lent : List ℕ → ℕ → State
+lent b n = record { mapping = mappingOf b; paired = n }
+
+-- where a walk has come to: its answer, and the mapping with the entries made so far
+unfoldable pub outcome : Walk → Comparison
+outcome w = comparisonOf w (standing w .mapping)
+
+-- the answer and the words tell where the walk has come to
+unfoldable pub Told : Walk → EqResult → List ℕ → Type 0
+Told w q b = outcome w ≡ record { answer = answerOf q; mapping = mappingOf b }
+
+-- a sound store, and a mapping of the right length: what every step of a walk asks for
+pub record Ready (store mapping : List ℕ) : Type 0 where
+  pub sound : IsSound store
+  pub long : length mapping ≡ mappingLength
+
+-- a walk enters no more than there are operations and blocks
+abbrev pub most : ℕ
+most = 768
+
+abbrev pub Few : Walk → Type 0
+Few w = standing w .paired ≤ most
+
+-- ---- two lists of blocks
+
+unfoldable pub lefts : Store → Lists → List ℕ
+lefts s (InRegions l r) = blocksOf s l
+lefts s (Alone l r) = l ∷ []
+
+unfoldable pub rights : Store → Lists → List ℕ
+rights s (InRegions l r) = blocksOf s r
+rights s (Alone l r) = r ∷ []
+
+-- the pair that unequal lengths name
+unfoldable pub namedBy : Lists → Pair
+namedBy (InRegions l r) = pairOf region l r
+namedBy (Alone l r) = pairOf block l r
+
+unfoldable pub neqOf : Lists → ℕ → EqResult
+neqOf (InRegions l r) n = FirstNEQRegions l r n
+neqOf (Alone l r) n = FirstNEQBlocks l r n
+
+-- no larger than there may be blocks and regions
+unfoldable pub Bounded : Lists → Type 0
+Bounded (InRegions l r) = (l ≤ 256) × (r ≤ 256)
+Bounded (Alone l r) = (l ≤ 256) × (r ≤ 256)
+
+-- the walk over two regions, over two operations that are paired, and over two lists of blocks
+unfoldable pub regionWalk : Store → rules.Ignore → ℕ → ℕ → State → Walk
+regionWalk s ig l r st = compareRegions levels paper s ig l r st
+
+unfoldable pub opWalk : Store → rules.Ignore → ℕ → ℕ → State → Walk
+opWalk s ig l r st = checkOps s (compareRegions levels paper s ig) l r st
+
+unfoldable pub listsWalk : Store → rules.Ignore → Lists → State → Walk
+listsWalk s ig x st = compareLists paper s ig (opWalk s ig) (namedBy x) (lefts s x) (rights s x) st

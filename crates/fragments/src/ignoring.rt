@@ -1,0 +1,52 @@
+// The ignore rule, and the attribute slots that it leaves.
+use layout::columns::SLOT_KIND;
+use layout::columns::at;
+ghost use mathlib.Core.Path.{_≡_};
+ghost use Prim.Native.Nat.{_<_, _≤_};
+ghost use lib.ListN.{length};
+ghost use Rattle.rules.specs.Shells.{ignored};
+ghost use Rattle.layout.specs.Columns.{bufferLength, columns, slotKind};
+ghost use Rattle.layout.specs.Reading.{attributeAt};
+ghost use Rattle.fragments.specs.Ignoring.{ignoreOf, bitSet, Kinds, Skipped};
+
+// An ignore rule: a yes or no for locations, and a bit for each attribute kind.
+pub struct Ignore {
+    pub locations: bool,
+    pub bits: u64,
+}
+
+// The bit of an attribute kind is set.
+fn bit_set(bits: u64, kind: u32) -> bool
+    requires { ⌜ kind < 64 ⌝ }
+    ensures { λ q. ⌜ q ≡ bitSet bits kind ⌝ }
+{
+    (bits >> kind) % 2 == 1
+}
+
+// The attribute at a slot is ignored.
+fn slot_ignored(store: &[u32], ignore: Ignore, slot: usize) -> bool
+    requires { ⌜ length (now store) ≡ bufferLength ⌝ }
+    requires { ⌜ slot < 6144 ⌝ }
+    requires { ⌜ Rattle.layout.specs.Columns.at (columns (now store)) slotKind slot < 64 ⌝ }
+    ensures { λ q. ⌜ q ≡ ignored (ignoreOf ignore) (attributeAt (columns (now (store .entry))) slot) ⌝ }
+{
+    bit_set(ignore.bits, at(store, SLOT_KIND, slot))
+}
+
+// The first slot from `from` on that is not ignored, or `end`.
+pub fn next_kept(store: &[u32], ignore: Ignore, from: usize, end: usize) -> usize
+    requires { ⌜ length (now store) ≡ bufferLength ⌝ }
+    requires { ⌜ end ≤ 6144 ⌝ }
+    requires { ⌜ from ≤ end ⌝ }
+    requires { ⌜ Kinds (columns (now store)) from end ⌝ }
+    ensures { λ i. ⌜ Skipped (columns (now (store .entry))) (ignoreOf ignore) from end i ⌝ }
+{
+    let mut i = from;
+    while i < end {
+        if !slot_ignored(store, ignore, i) {
+            return i;
+        }
+        i += 1;
+    }
+    end
+}

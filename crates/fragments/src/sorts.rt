@@ -1,0 +1,56 @@
+// A fragment by its sort and number.
+use crate::existing::block_exists;
+use crate::existing::op_exists;
+use crate::existing::region_exists;
+use crate::sizes::basic_block_size;
+use crate::sizes::operation_size;
+use crate::sizes::region_size;
+use crate::types::Size;
+use crate::types::Sort;
+ghost use mathlib.Core.Path.{_≡_};
+ghost use mathlib.Core.Bool.{true};
+ghost use lib.ListN.{length};
+ghost use Rattle.rules.specs.Fragments.{fragmentSize};
+ghost use Rattle.rules.specs.Answers.{shallow};
+ghost use Rattle.layout.specs.Columns.{bufferLength, columns};
+ghost use Rattle.layout.specs.Reading.{storeOf};
+ghost use Rattle.layout.specs.Soundness.{IsSound};
+ghost use Rattle.fragments.specs.Sizes.{sizeFrom};
+ghost use Rattle.fragments.specs.Sorts.{sortOf};
+
+// There is a fragment of this sort and number.
+pub fn exists(store: &[u32], sort: Sort, n: u32) -> bool
+    requires { ⌜ length (now store) ≡ bufferLength ⌝ }
+    ensures { λ r. ⌜ r ≡ Rattle.rules.specs.Fragments.exists (storeOf (columns (now (store .entry)))) (sortOf sort) n ⌝ }
+{
+    match sort {
+        Sort::Op => op_exists(store, n),
+        Sort::Block => block_exists(store, n),
+        Sort::Region => region_exists(store, n),
+    }
+}
+
+// How many operations are in it.
+pub fn size(store: &[u32], sort: Sort, n: u32) -> Size
+    requires { ⌜ IsSound (now store) ⌝ }
+    requires { ⌜ Rattle.rules.specs.Fragments.exists (storeOf (columns (now store))) (sortOf sort) n ≡ true ⌝ }
+    ensures { λ r. ⌜ r ≡ sizeFrom (fragmentSize (storeOf (columns (now (store .entry)))) (sortOf sort) n) ⌝ }
+{
+    match sort {
+        Sort::Op => operation_size(store, n as usize),
+        Sort::Block => basic_block_size(store, n as usize),
+        Sort::Region => region_size(store, n as usize),
+    }
+}
+
+// No operation in it is nested too deep.
+pub fn is_shallow(store: &[u32], sort: Sort, n: u32) -> bool
+    requires { ⌜ IsSound (now store) ⌝ }
+    requires { ⌜ Rattle.rules.specs.Fragments.exists (storeOf (columns (now store))) (sortOf sort) n ≡ true ⌝ }
+    ensures { λ r. ⌜ r ≡ shallow (storeOf (columns (now (store .entry)))) (sortOf sort) n ⌝ }
+{
+    match size(store, sort, n) {
+        Size::Of(_) => true,
+        Size::TooDeep => false,
+    }
+}

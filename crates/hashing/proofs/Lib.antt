@@ -1,0 +1,16 @@
+-- Why the multiplication is right, why a number may be fed by its halves, what words of numbers stand for, that to feed steps one after
+-- the other is to feed them all, that rows are read as what they are of, and that a walk feeds all steps of a fragment.
+mod Columns
+mod Halves
+mod Defining
+mod Naming
+mod Feeding
+mod Stepping
+mod Bytes
+mod Slots
+mod Reading
+mod Parting
+mod Ordered
+mod Below
+mod Rounds
+mod Answering

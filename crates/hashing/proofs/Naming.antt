@@ -1,0 +1,79 @@
+-- A word that stands for a place names as the place does: a place is never taken for the word of none. Assumes nothing.
+use Prim.Native.Nat.{ℕ, _+_, _<_, _≤_}
+use native.Mathlib.Omega.{arith}
+use native.Mathlib.Numerals.{add-one}
+use mathlib.Core.Bool.{true}
+use mathlib.Core.List.{List, _∷_}
+use mathlib.Core.Option.{Option, none, some}
+use mathlib.Core.Path.{_≡_, refl, sym, ap, _∙_}
+use borrow.Author.Tests.{eq-eqb, ne-eqb, ltb-true}
+use lib.Dec.{ltb}
+use lib.ListN.{length, getD, drop, drop-of-length-le}
+use lib.Seq.{drop-cons}
+use Rattle.rules.specs.Lists.{all, concatMap, position}
+use Rattle.rules.specs.Hash.{fnvFrom, tag, leaf, count, Numbering, Name, nameAt, nameOf, nameBytes}
+use Rattle.rules.proofs.Basics.Tests.{all-at}
+use Rattle.rules.proofs.Basics.Appended.{mem-getD}
+use Rattle.rules.proofs.Form.Images.{position-some}
+use Rattle.rules.proofs.Form.Hashes.{fnv-append}
+use Rattle.hashing.specs.Words.{noNumber, numberOr, Words, Few, namedBy, valueBytes, blockBytes, FeedsNames}
+
+pub named-by : (number n : ℕ) (D : List ℕ) → length D ≤ noNumber → number ≡ numberOr (position n D) → namedBy number n ≡ nameOf D n
+unfolding namedBy numberOr nameOf nameAt
+named-by number n D few e = go (position n D) refl
+  where
+    go : (o : Option ℕ) → position n D ≡ o → namedBy number n ≡ nameAt (position n D) n
+    go none p = let h : number ≡ noNumber = e ∙ ap numberOr p in rw (eq-eqb number noNumber h, p) refl
+    go (some k) p =
+        let h : number ≡ k = e ∙ ap numberOr p in
+        let l : k < length D = position-some n D k p .0 in
+        rw (ne-eqb number noNumber (λ x. omega arith), p, h) refl
+
+pub name-fed : (number n word : ℕ) {fed r : ℕ} → number ≡ noNumber → fed ≡ fnvFrom word (tag 1) → r ≡ fnvFrom fed (leaf n) → r ≡ fnvFrom word (nameBytes (namedBy number n))
+unfolding namedBy nameBytes
+name-fed number n word h e f = rw (eq-eqb number noNumber h) (f ∙ ap (λ (w : ℕ). fnvFrom w (leaf n)) e ∙ sym (fnv-append word (tag 1) (leaf n)))
+
+pub number-fed : (number n word : ℕ) {fed r : ℕ} → (number ≡ noNumber → ⊥) → fed ≡ fnvFrom word (tag 0) → r ≡ fnvFrom fed (count number) → r ≡ fnvFrom word (nameBytes (namedBy number n))
+unfolding namedBy nameBytes
+number-fed number n word h e f = rw (ne-eqb number noNumber h) (f ∙ ap (λ (w : ℕ). fnvFrom w (count number)) e ∙ sym (fnv-append word (tag 0) (count number)))
+
+module _ (numbers : List ℕ) (n word : ℕ) where
+  pub value-fed : {r : ℕ} → n < 2048 → r ≡ fnvFrom word (nameBytes (namedBy (getD numbers n 0) n)) → FeedsNames numbers (λ (N : Numbering). valueBytes N n) word r
+  value-fed l e N w few =
+      let m : length (N .values) ≤ 2048 = few .values in
+      e ∙ ap (λ (x : Name). fnvFrom word (nameBytes x)) (named-by (getD numbers n 0) n (N .values) (omega arith) (w .values n l))
+
+  pub block-fed : {r : ℕ} → n < 256 → r ≡ fnvFrom word (nameBytes (namedBy (getD numbers (2048 + n) 0) n)) → FeedsNames numbers (λ (N : Numbering). blockBytes N n) word r
+  block-fed l e N w few =
+      let m : length (N .blocks) ≤ 256 = few .blocks in
+      e ∙ ap (λ (x : Name). fnvFrom word (nameBytes x)) (named-by (getD numbers (2048 + n) 0) n (N .blocks) (omega arith) (w .blocks n l))
+
+-- ---- a list of names, from the first one that is not fed yet
+
+-- what is left to feed goes into the word as it is; the whole, into the word as it was
+abbrev pub LeftToFeed : List ℕ → (Numbering → ℕ → List ℕ) → List ℕ → ℕ → ℕ → ℕ → Type 0
+LeftToFeed numbers bytes list i word fed = (N : Numbering) → Words N numbers → Few N → fnvFrom fed (concatMap (bytes N) (drop i list)) ≡ fnvFrom word (concatMap (bytes N) list)
+
+module _ (numbers : List ℕ) (bytes : Numbering → ℕ → List ℕ) (list : List ℕ) (word : ℕ) where
+  pub left-all : LeftToFeed numbers bytes list 0 word word
+  left-all N w few = refl
+
+  pub left-next : (i fed r : ℕ) → i < length list → LeftToFeed numbers bytes list i word fed
+      → FeedsNames numbers (λ (N : Numbering). bytes N (getD list i 0)) fed r → LeftToFeed numbers bytes list (i + 1) word r
+  unfolding concatMap
+  left-next i fed r l left one N w few =
+      let next : List ℕ = drop (i + 1) list in
+      let first : drop i list ≡ getD list i 0 ∷ drop (i + 1) list = rw add-one (drop-cons list i 0 l) in
+      ap (λ (h : ℕ). fnvFrom h (concatMap (bytes N) next)) (one N w few)
+      ∙ sym (fnv-append fed (bytes N (getD list i 0)) (concatMap (bytes N) next))
+      ∙ ap (λ (xs : List ℕ). fnvFrom fed (concatMap (bytes N) xs)) (sym first)
+      ∙ left N w few
+
+  pub left-none : (i fed : ℕ) → length list ≤ i → LeftToFeed numbers bytes list i word fed
+      → FeedsNames numbers (λ (N : Numbering). concatMap (bytes N) list) word fed
+  unfolding concatMap fnvFrom
+  left-none i fed l left N w few = ap (λ (xs : List ℕ). fnvFrom fed (concatMap (bytes N) xs)) (sym (drop-of-length-le list l)) ∙ left N w few
+
+-- an entry of a list of numbers below m
+pub below-at : (m : ℕ) (xs : List ℕ) → all (λ (v : ℕ). ltb v m) xs ≡ true → (i : ℕ) → i < length xs → getD xs i 0 < m
+below-at m xs h i l = ltb-true (getD xs i 0) m (all-at (λ (v : ℕ). ltb v m) xs h (mem-getD xs i 0 l))

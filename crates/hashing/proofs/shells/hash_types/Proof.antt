@@ -1,0 +1,60 @@
+-- `hash_types` meets its contract: what is left to feed into the word as it is, is the whole fed into the word as it was. Assumes nothing.
+use Prim.Native.Nat.{_-_, _≤_}
+use native.Mathlib.Omega.{arith}
+use mathlib.Core.Path.{refl}
+use lib.ListN.{length}
+use Rattle.rules.specs.Hash.{leaf}
+use Rattle.hashing.proofs.Bytes.{LeftOf, entry-fed, entries-fed}
+use borrow.Author.Needs.{needs}
+use Rattle.hashing.proofs.shells.hash_types.Statement.{statement}
+use Rattle.hashing.proofs.shells.hash_types.Tie as tie
+
+abbrev Inv-loop : tie.InvT-loop
+Inv-loop types word fed₀ i₀ fed i = (i ≤ length types) × LeftOf leaf types word i fed
+
+abbrev μ-loop : tie.MeasureT-loop
+μ-loop types word fed₀ i₀ fed i = length types - i
+
+loop-holds : tie.Need-loop-holds Inv-loop μ-loop
+loop-holds c = (omega arith, refl)
+
+mul-feed-leaf : tie.Need-mul-feed-leaf Inv-loop μ-loop
+mul-feed-leaf c = search needs
+
+shared-slice-read-feed-leaf : tie.Need-shared-slice-read-feed-leaf Inv-loop μ-loop
+shared-slice-read-feed-leaf c = search needs
+
+feed-leaf-requires : tie.Need-feed-leaf-requires Inv-loop μ-loop
+feed-leaf-requires c κs = search needs
+
+add-i : tie.Need-add-i Inv-loop μ-loop
+add-i c = search needs
+
+loop-less : tie.Need-loop-less Inv-loop μ-loop
+loop-less c = omega arith
+
+loop-again : tie.Need-loop-again Inv-loop μ-loop
+loop-again c =
+    let a = c .before .before .before .before .before .args in
+    let h = c .before .before .loop-test .taken in
+    (omega arith, entry-fed leaf (a .types .now) (a .word) (c .before .before .before .loop .i) (c .before .before .before .loop .fed) h (c .before .before .before .loop .inv .1) (c .feed-leaf .ensures))
+
+returns : tie.Need-returns Inv-loop μ-loop
+returns c =
+    let a = c .before .before .before .args in
+    entries-fed leaf (a .types .now) (a .word) (c .before .loop .i) (c .before .loop .fed) (c .loop-test .left) (c .before .loop .inv .1)
+
+pub hash-types-spec : {M : Type 1} → statement M
+hash-types-spec =
+    tie.close
+    (tie.spec
+    Inv-loop
+    μ-loop
+    loop-holds
+    mul-feed-leaf
+    shared-slice-read-feed-leaf
+    feed-leaf-requires
+    add-i
+    loop-less
+    loop-again
+    returns)

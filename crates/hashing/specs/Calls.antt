@@ -1,0 +1,27 @@
+-- What a hash gives: the rules' answer, for every buffer, ignore rule and number.
+use Prim.Native.Nat.{ℕ}
+use mathlib.Core.Bool.{Bool}
+use mathlib.Core.List.{List, [], _∷_}
+use mathlib.Core.Path.{_≡_}
+use Rattle.rules.specs.Store.{Store}
+use Rattle.rules.specs.Fragments.{Sort, exists}
+use Rattle.rules.specs.Shells.{Ignore}
+use Rattle.rules.specs.Answers as rules
+use Rattle.rules.specs.Answers.{shallow, hashed}
+use Rattle.layout.specs.Soundness.{soundBuffer}
+use Rattle.hashing.specs.Walked.{storeIn}
+use Rattle.hashing.specs.declared.types.Hashed.{Hashed}
+use Rattle.hashing.specs.declared.types.Hashed.the-variants.{Hash, Refused}
+
+-- 01's answer for each case
+unfoldable pub hashedOf : Hashed → rules.Hashed
+hashedOf (Hash w) = rules.hashIs w
+hashedOf (Refused cause) = rules.refusedHash cause
+
+-- what is tested of a fragment of a sound store before anything is fed
+unfoldable pub fragmentTests : Store → Sort → ℕ → List (Bool × ℕ)
+fragmentTests s f n = (exists s f n, 2) ∷ (shallow s f n, 12) ∷ []
+
+-- of a fragment
+pub record Answered (store : List ℕ) (ig : Ignore) (f : Sort) (n : ℕ) (q : Hashed) : Type 0 where
+  pub told : hashed (soundBuffer store) (storeIn store) ig f n ≡ hashedOf q

@@ -1,0 +1,76 @@
+// Attributes, by their slots: `attributes_hash`. Slots stand by rising key, so the order in which keys were set is without effect.
+use crate::fnv::feed_count;
+use crate::fnv::feed_leaf;
+use fragments::ignoring::Ignore;
+use fragments::ignoring::next_kept;
+use layout::columns::SLOT_CONTENT;
+use layout::columns::SLOT_KEY;
+use layout::columns::SLOT_KIND;
+use layout::columns::at;
+ghost use mathlib.Core.List.{_++_};
+ghost use mathlib.Core.Path.{_≡_};
+ghost use Prim.Native.Nat.{_<_, _≤_};
+ghost use lib.ListN.{length};
+ghost use Rattle.rules.specs.Lists.{concatMap};
+ghost use Rattle.rules.specs.Hash.{fnvFrom, count, attributeBytes};
+ghost use Rattle.layout.specs.Columns.{bufferLength, columns};
+ghost use Rattle.layout.specs.Reading.{attributeAt};
+ghost use Rattle.fragments.specs.Ignoring.{ignoreOf, keptFrom, Kinds};
+
+// How many attributes of a run of slots are not ignored.
+fn count_kept(store: &[u32], ignore: Ignore, first: usize, end: usize) -> u64
+    requires { ⌜ length (now store) ≡ bufferLength ⌝ }
+    requires { ⌜ end ≤ 6144 ⌝ }
+    requires { ⌜ first ≤ end ⌝ }
+    requires { ⌜ Kinds (columns (now store)) first end ⌝ }
+    ensures { λ r. ⌜ r ≡ length (keptFrom (columns (now (store .entry))) (ignoreOf ignore) first end) ⌝ }
+{
+    let mut kept = 0;
+    let mut slot = next_kept(store, ignore, first, end);
+    while slot < end {
+        kept += 1;
+        slot = next_kept(store, ignore, slot + 1, end);
+    }
+    kept
+}
+
+// The attribute at a slot: its key, its kind, its content.
+fn feed_attribute(store: &[u32], slot: usize, word: u64) -> u64
+    requires { ⌜ length (now store) ≡ bufferLength ⌝ }
+    requires { ⌜ slot < 6144 ⌝ }
+    ensures { λ r. ⌜ r ≡ fnvFrom word (attributeBytes (attributeAt (columns (now (store .entry))) slot)) ⌝ }
+{
+    let key = at(store, SLOT_KEY, slot);
+    let kind = at(store, SLOT_KIND, slot);
+    let content = at(store, SLOT_CONTENT, slot);
+    feed_leaf(feed_leaf(feed_leaf(word, key), kind), content)
+}
+
+// Each attribute of a run of slots that is not ignored.
+fn feed_kept(store: &[u32], ignore: Ignore, first: usize, end: usize, word: u64) -> u64
+    requires { ⌜ length (now store) ≡ bufferLength ⌝ }
+    requires { ⌜ end ≤ 6144 ⌝ }
+    requires { ⌜ first ≤ end ⌝ }
+    requires { ⌜ Kinds (columns (now store)) first end ⌝ }
+    ensures { λ r. ⌜ r ≡ fnvFrom word (concatMap attributeBytes (keptFrom (columns (now (store .entry))) (ignoreOf ignore) first end)) ⌝ }
+{
+    let mut fed = word;
+    let mut i = next_kept(store, ignore, first, end);
+    while i < end {
+        fed = feed_attribute(store, i, fed);
+        i = next_kept(store, ignore, i + 1, end);
+    }
+    fed
+}
+
+// Hash the attributes of a run of slots, ignoring those specified by `ignore`: how many there are, then each.
+pub fn attributes_hash(store: &[u32], ignore: Ignore, first: usize, end: usize, word: u64) -> u64
+    requires { ⌜ length (now store) ≡ bufferLength ⌝ }
+    requires { ⌜ end ≤ 6144 ⌝ }
+    requires { ⌜ first ≤ end ⌝ }
+    requires { ⌜ Kinds (columns (now store)) first end ⌝ }
+    ensures { λ r. ⌜ r ≡ fnvFrom word (count (length (keptFrom (columns (now (store .entry))) (ignoreOf ignore) first end)) ++ concatMap attributeBytes (keptFrom (columns (now (store .entry))) (ignoreOf ignore) first end)) ⌝ }
+{
+    let kept = count_kept(store, ignore, first, end);
+    feed_kept(store, ignore, first, end, feed_count(word, kept))
+}

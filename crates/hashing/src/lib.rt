@@ -1,0 +1,14 @@
+// The hash of a fragment: the published 64-bit FNV-1a, the numbers that are fed into it, the numbers that a walk gives, the walk, and
+// the calls that are offered.
+pub mod attributes;
+pub mod calls;
+pub mod fnv;
+pub mod hashes;
+pub mod numbering;
+pub mod order;
+pub mod passes;
+pub mod product;
+pub mod rows;
+pub mod shells;
+pub mod types;
+pub mod walk;

@@ -1,0 +1,126 @@
+// The walk numbers of what is defined so far, and the names that are fed: a walk number, or, of what has none, the store number.
+use crate::fnv::feed_count;
+use crate::fnv::feed_leaf;
+use crate::fnv::feed_tag;
+ghost use mathlib.Core.Bool.{true};
+ghost use mathlib.Core.List.{[], _∷_};
+ghost use mathlib.Core.Path.{_≡_};
+ghost use Prim.Native.Nat.{_+_, _<_, _≤_};
+ghost use lib.Dec.{ltb};
+ghost use lib.ListN.{length};
+ghost use Rattle.rules.specs.Lists.{all, concatMap};
+ghost use Rattle.rules.specs.Store.{maxValues, maxBlocks};
+ghost use Rattle.rules.specs.Hash.{fnvFrom, nameBytes};
+ghost use Rattle.hashing.specs.Words.{numbersLength, defineAt, following, namedBy, valueBytes, blockBytes, NumbersValues, NumbersBlock, FeedsNames};
+
+// The word of what has no number.
+pub const NONE: u32 = 4294967295;
+
+// How many words there are, and where those of blocks begin.
+pub const LENGTH: usize = 2304;
+
+pub const BLOCK_NUMBERS: usize = 2048;
+
+// The number at i is id, unless there is one.
+fn define(numbers: &mut [u32], i: usize, id: u32)
+    requires { ⌜ i < length (now numbers) ⌝ }
+    ensures { λ _. ⌜ now (numbers .exit) ≡ defineAt (now (numbers .entry)) i id ⌝ }
+{
+    if numbers[i] == NONE {
+        numbers[i] = id;
+    }
+}
+
+// Value v is defined in what is hashed, after so many.
+pub fn define_value(numbers: &mut [u32], v: usize, id: u32)
+    requires { ⌜ length (now numbers) ≡ numbersLength ⌝ }
+    requires { ⌜ v < maxValues ⌝ }
+    requires { ⌜ id < maxValues ⌝ }
+    ensures { λ _. ⌜ NumbersValues (now (numbers .entry)) (now (numbers .exit)) id (v ∷ []) ⌝ }
+{
+    define(numbers, v, id);
+}
+
+// Block b is defined in what is hashed, after so many.
+pub fn define_block(numbers: &mut [u32], b: usize, id: u32)
+    requires { ⌜ length (now numbers) ≡ numbersLength ⌝ }
+    requires { ⌜ b < maxBlocks ⌝ }
+    requires { ⌜ id < maxBlocks ⌝ }
+    ensures { λ _. ⌜ NumbersBlock (now (numbers .entry)) (now (numbers .exit)) id b ⌝ }
+{
+    define(numbers, BLOCK_NUMBERS + b, id);
+}
+
+// So many values from the first on are defined, one after the other.
+pub fn define_values(numbers: &mut [u32], first: usize, count: usize, id: u32)
+    requires { ⌜ length (now numbers) ≡ numbersLength ⌝ }
+    requires { ⌜ first + count ≤ maxValues ⌝ }
+    requires { ⌜ id + count ≤ maxValues ⌝ }
+    ensures { λ _. ⌜ NumbersValues (now (numbers .entry)) (now (numbers .exit)) id (following first count) ⌝ }
+{
+    let mut next = id;
+    let mut v = first;
+    while v < first + count {
+        define_value(numbers, v, next);
+        next += 1;
+        v += 1;
+    }
+}
+
+// A name: tag 0 and its number, or, if it has none, tag 1 and its store number.
+fn hash_name(number: u32, n: u32, word: u64) -> u64
+    ensures { λ r. ⌜ r ≡ fnvFrom word (nameBytes (namedBy number n)) ⌝ }
+{
+    if number == NONE {
+        return feed_leaf(feed_tag(word, 1), n);
+    }
+    feed_count(feed_tag(word, 0), number as u64)
+}
+
+// A use of value v.
+pub fn hash_value(numbers: &[u32], v: u32, word: u64) -> u64
+    requires { ⌜ length (now numbers) ≡ numbersLength ⌝ }
+    requires { ⌜ v < maxValues ⌝ }
+    ensures { λ r. ⌜ FeedsNames (now (numbers .entry)) (λ N. valueBytes N v) word r ⌝ }
+{
+    hash_name(numbers[v as usize], v, word)
+}
+
+// A use of block b as a successor.
+pub fn hash_block(numbers: &[u32], b: u32, word: u64) -> u64
+    requires { ⌜ length (now numbers) ≡ numbersLength ⌝ }
+    requires { ⌜ b < maxBlocks ⌝ }
+    ensures { λ r. ⌜ FeedsNames (now (numbers .entry)) (λ N. blockBytes N b) word r ⌝ }
+{
+    hash_name(numbers[BLOCK_NUMBERS + b as usize], b, word)
+}
+
+// Each operand.
+pub fn hash_operands(numbers: &[u32], list: &[u32], word: u64) -> u64
+    requires { ⌜ length (now numbers) ≡ numbersLength ⌝ }
+    requires { ⌜ all (λ v. ltb v maxValues) (now list) ≡ true ⌝ }
+    ensures { λ r. ⌜ FeedsNames (now (numbers .entry)) (λ N. concatMap (valueBytes N) (now (list .entry))) word r ⌝ }
+{
+    let mut fed = word;
+    let mut i = 0;
+    while i < list.len() {
+        fed = hash_value(numbers, list[i], fed);
+        i += 1;
+    }
+    fed
+}
+
+// Each successor.
+pub fn hash_successors(numbers: &[u32], list: &[u32], word: u64) -> u64
+    requires { ⌜ length (now numbers) ≡ numbersLength ⌝ }
+    requires { ⌜ all (λ b. ltb b maxBlocks) (now list) ≡ true ⌝ }
+    ensures { λ r. ⌜ FeedsNames (now (numbers .entry)) (λ N. concatMap (blockBytes N) (now (list .entry))) word r ⌝ }
+{
+    let mut fed = word;
+    let mut i = 0;
+    while i < list.len() {
+        fed = hash_block(numbers, list[i], fed);
+        i += 1;
+    }
+    fed
+}

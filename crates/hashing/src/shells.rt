@@ -1,0 +1,128 @@
+// What is hashed of an operation or a block by itself; then its values, and a block itself, get the next walk numbers.
+use crate::attributes::attributes_hash;
+use crate::fnv::feed_count;
+use crate::fnv::feed_leaf;
+use crate::numbering::define_block;
+use crate::numbering::define_values;
+use crate::rows::block_row;
+use crate::rows::op_row;
+use crate::types::Hashing;
+use crate::types::Row;
+use fragments::ignoring::Ignore;
+use layout::columns::OP_KIND;
+use layout::columns::OP_REGION_END;
+use layout::columns::OP_REGION_FIRST;
+use layout::columns::VALUE_TYPE;
+use layout::columns::at;
+use layout::columns::number;
+use layout::columns::words;
+ghost use mathlib.Core.List.{[], _∷_};
+ghost use mathlib.Core.Path.{_≡_};
+ghost use Prim.Native.Nat.{_<_};
+ghost use lib.ListN.{length};
+ghost use Rattle.rules.specs.Lists.{concatMap};
+ghost use Rattle.rules.specs.Store.{ofOp, ofBlock};
+ghost use Rattle.rules.specs.Fragments.{shell};
+ghost use Rattle.rules.specs.Shells.{unignoredLocation};
+ghost use Rattle.rules.specs.Hash.{fnvFrom, leaf, locationBytes, headBytes, shellBytes};
+ghost use Rattle.layout.specs.Columns.{bufferLength, columns};
+ghost use Rattle.layout.specs.Reading.{opCount, blockCount};
+ghost use Rattle.layout.specs.Soundness.{IsSound};
+ghost use Rattle.fragments.specs.Ignoring.{ignoreOf};
+ghost use Rattle.hashing.specs.Rows.{Fits, rowShell};
+ghost use Rattle.hashing.specs.Walked.{Ready, storeIn, Fed, Room};
+
+// A location, unless locations are ignored.
+fn location_hash(ignore: Ignore, location: u32, word: u64) -> u64
+    ensures { λ r. ⌜ r ≡ fnvFrom word (locationBytes (unignoredLocation (ignoreOf ignore) location)) ⌝ }
+{
+    if ignore.locations {
+        return word;
+    }
+    feed_leaf(word, location)
+}
+
+// Each type.
+fn hash_types(types: &[u32], word: u64) -> u64
+    ensures { λ r. ⌜ r ≡ fnvFrom word (concatMap leaf (now (types .entry))) ⌝ }
+{
+    let mut fed = word;
+    let mut i = 0;
+    while i < types.len() {
+        fed = feed_leaf(fed, types[i]);
+        i += 1;
+    }
+    fed
+}
+
+// What an operation and a block have in common: location, attributes, and the types of their values.
+fn hash_row(store: &[u32], ignore: Ignore, row: Row, word: u64) -> u64
+    requires { ⌜ length (now store) ≡ bufferLength ⌝ }
+    requires { ⌜ Fits (columns (now store)) row ⌝ }
+    ensures { λ r. ⌜ r ≡ fnvFrom word (shellBytes (rowShell (columns (now (store .entry))) (ignoreOf ignore) row)) ⌝ }
+{
+    let located = location_hash(ignore, row.location, word);
+    let end = row.slot + row.attributes;
+    let attributed = attributes_hash(store, ignore, row.slot, end, located);
+    let types = words(store, VALUE_TYPE, row.value, row.value + row.values);
+    hash_types(types, attributed)
+}
+
+// What only an operation has: its kind, and how many regions it has.
+fn hash_head(store: &[u32], n: usize, word: u64) -> u64
+    requires { ⌜ IsSound (now store) ⌝ }
+    requires { ⌜ n < opCount (columns (now store)) ⌝ }
+    ensures { λ r. ⌜ r ≡ fnvFrom word (headBytes (storeIn (now (store .entry))) (ofOp n)) ⌝ }
+{
+    let kind = at(store, OP_KIND, n);
+    let regions = number(store, OP_REGION_END, n) - number(store, OP_REGION_FIRST, n);
+    feed_count(feed_leaf(word, kind), regions as u64)
+}
+
+// Hash components of an operation that do not use or contain other things, and define its results.
+pub fn hash_op_shell(
+    store: &[u32],
+    numbers: &mut [u32],
+    n: usize,
+    ignore: Ignore,
+    st: Hashing,
+) -> Hashing
+    requires { ⌜ Ready (now store) (now numbers) ⌝ }
+    requires { ⌜ n < opCount (columns (now store)) ⌝ }
+    requires { ⌜ Room (storeIn (now store)) (shell (ofOp n) ∷ []) st ⌝ }
+    ensures { λ r. ⌜ Fed (storeIn (now (store .entry))) (ignoreOf ignore) (shell (ofOp n) ∷ []) (now (numbers .entry)) (now (numbers .exit)) st r ⌝ }
+{
+    let row = op_row(store, n);
+    let head = hash_head(store, n, st.word);
+    let word = hash_row(store, ignore, row, head);
+    define_values(numbers, row.value, row.values, st.values);
+    Hashing {
+        word: word,
+        values: st.values + row.values as u32,
+        blocks: st.blocks,
+    }
+}
+
+// Hash components of a block that do not use or contain other things, and define the block and its arguments.
+pub fn hash_block_shell(
+    store: &[u32],
+    numbers: &mut [u32],
+    n: usize,
+    ignore: Ignore,
+    st: Hashing,
+) -> Hashing
+    requires { ⌜ Ready (now store) (now numbers) ⌝ }
+    requires { ⌜ n < blockCount (columns (now store)) ⌝ }
+    requires { ⌜ Room (storeIn (now store)) (shell (ofBlock n) ∷ []) st ⌝ }
+    ensures { λ r. ⌜ Fed (storeIn (now (store .entry))) (ignoreOf ignore) (shell (ofBlock n) ∷ []) (now (numbers .entry)) (now (numbers .exit)) st r ⌝ }
+{
+    let row = block_row(store, n);
+    let word = hash_row(store, ignore, row, st.word);
+    define_block(numbers, n, st.blocks);
+    define_values(numbers, row.value, row.values, st.values);
+    Hashing {
+        word: word,
+        values: st.values + row.values as u32,
+        blocks: st.blocks + 1,
+    }
+}

@@ -1,0 +1,2 @@
+-- What the offered calls answer obeys demand 3.
+pub mod Obeyed

@@ -1,0 +1,111 @@
+-- Demand 3 over the code. By its contract the buffer after a list of building calls reads as the rules' store after that list, and is
+-- sound; by theirs, what a comparison and a hash answer on it are the rules' answers; and of those demand 3 is proved. Assumes nothing.
+use Prim.Native.Nat.{ℕ, zero, suc, _+_, _-_, _≤_}
+use native.Mathlib.Nat.{not-suc-le-zero, le-of-suc-le-suc}
+use native.Mathlib.Omega.{arith}
+use mathlib.Core.Bool.{Bool, true}
+use mathlib.Core.List.{List, [], _∷_}
+use mathlib.Core.Logic.{_↔_}
+use mathlib.Core.Path.{_≡_, refl, sym, ap, subst, _∙_}
+use lib.ListN.{take, drop, replicate}
+use Rattle.rules.specs.Store.{Store, sound}
+use Rattle.rules.specs.Fragments.{Sort, exists, Premise}
+use Rattle.rules.specs.Shells.{Ignore}
+use Rattle.rules.specs.Mapping.{Mapping, noImage, emptyMapping}
+use Rattle.rules.specs.Answers.{Compared, Comparison, eq, neq, refused, comparison, hashIs, refusedHash, hashed}
+use Rattle.rules.specs.Hash.{hash}
+use Rattle.rules.specs.Laws.{Equal, In, Laws, LawsOfSound}
+use Rattle.rules.proofs.Walking.Answered.{equal-answered, hashed-is}
+use Rattle.rules.proofs.Laws.{laws-of-sound}
+use Rattle.layout.specs.Soundness.{soundBuffer, IsSound}
+use Rattle.layout.proofs.Empty.{sound-facts}
+use Rattle.building.specs.Calls.{bufferStore, AfterCalls}
+use Rattle.building.proofs.Answering.{after-calls}
+use Rattle.equivalence.specs.Lent.{mappingLength, mappingOf}
+use Rattle.equivalence.specs.Walked.{storeIn, answerOf}
+use Rattle.equivalence.specs.Calls as comparisons
+use Rattle.equivalence.specs.declared.types.EqResult.{EqResult}
+use Rattle.equivalence.specs.declared.types.EqResult.the-variants.{Eq, FirstNEQOps, FirstNEQRegions, FirstNEQBlocks, Refused}
+use Rattle.hashing.specs.Calls as hashes
+use Rattle.hashing.specs.declared.types.Hashed.{Hashed}
+use Rattle.hashing.specs.declared.types.Hashed.the-variants as code
+use Rattle.laws.specs.Answers.{emptyWords, Compares, Hashes, SaysEqual, AnswersObey, Demand3OfCode}
+
+-- ---- the empty mapping
+
+take-same : (n m x : ℕ) → n ≤ m → take n (replicate m x) ≡ replicate n x
+take-same zero m x l = refl
+take-same (suc n) zero x l = absurd (not-suc-le-zero l)
+take-same (suc n) (suc m) x l = ap (λ (xs : List ℕ). x ∷ xs) (take-same n m x (le-of-suc-le-suc l))
+
+drop-same : (n m x : ℕ) → drop n (replicate (n + m) x) ≡ replicate m x
+drop-same zero m x = let e : 0 + m ≡ m = omega arith in ap (λ (k : ℕ). replicate k x) e
+drop-same (suc n) m x = let e : suc n + m ≡ suc (n + m) = omega arith in ap (λ (k : ℕ). drop (suc n) (replicate k x)) e ∙ drop-same n m x
+
+empty-words : mappingOf emptyWords ≡ emptyMapping
+unfolding mappingOf emptyWords emptyMapping
+empty-words = λ i. record {
+  values = take-same 2048 2816 noImage (omega arith) i;
+  blocks = (ap (take 256) (drop-same 2048 768 noImage) ∙ take-same 256 768 noImage (omega arith)) i;
+  ops = drop-same 2304 512 noImage i;
+}
+
+-- ---- single answers
+
+equal-only : (q : EqResult) (n : ℕ) → answerOf q ≡ eq n → q ≡ Eq n
+unfolding answerOf
+equal-only (Eq m) n e = let k : m ≡ n = cc in ap Eq k
+equal-only (FirstNEQOps l r m) n e = cc
+equal-only (FirstNEQRegions l r m) n e = cc
+equal-only (FirstNEQBlocks l r m) n e = cc
+equal-only (Refused m) n e = cc
+
+hash-only : (h : Hashed) (w : ℕ) → hashes.hashedOf h ≡ hashIs w → h ≡ code.Hash w
+unfolding hashes.hashedOf
+hash-only (code.Hash v) w e = let k : v ≡ w = cc in ap code.Hash k
+hash-only (code.Refused c) w e = cc
+
+module _ (b : List ℕ) (sd : soundBuffer b ≡ true) (ig : Ignore) (f : Sort) where
+  ruled : sound (storeIn b) ≡ true
+  ruled = sound-facts b sd .ruled
+
+  laws : Laws (storeIn b) ig f
+  unfolding LawsOfSound
+  laws = laws-of-sound (storeIn b) ruled ig f
+
+  module _ (x y : ℕ) (ix : In (storeIn b) f x) (iy : In (storeIn b) f y) where
+    answered : (q : EqResult) → Compares b ig f x y q → comparison true (storeIn b) emptyMapping ig f x y .answer ≡ answerOf q
+    unfolding Compares
+    answered q (after, h) =
+        subst (λ (m : Mapping). comparison true (storeIn b) m ig f x y .answer ≡ answerOf q) empty-words
+        (subst (λ (t : Bool). comparison t (storeIn b) (mappingOf emptyWords) ig f x y .answer ≡ answerOf q) sd (ap (λ (c : Comparison). c .answer) (h .told)))
+
+    says : (q : EqResult) → Compares b ig f x y q → Equal (storeIn b) ig f x y → SaysEqual q
+    says q c e =
+        let w = equal-answered (storeIn b) ruled ig f x y ix iy .0 e in
+        (w .0, equal-only q (w .0) (sym (answered q c) ∙ w .1))
+
+    said : (q : EqResult) → Compares b ig f x y q → SaysEqual q → Equal (storeIn b) ig f x y
+    unfolding answerOf
+    said q c (n, e) = equal-answered (storeIn b) ruled ig f x y ix iy .1 (n, answered q c ∙ ap answerOf e)
+
+  hash-said : (x : ℕ) → In (storeIn b) f x → (h : Hashed) → Hashes b ig f x h → h ≡ code.Hash (hash (storeIn b) ig f x)
+  unfolding Hashes
+  hash-said x ix h a =
+      hash-only h (hash (storeIn b) ig f x)
+      (sym (subst (λ (t : Bool). hashed t (storeIn b) ig f x ≡ hashes.hashedOf h) sd (a .told)) ∙ hashed-is (storeIn b) ruled ig f x ix)
+
+  pub answers-obey : AnswersObey b ig f
+  unfolding bufferStore
+  answers-obey =
+      record {
+        reflexive = λ a ia q c. says a a ia ia q c (laws .reflexive a ia);
+        symmetric = λ a d ia id m q p c k e. says d a id ia p k (laws .symmetric a d ia id m (said a d ia id q c e));
+        transitive = λ a d g ia id ig′ m n q p r c k o e u. says a g ia ig′ r o (laws .transitive a d g ia id ig′ m n (said a d ia id q c e) (said d g id ig′ p k u));
+        hashes = λ a d ia id m q c e h k x y.
+            (hash (storeIn b) ig f a, hash-said a ia h x, hash-said d id k y ∙ ap code.Hash (sym (laws .hashes a d ia id m (said a d ia id q c e))));
+      }
+
+pub demand3-of-code : Demand3OfCode
+unfolding Demand3OfCode AfterCalls
+demand3-of-code calls buffer made ig f = answers-obey buffer (after-calls calls buffer made .1) ig f

@@ -1,0 +1,2 @@
+-- Demand 3, over the code.
+pub mod Answers

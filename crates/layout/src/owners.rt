@@ -1,0 +1,56 @@
+// The owner of attributes: its slots, and how many keys it has.
+use crate::columns::BLOCK_ATTRIBUTES;
+use crate::columns::OP_ATTRIBUTES;
+use crate::columns::number;
+ghost use mathlib.Core.Path.{_≡_};
+ghost use mathlib.Core.Bool.{true};
+ghost use Rattle.rules.specs.Store.{ownerExists};
+ghost use Rattle.layout.specs.Columns.{columns};
+ghost use Rattle.layout.specs.Reading.{slotsOf, storeOf};
+ghost use Rattle.layout.specs.Soundness.{IsSound};
+ghost use Rattle.layout.specs.Owners.{ownerOf, countColumn, ownerNumber, keyCount};
+
+// What an attribute is set on.
+pub enum Owner {
+    Op(u32),
+    Block(u32),
+}
+
+// The column of attribute counts that the owner's stands in.
+pub fn count_column(owner: Owner) -> usize
+    ensures { λ r. ⌜ r ≡ countColumn (ownerOf owner) ⌝ }
+{
+    match owner {
+        Owner::Op(_) => OP_ATTRIBUTES,
+        Owner::Block(_) => BLOCK_ATTRIBUTES,
+    }
+}
+
+// The owner's number.
+pub fn owner_number(owner: Owner) -> usize
+    ensures { λ r. ⌜ r ≡ ownerNumber (ownerOf owner) ⌝ }
+{
+    match owner {
+        Owner::Op(n) => n as usize,
+        Owner::Block(b) => b as usize,
+    }
+}
+
+// The owner's first attribute slot.
+pub fn first_slot(owner: Owner) -> usize
+    ensures { λ r. ⌜ r ≡ slotsOf (ownerOf owner) ⌝ }
+{
+    match owner {
+        Owner::Op(n) => 8 * n as usize,
+        Owner::Block(b) => 4096 + 8 * b as usize,
+    }
+}
+
+// How many keys the owner has.
+pub fn key_count(store: &[u32], owner: Owner) -> usize
+    requires { ⌜ IsSound (now store) ⌝ }
+    requires { ⌜ ownerExists (storeOf (columns (now store))) (ownerOf owner) ≡ true ⌝ }
+    ensures { λ r. ⌜ r ≡ keyCount (columns (now (store .entry))) (ownerOf owner) ⌝ }
+{
+    number(store, count_column(owner), owner_number(owner))
+}

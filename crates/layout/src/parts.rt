@@ -1,0 +1,37 @@
+// An operation's parts of the two shared lists, handed on as they stand.
+use crate::columns::OP_OPERAND_END;
+use crate::columns::OP_OPERAND_FIRST;
+use crate::columns::OP_SUCCESSOR_END;
+use crate::columns::OP_SUCCESSOR_FIRST;
+use crate::columns::OPERAND_WORDS;
+use crate::columns::SUCCESSOR_WORDS;
+use crate::columns::number;
+use crate::columns::words;
+ghost use mathlib.Core.Path.{_≡_};
+ghost use Prim.Native.Nat.{_<_};
+ghost use Rattle.rules.specs.Store.{opAt};
+ghost use Rattle.layout.specs.Columns.{columns};
+ghost use Rattle.layout.specs.Reading.{opCount, storeOf};
+ghost use Rattle.layout.specs.Soundness.{Arranged};
+
+// The operands of an operation.
+pub fn operands_of(store: &[u32], n: usize) -> &[u32]
+    requires { ⌜ Arranged (now store) ⌝ }
+    requires { ⌜ n < opCount (columns (now store)) ⌝ }
+    ensures { λ r. ⌜ now r ≡ opAt (storeOf (columns (now (store .entry)))) n .operands ⌝ }
+{
+    let a = number(store, OP_OPERAND_FIRST, n);
+    let e = number(store, OP_OPERAND_END, n);
+    words(store, OPERAND_WORDS, a, e)
+}
+
+// The successors of an operation.
+pub fn successors_of(store: &[u32], n: usize) -> &[u32]
+    requires { ⌜ Arranged (now store) ⌝ }
+    requires { ⌜ n < opCount (columns (now store)) ⌝ }
+    ensures { λ r. ⌜ now r ≡ opAt (storeOf (columns (now (store .entry)))) n .successors ⌝ }
+{
+    let a = number(store, OP_SUCCESSOR_FIRST, n);
+    let e = number(store, OP_SUCCESSOR_END, n);
+    words(store, SUCCESSOR_WORDS, a, e)
+}

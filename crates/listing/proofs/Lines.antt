@@ -1,0 +1,59 @@
+-- The pieces of each line, written one behind the other, are the rules' line: a text with its comma is computed, and a comma or a line feed stands behind each number. Assumes nothing.
+use Prim.Native.Nat.{ℕ, _*_, _/_, _≤_, _<_}
+use native.Mathlib.Nat.{not-suc-le-zero, div-le-of-le-mul}
+use native.Mathlib.Omega.{arith}
+use mathlib.Core.Bool.{Bool, cond}
+use mathlib.Core.List.{List, [], _∷_, _++_, append-assoc}
+use mathlib.Core.Path.{_≡_, refl, sym, ap, _∙_}
+use lib.Seq.{append-snoc}
+use borrow.Author.Tests.{eq-eqb, ne-eqb}
+use Rattle.rules.specs.Bytes.{text, comma, lineFeed, decimal, hexadecimal}
+use Rattle.rules.specs.Fragments.{Sort}
+use Rattle.rules.specs.Comparison.{pairOf}
+use Rattle.rules.specs.Listings.{printed, refusal, equalLine, sortText, unequalLine, hashesLine, perCent, shareLine}
+
+-- a field and what ends it, behind other bytes
+fielded : (xs ys : List ℕ) (b : ℕ) (zs : List ℕ) → xs ++ (ys ++ (b ∷ [])) ++ zs ≡ xs ++ (ys ++ b ∷ zs)
+fielded xs ys b zs = append-assoc xs (ys ++ (b ∷ [])) zs ∙ ap (λ (l : List ℕ). xs ++ l) (append-snoc ys b zs)
+
+pub refusal-line : (line cause : ℕ) → text "refused," ++ (decimal line ++ (comma ∷ [])) ++ (decimal cause ++ (lineFeed ∷ [])) ≡ refusal line cause
+unfolding refusal printed
+refusal-line line cause = fielded (text "refused,") (decimal line) comma (decimal cause ++ (lineFeed ∷ []))
+
+pub equal-line : (paired : ℕ) → text "eq,-,-," ++ (decimal paired ++ (lineFeed ∷ [])) ≡ equalLine paired
+unfolding equalLine printed
+equal-line paired = refl
+
+pub unequal-line : (f : Sort) (l r paired : ℕ)
+    → sortText f ++ (comma ∷ []) ++ (decimal l ++ (comma ∷ [])) ++ (decimal r ++ (comma ∷ [])) ++ (decimal paired ++ (lineFeed ∷ [])) ≡ unequalLine (pairOf f l r) paired
+unfolding unequalLine printed pairOf
+unequal-line f l r paired =
+    let last = decimal paired ++ (lineFeed ∷ []) in
+    fielded (sortText f ++ (comma ∷ []) ++ (decimal l ++ (comma ∷ []))) (decimal r) comma last
+    ∙ fielded (sortText f ++ (comma ∷ [])) (decimal l) comma (decimal r ++ comma ∷ last)
+    ∙ append-snoc (sortText f) comma (decimal l ++ comma ∷ (decimal r ++ comma ∷ last))
+
+pub hashes-line : (l r : ℕ) → hexadecimal l ++ (comma ∷ []) ++ hexadecimal r ++ (lineFeed ∷ []) ≡ hashesLine l r
+unfolding hashesLine printed
+hashes-line l r =
+    append-assoc (hexadecimal l ++ (comma ∷ [])) (hexadecimal r) (lineFeed ∷ [])
+    ∙ append-snoc (hexadecimal l) comma (hexadecimal r ++ (lineFeed ∷ []))
+
+pub share-line : (equal all share : ℕ) → share ≡ perCent equal all
+    → text "share," ++ (decimal share ++ (lineFeed ∷ [])) ≡ shareLine (record { equal = equal; all = all })
+unfolding shareLine printed
+share-line equal all share e = ap (λ (n : ℕ). text "share," ++ (decimal n ++ (lineFeed ∷ []))) e
+
+-- ---- the share
+
+pub of-nothing : (part whole : ℕ) → whole ≡ 0 → 0 ≡ perCent part whole
+unfolding perCent
+of-nothing part whole e = ap (λ (q : Bool). cond q 0 (part * 100 / whole)) (sym (eq-eqb whole 0 e))
+
+pub of-some : (part whole : ℕ) → 0 < whole → part * 100 / whole ≡ perCent part whole
+unfolding perCent
+of-some part whole h =
+    ap (λ (q : Bool). cond q 0 (part * 100 / whole)) (sym (ne-eqb whole 0 (λ e. let no : 1 ≤ 0 = omega arith in not-suc-le-zero no)))
+
+pub at-most-all : (part whole : ℕ) → part ≤ whole → part * 100 / whole ≤ 100
+at-most-all part whole h = div-le-of-le-mul whole (omega arith)

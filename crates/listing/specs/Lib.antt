@@ -1,0 +1,4 @@
+-- What the code reads of a listing's line, and what it writes.
+pub mod Reading
+pub mod Parsing
+pub mod Wrote

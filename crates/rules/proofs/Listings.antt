@@ -1,0 +1,5 @@
+-- Listings: how bytes are cut, how long what is printed is, and how much of a listing a line takes.
+pub mod Cut
+pub mod Written
+pub mod Taken
+pub mod Short

@@ -1,0 +1,183 @@
+-- A size is at most 512: it counts the operations among what the walk defines, with no more levels than the walk has, and those are
+-- distinct operations of the store. Assumes nothing.
+use Prim.Native.Nat.{ℕ, zero, suc, _+_, _≤_}
+use native.Mathlib.Nat.{not-suc-le-zero, le-of-suc-le-suc, le-refl}
+use native.Mathlib.Omega.{arith}
+use mathlib.Core.Bool.{true}
+use mathlib.Core.List.{List, [], _∷_, _++_, map, append-nil}
+use mathlib.Core.Option.{Option, none, some, Option·none-ne-some, Option·some-injective}
+use mathlib.Core.Path.{_≡_, refl, ap, _∙_}
+use lib.ListN.{length, length-append}
+use Rattle.rules.specs.Lists.{concatMap}
+use Rattle.rules.specs.Store.{Store, Owner, ofOp, ofBlock, opsOf, blocksOf, regionsOf, parentOf, opExists, levelsLeft, maxNesting, maxOps, sound}
+use Rattle.rules.specs.Fragments.{Sort, op, block, region, exists, levels, Step, shell, fullOp, listSteps, regionSteps, steps, stepDefines, definesOwners, plus, sizes, opsInBlocks, opsInside, opSize, sizeWithin, ownSize, outermost, fragmentSize}
+use Rattle.rules.proofs.Soundness.Sound.{facts}
+use Rattle.rules.proofs.Basics.Distinct.{concatMap-append, concatMap-concatMap}
+use Rattle.rules.proofs.Form.OnceInLists.{defined}
+use Rattle.rules.proofs.Form.Once.{op-once, op-here, owners-once, owners-here}
+use Rattle.rules.proofs.Form.Counted.{opOwner, ops-most}
+use Rattle.rules.proofs.Walking.Levels.{leaves-most}
+
+-- ---- a size, if there is one, is at most so much
+
+abbrev Most : Option ℕ → ℕ → Type 0
+Most q n = (z : ℕ) → q ≡ some z → z ≤ n
+
+most-plus : (a b : Option ℕ) (m n : ℕ) → Most a m → Most b n → Most (plus a b) (m + n)
+unfolding plus
+most-plus none b m n h k z e = absurd (Option·none-ne-some z e)
+most-plus (some x) none m n h k z e = absurd (Option·none-ne-some z e)
+most-plus (some x) (some y) m n h k z e = omega (arith, h x refl, k y refl, Option·some-injective (x + y) z e)
+
+most-nothing : (ns : List ℕ) → Most (sizes (λ (m : ℕ). none) ns) 0
+unfolding sizes plus
+most-nothing [] z e = omega (arith, Option·some-injective 0 z e)
+most-nothing (n ∷ ns) z e = absurd (Option·none-ne-some z e)
+
+most-one : Most (some 1) 1
+most-one z e = omega (arith, Option·some-injective 1 z e)
+
+-- ---- the operations that steps define
+
+count : List Step → ℕ
+count xs = length (concatMap opOwner (defined xs))
+
+count-append : (xs ys : List Step) → count (xs ++ ys) ≡ count xs + count ys
+unfolding count defined
+count-append xs ys =
+    ap (λ (l : List Owner). length (concatMap opOwner l)) (concatMap-append stepDefines xs ys)
+    ∙ ap length (concatMap-append opOwner (concatMap stepDefines xs) (concatMap stepDefines ys))
+    ∙ length-append (concatMap opOwner (concatMap stepDefines xs)) (concatMap opOwner (concatMap stepDefines ys))
+
+count-op : (n : ℕ) (xs : List Step) → count (shell (ofOp n) ∷ xs) ≡ suc (count xs)
+unfolding count defined concatMap stepDefines opOwner
+count-op n xs = refl
+
+count-blocks : (bs : List ℕ) → count (map (λ (b : ℕ). shell (ofBlock b)) bs) ≡ 0
+unfolding count defined concatMap stepDefines opOwner
+count-blocks [] = refl
+count-blocks (b ∷ bs) = count-blocks bs
+
+count-same : (f g : ℕ → List Step) → ((n : ℕ) → count (f n) ≡ count (g n)) → (ns : List ℕ) → count (concatMap f ns) ≡ count (concatMap g ns)
+unfolding concatMap
+count-same f g h [] = refl
+count-same f g h (n ∷ ns) = omega (arith, count-append (f n) (concatMap f ns), count-append (g n) (concatMap g ns), h n, count-same f g h ns)
+
+count-both : (f g h : ℕ → List Step) → ((n : ℕ) → count (f n) ≡ count (g n) + count (h n))
+    → (ns : List ℕ) → count (concatMap f ns) ≡ count (concatMap g ns) + count (concatMap h ns)
+unfolding concatMap
+count-both f g h e [] = count-append [] []
+count-both f g h e (n ∷ ns) =
+    omega (arith, count-append (f n) (concatMap f ns), count-append (g n) (concatMap g ns), count-append (h n) (concatMap h ns), e n, count-both f g h e ns)
+
+-- an operation's shell and its full steps
+abbrev whole : (ℕ → List Step) → ℕ → List Step
+whole full n = shell (ofOp n) ∷ full n
+
+count-ops : (full : ℕ → List Step) (ns : List ℕ) → count (concatMap (whole full) ns) ≡ count (map (λ (n : ℕ). shell (ofOp n)) ns) + count (concatMap full ns)
+unfolding concatMap
+count-ops full [] = count-append [] []
+count-ops full (n ∷ ns) =
+    omega (arith, count-op n (full n ++ concatMap (whole full) ns), count-op n (map (λ (m : ℕ). shell (ofOp m)) ns), count-append (full n) (concatMap (whole full) ns), count-append (full n) (concatMap full ns), count-ops full ns)
+
+sizes-most : (size : ℕ → Option ℕ) (g : ℕ → List Step) → ((n : ℕ) → Most (size n) (count (g n))) → (ns : List ℕ) → Most (sizes size ns) (count (concatMap g ns))
+unfolding sizes concatMap
+sizes-most size g h [] z e = omega (arith, Option·some-injective 0 z e)
+sizes-most size g h (n ∷ ns) z e =
+    omega (arith, count-append (g n) (concatMap g ns), most-plus (size n) (sizes size ns) (count (g n)) (count (concatMap g ns)) (h n) (sizes-most size g h ns) z e)
+
+module _ (s : Store) where
+  count-list : (full : ℕ → List Step) (bs : List ℕ) → count (concatMap (whole full) (opsInBlocks s bs)) ≡ count (listSteps s full bs)
+  unfolding listSteps opsInBlocks
+  count-list full bs =
+      let flat : count (concatMap (whole full) (concatMap (opsOf s) bs)) ≡ count (concatMap (λ (b : ℕ). concatMap (whole full) (opsOf s b)) bs) = ap count (concatMap-concatMap (whole full) (opsOf s) bs) in
+      let both : count (concatMap (λ (b : ℕ). concatMap (whole full) (opsOf s b)) bs) ≡ count shells + count fulls = count-both _ _ _ (λ b. count-ops full (opsOf s b)) bs in
+      omega (arith, count-append (blocks ++ shells) fulls, count-append blocks shells, count-blocks bs)
+    where
+      blocks : List Step
+      blocks = map (λ (b : ℕ). shell (ofBlock b)) bs
+
+      shells : List Step
+      shells = concatMap (λ (b : ℕ). map (λ (n : ℕ). shell (ofOp n)) (opsOf s b)) bs
+
+      fulls : List Step
+      fulls = concatMap (λ (b : ℕ). concatMap full (opsOf s b)) bs
+
+  -- ---- an operation's size, with no more levels than the steps have
+
+  wholeOp : ℕ → ℕ → List Step
+  wholeOp j = whole (fullOp s (regionSteps j s))
+
+  count-full : (j n : ℕ) → count (fullOp s (regionSteps j s) n) ≡ count (concatMap (regionSteps j s) (regionsOf s n))
+  unfolding count defined concatMap fullOp stepDefines
+  count-full j n = refl
+
+  inside-most : (size : ℕ → Option ℕ) (j : ℕ) → ((m : ℕ) → Most (size m) (count (wholeOp j m))) → (n : ℕ)
+      → Most (sizes size (opsInside s n)) (count (concatMap (regionSteps (suc j) s) (regionsOf s n)))
+  unfolding opsInside regionSteps wholeOp
+  inside-most size j h n z e =
+      omega (
+        arith,
+        sizes-most size (wholeOp j) h (opsInside s n) z e,
+        ap count (concatMap-concatMap (wholeOp j) (λ (r : ℕ). opsInBlocks s (blocksOf s r)) (regionsOf s n)),
+        count-same _ (regionSteps (suc j) s) (λ r. count-list (fullOp s (regionSteps j s)) (blocksOf s r)) (regionsOf s n),
+      )
+
+  op-most : (k j : ℕ) → k ≤ j → (n : ℕ) → Most (opSize k s n) (count (wholeOp j n))
+  unfolding opSize wholeOp
+  op-most zero j l n z e =
+      omega (
+        arith,
+        count-op n (fullOp s (regionSteps j s) n),
+        most-plus (some 1) _ 1 0 most-one (most-nothing (opsInside s n)) z e,
+      )
+  op-most (suc k) zero l n z e = absurd (not-suc-le-zero l)
+  op-most (suc k) (suc j) l n z e =
+      omega (
+        arith,
+        count-op n (fullOp s (regionSteps (suc j) s) n),
+        count-full (suc j) n,
+        most-plus (some 1) _ 1 _ most-one (inside-most (opSize k s) j (op-most k j (le-of-suc-le-suc l)) n) z e,
+      )
+
+  -- at the levels that the operation leaves
+  own-most : (j : ℕ) → maxNesting ≤ j → (n : ℕ) → Most (ownSize s n) (count (wholeOp j n))
+  unfolding ownSize sizeWithin
+  own-most j l n = go (levelsLeft maxNesting s (parentOf s n)) refl
+    where
+      go : (q : Option ℕ) → levelsLeft maxNesting s (parentOf s n) ≡ q → Most (sizeWithin q s n) (count (wholeOp j n))
+      go none h z e = absurd (Option·none-ne-some z e)
+      go (some k) h z e = op-most k j (omega (arith, leaves-most s maxNesting (parentOf s n) k h)) n z e
+
+  -- ---- a fragment's
+
+  list-most : (j : ℕ) → maxNesting ≤ j → (bs : List ℕ) → Most (sizes (ownSize s) (opsInBlocks s bs)) (count (listSteps s (fullOp s (regionSteps j s)) bs))
+  unfolding wholeOp
+  list-most j l bs z e = omega (arith, sizes-most (ownSize s) (wholeOp j) (own-most j l) (opsInBlocks s bs) z e, count-list (fullOp s (regionSteps j s)) bs)
+
+  region-most : (j : ℕ) → maxNesting ≤ j → (r : ℕ) → Most (sizes (ownSize s) (opsInBlocks s (blocksOf s r))) (count (regionSteps (suc j) s r))
+  unfolding regionSteps
+  region-most j l r = list-most j l (blocksOf s r)
+
+  fragment-most : (f : Sort) (n : ℕ) → Most (fragmentSize s f n) (count (steps s f n))
+  unfolding fragmentSize outermost steps opsInBlocks concatMap wholeOp
+  fragment-most op n z e = rw append-nil at (sizes-most (ownSize s) (wholeOp levels) (own-most levels (omega arith)) (n ∷ []) z e)
+  fragment-most block n z e = list-most levels (omega arith) (n ∷ []) z (rw append-nil e)
+  fragment-most region n z e = region-most maxNesting (omega arith) n z e
+
+module _ (s : Store) (sd : sound s ≡ true) where
+  pub op-size-most : (k n z : ℕ) → opExists s n ≡ true → opSize k s n ≡ some z → z ≤ maxOps
+  unfolding count defined concatMap stepDefines wholeOp
+  op-size-most k n z h e =
+      let size : z ≤ count (wholeOp s k n) = op-most s k k (le-refl k) n z e in
+      let so = facts s sd in
+      let most : count (wholeOp s k n) ≤ maxOps = ops-most s sd _ (op-once s so k n h) (op-here s so k n h) in
+      omega arith
+
+  pub size-most : (f : Sort) (n z : ℕ) → exists s f n ≡ true → fragmentSize s f n ≡ some z → z ≤ maxOps
+  unfolding count defined definesOwners
+  size-most f n z h e =
+      let size : z ≤ count (steps s f n) = fragment-most s f n z e in
+      let so = facts s sd in
+      let most : count (steps s f n) ≤ maxOps = ops-most s sd (definesOwners s f n) (owners-once s so f n h) (owners-here s so f n h) in
+      omega arith

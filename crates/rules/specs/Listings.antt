@@ -1,0 +1,191 @@
+-- 01, "Listings": the two programs, from the bytes of a listing to the bytes that are printed. "A program tests 11 (listing's length,
+-- line 1), then per line 11, 9, 10, then the call."
+use Prim.Native.Nat.{ℕ, suc, _+_, _*_, _/_}
+use Prim.Native.String.{String}
+use mathlib.Core.Bool.{Bool, true, false, cond}
+use mathlib.Core.Option.{Option, none, some, Option·getD}
+use mathlib.Core.List.{List, [], _∷_, _++_}
+use lib.Dec.{eqb, leb}
+use lib.ListN.{length}
+use Rattle.rules.specs.Store.{Store, emptyStore}
+use Rattle.rules.specs.Fragments.{Sort, op, block, region, fragmentSize}
+use Rattle.rules.specs.Building.{Call, Built, made, accepted, refused, answer, built, firstFailed}
+use Rattle.rules.specs.Shells.{Ignore}
+use Rattle.rules.specs.Mapping.{emptyMapping}
+use Rattle.rules.specs.Comparison.{Pair}
+use Rattle.rules.specs.Answers.{Compared, eq, neq, refused as refusedCompared, comparison, Hashed, hashIs, refusedHash, hashed}
+use Rattle.rules.specs.Bytes.{text, isText, comma, lineFeed, Pieces, cutAt, decimal, hexadecimal}
+use Rattle.rules.specs.Lines.{Line, building, query, parse}
+
+-- ---- what is printed
+
+-- a line: its fields, parted by commas, and the line feed that ends it
+unfoldable pub printed : List (List ℕ) → List ℕ
+printed [] = lineFeed ∷ []
+printed (f ∷ []) = f ++ (lineFeed ∷ [])
+printed (f ∷ g ∷ fs) = f ++ comma ∷ printed (g ∷ fs)
+
+-- "A refused line prints `refused,LINE,NUMBER`"
+unfoldable pub refusal : ℕ → ℕ → List ℕ
+refusal line cause = printed (text "refused" ∷ decimal line ∷ decimal cause ∷ [])
+
+-- "Output: eq, op, block or region, the named pair, paired."
+unfoldable pub equalLine : ℕ → List ℕ
+equalLine paired = printed (text "eq" ∷ text "-" ∷ text "-" ∷ decimal paired ∷ [])
+
+unfoldable pub sortText : Sort → List ℕ
+sortText op = text "op"
+sortText block = text "block"
+sortText region = text "region"
+
+unfoldable pub unequalLine : Pair → ℕ → List ℕ
+unequalLine p paired = printed (sortText (p .sort) ∷ decimal (p .left) ∷ decimal (p .right) ∷ decimal paired ∷ [])
+
+-- "both hashes as 16 lower-case hexadecimal digits parted by a comma"
+unfoldable pub hashesLine : ℕ → ℕ → List ℕ
+hashesLine left right = printed (hexadecimal left ∷ hexadecimal right ∷ [])
+
+-- ---- "The share is the operations inside right fragments found equal, a fragment's own operation included, over those inside all right
+-- fragments, in whole per cent rounded down; 0 over nothing."
+
+pub record Tally : Type 0 where
+  pub equal : ℕ
+  pub all : ℕ
+
+unfoldable pub noTally : Tally
+noTally = record { equal = 0; all = 0 }
+
+-- the operations inside a right fragment, as it stands at its `q`
+unfoldable pub opsIn : Store → Sort → ℕ → ℕ
+opsIn s f n = Option·getD (fragmentSize s f n) 0
+
+-- with a right fragment more, found equal or not
+unfoldable pub tallied : Bool → Store → Sort → ℕ → Tally → Tally
+tallied found s f n t = record { equal = t .equal + cond found (opsIn s f n) 0; all = t .all + opsIn s f n }
+
+unfoldable pub perCent : ℕ → ℕ → ℕ
+perCent part whole = cond (eqb whole 0) 0 (part * 100 / whole)
+
+unfoldable pub shareLine : Tally → List ℕ
+shareLine t = printed (text "share" ∷ decimal (perCent (t .equal) (t .all)) ∷ [])
+
+-- ---- lines one after another
+
+-- what the lines so far have left
+pub record Progress : Type 0 where
+  pub store : Store
+  pub tally : Tally
+
+unfoldable pub atStart : Progress
+atStart = record { store = emptyStore; tally = noTally }
+
+pub data Outcome : Type 0 where
+  -- what a line prints, and what it leaves
+  prints : List ℕ → Progress → Outcome
+  -- the cause for which it is refused
+  stops : ℕ → Outcome
+
+pub record Program : Type 0 where
+  -- what a `q` does
+  pub ask : Progress → Sort → ℕ → ℕ → Ignore → Outcome
+  -- what is printed behind the last line
+  pub close : Progress → List ℕ
+
+-- a building call prints nothing
+unfoldable pub buildingDoes : Built → Store → Progress → Outcome
+buildingDoes (made n) s now = prints [] (record { store = s; tally = now .tally })
+buildingDoes accepted s now = prints [] (record { store = s; tally = now .tally })
+buildingDoes (refused cause) s now = stops cause
+
+unfoldable pub lineDoes : Program → Progress → Option Line → Outcome
+lineDoes p now none = stops 10
+lineDoes p now (some (building c)) = buildingDoes (answer (now .store) c) (built (now .store) c) now
+lineDoes p now (some (query f l r ig)) = p .ask now f l r ig
+
+-- "lines of at most 512 bytes before the one line feed that ends each"
+abbrev pub maxLine : ℕ
+maxLine = 512
+
+unfoldable pub does : Program → Progress → List ℕ → Outcome
+does p now line = cond (leb (length line) maxLine) (lineDoes p now (parse line)) (stops 11)
+
+-- a refused line "ends either program; what was printed before stands, and no share follows"
+unfoldable pub proceed : Outcome → ℕ → (Progress → List ℕ) → List ℕ
+proceed (prints out next) n more = out ++ more next
+proceed (stops cause) n more = refusal n cause
+
+-- the bytes behind the last line feed: "no last line feed" is refused
+unfoldable pub atEnd : Program → ℕ → Progress → List ℕ → List ℕ
+atEnd p n now [] = p .close now
+atEnd p n now (x ∷ rest) = refusal n 11
+
+-- the lines from number n on, and the bytes behind the last line feed
+unfoldable pub run : Program → ℕ → Progress → List (List ℕ) → List ℕ → List ℕ
+run p n now [] rest = atEnd p n now rest
+run p n now (line ∷ lines) rest = proceed (does p now line) n (λ next. run p (suc n) next lines rest)
+
+-- "The first is the fixed bytes `opstore,1`."
+unfoldable pub headerTests : List ℕ → List (Bool × ℕ)
+headerTests line = (leb (length line) maxLine, 11) ∷ (isText "opstore,1" line, 9) ∷ []
+
+unfoldable pub unless : Option ℕ → List ℕ → List ℕ
+unless none out = out
+unless (some cause) out = refusal 1 cause
+
+-- "An empty listing gives 9, line 1."
+unfoldable pub fromHeader : Program → List (List ℕ) → List ℕ → List ℕ
+fromHeader p [] [] = refusal 1 9
+fromHeader p [] (x ∷ rest) = refusal 1 11
+fromHeader p (line ∷ lines) rest = unless (firstFailed (headerTests line)) (run p 2 atStart lines rest)
+
+-- "At most 65,536 bytes"
+abbrev pub maxListing : ℕ
+maxListing = 65536
+
+-- no listing makes either program print more
+abbrev pub maxOutput : ℕ
+maxOutput = 327680
+
+unfoldable pub listed : Program → List ℕ → List ℕ
+listed p bytes =
+    cond
+    (leb (length bytes) maxListing)
+    (fromHeader p (cutAt lineFeed bytes .whole) (cutAt lineFeed bytes .rest))
+    (refusal 1 11)
+
+-- ---- "`twins` prints a line for each `q`, then the share"
+
+unfoldable pub twinsAnswer : Compared → Sort → ℕ → Progress → Outcome
+twinsAnswer (eq paired) f r now =
+    prints (equalLine paired) (record { store = now .store; tally = tallied true (now .store) f r (now .tally) })
+twinsAnswer (neq p paired) f r now =
+    prints (unequalLine p paired) (record { store = now .store; tally = tallied false (now .store) f r (now .tally) })
+twinsAnswer (refusedCompared cause) f r now = stops cause
+
+-- "Each `q` starts with an empty mapping."
+unfoldable pub twinsProgram : Program
+twinsProgram =
+    record {
+      ask = λ now f l r ig. twinsAnswer (comparison true (now .store) emptyMapping ig f l r .answer) f r now;
+      close = λ now. shareLine (now .tally);
+    }
+
+unfoldable pub twins : List ℕ → List ℕ
+twins bytes = listed twinsProgram bytes
+
+-- ---- "`sums` prints for each `q` both hashes ..., and no share": both are there before any is printed
+
+unfoldable pub sumsAnswer : Hashed → Hashed → Progress → Outcome
+sumsAnswer (hashIs left) (hashIs right) now = prints (hashesLine left right) now
+sumsAnswer (hashIs left) (refusedHash cause) now = stops cause
+sumsAnswer (refusedHash cause) right now = stops cause
+
+unfoldable pub sumsProgram : Program
+sumsProgram =
+    record {
+      ask = λ now f l r ig. sumsAnswer (hashed true (now .store) ig f l) (hashed true (now .store) ig f r) now;
+      close = λ now. [];
+    }
+
+unfoldable pub sums : List ℕ → List ℕ
+sums bytes = listed sumsProgram bytes
