@@ -13,11 +13,8 @@ use Rattle.rules.specs.Fragments.{Sort, exists, blockOwner, definesOwner
 use Rattle.rules.proofs.Soundness.Sound.{facts}
 use Rattle.rules.proofs.Basics.Distinct.{Distinct, distinct-concatMap, mem-concatMap}
 use Rattle.rules.proofs.Basics.Pigeons.{pigeons}
+use Rattle.rules.proofs.Form.Events.{opOwner}
 use Rattle.rules.proofs.Form.Once.{owners-once, owners-here, values-once, values-here, blocks-once-in, blocks-here}
-
-unfoldable pub opOwner : Owner → List ℕ
-opOwner (ofOp n) = n ∷ []
-opOwner (ofBlock b) = []
 
 op-owner : (w : Owner) {n : ℕ} → List·Memᴰ n (opOwner w) → w ≡ ofOp n
 unfolding opOwner

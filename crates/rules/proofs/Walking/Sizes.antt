@@ -15,7 +15,8 @@ use Rattle.rules.proofs.Soundness.Sound.{facts}
 use Rattle.rules.proofs.Basics.Distinct.{concatMap-append, concatMap-concatMap}
 use Rattle.rules.proofs.Form.OnceInLists.{defined}
 use Rattle.rules.proofs.Form.Once.{op-once, op-here, owners-once, owners-here}
-use Rattle.rules.proofs.Form.Counted.{opOwner, ops-most}
+use Rattle.rules.proofs.Form.Counted.{ops-most}
+use Rattle.rules.proofs.Form.Events.{opOwner}
 use Rattle.rules.proofs.Walking.Levels.{leaves-most}
 
 -- ---- a size, if there is one, is at most so much
