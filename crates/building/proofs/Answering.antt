@@ -8,16 +8,17 @@ use Rattle.rules.specs.Store.{Store}
 use Rattle.rules.specs.Building as answers
 use Rattle.rules.specs.Building.{Call, refused, answer, after}
 use Rattle.rules.proofs.Basics.Tests.{clash}
+use Rattle.layout.specs.Reading.{storeIn}
 use Rattle.layout.specs.Columns.{emptyBuffer}
 use Rattle.layout.specs.Soundness.{soundBuffer}
 use Rattle.layout.proofs.Empty.{sound-of, zeros-read, zeros-sound}
 use Rattle.building.specs.declared.types.Built.{Built}
 use Rattle.building.specs.Types.{builtOf}
-use Rattle.building.specs.Calls.{bufferStore, Did, Answered, Made, AfterCalls}
+use Rattle.building.specs.Calls.{Did, Answered, Made, AfterCalls}
 
 module _ (b : List ℕ) (c : Call) (r : Built) where
-  chosen : (t : Bool) → soundBuffer b ≡ t → cond (soundBuffer b) (answer (bufferStore b) c) (refused 1) ≡ cond t (answer (bufferStore b) c) (refused 1)
-  chosen t e = ap (λ (x : Bool). cond x (answer (bufferStore b) c) (refused 1)) e
+  chosen : (t : Bool) → soundBuffer b ≡ t → cond (soundBuffer b) (answer (storeIn b) c) (refused 1) ≡ cond t (answer (storeIn b) c) (refused 1)
+  chosen t e = ap (λ (x : Bool). cond x (answer (storeIn b) c) (refused 1)) e
 
   pub turned-down : soundBuffer b ≡ false → builtOf r ≡ refused 1 → Answered b b c r
   turned-down h q =
@@ -37,15 +38,15 @@ module _ (b : List ℕ) (c : Call) (r : Built) where
         kept = did .kept;
       }
 
-after-made : (calls : List Call) (entry exit : List ℕ) → soundBuffer entry ≡ true → Made entry calls exit → (bufferStore exit ≡ after (bufferStore entry) calls) × (soundBuffer exit ≡ true)
+after-made : (calls : List Call) (entry exit : List ℕ) → soundBuffer entry ≡ true → Made entry calls exit → (storeIn exit ≡ after (storeIn entry) calls) × (soundBuffer exit ≡ true)
 unfolding Made after
-after-made [] entry exit h e = (ap bufferStore e, subst (λ (b : List ℕ). soundBuffer b ≡ true) (sym e) h)
+after-made [] entry exit h e = (ap storeIn e, subst (λ (b : List ℕ). soundBuffer b ≡ true) (sym e) h)
 after-made (c ∷ cs) entry exit h (mid, r, a, more) =
     let rest = after-made cs mid exit (a .sound h) more in
     (rest .0 ∙ ap (λ (s : Store). after s cs) (a .reads h), rest .1)
 
 pub after-calls : AfterCalls
-unfolding AfterCalls bufferStore
+unfolding AfterCalls
 after-calls calls exit made =
     let p = after-made calls emptyBuffer exit (sound-of emptyBuffer zeros-sound) made in
     (p .0 ∙ ap (λ (s : Store). after s calls) zeros-read, p .1)

@@ -13,12 +13,11 @@ use Rattle.rules.specs.Building.{newBlock, setOperand, blockRoom, tests, firstF
 use Rattle.rules.proofs.Basics.Tests.{passed}
 use Rattle.rules.proofs.Soundness.Accepted.{firstFailed-none}
 use Rattle.layout.specs.Columns.{columns, at, opOperandFirst, opOperandEnd}
-use Rattle.layout.specs.Reading.{opCount, blockCount, regionCount, valueCount}
+use Rattle.layout.specs.Reading.{opCount, blockCount, regionCount, valueCount, storeIn}
 use Rattle.layout.specs.Soundness.{IsSound}
 use Rattle.layout.proofs.Scans.{stop, next, last}
 use Rattle.layout.proofs.Tabulate.{op-read}
 use Rattle.layout.proofs.Totals.{operands-length}
-use Rattle.building.specs.Calls.{bufferStore}
 use Rattle.building.proofs.Facts.{shaped, laid, op-exists, region-exists, value-exists, blocks-counted, values-counted}
 use Rattle.building.proofs.Adding.BlockAdded.{BlockRoom}
 
@@ -45,15 +44,15 @@ pub record BlockFits (b : List ℕ) (region : ℕ) (types : List ℕ) : Type 0 w
 
 module _ (b : List ℕ) (h : IsSound b) (region label location : ℕ) (types : List ℕ) where
   abbrev failing-block : Option ℕ
-  failing-block = firstFailed (tests (bufferStore b) (newBlock region label location types))
+  failing-block = firstFailed (tests (storeIn b) (newBlock region label location types))
 
-  region-named : region < regionCount (columns b) → regionExists (bufferStore b) region ≡ true
+  region-named : region < regionCount (columns b) → regionExists (storeIn b) region ≡ true
   region-named l = region-exists b h region ∙ lt-ltb _ _ l
 
-  blocks-fit : leb (length (bufferStore b .blocks) + 1) maxBlocks ≡ leb (blockCount (columns b) + 1) maxBlocks
+  blocks-fit : leb (length (storeIn b .blocks) + 1) maxBlocks ≡ leb (blockCount (columns b) + 1) maxBlocks
   blocks-fit = ap (λ (n : ℕ). leb (n + 1) maxBlocks) (blocks-counted b h)
 
-  values-fit : leb (length (bufferStore b .values) + length types) maxValues ≡ leb (valueCount (columns b) + length types) maxValues
+  values-fit : leb (length (storeIn b .values) + length types) maxValues ≡ leb (valueCount (columns b) + length types) maxValues
   values-fit = ap (λ (n : ℕ). leb (n + length types) maxValues) (values-counted b h)
 
   pub no-region : regionCount (columns b) ≤ region → failing-block ≡ some 2
@@ -67,14 +66,14 @@ module _ (b : List ℕ) (h : IsSound b) (region label location : ℕ) (types : L
 
     pub many-blocks : length types ≤ maxOwnValues → maxBlocks < blockCount (columns b) + 1 → failing-block ≡ some 3
     unfolding tests blockRoom
-    many-blocks m u = passes _ 2 _ (region-named l) (passes _ 4 _ (le-leb _ _ m) (fails _ 3 _ (stop _ (leb (length (bufferStore b .values) + length types) maxValues ∷ []) (blocks-fit ∙ lt-leb _ _ u))))
+    many-blocks m u = passes _ 2 _ (region-named l) (passes _ 4 _ (le-leb _ _ m) (fails _ 3 _ (stop _ (leb (length (storeIn b .values) + length types) maxValues ∷ []) (blocks-fit ∙ lt-leb _ _ u))))
 
     pub many-values : length types ≤ maxOwnValues → blockCount (columns b) + 1 ≤ maxBlocks → maxValues < valueCount (columns b) + length types → failing-block ≡ some 3
     unfolding tests blockRoom
     many-values m u w =
         passes _ 2 _ (region-named l)
         (passes _ 4 _ (le-leb _ _ m)
-        (fails _ 3 _ (next _ (leb (length (bufferStore b .values) + length types) maxValues ∷ []) (blocks-fit ∙ le-leb _ _ u) (last _ (values-fit ∙ lt-leb _ _ w)))))
+        (fails _ 3 _ (next _ (leb (length (storeIn b .values) + length types) maxValues ∷ []) (blocks-fit ∙ le-leb _ _ u) (last _ (values-fit ∙ lt-leb _ _ w)))))
 
   pub block-fits : BlockFits b region types → failing-block ≡ none
   unfolding tests blockRoom
@@ -82,7 +81,7 @@ module _ (b : List ℕ) (h : IsSound b) (region label location : ℕ) (types : L
       passes _ 2 _ (region-named (f .named))
       (passes _ 4 _ (le-leb _ _ (f .own))
       (passes _ 3 _
-      (next _ (leb (length (bufferStore b .values) + length types) maxValues ∷ []) (blocks-fit ∙ le-leb _ _ (f .room .blocks)) (last _ (values-fit ∙ le-leb _ _ (f .room .values))))
+      (next _ (leb (length (storeIn b .values) + length types) maxValues ∷ []) (blocks-fit ∙ le-leb _ _ (f .room .blocks)) (last _ (values-fit ∙ le-leb _ _ (f .room .values))))
       none-fail))
 
   pub fits-block : failing-block ≡ none → BlockFits b region types
@@ -110,26 +109,25 @@ pub record OperandThere (b : List ℕ) (n i v : ℕ) : Type 0 where
 
 module _ (b : List ℕ) (h : IsSound b) (n i v : ℕ) where
   abbrev failing : Option ℕ
-  failing = firstFailed (tests (bufferStore b) (setOperand n i v))
+  failing = firstFailed (tests (storeIn b) (setOperand n i v))
 
-  own-operands : n < opCount (columns b) → length (opAt (bufferStore b) n .operands) ≡ at (columns b) opOperandEnd n - at (columns b) opOperandFirst n
-  unfolding bufferStore
+  own-operands : n < opCount (columns b) → length (opAt (storeIn b) n .operands) ≡ at (columns b) opOperandEnd n - at (columns b) opOperandFirst n
   own-operands l = ap (λ (o : Op). length (o .operands)) (op-read (columns b) n l) ∙ operands-length (columns b) (shaped b h) (laid b h) n l
 
-  named : n < opCount (columns b) → v < valueCount (columns b) → every (opExists (bufferStore b) n ∷ valueExists (bufferStore b) v ∷ []) ≡ true
-  named l m = next (opExists (bufferStore b) n) _ (op-exists b h n ∙ lt-ltb _ _ l) (last (valueExists (bufferStore b) v) (value-exists b h v ∙ lt-ltb _ _ m))
+  named : n < opCount (columns b) → v < valueCount (columns b) → every (opExists (storeIn b) n ∷ valueExists (storeIn b) v ∷ []) ≡ true
+  named l m = next (opExists (storeIn b) n) _ (op-exists b h n ∙ lt-ltb _ _ l) (last (valueExists (storeIn b) v) (value-exists b h v ∙ lt-ltb _ _ m))
 
-  indexed : n < opCount (columns b) → ltb i (length (opAt (bufferStore b) n .operands)) ≡ ltb i (at (columns b) opOperandEnd n - at (columns b) opOperandFirst n)
+  indexed : n < opCount (columns b) → ltb i (length (opAt (storeIn b) n .operands)) ≡ ltb i (at (columns b) opOperandEnd n - at (columns b) opOperandFirst n)
   indexed l = ap (λ (k : ℕ). ltb i k) (own-operands l)
 
   pub no-op : opCount (columns b) ≤ n → failing ≡ some 2
   unfolding tests
-  no-op l = fails _ 2 _ (stop (opExists (bufferStore b) n) _ (op-exists b h n ∙ le-ltb _ _ l))
+  no-op l = fails _ 2 _ (stop (opExists (storeIn b) n) _ (op-exists b h n ∙ le-ltb _ _ l))
 
   pub no-value : n < opCount (columns b) → valueCount (columns b) ≤ v → failing ≡ some 2
   unfolding tests
   no-value l m =
-      fails _ 2 _ (next (opExists (bufferStore b) n) _ (op-exists b h n ∙ lt-ltb _ _ l) (last (valueExists (bufferStore b) v) (value-exists b h v ∙ le-ltb _ _ m)))
+      fails _ 2 _ (next (opExists (storeIn b) n) _ (op-exists b h n ∙ lt-ltb _ _ l) (last (valueExists (storeIn b) v) (value-exists b h v ∙ le-ltb _ _ m)))
 
   pub no-operand : n < opCount (columns b) → v < valueCount (columns b) → at (columns b) opOperandEnd n - at (columns b) opOperandFirst n ≤ i → failing ≡ some 7
   unfolding tests

@@ -11,12 +11,12 @@ use Rattle.rules.specs.Store.{Store, sound}
 use Rattle.rules.specs.Building.{Call, newOperation, newBlock, setAttribute, setOperand, refused, tests, firstFailed, applied, acceptance, answerBy, storeBy, answer, built}
 use Rattle.rules.proofs.Soundness.Kept.{built-sound}
 use Rattle.layout.specs.Columns.{columns}
-use Rattle.layout.specs.Reading.{storeOf}
+use Rattle.layout.specs.Reading.{storeOf, storeIn}
 use Rattle.layout.specs.Soundness.{IsSound}
 use Rattle.layout.proofs.Laid.{Laid, laid-of}
 use Rattle.building.specs.declared.types.Built.{Built}
 use Rattle.building.specs.Types.{builtOf}
-use Rattle.building.specs.Calls.{bufferStore, Did}
+use Rattle.building.specs.Calls.{Did}
 
 -- an accepted call is not refused
 never : (s : Store) (c : Call) (cause : ℕ) → acceptance s c ≡ refused cause → ⊥
@@ -27,19 +27,19 @@ never s (setAttribute w a) cause h = let z : _≡_ {A = ℕ} 0 1 = cc in omega a
 never s (setOperand a b c) cause h = let z : _≡_ {A = ℕ} 0 1 = cc in omega arith
 
 module _ (b : List ℕ) (h : IsSound b) (c : Call) (r : Built) where
-  pub did-refuse : (cause : ℕ) → firstFailed (tests (bufferStore b) c) ≡ some cause → builtOf r ≡ refused cause → Did b b c r
+  pub did-refuse : (cause : ℕ) → firstFailed (tests (storeIn b) c) ≡ some cause → builtOf r ≡ refused cause → Did b b c r
   unfolding answer built answerBy storeBy
   did-refuse cause e q =
       record {
-        answered = q ∙ sym (ap (λ (o : Option ℕ). answerBy o (bufferStore b) c) e);
-        reads = sym (ap (λ (o : Option ℕ). storeBy o (bufferStore b) c) e);
+        answered = q ∙ sym (ap (λ (o : Option ℕ). answerBy o (storeIn b) c) e);
+        reads = sym (ap (λ (o : Option ℕ). storeBy o (storeIn b) c) e);
         sound = h;
         kept = λ k z. refl;
       }
 
-  pub did-work : (exit : List ℕ) → firstFailed (tests (bufferStore b) c) ≡ none → length exit ≡ length b
-      → storeOf (columns exit) ≡ applied (storeOf (columns b)) c → Laid (columns exit) → builtOf r ≡ acceptance (bufferStore b) c → Did b exit c r
-  unfolding answer built answerBy storeBy bufferStore
+  pub did-work : (exit : List ℕ) → firstFailed (tests (storeIn b) c) ≡ none → length exit ≡ length b
+      → storeOf (columns exit) ≡ applied (storeOf (columns b)) c → Laid (columns exit) → builtOf r ≡ acceptance (storeIn b) c → Did b exit c r
+  unfolding answer built answerBy storeBy
   did-work exit e len reads laid q =
       let made : built (storeOf (columns b)) c ≡ applied (storeOf (columns b)) c = ap (λ (o : Option ℕ). storeBy o (storeOf (columns b)) c) e in
       record {

@@ -14,7 +14,7 @@ use Rattle.rules.specs.Building.{operationFits}
 use Rattle.rules.proofs.Basics.Tests.{passed}
 use Rattle.rules.proofs.Soundness.Sound.{facts}
 use Rattle.layout.specs.Columns.{Cols, columns, at, opDepth, regionOp, blockRegion}
-use Rattle.layout.specs.Reading.{opCount, blockCount, regionCount, valueCount, operandCount, successorCount, attributeCount, storeOf}
+use Rattle.layout.specs.Reading.{opCount, blockCount, regionCount, valueCount, operandCount, successorCount, attributeCount, storeOf, storeIn}
 use Rattle.layout.specs.Soundness.{IsSound}
 use Rattle.layout.proofs.Laid.{Shaped, Laid, Counts, laid-facts}
 use Rattle.layout.proofs.Buffer.{columns-shaped}
@@ -22,7 +22,6 @@ use Rattle.layout.proofs.Tabulate.{ops-length, blocks-length, regions-length, v
 use Rattle.layout.proofs.Nesting.{nesting-at, nesting-under}
 use Rattle.layout.proofs.Totals.{operand-total, successor-total, attribute-total}
 use Rattle.building.specs.Raw.{depthUnder}
-use Rattle.building.specs.Calls.{bufferStore}
 
 module _ (b : List ℕ) (h : IsSound b) where
   pub shaped : Shaped (columns b)
@@ -34,48 +33,41 @@ module _ (b : List ℕ) (h : IsSound b) where
   pub counts : Counts (columns b)
   counts = laid .counts
 
-  pub op-exists : (n : ℕ) → opExists (bufferStore b) n ≡ ltb n (opCount (columns b))
-  unfolding opExists bufferStore
+  pub op-exists : (n : ℕ) → opExists (storeIn b) n ≡ ltb n (opCount (columns b))
+  unfolding opExists
   op-exists n = ap (λ (k : ℕ). ltb n k) (ops-length (columns b))
 
-  pub block-exists : (n : ℕ) → blockExists (bufferStore b) n ≡ ltb n (blockCount (columns b))
-  unfolding blockExists bufferStore
+  pub block-exists : (n : ℕ) → blockExists (storeIn b) n ≡ ltb n (blockCount (columns b))
+  unfolding blockExists
   block-exists n = ap (λ (k : ℕ). ltb n k) (blocks-length (columns b))
 
-  pub region-exists : (n : ℕ) → regionExists (bufferStore b) n ≡ ltb n (regionCount (columns b))
-  unfolding regionExists bufferStore
+  pub region-exists : (n : ℕ) → regionExists (storeIn b) n ≡ ltb n (regionCount (columns b))
+  unfolding regionExists
   region-exists n = ap (λ (k : ℕ). ltb n k) (regions-length (columns b))
 
-  pub value-exists : (n : ℕ) → valueExists (bufferStore b) n ≡ ltb n (valueCount (columns b))
-  unfolding valueExists bufferStore
+  pub value-exists : (n : ℕ) → valueExists (storeIn b) n ≡ ltb n (valueCount (columns b))
+  unfolding valueExists
   value-exists n = ap (λ (k : ℕ). ltb n k) (values-length (columns b))
 
-  pub ops-counted : length (bufferStore b .ops) ≡ opCount (columns b)
-  unfolding bufferStore
+  pub ops-counted : length (storeIn b .ops) ≡ opCount (columns b)
   ops-counted = ops-length (columns b)
 
-  pub blocks-counted : length (bufferStore b .blocks) ≡ blockCount (columns b)
-  unfolding bufferStore
+  pub blocks-counted : length (storeIn b .blocks) ≡ blockCount (columns b)
   blocks-counted = blocks-length (columns b)
 
-  pub regions-counted : length (bufferStore b .regions) ≡ regionCount (columns b)
-  unfolding bufferStore
+  pub regions-counted : length (storeIn b .regions) ≡ regionCount (columns b)
   regions-counted = regions-length (columns b)
 
-  pub values-counted : length (bufferStore b .values) ≡ valueCount (columns b)
-  unfolding bufferStore
+  pub values-counted : length (storeIn b .values) ≡ valueCount (columns b)
   values-counted = values-length (columns b)
 
-  pub operands-counted : operandTotal (bufferStore b) ≡ operandCount (columns b)
-  unfolding bufferStore
+  pub operands-counted : operandTotal (storeIn b) ≡ operandCount (columns b)
   operands-counted = operand-total (columns b) shaped laid
 
-  pub successors-counted : successorTotal (bufferStore b) ≡ successorCount (columns b)
-  unfolding bufferStore
+  pub successors-counted : successorTotal (storeIn b) ≡ successorCount (columns b)
   successors-counted = successor-total (columns b) shaped laid
 
-  pub attributes-counted : attributeTotal (bufferStore b) ≡ attributeCount (columns b)
-  unfolding bufferStore
+  pub attributes-counted : attributeTotal (storeIn b) ≡ attributeCount (columns b)
   attributes-counted = attribute-total (columns b) laid
 
 -- ---- what is around a block of a sound buffer
@@ -86,7 +78,7 @@ pub record InBlock (C : Cols) (m : ℕ) : Type 0 where
   pub op : at C regionOp (at C blockRegion m) < opCount C
   pub depth : at C opDepth (at C regionOp (at C blockRegion m)) ≤ maxNesting
 
-pub in-block : (b : List ℕ) (h : IsSound b) (m : ℕ) → blockExists (bufferStore b) m ≡ true → InBlock (columns b) m
+pub in-block : (b : List ℕ) (h : IsSound b) (m : ℕ) → blockExists (storeIn b) m ≡ true → InBlock (columns b) m
 in-block b h m e =
     let C = columns b in
     let l : m < blockCount C = ltb-true m (blockCount C) (sym (block-exists b h m) ∙ e) in
@@ -102,8 +94,8 @@ in-block b h m e =
     }
 
 -- nesting is told by the depth of the parent
-pub nesting-by-depth : (b : List ℕ) (h : IsSound b) (p : Option ℕ) → parentExists (bufferStore b) p ≡ true → leb (depthUnder (columns b) p) maxNesting ≡ nestingHolds (bufferStore b) p
-unfolding depthUnder nestingHolds levelsLeft isSome bufferStore parentExists
+pub nesting-by-depth : (b : List ℕ) (h : IsSound b) (p : Option ℕ) → parentExists (storeIn b) p ≡ true → leb (depthUnder (columns b) p) maxNesting ≡ nestingHolds (storeIn b) p
+unfolding depthUnder nestingHolds levelsLeft isSome parentExists
 nesting-by-depth b h none e = refl
 nesting-by-depth b h (some m) e = sym (nesting-under (columns b) (laid b h) m (in-block b h m e .block))
 

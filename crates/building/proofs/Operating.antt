@@ -12,10 +12,10 @@ use Rattle.rules.specs.Building.{newOperation, operationNames, operationRoom, t
 use Rattle.rules.proofs.Basics.Tests.{passed}
 use Rattle.rules.proofs.Soundness.Accepted.{firstFailed-none}
 use Rattle.layout.specs.Columns.{Cols, columns, at, write}
-use Rattle.layout.specs.Reading.{opCount, regionCount, valueCount, operandCount, successorCount}
+use Rattle.layout.specs.Reading.{opCount, regionCount, valueCount, operandCount, successorCount, storeIn}
 use Rattle.layout.specs.Soundness.{IsSound}
 use Rattle.building.specs.Raw.{OpRoom, parentBelow, opLeaves}
-use Rattle.building.specs.Calls.{bufferStore, operationTests}
+use Rattle.building.specs.Calls.{operationTests}
 use Rattle.building.proofs.Facts.{counts, in-block, ops-counted, regions-counted, values-counted, operands-counted, successors-counted}
 use Rattle.building.proofs.Adding.OperationLaid.{ParentIn}
 
@@ -26,30 +26,30 @@ room-kept C n kind parent location depth r v o s room =
     record { ops = room .ops; regions = room .regions; values = room .values; operands = room .operands; successors = room .successors }
 
 module _ (b : List ℕ) (h : IsSound b) where
-  pub parent-in : (p : Option ℕ) → parentExists (bufferStore b) p ≡ true → ParentIn (columns b) p
+  pub parent-in : (p : Option ℕ) → parentExists (storeIn b) p ≡ true → ParentIn (columns b) p
   unfolding parentExists
   parent-in none e = tt
   parent-in (some m) e = in-block b h m e .block
 
-  pub parent-below : (p : Option ℕ) → parentExists (bufferStore b) p ≡ true → parentBelow 256 p
+  pub parent-below : (p : Option ℕ) → parentExists (storeIn b) p ≡ true → parentBelow 256 p
   unfolding parentExists parentBelow
   parent-below none e = tt
   parent-below (some m) e = let l = in-block b h m e .block in let k = counts b h .blocks in omega arith
 
-  pub names-parent : (p : Option ℕ) (operands successors : List ℕ) → operationNames (bufferStore b) p operands successors ≡ true → parentExists (bufferStore b) p ≡ true
+  pub names-parent : (p : Option ℕ) (operands successors : List ℕ) → operationNames (storeIn b) p operands successors ≡ true → parentExists (storeIn b) p ≡ true
   unfolding operationNames
   names-parent p operands successors e = passed _ e .0
 
-  pub room-facts : (regions : ℕ) (types operands successors : List ℕ) → operationRoom (bufferStore b) regions types operands successors ≡ true
+  pub room-facts : (regions : ℕ) (types operands successors : List ℕ) → operationRoom (storeIn b) regions types operands successors ≡ true
       → OpRoom (columns b) regions (length types) (length operands) (length successors)
   unfolding operationRoom
   room-facts regions types operands successors e =
       let p = passed _ e in
-      let o : length (bufferStore b .ops) + 1 ≤ maxOps = leb-true _ _ (p .0) in
-      let r : length (bufferStore b .regions) + regions ≤ maxRegions = leb-true _ _ (p .1 .0) in
-      let v : length (bufferStore b .values) + length types ≤ maxValues = leb-true _ _ (p .1 .1 .0) in
-      let u : operandTotal (bufferStore b) + length operands ≤ maxOperands = leb-true _ _ (p .1 .1 .1 .0) in
-      let s : successorTotal (bufferStore b) + length successors ≤ maxSuccessors = leb-true _ _ (p .1 .1 .1 .1 .0) in
+      let o : length (storeIn b .ops) + 1 ≤ maxOps = leb-true _ _ (p .0) in
+      let r : length (storeIn b .regions) + regions ≤ maxRegions = leb-true _ _ (p .1 .0) in
+      let v : length (storeIn b .values) + length types ≤ maxValues = leb-true _ _ (p .1 .1 .0) in
+      let u : operandTotal (storeIn b) + length operands ≤ maxOperands = leb-true _ _ (p .1 .1 .1 .0) in
+      let s : successorTotal (storeIn b) + length successors ≤ maxSuccessors = leb-true _ _ (p .1 .1 .1 .1 .0) in
       record {
         ops = omega (arith, ops-counted b h);
         regions = omega (arith, regions-counted b h);
@@ -60,10 +60,10 @@ module _ (b : List ℕ) (h : IsSound b) where
 
   -- a new operation that no test refuses
   pub record Allowed (p : Option ℕ) (regions : ℕ) (types operands successors : List ℕ) : Type 0 where
-    pub parent : parentExists (bufferStore b) p ≡ true
+    pub parent : parentExists (storeIn b) p ≡ true
     pub room : OpRoom (columns b) regions (length types) (length operands) (length successors)
 
-  pub allowed : (p : Option ℕ) (regions : ℕ) (types operands successors : List ℕ) → firstFailed (operationTests (bufferStore b) p regions types operands successors) ≡ none
+  pub allowed : (p : Option ℕ) (regions : ℕ) (types operands successors : List ℕ) → firstFailed (operationTests (storeIn b) p regions types operands successors) ≡ none
       → Allowed p regions types operands successors
   unfolding operationTests tests
   allowed p regions types operands successors e =
@@ -72,6 +72,6 @@ module _ (b : List ℕ) (h : IsSound b) where
 
 -- the tests of the call itself
 pub same-tests : (b : List ℕ) (kind : ℕ) (p : Option ℕ) (location regions : ℕ) (types operands successors : List ℕ)
-    → operationTests (bufferStore b) p regions types operands successors ≡ tests (bufferStore b) (newOperation kind p location regions types operands successors)
+    → operationTests (storeIn b) p regions types operands successors ≡ tests (storeIn b) (newOperation kind p location regions types operands successors)
 unfolding operationTests tests
 same-tests b kind p location regions types operands successors = refl

@@ -6,15 +6,11 @@ use mathlib.Core.Option.{Option}
 use mathlib.Core.Path.{_≡_}
 use Rattle.rules.specs.Store.{Store, emptyStore}
 use Rattle.rules.specs.Building.{Call, newOperation, tests, refused, answer, built, after}
-use Rattle.layout.specs.Columns.{columns, emptyBuffer}
-use Rattle.layout.specs.Reading.{storeOf}
+use Rattle.layout.specs.Columns.{emptyBuffer}
+use Rattle.layout.specs.Reading.{storeIn}
 use Rattle.layout.specs.Soundness.{soundBuffer, IsSound}
 use Rattle.building.specs.declared.types.Built.{Built}
 use Rattle.building.specs.Types.{builtOf}
-
--- the rules' store that a buffer is read as
-unfoldable pub bufferStore : List ℕ → Store
-bufferStore b = storeOf (columns b)
 
 -- the tests of a new operation do not depend on its kind and location
 unfoldable pub operationTests : Store → Option ℕ → ℕ → List ℕ → List ℕ → List ℕ → List (Bool × ℕ)
@@ -23,15 +19,15 @@ operationTests s parent regions types operands successors = tests s (newOperatio
 -- a call on a sound buffer: the answer and the store afterwards are the rules', the buffer is sound again, and a refused call has
 -- changed no word
 pub record Did (entry exit : List ℕ) (c : Call) (r : Built) : Type 0 where
-  pub answered : builtOf r ≡ answer (bufferStore entry) c
-  pub reads : bufferStore exit ≡ built (bufferStore entry) c
+  pub answered : builtOf r ≡ answer (storeIn entry) c
+  pub reads : storeIn exit ≡ built (storeIn entry) c
   pub sound : IsSound exit
   pub kept : (cause : ℕ) → builtOf r ≡ refused cause → exit ≡ entry
 
 -- a call on any buffer: cause 1 first, where it isn't sound
 pub record Answered (entry exit : List ℕ) (c : Call) (r : Built) : Type 0 where
-  pub answered : builtOf r ≡ cond (soundBuffer entry) (answer (bufferStore entry) c) (refused 1)
-  pub reads : soundBuffer entry ≡ true → bufferStore exit ≡ built (bufferStore entry) c
+  pub answered : builtOf r ≡ cond (soundBuffer entry) (answer (storeIn entry) c) (refused 1)
+  pub reads : soundBuffer entry ≡ true → storeIn exit ≡ built (storeIn entry) c
   pub sound : soundBuffer entry ≡ true → soundBuffer exit ≡ true
   pub kept : (cause : ℕ) → builtOf r ≡ refused cause → exit ≡ entry
 
@@ -42,4 +38,4 @@ Made entry (c ∷ cs) exit = (mid : List ℕ) × (r : Built) × Answered entry m
 
 -- from an empty buffer, whatever list of calls is made: the buffer reads as the rules' store after that list, and is sound
 unfoldable pub AfterCalls : Type 0
-AfterCalls = (calls : List Call) (exit : List ℕ) → Made emptyBuffer calls exit → (bufferStore exit ≡ after emptyStore calls) × (soundBuffer exit ≡ true)
+AfterCalls = (calls : List Call) (exit : List ℕ) → Made emptyBuffer calls exit → (storeIn exit ≡ after emptyStore calls) × (soundBuffer exit ≡ true)

@@ -26,18 +26,18 @@ ghost use lib.ListN.{length};
 ghost use Rattle.rules.specs.Store.{ownerExists};
 ghost use Rattle.rules.specs.Building.{setAttribute, tests, firstFailed};
 ghost use Rattle.layout.specs.Columns.{bufferLength, columns};
-ghost use Rattle.layout.specs.Reading.{slotsOf};
+ghost use Rattle.layout.specs.Reading.{slotsOf, storeIn};
 ghost use Rattle.layout.specs.Soundness.{IsSound};
 ghost use Rattle.layout.specs.Owners.{ownerOf, keyCount};
 ghost use Rattle.building.specs.Types.{attributeOf};
 ghost use Rattle.layout.specs.Causes.{causeOf};
 ghost use Rattle.building.specs.Raw.{seek, slotFor, keyThere, replaced, added, withAttribute};
-ghost use Rattle.building.specs.Calls.{bufferStore, Did};
+ghost use Rattle.building.specs.Calls.{Did};
 
 // The owner exists.
 fn owner_exists(store: &[u32], owner: Owner) -> bool
     requires { ⌜ IsSound (now store) ⌝ }
-    ensures { λ r. ⌜ r ≡ ownerExists (bufferStore (now (store .entry))) (ownerOf owner) ⌝ }
+    ensures { λ r. ⌜ r ≡ ownerExists (storeIn (now (store .entry))) (ownerOf owner) ⌝ }
 {
     match owner {
         Owner::Op(n) => n < at(store, COUNTS, OPS),
@@ -65,7 +65,7 @@ fn slot_from(store: &[u32], first: usize, count: usize, key: u32) -> usize
 // The owner's slot where the key belongs.
 fn slot_for(store: &[u32], owner: Owner, key: u32) -> usize
     requires { ⌜ IsSound (now store) ⌝ }
-    requires { ⌜ ownerExists (bufferStore (now store)) (ownerOf owner) ≡ true ⌝ }
+    requires { ⌜ ownerExists (storeIn (now store)) (ownerOf owner) ≡ true ⌝ }
     ensures { λ r. ⌜ r ≡ slotFor (columns (now (store .entry))) (ownerOf owner) key ⌝ }
 {
     slot_from(store, first_slot(owner), key_count(store, owner), key)
@@ -74,7 +74,7 @@ fn slot_for(store: &[u32], owner: Owner, key: u32) -> usize
 // The key stands already at that slot.
 fn key_there(store: &[u32], owner: Owner, slot: usize, key: u32) -> bool
     requires { ⌜ IsSound (now store) ⌝ }
-    requires { ⌜ ownerExists (bufferStore (now store)) (ownerOf owner) ≡ true ⌝ }
+    requires { ⌜ ownerExists (storeIn (now store)) (ownerOf owner) ≡ true ⌝ }
     requires { ⌜ slot ≡ slotFor (columns (now store)) (ownerOf owner) key ⌝ }
     ensures { λ r. ⌜ r ≡ keyThere (columns (now (store .entry))) (ownerOf owner) key ⌝ }
 {
@@ -97,7 +97,7 @@ fn put_replaced(store: &mut [u32], slot: usize, attribute: Attribute)
 // An attribute is put before those from a slot on, and counted.
 fn put_added(store: &mut [u32], owner: Owner, slot: usize, attribute: Attribute)
     requires { ⌜ IsSound (now store) ⌝ }
-    requires { ⌜ ownerExists (bufferStore (now store)) (ownerOf owner) ≡ true ⌝ }
+    requires { ⌜ ownerExists (storeIn (now store)) (ownerOf owner) ≡ true ⌝ }
     requires { ⌜ slot ≤ slotsOf (ownerOf owner) + keyCount (columns (now store)) (ownerOf owner) ⌝ }
     requires { ⌜ keyCount (columns (now store)) (ownerOf owner) < 8 ⌝ }
     ensures { λ _. ⌜ columns (now (store .exit)) ≡ added (columns (now (store .entry))) (ownerOf owner) slot (attributeOf attribute) ⌝ }
@@ -120,7 +120,7 @@ fn put_added(store: &mut [u32], owner: Owner, slot: usize, attribute: Attribute)
 // What the accepted call writes.
 fn put_attribute(store: &mut [u32], owner: Owner, attribute: Attribute)
     requires { ⌜ IsSound (now store) ⌝ }
-    requires { ⌜ firstFailed (tests (bufferStore (now store)) (setAttribute (ownerOf owner) (attributeOf attribute))) ≡ none ⌝ }
+    requires { ⌜ firstFailed (tests (storeIn (now store)) (setAttribute (ownerOf owner) (attributeOf attribute))) ≡ none ⌝ }
     ensures { λ _. ⌜ columns (now (store .exit)) ≡ withAttribute (columns (now (store .entry))) (ownerOf owner) (attributeOf attribute) ⌝ }
 {
     let slot = slot_for(store, owner, attribute.key);
@@ -134,7 +134,7 @@ fn put_attribute(store: &mut [u32], owner: Owner, attribute: Attribute)
 // The cause of the call's refusal, if there is one.
 fn attribute_cause(store: &[u32], owner: Owner, attribute: Attribute) -> Cause
     requires { ⌜ IsSound (now store) ⌝ }
-    ensures { λ r. ⌜ causeOf r ≡ firstFailed (tests (bufferStore (now (store .entry))) (setAttribute (ownerOf owner) (attributeOf attribute))) ⌝ }
+    ensures { λ r. ⌜ causeOf r ≡ firstFailed (tests (storeIn (now (store .entry))) (setAttribute (ownerOf owner) (attributeOf attribute))) ⌝ }
 {
     if attribute.kind > 63 {
         return Cause::Is(6);

@@ -26,16 +26,16 @@ ghost use Prim.Native.Nat.{ℕ, _+_, _<_, _≤_};
 ghost use lib.ListN.{length};
 ghost use Rattle.rules.specs.Building.{tests, firstFailed, newBlock};
 ghost use Rattle.layout.specs.Columns.{bufferLength, columns};
-ghost use Rattle.layout.specs.Reading.{blockCount, valueCount};
+ghost use Rattle.layout.specs.Reading.{blockCount, valueCount, storeIn};
 ghost use Rattle.layout.specs.Soundness.{IsSound};
 ghost use Rattle.layout.specs.Causes.{causeOf};
 ghost use Rattle.building.specs.Raw.{blockWritten, withBlock};
-ghost use Rattle.building.specs.Calls.{bufferStore, Did};
+ghost use Rattle.building.specs.Calls.{Did};
 
 // The cause for which the call is refused, if there is one; label and location are never it.
 fn block_cause(store: &[u32], region: u32, types: &[u32]) -> Cause
     requires { ⌜ IsSound (now store) ⌝ }
-    ensures { λ r. ⌜ ((label location : ℕ) → causeOf r ≡ firstFailed (tests (bufferStore (now (store .entry))) (newBlock region label location (now (types .entry))))) ⌝ }
+    ensures { λ r. ⌜ ((label location : ℕ) → causeOf r ≡ firstFailed (tests (storeIn (now (store .entry))) (newBlock region label location (now (types .entry))))) ⌝ }
 {
     if region >= at(store, COUNTS, REGIONS) {
         return Cause::Is(2);

@@ -14,16 +14,17 @@ ghost use mathlib.Core.Path.{_≡_};
 ghost use Prim.Native.Nat.{_+_, _<_};
 ghost use lib.ListN.{length};
 ghost use Rattle.rules.specs.Building.{tests, firstFailed, setOperand};
+ghost use Rattle.layout.specs.Reading.{storeIn};
 ghost use Rattle.layout.specs.Columns.{bufferLength, columns, opOperandFirst};
 ghost use Rattle.layout.specs.Soundness.{IsSound};
 ghost use Rattle.layout.specs.Causes.{causeOf};
 ghost use Rattle.building.specs.Raw.{withOperand};
-ghost use Rattle.building.specs.Calls.{bufferStore, Did};
+ghost use Rattle.building.specs.Calls.{Did};
 
 // The cause for which the call is refused, if there is one.
 fn operand_cause(store: &[u32], n: u32, i: u32, v: u32) -> Cause
     requires { ⌜ IsSound (now store) ⌝ }
-    ensures { λ r. ⌜ causeOf r ≡ firstFailed (tests (bufferStore (now (store .entry))) (setOperand n i v)) ⌝ }
+    ensures { λ r. ⌜ causeOf r ≡ firstFailed (tests (storeIn (now (store .entry))) (setOperand n i v)) ⌝ }
 {
     if n >= at(store, COUNTS, OPS) {
         return Cause::Is(2);

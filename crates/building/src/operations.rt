@@ -40,12 +40,13 @@ ghost use Prim.Native.Nat.{_<_};
 ghost use lib.ListN.{length};
 ghost use Rattle.rules.specs.Store.{parentExists};
 ghost use Rattle.rules.specs.Building.{newOperation, firstFailed};
+ghost use Rattle.layout.specs.Reading.{storeIn};
 ghost use Rattle.layout.specs.Columns.{bufferLength, columns};
 ghost use Rattle.layout.specs.Soundness.{IsSound};
 ghost use Rattle.building.specs.Types.{parentOf};
 ghost use Rattle.layout.specs.Causes.{causeOf};
 ghost use Rattle.building.specs.Raw.{OpRoom, parentBelow, parentCode, opRanges, opPlaced, opWritten, withOperation};
-ghost use Rattle.building.specs.Calls.{bufferStore, operationTests, Did};
+ghost use Rattle.building.specs.Calls.{operationTests, Did};
 
 // The ranges of operation n: so many of each, behind the old ones.
 fn put_ranges(
@@ -114,7 +115,7 @@ fn put_op(
     successors: usize,
 )
     requires { ⌜ IsSound (now store) ⌝ }
-    requires { ⌜ parentExists (bufferStore (now store)) (parentOf parent) ≡ true ⌝ }
+    requires { ⌜ parentExists (storeIn (now store)) (parentOf parent) ≡ true ⌝ }
     requires { ⌜ OpRoom (columns (now store)) regions results operands successors ⌝ }
     ensures { λ _. ⌜ columns (now (store .exit)) ≡ opWritten (columns (now (store .entry))) kind (parentOf parent) location regions results operands successors ⌝ }
 {
@@ -138,7 +139,7 @@ fn put_operation(
     successors: &[u32],
 )
     requires { ⌜ IsSound (now store) ⌝ }
-    requires { ⌜ parentExists (bufferStore (now store)) (parentOf parent) ≡ true ⌝ }
+    requires { ⌜ parentExists (storeIn (now store)) (parentOf parent) ≡ true ⌝ }
     requires { ⌜ OpRoom (columns (now store)) regions (length (now types)) (length (now operands)) (length (now successors)) ⌝ }
     ensures { λ _. ⌜ columns (now (store .exit)) ≡ withOperation (columns (now (store .entry))) kind (parentOf parent) location regions (now (types .entry)) (now (operands .entry)) (now (successors .entry)) ⌝ }
 {
@@ -171,7 +172,7 @@ fn operation_cause(
     successors: &[u32],
 ) -> Cause
     requires { ⌜ IsSound (now store) ⌝ }
-    ensures { λ r. ⌜ causeOf r ≡ firstFailed (operationTests (bufferStore (now (store .entry))) (parentOf parent) regions (now (types .entry)) (now (operands .entry)) (now (successors .entry))) ⌝ }
+    ensures { λ r. ⌜ causeOf r ≡ firstFailed (operationTests (storeIn (now (store .entry))) (parentOf parent) regions (now (types .entry)) (now (operands .entry)) (now (successors .entry))) ⌝ }
 {
     if !operation_names(store, parent, operands, successors) {
         return Cause::Is(2);

@@ -20,16 +20,16 @@ ghost use Prim.Native.Nat.{_≤_, _<_};
 ghost use lib.ListN.{length};
 ghost use Rattle.rules.specs.Store.{parentExists, nestingHolds, blockExists};
 ghost use Rattle.rules.specs.Building.{operationNames, operationFits, operationRoom};
+ghost use Rattle.layout.specs.Reading.{storeIn};
 ghost use Rattle.layout.specs.Columns.{columns};
 ghost use Rattle.layout.specs.Soundness.{IsSound};
 ghost use Rattle.building.specs.Types.{parentOf};
 ghost use Rattle.building.specs.Raw.{depthUnder};
-ghost use Rattle.building.specs.Calls.{bufferStore};
 
 // The parent, if there is one, exists.
 pub fn parent_exists(store: &[u32], parent: Parent) -> bool
     requires { ⌜ IsSound (now store) ⌝ }
-    ensures { λ r. ⌜ r ≡ parentExists (bufferStore (now (store .entry))) (parentOf parent) ⌝ }
+    ensures { λ r. ⌜ r ≡ parentExists (storeIn (now (store .entry))) (parentOf parent) ⌝ }
 {
     match parent {
         Parent::None => true,
@@ -40,7 +40,7 @@ pub fn parent_exists(store: &[u32], parent: Parent) -> bool
 // Everything that a new operation names exists.
 pub fn operation_names(store: &[u32], parent: Parent, operands: &[u32], successors: &[u32]) -> bool
     requires { ⌜ IsSound (now store) ⌝ }
-    ensures { λ r. ⌜ r ≡ operationNames (bufferStore (now (store .entry))) (parentOf parent) (now (operands .entry)) (now (successors .entry)) ⌝ }
+    ensures { λ r. ⌜ r ≡ operationNames (storeIn (now (store .entry))) (parentOf parent) (now (operands .entry)) (now (successors .entry)) ⌝ }
 {
     if !parent_exists(store, parent) {
         return false;
@@ -70,7 +70,7 @@ pub fn operation_fits(regions: u32, types: &[u32], operands: &[u32], successors:
 // The nesting of an operation in block b.
 fn depth_in(store: &[u32], b: usize) -> u32
     requires { ⌜ IsSound (now store) ⌝ }
-    requires { ⌜ blockExists (bufferStore (now store)) b ≡ true ⌝ }
+    requires { ⌜ blockExists (storeIn (now store)) b ≡ true ⌝ }
     ensures { λ r. ⌜ r ≡ depthUnder (columns (now (store .entry))) (some b) ⌝ }
 {
     let around = number(store, REGION_OP, number(store, BLOCK_REGION, b));
@@ -80,7 +80,7 @@ fn depth_in(store: &[u32], b: usize) -> u32
 // The nesting of an operation with this parent.
 pub fn depth_under(store: &[u32], parent: Parent) -> u32
     requires { ⌜ IsSound (now store) ⌝ }
-    requires { ⌜ parentExists (bufferStore (now store)) (parentOf parent) ≡ true ⌝ }
+    requires { ⌜ parentExists (storeIn (now store)) (parentOf parent) ≡ true ⌝ }
     ensures { λ r. ⌜ r ≡ depthUnder (columns (now (store .entry))) (parentOf parent) ⌝ }
 {
     match parent {
@@ -92,8 +92,8 @@ pub fn depth_under(store: &[u32], parent: Parent) -> u32
 // Nesting would not pass 32.
 pub fn nesting_holds(store: &[u32], parent: Parent) -> bool
     requires { ⌜ IsSound (now store) ⌝ }
-    requires { ⌜ parentExists (bufferStore (now store)) (parentOf parent) ≡ true ⌝ }
-    ensures { λ r. ⌜ r ≡ nestingHolds (bufferStore (now (store .entry))) (parentOf parent) ⌝ }
+    requires { ⌜ parentExists (storeIn (now store)) (parentOf parent) ≡ true ⌝ }
+    ensures { λ r. ⌜ r ≡ nestingHolds (storeIn (now (store .entry))) (parentOf parent) ⌝ }
 {
     depth_under(store, parent) <= 32
 }
@@ -108,7 +108,7 @@ pub fn operation_room(
 ) -> bool
     requires { ⌜ IsSound (now store) ⌝ }
     requires { ⌜ operationFits regions (now types) (now operands) (now successors) ≡ true ⌝ }
-    ensures { λ r. ⌜ r ≡ operationRoom (bufferStore (now (store .entry))) regions (now (types .entry)) (now (operands .entry)) (now (successors .entry)) ⌝ }
+    ensures { λ r. ⌜ r ≡ operationRoom (storeIn (now (store .entry))) regions (now (types .entry)) (now (operands .entry)) (now (successors .entry)) ⌝ }
 {
     if number(store, COUNTS, OPS) + 1 > 512 {
         return false;

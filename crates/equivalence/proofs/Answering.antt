@@ -18,12 +18,12 @@ use Rattle.rules.specs.Answers.{Compared, Comparison, eq, neq, refused, shallow
 use Rattle.rules.proofs.Basics.Tests.{and-left, and-right, passed}
 use Rattle.rules.proofs.Walking.Deep.{compare-not-deep}
 use Rattle.rules.proofs.Walking.Paired.{paired-most}
-use Rattle.layout.specs.Columns.{Cols, columns}
-use Rattle.layout.specs.Reading.{opCount, blockCount, regionCount, storeOf}
+use Rattle.layout.specs.Columns.{Cols}
+use Rattle.layout.specs.Reading.{opCount, blockCount, regionCount, storeOf, storeIn}
 use Rattle.layout.specs.Soundness.{soundBuffer, IsSound}
 use Rattle.layout.proofs.Tabulate.{ops-length, blocks-length, regions-length}
 use Rattle.equivalence.specs.Lent.{mappingLength, mappingOf}
-use Rattle.equivalence.specs.Walked.{storeIn, answerOf, lent, outcome, Told, Few, lefts, rights, namedBy, regionWalk, opWalk, listsWalk}
+use Rattle.equivalence.specs.Walked.{answerOf, lent, outcome, Told, Few, lefts, rights, namedBy, regionWalk, opWalk, listsWalk}
 use Rattle.equivalence.specs.Calls.{pairTests, Answered}
 use Rattle.equivalence.specs.declared.types.EqResult.{EqResult}
 use Rattle.equivalence.specs.declared.types.EqResult.the-variants.{Refused}

@@ -7,8 +7,8 @@ use mathlib.Core.Path.{_≡_, refl, sym, ap, ap₂, _∙_}
 use lib.ListN.{take, drop, set}
 use lib.Seq.{take-set-le, drop-set-lt}
 use Rattle.rules.specs.Mapping.{Mapping, enterAll}
-use Rattle.layout.specs.Reading.{tabulateFrom}
-use Rattle.equivalence.specs.Lent.{mappingOf, withOp, withBlock, withValues, numbers}
+use Rattle.layout.specs.Reading.{tabulateFrom, following}
+use Rattle.equivalence.specs.Lent.{mappingOf, withOp, withBlock, withValues}
 
 take-set : (n : ℕ) (b : List ℕ) (i v : ℕ) → i < n → take n (set b i v) ≡ set (take n b) i v
 take-set zero b i v l = absurd (not-suc-le-zero l)
@@ -50,8 +50,8 @@ block-entered b l r h = λ i. record {
 }
 
 values-entered : (b : List ℕ) (l r n : ℕ) → l < 2048
-    → withValues (mappingOf b) (numbers l (suc n)) (numbers r (suc n)) ≡ withValues (mappingOf (set b l r)) (numbers (suc l) n) (numbers (suc r) n)
-unfolding mappingOf withValues numbers tabulateFrom enterAll
+    → withValues (mappingOf b) (following l (suc n)) (following r (suc n)) ≡ withValues (mappingOf (set b l r)) (following (suc l) n) (following (suc r) n)
+unfolding mappingOf withValues following tabulateFrom enterAll
 values-entered b l r n h = λ i. record {
   values = enterAll (tabulateFrom (suc l) n (λ (k : ℕ). k)) (tabulateFrom (suc r) n (λ (k : ℕ). k)) (sym (take-set 2048 b l r h) i);
   blocks = ap (take 256) (sym (drop-set-lt 2048 b l r h)) i;
@@ -60,17 +60,17 @@ values-entered b l r n h = λ i. record {
 
 -- what is left to enter from value v on, up to e: one, and then those past it
 pub value-next : (b : List ℕ) (v image e : ℕ) → v < e → e ≤ 2048
-    → withValues (mappingOf b) (numbers v (e - v)) (numbers image (e - v))
-    ≡ withValues (mappingOf (set b v image)) (numbers (v + 1) (e - (v + 1))) (numbers (image + 1) (e - (v + 1)))
+    → withValues (mappingOf b) (following v (e - v)) (following image (e - v))
+    ≡ withValues (mappingOf (set b v image)) (following (v + 1) (e - (v + 1))) (following (image + 1) (e - (v + 1)))
 value-next b v image e h f =
     let n : e - v ≡ suc (e - (v + 1)) = omega arith in
     let pv : suc v ≡ v + 1 = omega arith in
     let pi : suc image ≡ image + 1 = omega arith in
     let k : ℕ = e - (v + 1) in
-    ap (λ (j : ℕ). withValues (mappingOf b) (numbers v j) (numbers image j)) n
+    ap (λ (j : ℕ). withValues (mappingOf b) (following v j) (following image j)) n
     ∙ values-entered b v image k (omega arith)
-    ∙ ap₂ (λ (i j : ℕ). withValues (mappingOf (set b v image)) (numbers i k) (numbers j k)) pv pi
+    ∙ ap₂ (λ (i j : ℕ). withValues (mappingOf (set b v image)) (following i k) (following j k)) pv pi
 
-pub values-over : (m : Mapping) (v image e : ℕ) → e ≤ v → withValues m (numbers v (e - v)) (numbers image (e - v)) ≡ m
-unfolding withValues numbers tabulateFrom enterAll
-values-over m v image e h = let n : e - v ≡ 0 = omega arith in ap (λ (j : ℕ). withValues m (numbers v j) (numbers image j)) n
+pub values-over : (m : Mapping) (v image e : ℕ) → e ≤ v → withValues m (following v (e - v)) (following image (e - v)) ≡ m
+unfolding withValues following tabulateFrom enterAll
+values-over m v image e h = let n : e - v ≡ 0 = omega arith in ap (λ (j : ℕ). withValues m (following v j) (following image j)) n

@@ -1,5 +1,6 @@
 -- The comparison on lent buffers is the rules'.
 pub mod Entries
+pub mod Unmapped
 pub mod Pairs
 pub mod Kept
 pub mod Alike

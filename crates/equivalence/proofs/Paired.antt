@@ -16,14 +16,14 @@ use Rattle.rules.specs.Comparison.{State, Walk, on, standing, expect, pairOf, e
 use Rattle.rules.specs.Answers.{Comparison, comparisonOf}
 use Rattle.rules.proofs.Basics.Tests.{passed}
 use Rattle.layout.specs.Columns.{Cols, at, columns, opResultFirst, opResultEnd, blockArgumentFirst, blockArgumentEnd}
-use Rattle.layout.specs.Reading.{opCount, blockCount, storeOf}
+use Rattle.layout.specs.Reading.{opCount, blockCount, storeOf, storeIn, following}
 use Rattle.layout.specs.Soundness.{IsSound}
 use Rattle.layout.proofs.Laid.{Laid, laid-facts, Ranged}
 use Rattle.layout.proofs.Buffer.{columns-shaped}
 use Rattle.layout.proofs.Ranges.{range, results-range, arguments-range}
-use Rattle.equivalence.specs.Lent.{mappingOf, withOp, withBlock, withValues, numbers}
+use Rattle.equivalence.specs.Lent.{mappingOf, withOp, withBlock, withValues}
 use Rattle.equivalence.specs.Rows.{span, opRowsEq, blockRowsEq}
-use Rattle.equivalence.specs.Walked.{storeIn, answerOf, lent, outcome, Told}
+use Rattle.equivalence.specs.Walked.{answerOf, lent, outcome, Told}
 use Rattle.equivalence.specs.declared.types.EqResult.the-variants.{Eq, FirstNEQOps, FirstNEQBlocks}
 use Rattle.equivalence.proofs.Alike.{op-shells, block-shells, counts-are}
 
@@ -34,13 +34,13 @@ pub record Side (C : Cols) (w v : Owner) (first end l r : ℕ) : Type 0 where
   pub rises : at C first l ≤ at C end l
   pub fits : at C end l ≤ 2048
   pub room : at C first r + span C first end l ≤ 2048
-  pub left : valuesOf (storeOf C) w ≡ numbers (at C first l) (span C first end l)
-  pub right : valuesOf (storeOf C) v ≡ numbers (at C first r) (span C first end l)
+  pub left : valuesOf (storeOf C) w ≡ following (at C first l) (span C first end l)
+  pub right : valuesOf (storeOf C) v ≡ following (at C first r) (span C first end l)
 
 side : (C : Cols) (w v : Owner) (first end l r n : ℕ) → n ≤ 2048 → Ranged (at C first l) (at C end l) n → Ranged (at C first r) (at C end r) n
     → valuesOf (storeOf C) w ≡ range (at C first l) (at C end l) → valuesOf (storeOf C) v ≡ range (at C first r) (at C end r)
     → span C first end l ≡ span C first end r → Side C w v first end l r
-unfolding span range numbers
+unfolding span range following
 side C w v first end l r n m rl rr vl vr same =
     let rises : at C first l ≤ at C end l = rl .rises in
     let fits : at C end l ≤ n = rl .fits in
@@ -52,7 +52,7 @@ side C w v first end l r n m rl rr vl vr same =
       fits = omega arith;
       room = omega arith;
       left = vl;
-      right = vr ∙ ap (numbers (at C first r)) (sym same);
+      right = vr ∙ ap (following (at C first r)) (sym same);
     }
 
 module _ (b : List ℕ) (h : IsSound b) (ig : Ignore) (l r : ℕ) where

@@ -7,9 +7,10 @@ use Rattle.rules.specs.Store.{Store}
 use Rattle.rules.specs.Fragments.{Sort, exists}
 use Rattle.rules.specs.Shells as rules
 use Rattle.rules.specs.Answers.{shallow, comparison}
+use Rattle.layout.specs.Reading.{storeIn}
 use Rattle.layout.specs.Soundness.{soundBuffer}
 use Rattle.equivalence.specs.Lent.{mappingOf}
-use Rattle.equivalence.specs.Walked.{storeIn, answerOf}
+use Rattle.equivalence.specs.Walked.{answerOf}
 use Rattle.equivalence.specs.declared.types.EqResult.{EqResult}
 use Rattle.equivalence.specs.declared.types.EqResult.the-variants.{Refused}
 

@@ -3,10 +3,9 @@ use Prim.Native.Nat.{ℕ}
 use mathlib.Core.Bool.{Bool, _&&_, _||_}
 use mathlib.Core.List.{List}
 use lib.Dec.{eqb, ltb}
-use lib.ListN.{take, drop, set}
+use lib.ListN.{take, drop, set, replicate}
 use Rattle.rules.specs.Store.{Store, typeOf, maxValues, maxBlocks}
 use Rattle.rules.specs.Mapping.{Mapping, noImage, image, enterAll}
-use Rattle.layout.specs.Reading.{tabulateFrom}
 
 abbrev pub mappingLength : ℕ
 mappingLength = 2816
@@ -15,6 +14,10 @@ mappingLength = 2816
 -- another length are no allowed mapping
 unfoldable pub mappingOf : List ℕ → Mapping
 mappingOf b = record { values = take maxValues b; blocks = take maxBlocks (drop 2048 b); ops = drop 2304 b }
+
+-- "An empty mapping has none in every entry": the words to lend
+unfoldable pub emptyWords : List ℕ
+emptyWords = replicate mappingLength noImage
 
 -- "every left number and image used exists in the store": one entry, of number n, of a store with so many
 unfoldable pub entryAllowed : ℕ → ℕ → ℕ → Bool
@@ -31,10 +34,6 @@ withBlock m l r = record { values = m .values; blocks = set (m .blocks) l r; ops
 -- pair by pair, up to the shorter end
 unfoldable pub withValues : Mapping → List ℕ → List ℕ → Mapping
 withValues m ls rs = record { values = enterAll ls rs (m .values); blocks = m .blocks; ops = m .ops }
-
--- so many numbers from one on
-unfoldable pub numbers : ℕ → ℕ → List ℕ
-numbers a n = tabulateFrom a n (λ (i : ℕ). i)
 
 -- ---- single tests
 

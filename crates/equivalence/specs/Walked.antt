@@ -8,18 +8,12 @@ use Rattle.rules.specs.Fragments.{op, block, region, levels}
 use Rattle.rules.specs.Shells as rules
 use Rattle.rules.specs.Comparison.{State, Pair, Walk, standing, paper, pairOf, checkOps, compareLists, compareRegions}
 use Rattle.rules.specs.Answers.{Compared, Comparison, eq, neq, refused, comparisonOf}
-use Rattle.layout.specs.Columns.{columns}
-use Rattle.layout.specs.Reading.{storeOf}
 use Rattle.layout.specs.Soundness.{IsSound}
 use Rattle.equivalence.specs.Lent.{mappingLength, mappingOf}
 use Rattle.equivalence.specs.declared.types.EqResult.{EqResult}
 use Rattle.equivalence.specs.declared.types.EqResult.the-variants.{Eq, FirstNEQOps, FirstNEQRegions, FirstNEQBlocks, Refused}
 use Rattle.equivalence.specs.declared.types.Lists.{Lists}
 use Rattle.equivalence.specs.declared.types.Lists.the-variants.{InRegions, Alone}
-
--- the rules' store that the words are read as
-abbrev pub storeIn : List ℕ → Store
-storeIn b = storeOf (columns b)
 
 -- 01's answer and numbers for each case
 unfoldable pub answerOf : EqResult → Compared

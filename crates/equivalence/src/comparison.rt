@@ -14,12 +14,12 @@ ghost use mathlib.Core.Path.{_≡_};
 ghost use Rattle.rules.specs.Building.{firstFailed};
 ghost use Rattle.rules.specs.Fragments.{op, block, region};
 ghost use Rattle.rules.specs.Mapping.{allowed};
+ghost use Rattle.layout.specs.Reading.{storeIn};
 ghost use Rattle.layout.specs.Causes.{causeOf};
 ghost use Rattle.layout.specs.Soundness.{IsSound};
 ghost use Rattle.fragments.specs.Sorts.{sortOf};
 ghost use Rattle.fragments.specs.Ignoring.{ignoreOf};
 ghost use Rattle.equivalence.specs.Lent.{mappingOf};
-ghost use Rattle.equivalence.specs.Walked.{storeIn};
 ghost use Rattle.equivalence.specs.Calls.{Answered, pairTests};
 
 // Why two fragments are not compared: one does not exist, or one is nested too deep. Nothing is entered yet.

@@ -9,9 +9,9 @@ ghost use Prim.Native.Nat.{_+_, _<_, _≤_};
 ghost use lib.ListN.{length};
 ghost use Rattle.rules.specs.Mapping.{entriesAllowed, allowed};
 ghost use Rattle.layout.specs.Columns.{columns};
-ghost use Rattle.layout.specs.Reading.{storeOf};
+ghost use Rattle.layout.specs.Reading.{storeIn, following};
 ghost use Rattle.layout.specs.Soundness.{Arranged};
-ghost use Rattle.equivalence.specs.Lent.{mappingLength, mappingOf, entryAllowed, withOp, withBlock, withValues, numbers};
+ghost use Rattle.equivalence.specs.Lent.{mappingLength, mappingOf, entryAllowed, withOp, withBlock, withValues};
 
 // The entry of a number that has no image.
 pub const NONE: u32 = 4294967295;
@@ -53,7 +53,7 @@ fn entries_allowed(count: u32, entries: &[u32]) -> bool
 // The mapping is of the right length, and each left number and image in it exists in the store.
 pub fn is_allowed(store: &[u32], mapping: &[u32]) -> bool
     requires { ⌜ Arranged (now store) ⌝ }
-    ensures { λ r. ⌜ r ≡ allowed (storeOf (columns (now (store .entry)))) (mappingOf (now (mapping .entry))) ⌝ }
+    ensures { λ r. ⌜ r ≡ allowed (storeIn (now (store .entry))) (mappingOf (now (mapping .entry))) ⌝ }
 {
     if mapping.len() != LENGTH {
         return false;
@@ -93,7 +93,7 @@ pub fn map_values(mapping: &mut [u32], l: usize, r: u32, count: usize)
     requires { ⌜ length (now mapping) ≡ mappingLength ⌝ }
     requires { ⌜ l + count ≤ 2048 ⌝ }
     requires { ⌜ r + count ≤ 2048 ⌝ }
-    ensures { λ _. ⌜ mappingOf (now (mapping .exit)) ≡ withValues (mappingOf (now (mapping .entry))) (numbers l count) (numbers r count) ⌝ }
+    ensures { λ _. ⌜ mappingOf (now (mapping .exit)) ≡ withValues (mappingOf (now (mapping .entry))) (following l count) (following r count) ⌝ }
 {
     let mut image = r;
     let mut v = l;

@@ -14,10 +14,10 @@ ghost use Rattle.rules.specs.Lists.{all, allPairs};
 ghost use Rattle.rules.specs.Mapping.{orSelf};
 ghost use Rattle.layout.specs.Columns.{columns};
 ghost use Rattle.rules.specs.Comparison.{operandsAgree, successorsAgree};
-ghost use Rattle.layout.specs.Reading.{storeOf, opCount, valueCount};
+ghost use Rattle.layout.specs.Reading.{opCount, valueCount, storeIn};
 ghost use Rattle.layout.specs.Soundness.{Arranged};
 ghost use Rattle.equivalence.specs.Lent.{mappingLength, mappingOf, sameOperand, sameSuccessor};
-ghost use Rattle.equivalence.specs.Walked.{Ready, storeIn};
+ghost use Rattle.equivalence.specs.Walked.{Ready};
 
 // The entry at i, or n itself where there is none.
 fn image_at(mapping: &[u32], i: usize, n: u32) -> u32
@@ -37,7 +37,7 @@ fn value_agrees(store: &[u32], mapping: &[u32], l: u32, r: u32) -> bool
     requires { ⌜ length (now mapping) ≡ mappingLength ⌝ }
     requires { ⌜ l < valueCount (columns (now store)) ⌝ }
     requires { ⌜ r < valueCount (columns (now store)) ⌝ }
-    ensures { λ q. ⌜ q ≡ sameOperand (storeOf (columns (now (store .entry)))) (mappingOf (now (mapping .entry))) l r ⌝ }
+    ensures { λ q. ⌜ q ≡ sameOperand (storeIn (now (store .entry))) (mappingOf (now (mapping .entry))) l r ⌝ }
 {
     if image_at(mapping, l as usize, l) != r {
         return false;
@@ -70,7 +70,7 @@ pub fn operands_agree(store: &[u32], mapping: &[u32], l: &[u32], r: &[u32]) -> b
     requires { ⌜ length (now mapping) ≡ mappingLength ⌝ }
     requires { ⌜ all (λ v. ltb v (valueCount (columns (now store)))) (now l) ≡ true ⌝ }
     requires { ⌜ all (λ v. ltb v (valueCount (columns (now store)))) (now r) ≡ true ⌝ }
-    ensures { λ q. ⌜ q ≡ allPairs (sameOperand (storeOf (columns (now (store .entry)))) (mappingOf (now (mapping .entry)))) (now (l .entry)) (now (r .entry)) ⌝ }
+    ensures { λ q. ⌜ q ≡ allPairs (sameOperand (storeIn (now (store .entry))) (mappingOf (now (mapping .entry)))) (now (l .entry)) (now (r .entry)) ⌝ }
 {
     let n = shorter(l, r);
     let mut i = 0;

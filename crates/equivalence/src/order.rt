@@ -12,10 +12,10 @@ ghost use mathlib.Core.List.{[], _∷_};
 ghost use Prim.Native.Nat.{_<_};
 ghost use Rattle.rules.specs.Store.{opsOf};
 ghost use Rattle.layout.specs.Columns.{columns};
-ghost use Rattle.layout.specs.Reading.{blockCount};
+ghost use Rattle.layout.specs.Reading.{blockCount, storeIn};
 ghost use Rattle.layout.specs.Soundness.{IsSound};
 ghost use Rattle.layout.specs.Children.{firstFrom, foundFrom};
-ghost use Rattle.equivalence.specs.Walked.{storeIn, lefts, rights};
+ghost use Rattle.equivalence.specs.Walked.{lefts, rights};
 ghost use Rattle.equivalence.specs.Order.{bothOf, nextOf, Existing, FirstPair};
 
 // The next of two lists, from the next of each.

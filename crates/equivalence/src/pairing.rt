@@ -16,11 +16,11 @@ ghost use mathlib.Core.Path.{_≡_};
 ghost use Prim.Native.Nat.{_-_, _+_, _<_, _≤_};
 ghost use Rattle.rules.specs.Comparison.{pairOps, pairBlocks};
 ghost use Rattle.layout.specs.Columns.{columns, size};
-ghost use Rattle.layout.specs.Reading.{opCount, blockCount};
+ghost use Rattle.layout.specs.Reading.{opCount, blockCount, storeIn, following};
 ghost use Rattle.fragments.specs.Ignoring.{ignoreOf};
-ghost use Rattle.equivalence.specs.Lent.{mappingOf, withValues, numbers};
+ghost use Rattle.equivalence.specs.Lent.{mappingOf, withValues};
 ghost use Rattle.equivalence.specs.Rows.{span};
-ghost use Rattle.equivalence.specs.Walked.{Ready, Told, storeIn, lent, most};
+ghost use Rattle.equivalence.specs.Walked.{Ready, Told, lent, most};
 
 // Enters the values of two rows whose ranges are as long.
 fn map_owned(store: &[u32], mapping: &mut [u32], first: usize, end: usize, l: usize, r: usize)
@@ -33,7 +33,7 @@ fn map_owned(store: &[u32], mapping: &mut [u32], first: usize, end: usize, l: us
     requires { ⌜ Rattle.layout.specs.Columns.at (columns (now store)) first l ≤ Rattle.layout.specs.Columns.at (columns (now store)) end l ⌝ }
     requires { ⌜ Rattle.layout.specs.Columns.at (columns (now store)) end l ≤ 2048 ⌝ }
     requires { ⌜ Rattle.layout.specs.Columns.at (columns (now store)) first r + span (columns (now store)) first end l ≤ 2048 ⌝ }
-    ensures { λ _. ⌜ mappingOf (now (mapping .exit)) ≡ withValues (mappingOf (now (mapping .entry))) (numbers (Rattle.layout.specs.Columns.at (columns (now (store .entry))) first l) (span (columns (now (store .entry))) first end l)) (numbers (Rattle.layout.specs.Columns.at (columns (now (store .entry))) first r) (span (columns (now (store .entry))) first end l)) ⌝ }
+    ensures { λ _. ⌜ mappingOf (now (mapping .exit)) ≡ withValues (mappingOf (now (mapping .entry))) (following (Rattle.layout.specs.Columns.at (columns (now (store .entry))) first l) (span (columns (now (store .entry))) first end l)) (following (Rattle.layout.specs.Columns.at (columns (now (store .entry))) first r) (span (columns (now (store .entry))) first end l)) ⌝ }
 {
     let a = number(store, first, l);
     let e = number(store, end, l);

@@ -12,10 +12,10 @@ ghost use mathlib.Core.Path.{_≡_};
 ghost use Rattle.rules.specs.Fragments.{block};
 ghost use Rattle.rules.specs.Comparison.{paper, pairOf, pairwise, pairOps, pass1, pass2};
 ghost use Rattle.layout.specs.Columns.{columns};
-ghost use Rattle.layout.specs.Reading.{blockCount};
+ghost use Rattle.layout.specs.Reading.{blockCount, storeIn};
 ghost use Rattle.rules.specs.Store.{opsOf};
 ghost use Rattle.fragments.specs.Ignoring.{ignoreOf};
-ghost use Rattle.equivalence.specs.Walked.{Ready, Told, Few, storeIn, lent, lefts, rights, namedBy, neqOf, Bounded};
+ghost use Rattle.equivalence.specs.Walked.{Ready, Told, Few, lent, lefts, rights, namedBy, neqOf, Bounded};
 ghost use Rattle.equivalence.specs.Order.{Existing};
 
 // Unequal lengths name the regions.

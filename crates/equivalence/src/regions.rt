@@ -16,11 +16,11 @@ use layout::columns::number;
 ghost use Prim.Native.Nat.{_<_, min};
 ghost use mathlib.Core.Path.{_≡_};
 ghost use Rattle.layout.specs.Columns.{columns, opRegionFirst, opRegionEnd};
-ghost use Rattle.layout.specs.Reading.{opCount, regionCount};
+ghost use Rattle.layout.specs.Reading.{opCount, regionCount, storeIn};
 ghost use Rattle.layout.specs.Soundness.{IsSound};
 ghost use Rattle.fragments.specs.Ignoring.{ignoreOf};
 ghost use Rattle.equivalence.specs.Rows.{span};
-ghost use Rattle.equivalence.specs.Walked.{Ready, Told, Few, storeIn, lent, regionWalk, opWalk, listsWalk};
+ghost use Rattle.equivalence.specs.Walked.{Ready, Told, Few, lent, regionWalk, opWalk, listsWalk};
 ghost use Rattle.equivalence.specs.Order.{Existing, past};
 
 // How many pairs of regions two operations have.

@@ -32,7 +32,7 @@ ghost use Rattle.rules.specs.Lists.{sameList};
 ghost use Rattle.rules.specs.Store.{ofOp, ofBlock, ownerExists};
 ghost use Rattle.rules.specs.Shells.{sameShells};
 ghost use Rattle.layout.specs.Columns.{bufferLength, columns, size};
-ghost use Rattle.layout.specs.Reading.{storeOf, opCount, blockCount, slotsOf};
+ghost use Rattle.layout.specs.Reading.{opCount, blockCount, slotsOf, storeIn};
 ghost use Rattle.layout.specs.Soundness.{IsSound};
 ghost use Rattle.layout.specs.Owners.{ownerOf, keyCount};
 ghost use Rattle.fragments.specs.Ignoring.{ignoreOf};
@@ -120,8 +120,8 @@ fn types_eq(store: &[u32], first: usize, end: usize, l: usize, r: usize) -> bool
 // The attributes of two owners.
 fn owner_attributes_eq(store: &[u32], ignore: Ignore, l: Owner, r: Owner) -> bool
     requires { ⌜ IsSound (now store) ⌝ }
-    requires { ⌜ ownerExists (storeOf (columns (now store))) (ownerOf l) ≡ true ⌝ }
-    requires { ⌜ ownerExists (storeOf (columns (now store))) (ownerOf r) ≡ true ⌝ }
+    requires { ⌜ ownerExists (storeIn (now store)) (ownerOf l) ≡ true ⌝ }
+    requires { ⌜ ownerExists (storeIn (now store)) (ownerOf r) ≡ true ⌝ }
     ensures { λ q. ⌜ q ≡ sameSlots (columns (now (store .entry))) (ignoreOf ignore) (slotsOf (ownerOf l)) (keyCount (columns (now (store .entry))) (ownerOf l)) (slotsOf (ownerOf r)) (keyCount (columns (now (store .entry))) (ownerOf r)) ⌝ }
 {
     let a = first_slot(l);
@@ -141,7 +141,7 @@ pub fn op_shells_eq(store: &[u32], ignore: Ignore, l: usize, r: usize) -> bool
     requires { ⌜ IsSound (now store) ⌝ }
     requires { ⌜ l < opCount (columns (now store)) ⌝ }
     requires { ⌜ r < opCount (columns (now store)) ⌝ }
-    ensures { λ q. ⌜ q ≡ sameShells (storeOf (columns (now (store .entry)))) (ignoreOf ignore) (ofOp l) (ofOp r) ⌝ }
+    ensures { λ q. ⌜ q ≡ sameShells (storeIn (now (store .entry))) (ignoreOf ignore) (ofOp l) (ofOp r) ⌝ }
 {
     if !counts_eq(store, l, r) {
         return false;
@@ -160,7 +160,7 @@ pub fn block_shells_eq(store: &[u32], ignore: Ignore, l: usize, r: usize) -> boo
     requires { ⌜ IsSound (now store) ⌝ }
     requires { ⌜ l < blockCount (columns (now store)) ⌝ }
     requires { ⌜ r < blockCount (columns (now store)) ⌝ }
-    ensures { λ q. ⌜ q ≡ sameShells (storeOf (columns (now (store .entry)))) (ignoreOf ignore) (ofBlock l) (ofBlock r) ⌝ }
+    ensures { λ q. ⌜ q ≡ sameShells (storeIn (now (store .entry))) (ignoreOf ignore) (ofBlock l) (ofBlock r) ⌝ }
 {
     if !spans_eq(store, BLOCK_ARGUMENT_FIRST, BLOCK_ARGUMENT_END, l, r) {
         return false;

@@ -8,25 +8,25 @@ ghost use mathlib.Core.Path.{_≡_};
 ghost use lib.ListN.{length};
 ghost use Rattle.rules.specs.Fragments.{op, block, region, exists};
 ghost use Rattle.layout.specs.Columns.{bufferLength, columns};
-ghost use Rattle.layout.specs.Reading.{storeOf};
+ghost use Rattle.layout.specs.Reading.{storeIn};
 
 pub fn op_exists(store: &[u32], n: u32) -> bool
     requires { ⌜ length (now store) ≡ bufferLength ⌝ }
-    ensures { λ r. ⌜ r ≡ exists (storeOf (columns (now (store .entry)))) op n ⌝ }
+    ensures { λ r. ⌜ r ≡ exists (storeIn (now (store .entry))) op n ⌝ }
 {
     n < at(store, COUNTS, OPS)
 }
 
 pub fn block_exists(store: &[u32], n: u32) -> bool
     requires { ⌜ length (now store) ≡ bufferLength ⌝ }
-    ensures { λ r. ⌜ r ≡ exists (storeOf (columns (now (store .entry)))) block n ⌝ }
+    ensures { λ r. ⌜ r ≡ exists (storeIn (now (store .entry))) block n ⌝ }
 {
     n < at(store, COUNTS, BLOCKS)
 }
 
 pub fn region_exists(store: &[u32], n: u32) -> bool
     requires { ⌜ length (now store) ≡ bufferLength ⌝ }
-    ensures { λ r. ⌜ r ≡ exists (storeOf (columns (now (store .entry)))) region n ⌝ }
+    ensures { λ r. ⌜ r ≡ exists (storeIn (now (store .entry))) region n ⌝ }
 {
     n < at(store, COUNTS, REGIONS)
 }

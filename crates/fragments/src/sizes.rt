@@ -17,7 +17,7 @@ ghost use mathlib.Core.Option.{some};
 ghost use Rattle.rules.specs.Store.{parentOf, levelsLeft, maxNesting};
 ghost use Rattle.rules.specs.Fragments.{op, block, region, opSize, fragmentSize};
 ghost use Rattle.layout.specs.Columns.{columns};
-ghost use Rattle.layout.specs.Reading.{opCount, blockCount, regionCount, storeOf};
+ghost use Rattle.layout.specs.Reading.{opCount, blockCount, regionCount, storeIn};
 ghost use Rattle.layout.specs.Soundness.{IsSound};
 ghost use Rattle.fragments.specs.Sizes.{sizeFrom, blockSize, regionSize};
 
@@ -25,7 +25,7 @@ ghost use Rattle.fragments.specs.Sizes.{sizeFrom, blockSize, regionSize}
 fn size_in_block(store: &[u32], b: usize, left: u32) -> Size
     requires { ⌜ IsSound (now store) ⌝ }
     requires { ⌜ b < blockCount (columns (now store)) ⌝ }
-    ensures { λ r. ⌜ r ≡ sizeFrom (blockSize left (storeOf (columns (now (store .entry)))) b) ⌝ }
+    ensures { λ r. ⌜ r ≡ sizeFrom (blockSize left (storeIn (now (store .entry))) b) ⌝ }
 {
     let mut size = 0;
     let mut from = 0;
@@ -48,7 +48,7 @@ fn size_in_block(store: &[u32], b: usize, left: u32) -> Size
 fn size_in_region(store: &[u32], r: usize, left: u32) -> Size
     requires { ⌜ IsSound (now store) ⌝ }
     requires { ⌜ r < regionCount (columns (now store)) ⌝ }
-    ensures { λ q. ⌜ q ≡ sizeFrom (regionSize left (storeOf (columns (now (store .entry)))) r) ⌝ }
+    ensures { λ q. ⌜ q ≡ sizeFrom (regionSize left (storeIn (now (store .entry))) r) ⌝ }
 {
     let mut size = 0;
     let mut from = 0;
@@ -68,7 +68,7 @@ fn size_in_region(store: &[u32], r: usize, left: u32) -> Size
 fn size_in_op(store: &[u32], n: usize, left: u32) -> Size
     requires { ⌜ IsSound (now store) ⌝ }
     requires { ⌜ n < opCount (columns (now store)) ⌝ }
-    ensures { λ r. ⌜ r ≡ sizeFrom (opSize left (storeOf (columns (now (store .entry)))) n) ⌝ }
+    ensures { λ r. ⌜ r ≡ sizeFrom (opSize left (storeIn (now (store .entry))) n) ⌝ }
 {
     let end = number(store, OP_REGION_END, n);
     let mut r = number(store, OP_REGION_FIRST, n);
@@ -87,7 +87,7 @@ fn size_in_op(store: &[u32], n: usize, left: u32) -> Size
 fn levels_left(store: &[u32], n: usize) -> u32
     requires { ⌜ IsSound (now store) ⌝ }
     requires { ⌜ n < opCount (columns (now store)) ⌝ }
-    ensures { λ r. ⌜ levelsLeft maxNesting (storeOf (columns (now (store .entry)))) (parentOf (storeOf (columns (now (store .entry)))) n) ≡ some r ⌝ }
+    ensures { λ r. ⌜ levelsLeft maxNesting (storeIn (now (store .entry))) (parentOf (storeIn (now (store .entry))) n) ≡ some r ⌝ }
 {
     32 - at(store, OP_DEPTH, n)
 }
@@ -96,7 +96,7 @@ fn levels_left(store: &[u32], n: usize) -> u32
 pub fn operation_size(store: &[u32], n: usize) -> Size
     requires { ⌜ IsSound (now store) ⌝ }
     requires { ⌜ n < opCount (columns (now store)) ⌝ }
-    ensures { λ r. ⌜ r ≡ sizeFrom (fragmentSize (storeOf (columns (now (store .entry)))) op n) ⌝ }
+    ensures { λ r. ⌜ r ≡ sizeFrom (fragmentSize (storeIn (now (store .entry))) op n) ⌝ }
 {
     size_in_op(store, n, levels_left(store, n))
 }
@@ -105,7 +105,7 @@ pub fn operation_size(store: &[u32], n: usize) -> Size
 pub fn basic_block_size(store: &[u32], n: usize) -> Size
     requires { ⌜ IsSound (now store) ⌝ }
     requires { ⌜ n < blockCount (columns (now store)) ⌝ }
-    ensures { λ r. ⌜ r ≡ sizeFrom (fragmentSize (storeOf (columns (now (store .entry)))) block n) ⌝ }
+    ensures { λ r. ⌜ r ≡ sizeFrom (fragmentSize (storeIn (now (store .entry))) block n) ⌝ }
 {
     let around = number(store, REGION_OP, number(store, BLOCK_REGION, n));
     size_in_block(store, n, levels_left(store, around))
@@ -115,7 +115,7 @@ pub fn basic_block_size(store: &[u32], n: usize) -> Size
 pub fn region_size(store: &[u32], n: usize) -> Size
     requires { ⌜ IsSound (now store) ⌝ }
     requires { ⌜ n < regionCount (columns (now store)) ⌝ }
-    ensures { λ r. ⌜ r ≡ sizeFrom (fragmentSize (storeOf (columns (now (store .entry)))) region n) ⌝ }
+    ensures { λ r. ⌜ r ≡ sizeFrom (fragmentSize (storeIn (now (store .entry))) region n) ⌝ }
 {
     let around = number(store, REGION_OP, n);
     size_in_region(store, n, levels_left(store, around))

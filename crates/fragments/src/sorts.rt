@@ -12,8 +12,8 @@ ghost use mathlib.Core.Bool.{true};
 ghost use lib.ListN.{length};
 ghost use Rattle.rules.specs.Fragments.{fragmentSize};
 ghost use Rattle.rules.specs.Answers.{shallow};
-ghost use Rattle.layout.specs.Columns.{bufferLength, columns};
-ghost use Rattle.layout.specs.Reading.{storeOf};
+ghost use Rattle.layout.specs.Columns.{bufferLength};
+ghost use Rattle.layout.specs.Reading.{storeIn};
 ghost use Rattle.layout.specs.Soundness.{IsSound};
 ghost use Rattle.fragments.specs.Sizes.{sizeFrom};
 ghost use Rattle.fragments.specs.Sorts.{sortOf};
@@ -21,7 +21,7 @@ ghost use Rattle.fragments.specs.Sorts.{sortOf};
 // There is a fragment of this sort and number.
 pub fn exists(store: &[u32], sort: Sort, n: u32) -> bool
     requires { ⌜ length (now store) ≡ bufferLength ⌝ }
-    ensures { λ r. ⌜ r ≡ Rattle.rules.specs.Fragments.exists (storeOf (columns (now (store .entry)))) (sortOf sort) n ⌝ }
+    ensures { λ r. ⌜ r ≡ Rattle.rules.specs.Fragments.exists (storeIn (now (store .entry))) (sortOf sort) n ⌝ }
 {
     match sort {
         Sort::Op => op_exists(store, n),
@@ -33,8 +33,8 @@ pub fn exists(store: &[u32], sort: Sort, n: u32) -> bool
 // How many operations are in it.
 pub fn size(store: &[u32], sort: Sort, n: u32) -> Size
     requires { ⌜ IsSound (now store) ⌝ }
-    requires { ⌜ Rattle.rules.specs.Fragments.exists (storeOf (columns (now store))) (sortOf sort) n ≡ true ⌝ }
-    ensures { λ r. ⌜ r ≡ sizeFrom (fragmentSize (storeOf (columns (now (store .entry)))) (sortOf sort) n) ⌝ }
+    requires { ⌜ Rattle.rules.specs.Fragments.exists (storeIn (now store)) (sortOf sort) n ≡ true ⌝ }
+    ensures { λ r. ⌜ r ≡ sizeFrom (fragmentSize (storeIn (now (store .entry))) (sortOf sort) n) ⌝ }
 {
     match sort {
         Sort::Op => operation_size(store, n as usize),
@@ -46,8 +46,8 @@ pub fn size(store: &[u32], sort: Sort, n: u32) -> Size
 // No operation in it is nested too deep.
 pub fn is_shallow(store: &[u32], sort: Sort, n: u32) -> bool
     requires { ⌜ IsSound (now store) ⌝ }
-    requires { ⌜ Rattle.rules.specs.Fragments.exists (storeOf (columns (now store))) (sortOf sort) n ≡ true ⌝ }
-    ensures { λ r. ⌜ r ≡ shallow (storeOf (columns (now (store .entry)))) (sortOf sort) n ⌝ }
+    requires { ⌜ Rattle.rules.specs.Fragments.exists (storeIn (now store)) (sortOf sort) n ≡ true ⌝ }
+    ensures { λ r. ⌜ r ≡ shallow (storeIn (now (store .entry))) (sortOf sort) n ⌝ }
 {
     match size(store, sort, n) {
         Size::Of(_) => true,

@@ -13,11 +13,11 @@ use Rattle.rules.specs.Shells.{Ignore}
 use Rattle.rules.specs.Hash.{noNumbers, hash}
 use Rattle.rules.specs.Answers.{shallow, hashTests, hashedBy, hashed}
 use Rattle.layout.specs.Columns.{columns}
-use Rattle.layout.specs.Reading.{opCount, blockCount, regionCount}
+use Rattle.layout.specs.Reading.{opCount, blockCount, regionCount, storeIn}
 use Rattle.layout.specs.Soundness.{soundBuffer, IsSound}
 use Rattle.layout.proofs.Empty.{sound-of}
 use Rattle.layout.proofs.Tabulate.{ops-length, blocks-length, regions-length}
-use Rattle.hashing.specs.Walked.{storeIn, Stands, Fed, Room, fullSteps, listedSteps, atStart}
+use Rattle.hashing.specs.Walked.{Stands, Fed, Room, fullSteps, listedSteps, atStart}
 use Rattle.hashing.specs.Order.{listed}
 use Rattle.hashing.specs.Calls.{hashedOf, fragmentTests, Answered}
 use Rattle.hashing.specs.declared.types.Blocks.the-variants.{InRegion, Alone}

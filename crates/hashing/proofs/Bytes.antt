@@ -17,6 +17,9 @@ use Rattle.rules.proofs.Form.Hashes.{fnv-append}
 pub fed-after : (word : ℕ) (xs ys : List ℕ) {fed r : ℕ} → fed ≡ fnvFrom word xs → r ≡ fnvFrom fed ys → r ≡ fnvFrom word (xs ++ ys)
 fed-after word xs ys e f = f ∙ ap (λ (w : ℕ). fnvFrom w ys) e ∙ sym (fnv-append word xs ys)
 
+pub three-fed : (word : ℕ) (xs ys zs : List ℕ) {f g r : ℕ} → f ≡ fnvFrom word xs → g ≡ fnvFrom f ys → r ≡ fnvFrom g zs → r ≡ fnvFrom word (xs ++ ys ++ zs)
+three-fed word xs ys zs d e h = fed-after word (xs ++ ys) zs (fed-after word xs ys d e) h
+
 -- ---- a location
 
 by : Bool → ℕ → Option ℕ
@@ -33,10 +36,10 @@ module _ (ig : Ignore) (l word : ℕ) where
 
 -- ---- an attribute, and a shell
 
-pub attribute-fed : (a : Attribute) (word : ℕ) {f g r : ℕ}
-    → f ≡ fnvFrom word (leaf (a .key)) → g ≡ fnvFrom f (leaf (a .kind)) → r ≡ fnvFrom g (leaf (a .content)) → r ≡ fnvFrom word (attributeBytes a)
+pub attribute-fed : (a : Attribute) (word : ℕ) {key kind content r : ℕ} → key ≡ a .key → kind ≡ a .kind → content ≡ a .content
+    → r ≡ fnvFrom word (leaf key ++ leaf kind ++ leaf content) → r ≡ fnvFrom word (attributeBytes a)
 unfolding attributeBytes
-attribute-fed a word d e h = fed-after word (leaf (a .key) ++ leaf (a .kind)) (leaf (a .content)) (fed-after word (leaf (a .key)) (leaf (a .kind)) d e) h
+attribute-fed a word k m c e = e ∙ (λ i. fnvFrom word (leaf (k i) ++ leaf (m i) ++ leaf (c i)))
 
 pub shell-fed : (sh : Shell) (word : ℕ) {f g r : ℕ}
     → f ≡ fnvFrom word (locationBytes (sh .location)) → g ≡ fnvFrom f (count (length (sh .attributes)) ++ concatMap attributeBytes (sh .attributes))

@@ -16,8 +16,8 @@ use lib.Seq.{getD-set-same, getD-set-other}
 use Rattle.rules.specs.Lists.{position}
 use Rattle.rules.specs.Hash.{Numbering}
 use Rattle.rules.proofs.Form.Images.{position-some, position-kept, position-next, position-other}
-use Rattle.layout.specs.Reading.{tabulateFrom}
-use Rattle.hashing.specs.Words.{numbersLength, noNumber, numberOr, Words, withValues, withBlock, defineAt, following, NumbersValues, NumbersBlock}
+use Rattle.layout.specs.Reading.{tabulateFrom, following}
+use Rattle.hashing.specs.Words.{numbersLength, noNumber, numberOr, Words, withValues, withBlock, defineAt, NumbersValues, NumbersBlock}
 
 -- ---- one word
 

@@ -11,7 +11,7 @@ use lib.Dec.{ltb}
 use lib.ListN.{length, getD, drop, drop-of-length-le}
 use lib.Seq.{drop-cons}
 use Rattle.rules.specs.Lists.{all, concatMap, position}
-use Rattle.rules.specs.Hash.{fnvFrom, tag, leaf, count, Numbering, Name, nameAt, nameOf, nameBytes}
+use Rattle.rules.specs.Hash.{fnvFrom, Numbering, Name, walkNumber, storeNumber, nameAt, nameOf, nameBytes}
 use Rattle.rules.proofs.Basics.Tests.{all-at}
 use Rattle.rules.proofs.Basics.Appended.{mem-getD}
 use Rattle.rules.proofs.Form.Images.{position-some}
@@ -29,13 +29,13 @@ named-by number n D few e = go (position n D) refl
         let l : k < length D = position-some n D k p .0 in
         rw (ne-eqb number noNumber (λ x. omega arith), p, h) refl
 
-pub name-fed : (number n word : ℕ) {fed r : ℕ} → number ≡ noNumber → fed ≡ fnvFrom word (tag 1) → r ≡ fnvFrom fed (leaf n) → r ≡ fnvFrom word (nameBytes (namedBy number n))
-unfolding namedBy nameBytes
-name-fed number n word h e f = rw (eq-eqb number noNumber h) (f ∙ ap (λ (w : ℕ). fnvFrom w (leaf n)) e ∙ sym (fnv-append word (tag 1) (leaf n)))
+pub name-fed : (number n word : ℕ) {r : ℕ} → number ≡ noNumber → r ≡ fnvFrom word (nameBytes (storeNumber n)) → r ≡ fnvFrom word (nameBytes (namedBy number n))
+unfolding namedBy
+name-fed number n word h e = rw (eq-eqb number noNumber h) e
 
-pub number-fed : (number n word : ℕ) {fed r : ℕ} → (number ≡ noNumber → ⊥) → fed ≡ fnvFrom word (tag 0) → r ≡ fnvFrom fed (count number) → r ≡ fnvFrom word (nameBytes (namedBy number n))
-unfolding namedBy nameBytes
-number-fed number n word h e f = rw (ne-eqb number noNumber h) (f ∙ ap (λ (w : ℕ). fnvFrom w (count number)) e ∙ sym (fnv-append word (tag 0) (count number)))
+pub number-fed : (number n word : ℕ) {r : ℕ} → (number ≡ noNumber → ⊥) → r ≡ fnvFrom word (nameBytes (walkNumber number)) → r ≡ fnvFrom word (nameBytes (namedBy number n))
+unfolding namedBy
+number-fed number n word h e = rw (ne-eqb number noNumber h) e
 
 module _ (numbers : List ℕ) (n word : ℕ) where
   pub value-fed : {r : ℕ} → n < 2048 → r ≡ fnvFrom word (nameBytes (namedBy (getD numbers n 0) n)) → FeedsNames numbers (λ (N : Numbering). valueBytes N n) word r

@@ -9,9 +9,9 @@ use Rattle.rules.specs.Lists.{concatMap}
 use Rattle.rules.specs.Store.{Store, Op, Block, Owner, ofOp, ofBlock, typeOf, valuesOf, maxValues, maxOps, maxBlocks, maxOwnKeys}
 use Rattle.rules.specs.Fragments.{shell, stepDefines, blockOwner}
 use Rattle.rules.specs.Shells.{Ignore, unignored, unignoredLocation, shellOf}
-use Rattle.rules.specs.Hash.{leaf, count, headBytes}
+use Rattle.rules.specs.Hash.{fnvFrom, leaf, count, headBytes}
 use Rattle.layout.specs.Columns.{Cols, at, columns, opKind, opRegionFirst, opRegionEnd, opLocation, opResultFirst, opResultEnd, opAttributes, blockLocation, blockArgumentFirst, blockArgumentEnd, blockAttributes, valueType}
-use Rattle.layout.specs.Reading.{opCount, blockCount, valueCount, slotsOf, part, attributesFrom, opOf, blockOf, storeOf}
+use Rattle.layout.specs.Reading.{opCount, blockCount, valueCount, slotsOf, part, attributesFrom, opOf, blockOf, storeOf, following}
 use Rattle.layout.specs.Soundness.{IsSound}
 use Rattle.layout.proofs.Laid.{Laid, Ranged, laid-facts}
 use Rattle.layout.proofs.Buffer.{columns-shaped}
@@ -20,7 +20,6 @@ use Rattle.layout.proofs.Ranges.{range, length-range, regions-range, results-ra
 use Rattle.layout.proofs.Types.{types-read}
 use Rattle.fragments.specs.Ignoring.{keptFrom}
 use Rattle.fragments.proofs.KindsFit.{op-kinds, block-kinds}
-use Rattle.hashing.specs.Words.{following}
 use Rattle.hashing.specs.Rows.{rowShell, RowOf}
 use Rattle.hashing.specs.Walked.{valuesIn, blocksIn, Room}
 use Rattle.hashing.specs.declared.types.Hashing.{Hashing}
@@ -123,7 +122,11 @@ unfolding blocksIn concatMap stepDefines blockOwner
 block-room m = omega (arith, m .blocks)
 
 -- the number of regions
-pub head-read : (C : Cols) → Laid C → (n : ℕ) → n < opCount C → headBytes (storeOf C) (ofOp n) ≡ leaf (at C opKind n) ++ count (at C opRegionEnd n - at C opRegionFirst n)
+head-read : (C : Cols) → Laid C → (n : ℕ) → n < opCount C → headBytes (storeOf C) (ofOp n) ≡ leaf (at C opKind n) ++ count (at C opRegionEnd n - at C opRegionFirst n)
 unfolding headBytes opOf
 head-read C k n l =
     ap₂ (λ (x y : ℕ). leaf x ++ count y) (ap (λ (o : Op). o .kind) (op-read C n l)) (ap length (regions-range C k n l) ∙ length-range (at C opRegionFirst n) (at C opRegionEnd n))
+
+pub head-fed : (C : Cols) → Laid C → (n : ℕ) → n < opCount C → (word : ℕ) {kind end first r : ℕ} → kind ≡ at C opKind n → end ≡ at C opRegionEnd n → first ≡ at C opRegionFirst n
+    → r ≡ fnvFrom word (leaf kind ++ count (end - first)) → r ≡ fnvFrom word (headBytes (storeOf C) (ofOp n))
+head-fed C k n l word a b c e = e ∙ (λ i. fnvFrom word (leaf (a i) ++ count (b i - c i))) ∙ ap (fnvFrom word) (sym (head-read C k n l))

@@ -8,8 +8,8 @@ use Rattle.rules.specs.Fragments.{Sort, exists}
 use Rattle.rules.specs.Shells.{Ignore}
 use Rattle.rules.specs.Answers as rules
 use Rattle.rules.specs.Answers.{shallow, hashed}
+use Rattle.layout.specs.Reading.{storeIn}
 use Rattle.layout.specs.Soundness.{soundBuffer}
-use Rattle.hashing.specs.Walked.{storeIn}
 use Rattle.hashing.specs.declared.types.Hashed.{Hashed}
 use Rattle.hashing.specs.declared.types.Hashed.the-variants.{Hash, Refused}
 

@@ -4,9 +4,8 @@ use mathlib.Core.Path.{_≡_}
 use Rattle.rules.specs.Store.{Owner, valuesOf, maxValues}
 use Rattle.rules.specs.Shells.{Ignore, Shell, shellOf, unignoredLocation}
 use Rattle.layout.specs.Columns.{Cols, valueType}
-use Rattle.layout.specs.Reading.{part, storeOf}
+use Rattle.layout.specs.Reading.{part, storeOf, following}
 use Rattle.fragments.specs.Ignoring.{keptFrom, Kinds}
-use Rattle.hashing.specs.Words.{following}
 use Rattle.hashing.specs.declared.types.Row.{Row}
 
 -- its runs stand within the columns, and its kinds are kinds

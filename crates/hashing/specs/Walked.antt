@@ -8,15 +8,9 @@ use Rattle.rules.specs.Store.{Store, ofOp, ofBlock, opsOf, valuesOf, maxValues,
 use Rattle.rules.specs.Fragments.{Step, shell, names, fullOp, listSteps, regionSteps, levels, stepDefines, blockOwner}
 use Rattle.rules.specs.Shells.{Ignore}
 use Rattle.rules.specs.Hash.{fnvStart, fnvFrom, Numbering, numbered, allBytes}
-use Rattle.layout.specs.Columns.{columns}
-use Rattle.layout.specs.Reading.{storeOf}
 use Rattle.layout.specs.Soundness.{IsSound}
 use Rattle.hashing.specs.Words.{numbersLength, Words}
 use Rattle.hashing.specs.declared.types.Hashing.{Hashing}
-
--- the rules' store that the words are read as
-abbrev pub storeIn : List ℕ → Store
-storeIn b = storeOf (columns b)
 
 -- a sound store, and words of the right length: what every step of a walk asks for
 pub record Ready (store numbers : List ℕ) : Type 0 where

@@ -9,7 +9,6 @@ use lib.ListN.{length, getD, set}
 use Rattle.rules.specs.Lists.{position}
 use Rattle.rules.specs.Store.{maxValues, maxBlocks}
 use Rattle.rules.specs.Hash.{fnvFrom, Numbering, Name, walkNumber, storeNumber, nameOf, nameBytes}
-use Rattle.layout.specs.Reading.{tabulateFrom}
 
 abbrev pub numbersLength : ℕ
 numbersLength = 2304
@@ -44,10 +43,6 @@ withBlock N b = record { values = N .values; blocks = N .blocks ++ b ∷ [] }
 -- the word at i is id, unless it is a number already
 unfoldable pub defineAt : List ℕ → ℕ → ℕ → List ℕ
 defineAt numbers i id = cond (eqb (getD numbers i 0) noNumber) (set numbers i id) numbers
-
--- so many numbers from one on
-unfoldable pub following : ℕ → ℕ → List ℕ
-following a n = tabulateFrom a n (λ (i : ℕ). i)
 
 -- where so many values are numbered that the next gets id, these get the next numbers
 abbrev pub NumbersValues : List ℕ → List ℕ → ℕ → List ℕ → Type 0

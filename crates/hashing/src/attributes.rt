@@ -1,6 +1,6 @@
 // Attributes, by their slots: `attributes_hash`. Slots stand by rising key, so the order in which keys were set is without effect.
-use crate::fnv::feed_count;
-use crate::fnv::feed_leaf;
+use crate::state::with_attribute;
+use crate::state::with_count;
 use fragments::ignoring::Ignore;
 use fragments::ignoring::next_kept;
 use layout::columns::SLOT_CONTENT;
@@ -43,7 +43,7 @@ fn feed_attribute(store: &[u32], slot: usize, word: u64) -> u64
     let key = at(store, SLOT_KEY, slot);
     let kind = at(store, SLOT_KIND, slot);
     let content = at(store, SLOT_CONTENT, slot);
-    feed_leaf(feed_leaf(feed_leaf(word, key), kind), content)
+    with_attribute(word, key, kind, content)
 }
 
 // Each attribute of a run of slots that is not ignored.
@@ -72,5 +72,5 @@ pub fn attributes_hash(store: &[u32], ignore: Ignore, first: usize, end: usize, 
     ensures { λ r. ⌜ r ≡ fnvFrom word (count (length (keptFrom (columns (now (store .entry))) (ignoreOf ignore) first end)) ++ concatMap attributeBytes (keptFrom (columns (now (store .entry))) (ignoreOf ignore) first end)) ⌝ }
 {
     let kept = count_kept(store, ignore, first, end);
-    feed_kept(store, ignore, first, end, feed_count(word, kept))
+    feed_kept(store, ignore, first, end, with_count(word, kept))
 }

@@ -15,12 +15,13 @@ use fragments::types::Sort;
 use layout::causes::Cause;
 ghost use mathlib.Core.Path.{_≡_};
 ghost use Rattle.rules.specs.Building.{firstFailed};
+ghost use Rattle.layout.specs.Reading.{storeIn};
 ghost use Rattle.layout.specs.Causes.{causeOf};
 ghost use Rattle.rules.specs.Fragments.{op, block, region};
 ghost use Rattle.layout.specs.Soundness.{IsSound};
 ghost use Rattle.fragments.specs.Ignoring.{ignoreOf};
 ghost use Rattle.fragments.specs.Sorts.{sortOf};
-ghost use Rattle.hashing.specs.Walked.{storeIn, atStart};
+ghost use Rattle.hashing.specs.Walked.{atStart};
 ghost use Rattle.hashing.specs.Calls.{fragmentTests, Answered};
 
 // Why a fragment is not hashed: it does not exist, or an operation in it is nested too deep.

@@ -1,7 +1,6 @@
 // The walk numbers of what is defined so far, and the names that are fed: a walk number, or, of what has none, the store number.
-use crate::fnv::feed_count;
-use crate::fnv::feed_leaf;
-use crate::fnv::feed_tag;
+use crate::state::with_store_number;
+use crate::state::with_walk_number;
 ghost use mathlib.Core.Bool.{true};
 ghost use mathlib.Core.List.{[], _∷_};
 ghost use mathlib.Core.Path.{_≡_};
@@ -11,7 +10,8 @@ ghost use lib.ListN.{length};
 ghost use Rattle.rules.specs.Lists.{all, concatMap};
 ghost use Rattle.rules.specs.Store.{maxValues, maxBlocks};
 ghost use Rattle.rules.specs.Hash.{fnvFrom, nameBytes};
-ghost use Rattle.hashing.specs.Words.{numbersLength, defineAt, following, namedBy, valueBytes, blockBytes, NumbersValues, NumbersBlock, FeedsNames};
+ghost use Rattle.layout.specs.Reading.{following};
+ghost use Rattle.hashing.specs.Words.{numbersLength, defineAt, namedBy, valueBytes, blockBytes, NumbersValues, NumbersBlock, FeedsNames};
 
 // The word of what has no number.
 pub const NONE: u32 = 4294967295;
@@ -72,9 +72,9 @@ fn hash_name(number: u32, n: u32, word: u64) -> u64
     ensures { λ r. ⌜ r ≡ fnvFrom word (nameBytes (namedBy number n)) ⌝ }
 {
     if number == NONE {
-        return feed_leaf(feed_tag(word, 1), n);
+        return with_store_number(word, n);
     }
-    feed_count(feed_tag(word, 0), number as u64)
+    with_walk_number(word, number as u64)
 }
 
 // A use of value v.

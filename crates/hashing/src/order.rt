@@ -9,10 +9,10 @@ use layout::children::one_from;
 ghost use mathlib.Core.Path.{_≡_};
 ghost use mathlib.Core.List.{[], _∷_};
 ghost use Prim.Native.Nat.{_<_};
+ghost use Rattle.layout.specs.Reading.{storeIn};
 ghost use Rattle.layout.specs.Columns.{columns};
 ghost use Rattle.layout.specs.Soundness.{IsSound};
 ghost use Rattle.layout.specs.Children.{firstFrom, foundFrom};
-ghost use Rattle.hashing.specs.Walked.{storeIn};
 ghost use Rattle.hashing.specs.Order.{listed, Existing, past, FirstOp};
 
 // The next of a list of blocks, from a number on.

@@ -10,9 +10,9 @@ use layout::children::next_op;
 ghost use Prim.Native.Nat.{_<_};
 ghost use Rattle.rules.specs.Lists.{concatMap};
 ghost use Rattle.layout.specs.Columns.{columns};
-ghost use Rattle.layout.specs.Reading.{blockCount};
+ghost use Rattle.layout.specs.Reading.{blockCount, storeIn};
 ghost use Rattle.fragments.specs.Ignoring.{ignoreOf};
-ghost use Rattle.hashing.specs.Walked.{Ready, storeIn, blockShells, opShells, Fed, Room};
+ghost use Rattle.hashing.specs.Walked.{Ready, blockShells, opShells, Fed, Room};
 ghost use Rattle.hashing.specs.Order.{listed, Existing};
 
 // Pass 1: every block's shell.

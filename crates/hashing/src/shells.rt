@@ -1,11 +1,11 @@
 // What is hashed of an operation or a block by itself; then its values, and a block itself, get the next walk numbers.
 use crate::attributes::attributes_hash;
-use crate::fnv::feed_count;
-use crate::fnv::feed_leaf;
 use crate::numbering::define_block;
 use crate::numbering::define_values;
 use crate::rows::block_row;
 use crate::rows::op_row;
+use crate::state::with_head;
+use crate::state::with_leaf;
 use crate::types::Hashing;
 use crate::types::Row;
 use fragments::ignoring::Ignore;
@@ -26,11 +26,11 @@ ghost use Rattle.rules.specs.Fragments.{shell};
 ghost use Rattle.rules.specs.Shells.{unignoredLocation};
 ghost use Rattle.rules.specs.Hash.{fnvFrom, leaf, locationBytes, headBytes, shellBytes};
 ghost use Rattle.layout.specs.Columns.{bufferLength, columns};
-ghost use Rattle.layout.specs.Reading.{opCount, blockCount};
+ghost use Rattle.layout.specs.Reading.{opCount, blockCount, storeIn};
 ghost use Rattle.layout.specs.Soundness.{IsSound};
 ghost use Rattle.fragments.specs.Ignoring.{ignoreOf};
 ghost use Rattle.hashing.specs.Rows.{Fits, rowShell};
-ghost use Rattle.hashing.specs.Walked.{Ready, storeIn, Fed, Room};
+ghost use Rattle.hashing.specs.Walked.{Ready, Fed, Room};
 
 // A location, unless locations are ignored.
 fn location_hash(ignore: Ignore, location: u32, word: u64) -> u64
@@ -39,7 +39,7 @@ fn location_hash(ignore: Ignore, location: u32, word: u64) -> u64
     if ignore.locations {
         return word;
     }
-    feed_leaf(word, location)
+    with_leaf(word, location)
 }
 
 // Each type.
@@ -49,7 +49,7 @@ fn hash_types(types: &[u32], word: u64) -> u64
     let mut fed = word;
     let mut i = 0;
     while i < types.len() {
-        fed = feed_leaf(fed, types[i]);
+        fed = with_leaf(fed, types[i]);
         i += 1;
     }
     fed
@@ -76,7 +76,7 @@ fn hash_head(store: &[u32], n: usize, word: u64) -> u64
 {
     let kind = at(store, OP_KIND, n);
     let regions = number(store, OP_REGION_END, n) - number(store, OP_REGION_FIRST, n);
-    feed_count(feed_leaf(word, kind), regions as u64)
+    with_head(word, kind, regions as u64)
 }
 
 // Hash components of an operation that do not use or contain other things, and define its results.

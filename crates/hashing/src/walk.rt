@@ -20,9 +20,9 @@ ghost use Prim.Native.Nat.{_<_};
 ghost use mathlib.Core.List.{[], _∷_};
 ghost use Rattle.rules.specs.Fragments.{names};
 ghost use Rattle.layout.specs.Columns.{columns};
-ghost use Rattle.layout.specs.Reading.{opCount};
+ghost use Rattle.layout.specs.Reading.{opCount, storeIn};
 ghost use Rattle.fragments.specs.Ignoring.{ignoreOf};
-ghost use Rattle.hashing.specs.Walked.{Ready, storeIn, fullSteps, listedSteps, Fed, FedNames, Room};
+ghost use Rattle.hashing.specs.Walked.{Ready, fullSteps, listedSteps, Fed, FedNames, Room};
 ghost use Rattle.hashing.specs.Order.{listed, Existing};
 
 // What an operation names: its operands, then its successors.

@@ -17,38 +17,21 @@ use Rattle.rules.specs.Hash.{hash}
 use Rattle.rules.specs.Laws.{Equal, In, Laws, LawsOfSound}
 use Rattle.rules.proofs.Walking.Answered.{equal-answered, hashed-is}
 use Rattle.rules.proofs.Laws.{laws-of-sound}
+use Rattle.layout.specs.Reading.{storeIn}
 use Rattle.layout.specs.Soundness.{soundBuffer, IsSound}
 use Rattle.layout.proofs.Empty.{sound-facts}
-use Rattle.building.specs.Calls.{bufferStore, AfterCalls}
+use Rattle.building.specs.Calls.{AfterCalls}
 use Rattle.building.proofs.Answering.{after-calls}
-use Rattle.equivalence.specs.Lent.{mappingLength, mappingOf}
-use Rattle.equivalence.specs.Walked.{storeIn, answerOf}
+use Rattle.equivalence.specs.Lent.{mappingLength, mappingOf, emptyWords}
+use Rattle.equivalence.specs.Walked.{answerOf}
 use Rattle.equivalence.specs.Calls as comparisons
+use Rattle.equivalence.proofs.Unmapped.{empty-words}
 use Rattle.equivalence.specs.declared.types.EqResult.{EqResult}
 use Rattle.equivalence.specs.declared.types.EqResult.the-variants.{Eq, FirstNEQOps, FirstNEQRegions, FirstNEQBlocks, Refused}
 use Rattle.hashing.specs.Calls as hashes
 use Rattle.hashing.specs.declared.types.Hashed.{Hashed}
 use Rattle.hashing.specs.declared.types.Hashed.the-variants as code
-use Rattle.laws.specs.Answers.{emptyWords, Compares, Hashes, SaysEqual, AnswersObey, Demand3OfCode}
-
--- ---- the empty mapping
-
-take-same : (n m x : ℕ) → n ≤ m → take n (replicate m x) ≡ replicate n x
-take-same zero m x l = refl
-take-same (suc n) zero x l = absurd (not-suc-le-zero l)
-take-same (suc n) (suc m) x l = ap (λ (xs : List ℕ). x ∷ xs) (take-same n m x (le-of-suc-le-suc l))
-
-drop-same : (n m x : ℕ) → drop n (replicate (n + m) x) ≡ replicate m x
-drop-same zero m x = let e : 0 + m ≡ m = omega arith in ap (λ (k : ℕ). replicate k x) e
-drop-same (suc n) m x = let e : suc n + m ≡ suc (n + m) = omega arith in ap (λ (k : ℕ). drop (suc n) (replicate k x)) e ∙ drop-same n m x
-
-empty-words : mappingOf emptyWords ≡ emptyMapping
-unfolding mappingOf emptyWords emptyMapping
-empty-words = λ i. record {
-  values = take-same 2048 2816 noImage (omega arith) i;
-  blocks = (ap (take 256) (drop-same 2048 768 noImage) ∙ take-same 256 768 noImage (omega arith)) i;
-  ops = drop-same 2304 512 noImage i;
-}
+use Rattle.laws.specs.Answers.{Compares, Hashes, SaysEqual, AnswersObey, Demand3OfCode}
 
 -- ---- single answers
 
@@ -96,7 +79,6 @@ module _ (b : List ℕ) (sd : soundBuffer b ≡ true) (ig : Ignore) (f : Sort) w
       (sym (subst (λ (t : Bool). hashed t (storeIn b) ig f x ≡ hashes.hashedOf h) sd (a .told)) ∙ hashed-is (storeIn b) ruled ig f x ix)
 
   pub answers-obey : AnswersObey b ig f
-  unfolding bufferStore
   answers-obey =
       record {
         reflexive = λ a ia q c. says a a ia ia q c (laws .reflexive a ia);

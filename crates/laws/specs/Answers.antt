@@ -4,25 +4,20 @@
 use Prim.Native.Nat.{ℕ}
 use mathlib.Core.List.{List}
 use mathlib.Core.Path.{_≡_}
-use lib.ListN.{replicate}
 use Rattle.rules.specs.Fragments.{Sort, Premise}
 use Rattle.rules.specs.Building.{Call}
 use Rattle.rules.specs.Shells.{Ignore}
-use Rattle.rules.specs.Mapping.{noImage}
 use Rattle.rules.specs.Laws.{In}
+use Rattle.layout.specs.Reading.{storeIn}
 use Rattle.layout.specs.Columns.{emptyBuffer}
-use Rattle.building.specs.Calls.{bufferStore, Made}
-use Rattle.equivalence.specs.Lent.{mappingLength}
+use Rattle.building.specs.Calls.{Made}
+use Rattle.equivalence.specs.Lent.{emptyWords}
 use Rattle.equivalence.specs.Calls as comparisons
 use Rattle.equivalence.specs.declared.types.EqResult.{EqResult}
 use Rattle.equivalence.specs.declared.types.EqResult.the-variants.{Eq}
 use Rattle.hashing.specs.Calls as hashes
 use Rattle.hashing.specs.declared.types.Hashed.{Hashed}
 use Rattle.hashing.specs.declared.types.Hashed.the-variants.{Hash}
-
--- "An empty mapping has none in every entry": the words to lend
-unfoldable pub emptyWords : List ℕ
-emptyWords = replicate mappingLength noImage
 
 -- the offered comparison of a with b, begun with an empty mapping, answers q (`operation_eq`, `basic_block_eq`, `region_eq`)
 unfoldable pub Compares : List ℕ → Ignore → Sort → ℕ → ℕ → EqResult → Type 0
@@ -38,17 +33,17 @@ SaysEqual q = (n : ℕ) × (q ≡ Eq n)
 
 -- the four laws, of the answers on one buffer, for one ignore rule and sort of fragment
 pub record AnswersObey (buffer : List ℕ) (ig : Ignore) (f : Sort) : Type 0 where
-  pub reflexive : (a : ℕ) → In (bufferStore buffer) f a → (q : EqResult) → Compares buffer ig f a a q → SaysEqual q
+  pub reflexive : (a : ℕ) → In (storeIn buffer) f a → (q : EqResult) → Compares buffer ig f a a q → SaysEqual q
   pub symmetric :
-      (a b : ℕ) → In (bufferStore buffer) f a → In (bufferStore buffer) f b → Premise (bufferStore buffer) f a b
+      (a b : ℕ) → In (storeIn buffer) f a → In (storeIn buffer) f b → Premise (storeIn buffer) f a b
       → (q p : EqResult) → Compares buffer ig f a b q → Compares buffer ig f b a p → SaysEqual q → SaysEqual p
   pub transitive :
-      (a b c : ℕ) → In (bufferStore buffer) f a → In (bufferStore buffer) f b → In (bufferStore buffer) f c
-      → Premise (bufferStore buffer) f a b → Premise (bufferStore buffer) f b c
+      (a b c : ℕ) → In (storeIn buffer) f a → In (storeIn buffer) f b → In (storeIn buffer) f c
+      → Premise (storeIn buffer) f a b → Premise (storeIn buffer) f b c
       → (q p r : EqResult) → Compares buffer ig f a b q → Compares buffer ig f b c p → Compares buffer ig f a c r
       → SaysEqual q → SaysEqual p → SaysEqual r
   pub hashes :
-      (a b : ℕ) → In (bufferStore buffer) f a → In (bufferStore buffer) f b → Premise (bufferStore buffer) f a b
+      (a b : ℕ) → In (storeIn buffer) f a → In (storeIn buffer) f b → Premise (storeIn buffer) f a b
       → (q : EqResult) → Compares buffer ig f a b q → SaysEqual q
       → (h k : Hashed) → Hashes buffer ig f a h → Hashes buffer ig f b k → (w : ℕ) × (h ≡ Hash w) × (k ≡ Hash w)
 

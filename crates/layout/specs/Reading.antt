@@ -7,7 +7,7 @@ use mathlib.Core.List.{List, [], _∷_}
 use lib.Dec.{eqb}
 use lib.ListN.{take, drop}
 use Rattle.rules.specs.Store.{Store, Op, Block, Value, Attribute, Owner, ofOp, ofBlock}
-use Rattle.layout.specs.Columns.{Cols, at, counts, opKind, opParent, opLocation, opOperandFirst, opOperandEnd, opSuccessorFirst, opSuccessorEnd, opAttributes, regionOp, blockRegion, blockLabel, blockLocation, blockAttributes, valueType, valueOwner, operandWords, successorWords, slotKey, slotKind, slotContent}
+use Rattle.layout.specs.Columns.{Cols, columns, at, counts, opKind, opParent, opLocation, opOperandFirst, opOperandEnd, opSuccessorFirst, opSuccessorEnd, opAttributes, regionOp, blockRegion, blockLabel, blockLocation, blockAttributes, valueType, valueOwner, operandWords, successorWords, slotKey, slotKind, slotContent}
 
 -- f at each number below n, by rising number
 unfoldable pub tabulateFrom : {A : Type 0} → ℕ → ℕ → (ℕ → A) → List A
@@ -16,6 +16,10 @@ tabulateFrom i (suc n) f = f i ∷ tabulateFrom (suc i) n f
 
 unfoldable pub tabulate : {A : Type 0} → ℕ → (ℕ → A) → List A
 tabulate n f = tabulateFrom 0 n f
+
+-- so many numbers, from one on
+unfoldable pub following : ℕ → ℕ → List ℕ
+following a n = tabulateFrom a n (λ (i : ℕ). i)
 
 -- the entries of a list from a on, up to e
 unfoldable pub part : List ℕ → ℕ → ℕ → List ℕ
@@ -102,3 +106,7 @@ storeOf C =
       regions = tabulate (regionCount C) (at C regionOp);
       values = tabulate (valueCount C) (valueOf C);
     }
+
+-- of a buffer
+abbrev pub storeIn : List ℕ → Store
+storeIn b = storeOf (columns b)

@@ -13,7 +13,7 @@ ghost use Prim.Native.Nat.{_-_, _<_, _≤_};
 ghost use lib.ListN.{length};
 ghost use Rattle.rules.specs.Store.{opsOf, blocksOf};
 ghost use Rattle.layout.specs.Columns.{bufferLength, size, columns};
-ghost use Rattle.layout.specs.Reading.{blockCount, regionCount, storeOf};
+ghost use Rattle.layout.specs.Reading.{blockCount, regionCount, storeIn};
 ghost use Rattle.layout.specs.Soundness.{Arranged};
 ghost use Rattle.layout.specs.Children.{firstFrom, firstWord, foundFrom};
 
@@ -44,7 +44,7 @@ fn first_at(store: &[u32], column: usize, w: u32, a: usize, e: usize) -> Found
 pub fn next_op(store: &[u32], block: usize, from: usize) -> Found
     requires { ⌜ Arranged (now store) ⌝ }
     requires { ⌜ block < blockCount (columns (now store)) ⌝ }
-    ensures { λ r. ⌜ r ≡ foundFrom (firstFrom from (opsOf (storeOf (columns (now (store .entry)))) block)) ⌝ }
+    ensures { λ r. ⌜ r ≡ foundFrom (firstFrom from (opsOf (storeIn (now (store .entry))) block)) ⌝ }
 {
     let w = block as u32 + 1;
     let first = number(store, BLOCK_OP_FIRST, block);
@@ -59,7 +59,7 @@ pub fn next_op(store: &[u32], block: usize, from: usize) -> Found
 pub fn first_op(store: &[u32], block: usize) -> Found
     requires { ⌜ Arranged (now store) ⌝ }
     requires { ⌜ block < blockCount (columns (now store)) ⌝ }
-    ensures { λ r. ⌜ r ≡ foundFrom (firstFrom 0 (opsOf (storeOf (columns (now (store .entry)))) block)) ⌝ }
+    ensures { λ r. ⌜ r ≡ foundFrom (firstFrom 0 (opsOf (storeIn (now (store .entry))) block)) ⌝ }
 {
     next_op(store, block, 0)
 }
@@ -68,7 +68,7 @@ pub fn first_op(store: &[u32], block: usize) -> Found
 pub fn next_block(store: &[u32], region: usize, from: usize) -> Found
     requires { ⌜ Arranged (now store) ⌝ }
     requires { ⌜ region < regionCount (columns (now store)) ⌝ }
-    ensures { λ r. ⌜ r ≡ foundFrom (firstFrom from (blocksOf (storeOf (columns (now (store .entry)))) region)) ⌝ }
+    ensures { λ r. ⌜ r ≡ foundFrom (firstFrom from (blocksOf (storeIn (now (store .entry))) region)) ⌝ }
 {
     let w = region as u32;
     let first = number(store, REGION_BLOCK_FIRST, region);
@@ -83,7 +83,7 @@ pub fn next_block(store: &[u32], region: usize, from: usize) -> Found
 pub fn first_block(store: &[u32], region: usize) -> Found
     requires { ⌜ Arranged (now store) ⌝ }
     requires { ⌜ region < regionCount (columns (now store)) ⌝ }
-    ensures { λ r. ⌜ r ≡ foundFrom (firstFrom 0 (blocksOf (storeOf (columns (now (store .entry)))) region)) ⌝ }
+    ensures { λ r. ⌜ r ≡ foundFrom (firstFrom 0 (blocksOf (storeIn (now (store .entry))) region)) ⌝ }
 {
     next_block(store, region, 0)
 }

@@ -6,6 +6,7 @@ pub mod columns;
 pub mod lists;
 pub mod owners;
 pub mod parts;
+pub mod row_checks;
 pub mod rows;
 pub mod ruled;
 pub mod sound;

@@ -6,7 +6,7 @@ ghost use mathlib.Core.Path.{_≡_};
 ghost use mathlib.Core.Bool.{true};
 ghost use Rattle.rules.specs.Store.{ownerExists};
 ghost use Rattle.layout.specs.Columns.{columns};
-ghost use Rattle.layout.specs.Reading.{slotsOf, storeOf};
+ghost use Rattle.layout.specs.Reading.{slotsOf, storeIn};
 ghost use Rattle.layout.specs.Soundness.{IsSound};
 ghost use Rattle.layout.specs.Owners.{ownerOf, countColumn, ownerNumber, keyCount};
 
@@ -49,7 +49,7 @@ pub fn first_slot(owner: Owner) -> usize
 // How many keys the owner has.
 pub fn key_count(store: &[u32], owner: Owner) -> usize
     requires { ⌜ IsSound (now store) ⌝ }
-    requires { ⌜ ownerExists (storeOf (columns (now store))) (ownerOf owner) ≡ true ⌝ }
+    requires { ⌜ ownerExists (storeIn (now store)) (ownerOf owner) ≡ true ⌝ }
     ensures { λ r. ⌜ r ≡ keyCount (columns (now (store .entry))) (ownerOf owner) ⌝ }
 {
     number(store, count_column(owner), owner_number(owner))

@@ -11,14 +11,14 @@ ghost use mathlib.Core.Path.{_≡_};
 ghost use Prim.Native.Nat.{_<_};
 ghost use Rattle.rules.specs.Store.{opAt};
 ghost use Rattle.layout.specs.Columns.{columns};
-ghost use Rattle.layout.specs.Reading.{opCount, storeOf};
+ghost use Rattle.layout.specs.Reading.{opCount, storeIn};
 ghost use Rattle.layout.specs.Soundness.{Arranged};
 
 // The operands of an operation.
 pub fn operands_of(store: &[u32], n: usize) -> &[u32]
     requires { ⌜ Arranged (now store) ⌝ }
     requires { ⌜ n < opCount (columns (now store)) ⌝ }
-    ensures { λ r. ⌜ now r ≡ opAt (storeOf (columns (now (store .entry)))) n .operands ⌝ }
+    ensures { λ r. ⌜ now r ≡ opAt (storeIn (now (store .entry))) n .operands ⌝ }
 {
     let a = number(store, OP_OPERAND_FIRST, n);
     let e = number(store, OP_OPERAND_END, n);
@@ -29,7 +29,7 @@ pub fn operands_of(store: &[u32], n: usize) -> &[u32]
 pub fn successors_of(store: &[u32], n: usize) -> &[u32]
     requires { ⌜ Arranged (now store) ⌝ }
     requires { ⌜ n < opCount (columns (now store)) ⌝ }
-    ensures { λ r. ⌜ now r ≡ opAt (storeOf (columns (now (store .entry)))) n .successors ⌝ }
+    ensures { λ r. ⌜ now r ≡ opAt (storeIn (now (store .entry))) n .successors ⌝ }
 {
     let a = number(store, OP_SUCCESSOR_FIRST, n);
     let e = number(store, OP_SUCCESSOR_END, n);

@@ -16,12 +16,10 @@ use crate::columns::OP_RESULT_END;
 use crate::columns::OP_RESULT_FIRST;
 use crate::columns::OP_SUCCESSOR_END;
 use crate::columns::OP_SUCCESSOR_FIRST;
-use crate::columns::OPERAND_WORDS;
 use crate::columns::OPS;
 use crate::columns::REGION_OP;
 use crate::columns::SLOT_KEY;
 use crate::columns::SLOT_KIND;
-use crate::columns::SUCCESSOR_WORDS;
 use crate::columns::VALUES;
 use crate::columns::at;
 use crate::columns::number;
@@ -29,6 +27,8 @@ use crate::columns::words;
 use crate::lists::all_below;
 use crate::owners::Owner;
 use crate::owners::first_slot;
+use crate::parts::operands_of;
+use crate::parts::successors_of;
 ghost use mathlib.Core.Path.{_≡_};
 ghost use Prim.Native.Nat.{_+_, _-_, _<_, _≤_};
 ghost use lib.Dec.{leb, ltb};
@@ -36,8 +36,8 @@ ghost use lib.ListN.{length};
 ghost use Rattle.rules.specs.Lists.{all, allBelow};
 ghost use Rattle.rules.specs.Store.{keysRise, attributesHold, maxAttributeKind, blockAfter, sound};
 ghost use Rattle.layout.specs.Columns.{bufferLength, size, columns, opParent, regionOp, blockRegion};
-ghost use Rattle.layout.specs.Reading.{attributesFrom, opCount, blockCount, valueCount, parentFrom, opOf, storeOf};
-ghost use Rattle.layout.specs.Soundness.{Arranged, opRules, blockRules, rulesHold};
+ghost use Rattle.layout.specs.Reading.{attributesFrom, opCount, blockCount, valueCount, parentFrom, opOf, storeIn};
+ghost use Rattle.layout.specs.Soundness.{Arranged, opRules, blockRules};
 
 // The keys of so many slots rise.
 fn keys_rise(store: &[u32], first: usize, count: usize) -> bool
@@ -101,10 +101,8 @@ fn operands_exist(store: &[u32], n: usize) -> bool
     requires { ⌜ n < opCount (columns (now store)) ⌝ }
     ensures { λ r. ⌜ r ≡ all (λ v. ltb v (valueCount (columns (now (store .entry))))) (opOf (columns (now (store .entry))) n .operands) ⌝ }
 {
-    let a = number(store, OP_OPERAND_FIRST, n);
-    let e = number(store, OP_OPERAND_END, n);
     let values = at(store, COUNTS, VALUES);
-    all_below(words(store, OPERAND_WORDS, a, e), values)
+    all_below(operands_of(store, n), values)
 }
 
 // An operation's successors are blocks of the store.
@@ -113,10 +111,8 @@ fn successors_exist(store: &[u32], n: usize) -> bool
     requires { ⌜ n < opCount (columns (now store)) ⌝ }
     ensures { λ r. ⌜ r ≡ all (λ b. ltb b (blockCount (columns (now (store .entry))))) (opOf (columns (now (store .entry))) n .successors) ⌝ }
 {
-    let a = number(store, OP_SUCCESSOR_FIRST, n);
-    let e = number(store, OP_SUCCESSOR_END, n);
     let blocks = at(store, COUNTS, BLOCKS);
-    all_below(words(store, SUCCESSOR_WORDS, a, e), blocks)
+    all_below(successors_of(store, n), blocks)
 }
 
 // An operation keeps the rules.
@@ -209,21 +205,13 @@ fn blocks_hold(store: &[u32]) -> bool
     true
 }
 
-// Each row keeps the rules.
-fn rules_hold(store: &[u32]) -> bool
+// What the words are read as is a sound store.
+pub fn is_ruled(store: &[u32]) -> bool
     requires { ⌜ Arranged (now store) ⌝ }
-    ensures { λ r. ⌜ r ≡ rulesHold (columns (now (store .entry))) ⌝ }
+    ensures { λ r. ⌜ r ≡ sound (storeIn (now (store .entry))) ⌝ }
 {
     if !ops_hold(store) {
         return false;
     }
     blocks_hold(store)
-}
-
-// What the words are read as is a sound store.
-pub fn is_ruled(store: &[u32]) -> bool
-    requires { ⌜ Arranged (now store) ⌝ }
-    ensures { λ r. ⌜ r ≡ sound (storeOf (columns (now (store .entry)))) ⌝ }
-{
-    rules_hold(store)
 }

@@ -1,9 +1,12 @@
--- What the code reads of a line is what the rules read. Why to write pieces one behind the other is to write them all, why a number's
--- digits may be written from the last down, and that the pieces of a line are the rules' line.
-pub mod Fields
-pub mod Numbers
-pub mod Answers
-pub mod Meaning
-mod Joined
-mod Digits
-mod Lines
+-- Why a listing is printed as the rules print it: its first line, what each line means and does, what a query prints and counts, and the
+-- lines one after the other.
+mod Heading
+mod Built
+mod Meant
+mod Written
+mod Counts
+mod Verdicts
+mod Hashes
+mod Steps
+mod Runs
+mod Whole

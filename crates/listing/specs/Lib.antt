@@ -1,4 +1,6 @@
--- What the code reads of a listing's line, and what it writes.
-pub mod Reading
-pub mod Parsing
-pub mod Wrote
+-- What the code does for a listing, as what the rules say of it.
+pub mod Progress
+pub mod Building
+pub mod Asking
+pub mod Stepping
+pub mod Calls

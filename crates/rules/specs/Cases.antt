@@ -5,28 +5,36 @@ use mathlib.Core.Bool.{Bool, true, false}
 use mathlib.Core.Option.{none, some}
 use mathlib.Core.List.{List, [], _∷_, _++_}
 use mathlib.Core.Path.{_≡_}
-use lib.ListN.{replicate}
+use lib.ListN.{set, replicate}
 use Rattle.rules.specs.Store.{Attribute, ofOp, emptyStore, sound}
 use Rattle.rules.specs.Fragments.{Sort, op, block, region}
 use Rattle.rules.specs.Building.{Call, newOperation, newBlock, setAttribute, setOperand, Built, made, accepted, refused, answer, after}
 use Rattle.rules.specs.Shells.{Ignore}
-use Rattle.rules.specs.Mapping.{emptyMapping, image}
+use Rattle.rules.specs.Mapping.{Mapping, emptyMapping, image}
 use Rattle.rules.specs.Comparison.{pairOf}
-use Rattle.rules.specs.Answers.{Compared, eq, neq, comparison}
+use Rattle.rules.specs.Answers.{Compared, eq, neq, refused as refusedCompared, comparison}
 
 pub data Case : Type 0 where
   -- after these calls, comparing from an empty mapping under this rule two fragments of this sort answers this
   compares : List Call → Ignore → Sort → ℕ → ℕ → Compared → Case
   -- the same comparison leaves a mapping in which this block has this image
   maps : List Call → Ignore → Sort → ℕ → ℕ → ℕ → ℕ → Case
+  -- begun with a mapping that has one entry, this image of this value, the comparison answers this
+  begun : List Call → ℕ → ℕ → Ignore → Sort → ℕ → ℕ → Compared → Case
   -- after these calls, this one answers this
   builds : List Call → Call → Built → Case
+
+-- one entry, of a value
+unfoldable pub oneEntry : ℕ → ℕ → Mapping
+oneEntry v i = record { values = set (emptyMapping .values) v i; blocks = emptyMapping .blocks; ops = emptyMapping .ops }
 
 unfoldable pub Holds : Case → Type 0
 Holds (compares calls ig f l r a) =
     comparison (sound (after emptyStore calls)) (after emptyStore calls) emptyMapping ig f l r .answer ≡ a
 Holds (maps calls ig f l r b i) =
     image (comparison (sound (after emptyStore calls)) (after emptyStore calls) emptyMapping ig f l r .mapping .blocks) b ≡ i
+Holds (begun calls v i ig f l r a) =
+    comparison (sound (after emptyStore calls)) (after emptyStore calls) (oneEntry v i) ig f l r .answer ≡ a
 Holds (builds calls c a) = answer (after emptyStore calls) c ≡ a
 
 unfoldable pub AllHold : List Case → Type 0
@@ -121,6 +129,11 @@ mistakes =
     maps (twoRegions 2 1) (ignoring false 0) region 0 1 0 2
     -- a twin that names its own inner value early is unequal
     ∷ compares namesInner (ignoring false 0) op 1 2 (neq (pairOf op 1 2) 1)
+    -- an entry that was lent counts; one whose image or value does not exist is found before a fragment that does not
+    ∷ begun (twoUsers 1) 0 1 (ignoring false 0) op 1 2 (eq 1)
+    ∷ begun (twoUsers 1) 0 2 (ignoring false 0) op 1 2 (refusedCompared 8)
+    ∷ begun (twoUsers 1) 2 0 (ignoring false 0) op 1 3 (refusedCompared 8)
+    ∷ begun (twoUsers 1) 1 0 (ignoring false 0) op 1 3 (refusedCompared 2)
     -- a value that does not exist is found before a list that is too long
     ∷ builds [] (newOperation 1 none 0 0 (replicate 17 3) (0 ∷ []) []) (refused 2)
     -- an attribute's kind before its owner

@@ -128,19 +128,29 @@ run p n now (line ∷ lines) rest = proceed (does p now line) n (λ next. run p 
 unfoldable pub headerTests : List ℕ → List (Bool × ℕ)
 headerTests line = (leb (length line) maxLine, 11) ∷ (isText "opstore,1" line, 9) ∷ []
 
-unfoldable pub unless : Option ℕ → List ℕ → List ℕ
-unless none out = out
-unless (some cause) out = refusal 1 cause
-
--- "An empty listing gives 9, line 1."
-unfoldable pub fromHeader : Program → List (List ℕ) → List ℕ → List ℕ
-fromHeader p [] [] = refusal 1 9
-fromHeader p [] (x ∷ rest) = refusal 1 11
-fromHeader p (line ∷ lines) rest = unless (firstFailed (headerTests line)) (run p 2 atStart lines rest)
+-- why the first line is refused. "An empty listing gives 9, line 1."
+unfoldable pub headerCause : List (List ℕ) → List ℕ → Option ℕ
+headerCause [] [] = some 9
+headerCause [] (x ∷ rest) = some 11
+headerCause (line ∷ lines) rest = firstFailed (headerTests line)
 
 -- "At most 65,536 bytes"
 abbrev pub maxListing : ℕ
 maxListing = 65536
+
+-- why no line behind the first is read
+unfoldable pub listingCause : List ℕ → Option ℕ
+listingCause bytes =
+    cond (leb (length bytes) maxListing) (headerCause (cutAt lineFeed bytes .whole) (cutAt lineFeed bytes .rest)) (some 11)
+
+-- the lines behind the first
+unfoldable pub behindFirst : List (List ℕ) → List (List ℕ)
+behindFirst [] = []
+behindFirst (line ∷ lines) = lines
+
+unfoldable pub unless : Option ℕ → List ℕ → List ℕ
+unless none out = out
+unless (some cause) out = refusal 1 cause
 
 -- no listing makes either program print more
 abbrev pub maxOutput : ℕ
@@ -148,10 +158,21 @@ maxOutput = 327680
 
 unfoldable pub listed : Program → List ℕ → List ℕ
 listed p bytes =
-    cond
-    (leb (length bytes) maxListing)
-    (fromHeader p (cutAt lineFeed bytes .whole) (cutAt lineFeed bytes .rest))
-    (refusal 1 11)
+    unless (listingCause bytes) (run p 2 atStart (behindFirst (cutAt lineFeed bytes .whole)) (cutAt lineFeed bytes .rest))
+
+-- ---- the store afterwards: what the lines have built, up to a refused one
+
+unfoldable pub keeps : Outcome → Progress → (Progress → Store) → Store
+keeps (prints out next) now more = more next
+keeps (stops cause) now more = now .store
+
+unfoldable pub leaves : Program → Progress → List (List ℕ) → Store
+leaves p now [] = now .store
+leaves p now (line ∷ lines) = keeps (does p now line) now (λ next. leaves p next lines)
+
+-- of a listing whose first line is not refused
+unfoldable pub storeAfter : Program → List ℕ → Store
+storeAfter p bytes = leaves p atStart (behindFirst (cutAt lineFeed bytes .whole))
 
 -- ---- "`twins` prints a line for each `q`, then the share"
 

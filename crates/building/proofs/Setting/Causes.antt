@@ -12,18 +12,17 @@ use Rattle.rules.specs.Store.{Attribute, Owner, ownerExists, attributeTotal, ma
 use Rattle.rules.specs.Building.{setAttribute, attributesOf, hasKey, tests, firstFailed}
 use Rattle.rules.proofs.Soundness.Accepted.{firstFailed-none}
 use Rattle.layout.specs.Columns.{columns}
-use Rattle.layout.specs.Reading.{attributeCount}
+use Rattle.layout.specs.Reading.{attributeCount, storeIn}
 use Rattle.layout.specs.Soundness.{IsSound}
 use Rattle.layout.specs.Owners.{keyCount}
 use Rattle.building.specs.Raw.{keyThere}
-use Rattle.building.specs.Calls.{bufferStore}
 use Rattle.building.proofs.Facts.{attributes-counted}
 use Rattle.building.proofs.Setting.Owners.{key-test, keys-counted}
 use Rattle.building.proofs.Setting.SetAttribute.{Room}
 
 module _ (b : List ℕ) (h : IsSound b) (w : Owner) (a : Attribute) where
   abbrev failing : Option ℕ
-  failing = firstFailed (tests (bufferStore b) (setAttribute w a))
+  failing = firstFailed (tests (storeIn b) (setAttribute w a))
 
   abbrev there : Bool
   there = keyThere (columns b) w (a .key)
@@ -32,11 +31,11 @@ module _ (b : List ℕ) (h : IsSound b) (w : Owner) (a : Attribute) where
   unfolding tests firstFailed
   kind-over l = simp (lt-leb _ _ l)
 
-  pub no-owner : a .kind ≤ maxAttributeKind → ownerExists (bufferStore b) w ≡ false → some 2 ≡ failing
+  pub no-owner : a .kind ≤ maxAttributeKind → ownerExists (storeIn b) w ≡ false → some 2 ≡ failing
   unfolding tests firstFailed
   no-owner l e = simp (le-leb _ _ l, e)
 
-  module _ (l : a .kind ≤ maxAttributeKind) (e : ownerExists (bufferStore b) w ≡ true) where
+  module _ (l : a .kind ≤ maxAttributeKind) (e : ownerExists (storeIn b) w ≡ true) where
     -- the tests of room, over the columns
     room-tests : failing ≡ cond (there || leb (keyCount (columns b) w + 1) maxOwnKeys) (cond (there || leb (attributeCount (columns b) + 1) maxAttributes) none (some 3)) (some 4)
     unfolding tests firstFailed
@@ -61,17 +60,17 @@ module _ (b : List ℕ) (h : IsSound b) (w : Owner) (a : Attribute) where
   -- ---- and where all pass
 
   module _ (e : failing ≡ none) where
-    pub owner-there : ownerExists (bufferStore b) w ≡ true
+    pub owner-there : ownerExists (storeIn b) w ≡ true
     unfolding tests
     owner-there = firstFailed-none _ e .1 .0
 
-    passed-new : there ≡ false → (test : Bool) → (hasKey (a .key) (attributesOf (bufferStore b) w) || test) ≡ true → test ≡ true
+    passed-new : there ≡ false → (test : Bool) → (hasKey (a .key) (attributesOf (storeIn b) w) || test) ≡ true → test ≡ true
     passed-new t test p = subst (λ (x : Bool). (x || test) ≡ true) (key-test b h w owner-there (a .key) ∙ t) p
 
     pub room-there : Room (columns b) w (a .key)
     unfolding tests
     room-there t =
-        let p = firstFailed-none (tests (bufferStore b) (setAttribute w a)) e .1 .1 in (
-          omega (arith, leb-true (length (attributesOf (bufferStore b) w) + 1) maxOwnKeys (passed-new t _ (p .0)), keys-counted b h w owner-there),
-          omega (arith, leb-true (attributeTotal (bufferStore b) + 1) maxAttributes (passed-new t (leb (attributeTotal (bufferStore b) + 1) maxAttributes) (p .1 .0)), attributes-counted b h),
+        let p = firstFailed-none (tests (storeIn b) (setAttribute w a)) e .1 .1 in (
+          omega (arith, leb-true (length (attributesOf (storeIn b) w) + 1) maxOwnKeys (passed-new t _ (p .0)), keys-counted b h w owner-there),
+          omega (arith, leb-true (attributeTotal (storeIn b) + 1) maxAttributes (passed-new t (leb (attributeTotal (storeIn b) + 1) maxAttributes) (p .1 .0)), attributes-counted b h),
         )

@@ -17,20 +17,20 @@ use Rattle.rules.specs.Mapping.{emptyMapping}
 use Rattle.rules.specs.Answers.{Compared, eq, neq, refused as refusedCompared, comparison, Hashed, hashIs, refusedHash, hashed}
 use Rattle.rules.specs.Bytes.{text, isText, lineFeed, cutAt}
 use Rattle.rules.specs.Lines.{Line, building, query, parse}
-use Rattle.rules.specs.Listings.{Progress, Outcome, prints, stops, Program, buildingDoes, lineDoes, maxLine, does, proceed, atEnd, run, atStart, headerTests, unless, fromHeader, maxListing, maxOutput, listed, refusal, twinsAnswer, twinsProgram, twins, sumsAnswer, sumsProgram, sums}
+use Rattle.rules.specs.Listings.{Progress, Outcome, prints, stops, Program, buildingDoes, lineDoes, maxLine, does, proceed, atEnd, run, atStart, headerTests, headerCause, listingCause, behindFirst, unless, maxListing, maxOutput, listed, refusal, twinsAnswer, twinsProgram, twins, sumsAnswer, sumsProgram, sums}
 use Rattle.rules.proofs.Basics.Tests.{numbers-same}
 use Rattle.rules.proofs.Listings.Cut.{weight, cut-weight}
 use Rattle.rules.proofs.Listings.Written.{lastMost, lineMost, refusal-short, share-short, equal-short, unequal-short, hashes-short}
 use Rattle.rules.proofs.Listings.Taken.{parse-long}
 
 -- at most k bytes are printed
-abbrev Within : ℕ → Outcome → Type 0
+abbrev pub Within : ℕ → Outcome → Type 0
 Within k (prints out next) = length out ≤ k
 Within k (stops cause) = Unit {0}
 
-record Terse (p : Program) : Type 0 where
-  ask : (now : Progress) (f : Sort) (l r : ℕ) (ig : Ignore) → Within lineMost (p .ask now f l r ig)
-  close : (now : Progress) → length (p .close now) ≤ lastMost
+pub record Terse (p : Program) : Type 0 where
+  pub ask : (now : Progress) (f : Sort) (l r : ℕ) (ig : Ignore) → Within lineMost (p .ask now f l r ig)
+  pub close : (now : Progress) → length (p .close now) ≤ lastMost
 
 building-within : (k : ℕ) (b : Built) (s : Store) (now : Progress) → Within k (buildingDoes b s now)
 unfolding buildingDoes
@@ -54,7 +54,7 @@ module _ (p : Program) (t : Terse p) where
   line-within now line (some (building c)) e = building-within _ (answer (now .store) c) (built (now .store) c) now
   line-within now line (some (query f l r ig)) e = more lineMost _ (p .ask now f l r ig) (omega (arith, parse-long line (query f l r ig) e)) (t .ask now f l r ig)
 
-  does-within : (now : Progress) (line : List ℕ) → Within (5 * suc (length line)) (does p now line)
+  pub does-within : (now : Progress) (line : List ℕ) → Within (5 * suc (length line)) (does p now line)
   unfolding does
   does-within now line = go (leb (length line) maxLine)
     where
@@ -88,19 +88,19 @@ header-short line true true k out e h m =
     omega arith
 
 module _ (p : Program) (t : Terse p) where
-  from-header-short : (lines : List (List ℕ)) (rest : List ℕ) → weight lines ≤ maxListing → length (fromHeader p lines rest) ≤ maxOutput
-  unfolding fromHeader headerTests
+  from-header-short : (lines : List (List ℕ)) (rest : List ℕ) → weight lines ≤ maxListing → length (unless (headerCause lines rest) (run p 2 atStart (behindFirst lines) rest)) ≤ maxOutput
+  unfolding headerCause headerTests behindFirst unless
   from-header-short [] [] h = omega (arith, refusal-short 1 9)
   from-header-short [] (x ∷ rest) h = omega (arith, refusal-short 1 11)
   from-header-short (line ∷ lines) rest h =
       header-short line _ _ (weight lines) _ refl (omega arith) (run-short p t _ atStart lines rest)
 
   listed-short : (bytes : List ℕ) → length (listed p bytes) ≤ maxOutput
-  unfolding listed
+  unfolding listed listingCause unless
   listed-short bytes = go (leb (length bytes) maxListing) refl
     where
       go : (b : Bool) → leb (length bytes) maxListing ≡ b
-          → length (cond b (fromHeader p (cutAt lineFeed bytes .whole) (cutAt lineFeed bytes .rest)) (refusal 1 11)) ≤ maxOutput
+          → length (unless (cond b (headerCause (cutAt lineFeed bytes .whole) (cutAt lineFeed bytes .rest)) (some 11)) (run p 2 atStart (behindFirst (cutAt lineFeed bytes .whole)) (cutAt lineFeed bytes .rest))) ≤ maxOutput
       go true e = from-header-short _ _ (omega (arith, cut-weight lineFeed bytes, leb-true (length bytes) maxListing e))
       go false e = omega (arith, refusal-short 1 11)
 
@@ -112,7 +112,7 @@ twins-within (eq paired) f r now = equal-short paired
 twins-within (neq p paired) f r now = unequal-short p paired
 twins-within (refusedCompared cause) f r now = tt
 
-twins-terse : Terse twinsProgram
+pub twins-terse : Terse twinsProgram
 unfolding twinsProgram
 twins-terse = record { ask = λ now f l r ig. twins-within _ _ _ now; close = λ now. share-short (now .tally) }
 
@@ -126,7 +126,7 @@ sums-within (hashIs left) (hashIs right) now = hashes-short left right
 sums-within (hashIs left) (refusedHash cause) now = tt
 sums-within (refusedHash cause) right now = tt
 
-sums-terse : Terse sumsProgram
+pub sums-terse : Terse sumsProgram
 unfolding sumsProgram
 sums-terse = record { ask = λ now f l r ig. sums-within _ _ now; close = λ now. omega arith }
 

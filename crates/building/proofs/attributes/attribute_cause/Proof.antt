@@ -4,13 +4,12 @@ use mathlib.Core.Bool.{true, false}
 use mathlib.Core.Path.{_≡_, sym, _∙_}
 use Rattle.rules.specs.Store.{ownerExists}
 use Rattle.layout.specs.Columns.{columns}
-use Rattle.layout.specs.Reading.{attributeCount}
+use Rattle.layout.specs.Reading.{attributeCount, storeIn}
 use Rattle.layout.specs.Owners.{ownerOf}
 use Rattle.layout.proofs.Scans.{failed, held}
 use Rattle.building.specs.Types.{attributeOf}
 use Rattle.layout.specs.Causes.{causeOf}
 use Rattle.building.specs.Raw.{keyThere}
-use Rattle.building.specs.Calls.{bufferStore}
 use Rattle.building.proofs.Setting.Causes.{kind-over, no-owner, key-set, many-keys, many-attributes, room-left}
 use borrow.Author.Needs.{needs}
 use Rattle.building.proofs.attributes.attribute_cause.Statement.{statement}
@@ -52,7 +51,7 @@ slot-for-requires c κs =
     let a = s .args in
     let b = a .store .now in
     let w = ownerOf (a .owner) in
-    let o : ownerExists (bufferStore b) w ≡ true = held (c .before .owner-exists .ensures) (c .if2 .left) in
+    let o : ownerExists (storeIn b) w ≡ true = held (c .before .owner-exists .ensures) (c .if2 .left) in
     (s .pre, o)
 
 key-there-requires : tie.Need-key-there-requires
@@ -61,7 +60,7 @@ key-there-requires c κs =
     let a = s .args in
     let b = a .store .now in
     let w = ownerOf (a .owner) in
-    let o : ownerExists (bufferStore b) w ≡ true = held (c .before .before .owner-exists .ensures) (c .before .if2 .left) in
+    let o : ownerExists (storeIn b) w ≡ true = held (c .before .before .owner-exists .ensures) (c .before .if2 .left) in
     (s .pre, (o, c .slot-for .ensures))
 
 returns-3 : tie.Need-returns-3
@@ -72,18 +71,17 @@ returns-3 c =
     let b = a .store .now in
     let w = ownerOf (a .owner) in
     let t = attributeOf (a .attribute) in
-    let o : ownerExists (bufferStore b) w ≡ true = held (c .before .before .before .before .owner-exists .ensures) (c .before .before .before .if2 .left) in
+    let o : ownerExists (storeIn b) w ≡ true = held (c .before .before .before .before .owner-exists .ensures) (c .before .before .before .if2 .left) in
     let k : keyThere (columns b) w (t .key) ≡ true = sym (c .before .key-there .ensures) ∙ c .if3 .taken in
     key-set b (s .pre) w t (omega arith) o k
 
 key-count-requires : tie.Need-key-count-requires
-unfolding bufferStore
 key-count-requires c κs =
     let s = c .before .before .before .before .before .before .before .before in
     let a = s .args in
     let b = a .store .now in
     let w = ownerOf (a .owner) in
-    let o : ownerExists (bufferStore b) w ≡ true = held (c .before .before .before .before .owner-exists .ensures) (c .before .before .before .if2 .left) in
+    let o : ownerExists (storeIn b) w ≡ true = held (c .before .before .before .before .owner-exists .ensures) (c .before .before .before .if2 .left) in
     (s .pre, o)
 
 returns-4 : tie.Need-returns-4
@@ -94,7 +92,7 @@ returns-4 c =
     let b = a .store .now in
     let w = ownerOf (a .owner) in
     let t = attributeOf (a .attribute) in
-    let o : ownerExists (bufferStore b) w ≡ true = held (c .before .before .before .before .before .before .owner-exists .ensures) (c .before .before .before .before .before .if2 .left) in
+    let o : ownerExists (storeIn b) w ≡ true = held (c .before .before .before .before .before .before .owner-exists .ensures) (c .before .before .before .before .before .if2 .left) in
     let k : keyThere (columns b) w (t .key) ≡ false = sym (c .before .before .before .key-there .ensures) ∙ c .before .before .if3 .left in
     many-keys b (s .pre) w t (omega arith) o k (omega arith)
 
@@ -109,7 +107,7 @@ returns-5 c =
     let b = a .store .now in
     let w = ownerOf (a .owner) in
     let t = attributeOf (a .attribute) in
-    let o : ownerExists (bufferStore b) w ≡ true = held (c .before .before .before .before .before .before .before .before .owner-exists .ensures) (c .before .before .before .before .before .before .before .if2 .left) in
+    let o : ownerExists (storeIn b) w ≡ true = held (c .before .before .before .before .before .before .before .before .owner-exists .ensures) (c .before .before .before .before .before .before .before .if2 .left) in
     let k : keyThere (columns b) w (t .key) ≡ false = sym (c .before .before .before .before .before .key-there .ensures) ∙ c .before .before .before .before .if3 .left in
     many-attributes b (s .pre) w t (omega arith) o k (omega arith) (omega arith)
 
@@ -121,7 +119,7 @@ returns-6 c =
     let b = a .store .now in
     let w = ownerOf (a .owner) in
     let t = attributeOf (a .attribute) in
-    let o : ownerExists (bufferStore b) w ≡ true = held (c .before .before .before .before .before .before .before .before .owner-exists .ensures) (c .before .before .before .before .before .before .before .if2 .left) in
+    let o : ownerExists (storeIn b) w ≡ true = held (c .before .before .before .before .before .before .before .before .owner-exists .ensures) (c .before .before .before .before .before .before .before .if2 .left) in
     let k : keyThere (columns b) w (t .key) ≡ false = sym (c .before .before .before .before .before .key-there .ensures) ∙ c .before .before .before .before .if3 .left in
     room-left b (s .pre) w t (omega arith) o k (omega arith) (omega arith)
 

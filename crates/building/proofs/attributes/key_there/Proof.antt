@@ -9,7 +9,6 @@ use Rattle.layout.specs.Columns.{columns, at}
 use Rattle.layout.specs.Reading.{slotsOf}
 use Rattle.layout.specs.Owners.{ownerOf, keyCount}
 use Rattle.building.specs.Raw.{slotFor, keyThere}
-use Rattle.building.specs.Calls.{bufferStore}
 use Rattle.building.proofs.Setting.Owners.{reachable}
 use borrow.Author.Needs.{needs}
 use Rattle.building.proofs.attributes.key_there.Statement.{statement}
@@ -24,7 +23,6 @@ first-slot-requires : tie.Need-first-slot-requires
 first-slot-requires c κs = search needs
 
 key-count-requires : tie.Need-key-count-requires
-unfolding bufferStore
 key-count-requires c κs = search needs
 
 add-if1 : tie.Need-add-if1

@@ -2,10 +2,9 @@
 use mathlib.Core.Path.{sym, ap, _∙_}
 use lib.Dec.{ltb}
 use Rattle.rules.specs.Store.{ownerExists}
-use Rattle.layout.specs.Reading.{opCount, blockCount}
+use Rattle.layout.specs.Reading.{opCount, blockCount, storeIn}
 use Rattle.layout.specs.Owners.{ownerOf}
 use Rattle.layout.specs.declared.owners.Owner.{Owner}
-use Rattle.building.specs.Calls.{bufferStore}
 use Rattle.building.proofs.Facts.{op-exists, block-exists}
 use borrow.Author.Needs.{needs}
 use Rattle.building.proofs.attributes.owner_exists.Statement.{statement}
@@ -32,7 +31,7 @@ returns c =
     let s = c .before .before .before .before .before in
     let n = c .before .before .owner .given .0 .0 in
     ap (ltb n) (c .at .ensures) ∙ sym (op-exists (s .args .store .now) (s .pre) n)
-    ∙ sym (ap (λ (o : Owner). ownerExists (bufferStore (s .args .store .now)) (ownerOf o)) (c .before .before .owner .given .1))
+    ∙ sym (ap (λ (o : Owner). ownerExists (storeIn (s .args .store .now)) (ownerOf o)) (c .before .before .owner .given .1))
 
 returns-2 : tie.Need-returns-2
 unfolding ownerExists ownerOf opCount blockCount
@@ -40,7 +39,7 @@ returns-2 c =
     let s = c .before .before .before .before .before in
     let n = c .before .before .owner2 .given .0 .0 in
     ap (ltb n) (c .at2 .ensures) ∙ sym (block-exists (s .args .store .now) (s .pre) n)
-    ∙ sym (ap (λ (o : Owner). ownerExists (bufferStore (s .args .store .now)) (ownerOf o)) (c .before .before .owner2 .given .1))
+    ∙ sym (ap (λ (o : Owner). ownerExists (storeIn (s .args .store .now)) (ownerOf o)) (c .before .before .owner2 .given .1))
 
 pub owner-exists-spec : {M : Type 1} → statement M
 owner-exists-spec =

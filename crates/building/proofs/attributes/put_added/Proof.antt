@@ -8,7 +8,6 @@ use Rattle.layout.specs.Owners.{ownerOf, keyCount}
 use Rattle.layout.proofs.OwnerKeys.{count-reached}
 use Rattle.building.specs.Types.{attributeOf}
 use Rattle.building.specs.Raw.{inserted, added}
-use Rattle.building.specs.Calls.{bufferStore}
 use Rattle.building.proofs.Facts.{counts}
 use Rattle.building.proofs.Setting.Owners.{reachable}
 use borrow.Author.Needs.{needs}
@@ -25,7 +24,6 @@ use Rattle.layout.proofs.columns.number.Reads as number-reads
 use Rattle.layout.proofs.columns.put.Reads as put-reads
 
 key-count-requires : tie.Need-key-count-requires
-unfolding bufferStore
 key-count-requires c κs =
     let s = c .before .before in
     (s .pre .0, s .pre .1 .0)

@@ -3,12 +3,11 @@ use mathlib.Core.Option.{none}
 use mathlib.Core.Path.{_≡_, refl, sym, ap, subst, _∙_}
 use Rattle.rules.specs.Building.{setAttribute, tests, firstFailed, acceptance}
 use Rattle.layout.specs.Columns.{columns}
-use Rattle.layout.specs.Reading.{storeOf}
+use Rattle.layout.specs.Reading.{storeOf, storeIn}
 use Rattle.layout.specs.Owners.{ownerOf}
 use Rattle.layout.proofs.Laid.{Laid}
 use Rattle.building.specs.Types.{attributeOf, builtOf}
 use Rattle.layout.specs.Causes.{causeOf}
-use Rattle.building.specs.Calls.{bufferStore}
 use Rattle.building.proofs.Facts.{shaped, laid}
 use Rattle.building.proofs.Doing.{did-refuse, did-work}
 use Rattle.building.proofs.Setting.Owners.{reachable}
@@ -39,7 +38,7 @@ put-attribute-requires c κs =
     let b = a .store .now in
     let w = ownerOf (a .owner) in
     let t = attributeOf (a .attribute) in
-    let clear : firstFailed (tests (bufferStore b) (setAttribute w t)) ≡ none = sym (c .before .before .before .attribute-cause .ensures) ∙ ap causeOf (c .before .enum-told .given .1) in
+    let clear : firstFailed (tests (storeIn b) (setAttribute w t)) ≡ none = sym (c .before .before .before .attribute-cause .ensures) ∙ ap causeOf (c .before .enum-told .given .1) in
     (s .pre, clear)
 
 same-length : tie.Need-same-length
@@ -66,7 +65,7 @@ returns-2 c =
     let b = a .store .now in
     let w = ownerOf (a .owner) in
     let t = attributeOf (a .attribute) in
-    let clear : firstFailed (tests (bufferStore b) (setAttribute w t)) ≡ none = sym (c .before .before .before .before .before .before .attribute-cause .ensures) ∙ ap causeOf (c .before .before .before .before .enum-told .given .1) in
+    let clear : firstFailed (tests (storeIn b) (setAttribute w t)) ≡ none = sym (c .before .before .before .before .before .before .attribute-cause .ensures) ∙ ap causeOf (c .before .before .before .before .enum-told .given .1) in
     let l = reachable b (s .pre) w (owner-there b (s .pre) w t clear) .within in
     let room = room-there b (s .pre) w t clear in
     let e = c .before .before .put-attribute .ensures in

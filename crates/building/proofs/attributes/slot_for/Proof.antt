@@ -4,7 +4,6 @@ use mathlib.Core.Path.{ap₂, _∙_}
 use Rattle.layout.specs.Columns.{columns}
 use Rattle.layout.specs.Owners.{ownerOf}
 use Rattle.building.specs.Raw.{seek, slotFor}
-use Rattle.building.specs.Calls.{bufferStore}
 use Rattle.building.proofs.Setting.Owners.{reachable}
 use borrow.Author.Needs.{needs}
 use Rattle.building.proofs.attributes.slot_for.Statement.{statement}
@@ -19,7 +18,6 @@ first-slot-requires : tie.Need-first-slot-requires
 first-slot-requires c κs = search needs
 
 key-count-requires : tie.Need-key-count-requires
-unfolding bufferStore
 key-count-requires c κs = search needs
 
 slot-from-requires : tie.Need-slot-from-requires

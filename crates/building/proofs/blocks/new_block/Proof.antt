@@ -4,11 +4,10 @@ use mathlib.Core.Option.{none}
 use mathlib.Core.Path.{_≡_, refl, sym, ap, subst, _∙_}
 use Rattle.rules.specs.Building.{newBlock, made, tests, firstFailed, acceptance}
 use Rattle.layout.specs.Columns.{columns}
-use Rattle.layout.specs.Reading.{blockCount, storeOf}
+use Rattle.layout.specs.Reading.{blockCount, storeOf, storeIn}
 use Rattle.layout.proofs.Laid.{Laid}
 use Rattle.building.specs.Types.{builtOf}
 use Rattle.layout.specs.Causes.{causeOf}
-use Rattle.building.specs.Calls.{bufferStore}
 use Rattle.building.proofs.Facts.{shaped, laid, blocks-counted}
 use Rattle.building.proofs.Causes.{fits-block}
 use Rattle.building.proofs.Doing.{did-refuse, did-work}
@@ -36,7 +35,7 @@ put-block-requires c κs =
     let a = s .args in
     let b = a .store .now in
     let h = s .pre in
-    let clear : firstFailed (tests (bufferStore b) (newBlock (a .region) (a .label) (a .location) (a .types .now))) ≡ none
+    let clear : firstFailed (tests (storeIn b) (newBlock (a .region) (a .label) (a .location) (a .types .now))) ≡ none
     = sym (c .before .before .before .before .before .block-cause .ensures (a .label) (a .location)) ∙ ap causeOf (c .before .before .before .enum-told .given .1) in
     let f = fits-block b h (a .region) (a .label) (a .location) (a .types .now) clear in
     (h .sized, (omega (arith, f .named, laid b h .counts .regions), (f .room .blocks, f .room .values)))
@@ -63,7 +62,7 @@ returns-2 c =
     let a = s .args in
     let b = a .store .now in
     let h = s .pre in
-    let clear : firstFailed (tests (bufferStore b) (newBlock (a .region) (a .label) (a .location) (a .types .now))) ≡ none
+    let clear : firstFailed (tests (storeIn b) (newBlock (a .region) (a .label) (a .location) (a .types .now))) ≡ none
     = sym (c .before .before .before .before .before .before .before .before .block-cause .ensures (a .label) (a .location)) ∙ ap causeOf (c .before .before .before .before .before .before .enum-told .given .1) in
     let f = fits-block b h (a .region) (a .label) (a .location) (a .types .now) clear in
     let e = c .before .before .put-block .ensures in

@@ -4,11 +4,10 @@ use mathlib.Core.Path.{_≡_, refl, sym, ap, subst, _∙_}
 use mathlib.Core.Option.{none}
 use Rattle.rules.specs.Building.{setOperand, acceptance, tests, firstFailed}
 use Rattle.layout.specs.Columns.{columns}
-use Rattle.layout.specs.Reading.{storeOf}
+use Rattle.layout.specs.Reading.{storeOf, storeIn}
 use Rattle.layout.proofs.Laid.{Laid}
 use Rattle.building.specs.Types.{builtOf}
 use Rattle.layout.specs.Causes.{causeOf}
-use Rattle.building.specs.Calls.{bufferStore}
 use Rattle.building.proofs.Facts.{shaped, laid}
 use Rattle.building.proofs.Causes.{there-operand}
 use Rattle.building.proofs.Doing.{did-refuse, did-work}
@@ -33,7 +32,7 @@ put-operand-requires c κs =
     let a = s .args in
     let b = a .store .now in
     let h = s .pre in
-    let clear : firstFailed (tests (bufferStore b) (setOperand (a .n) (a .i) (a .v))) ≡ none = sym (c .before .before .before .operand-cause .ensures) ∙ ap causeOf (c .before .enum-told .given .1) in
+    let clear : firstFailed (tests (storeIn b) (setOperand (a .n) (a .i) (a .v))) ≡ none = sym (c .before .before .before .operand-cause .ensures) ∙ ap causeOf (c .before .enum-told .given .1) in
     let t = there-operand b h (a .n) (a .i) (a .v) clear in
     let k = laid b h .op (a .n) (t .op) .operands .range .fits in
     (h .sized, (omega (arith, t .op, laid b h .counts .ops), omega (arith, t .operand, laid b h .counts .operands)))
@@ -60,7 +59,7 @@ returns-2 c =
     let a = s .args in
     let b = a .store .now in
     let h = s .pre in
-    let clear : firstFailed (tests (bufferStore b) (setOperand (a .n) (a .i) (a .v))) ≡ none = sym (c .before .before .before .before .before .before .operand-cause .ensures) ∙ ap causeOf (c .before .before .before .before .enum-told .given .1) in
+    let clear : firstFailed (tests (storeIn b) (setOperand (a .n) (a .i) (a .v))) ≡ none = sym (c .before .before .before .before .before .before .operand-cause .ensures) ∙ ap causeOf (c .before .before .before .before .enum-told .given .1) in
     let t = there-operand b h (a .n) (a .i) (a .v) clear in
     let e = c .before .before .put-operand .ensures in
     did-work b h (setOperand (a .n) (a .i) (a .v)) _ (c .before .before .put-operand .last .0) clear (c .before .before .put-operand .kept .0)

@@ -2,10 +2,10 @@
 use mathlib.Core.Bool.{true}
 use mathlib.Core.Path.{_≡_, subst, sym, ap, _∙_}
 use Rattle.rules.specs.Store.{parentExists}
+use Rattle.layout.specs.Reading.{storeIn}
 use Rattle.layout.specs.Columns.{columns}
 use Rattle.building.specs.Raw.{depthUnder}
 use Rattle.building.specs.Types.{parentOf}
-use Rattle.building.specs.Calls.{bufferStore}
 use borrow.Author.Needs.{needs}
 use Rattle.building.proofs.tests.depth_under.Statement.{statement}
 use Rattle.building.proofs.tests.depth_under.Tie as tie
@@ -26,7 +26,7 @@ depth-in-requires : tie.Need-depth-in-requires
 unfolding parentExists parentOf
 depth-in-requires c κs =
     let s = c .before .before .before .before in
-    (s .pre .0, subst (λ p. parentExists (bufferStore (s .args .store .now)) (parentOf p) ≡ true) (c .before .parent .given .1) (s .pre .1))
+    (s .pre .0, subst (λ p. parentExists (storeIn (s .args .store .now)) (parentOf p) ≡ true) (c .before .parent .given .1) (s .pre .1))
 
 returns : tie.Need-returns
 unfolding depthUnder parentOf

@@ -7,9 +7,8 @@ use lib.Dec.{leb}
 use lib.ListN.{length}
 use Rattle.rules.specs.Store.{operandTotal}
 use Rattle.rules.specs.Building.{operationRoom}
-use Rattle.layout.specs.Reading.{opCount, regionCount, valueCount, operandCount, successorCount}
+use Rattle.layout.specs.Reading.{opCount, regionCount, valueCount, operandCount, successorCount, storeIn}
 use Rattle.layout.proofs.Scans.{stop, next, last}
-use Rattle.building.specs.Calls.{bufferStore}
 use Rattle.building.proofs.Facts.{fits-facts, counts, ops-counted, regions-counted, values-counted, operands-counted, successors-counted}
 use borrow.Author.Needs.{needs}
 use Rattle.building.proofs.tests.operation_room.Statement.{statement}
@@ -38,7 +37,7 @@ returns c =
     let b = a .store .now in
     let k = counts b (s .pre .0) in
     let eops = c .before .number .ensures ∙ sym (ops-counted b (s .pre .0)) in
-    sym (stop _ _ (lt-leb (length (bufferStore b .ops) + 1) 512 (omega arith)))
+    sym (stop _ _ (lt-leb (length (storeIn b .ops) + 1) 512 (omega arith)))
 
 number-requires-2 : tie.Need-number-requires-2
 number-requires-2 c κs = search needs
@@ -61,7 +60,7 @@ returns-2 c =
     let k = counts b (s .pre .0) in
     let eops = c .before .before .before .number .ensures ∙ sym (ops-counted b (s .pre .0)) in
     let eregions = c .before .number2 .ensures ∙ sym (regions-counted b (s .pre .0)) in
-    sym (next _ _ (le-leb (length (bufferStore b .ops) + 1) 512 (omega arith)) (stop _ _ (lt-leb (length (bufferStore b .regions) + a .regions) 256 (omega arith))))
+    sym (next _ _ (le-leb (length (storeIn b .ops) + 1) 512 (omega arith)) (stop _ _ (lt-leb (length (storeIn b .regions) + a .regions) 256 (omega arith))))
 
 number-requires-3 : tie.Need-number-requires-3
 number-requires-3 c κs = search needs
@@ -85,8 +84,8 @@ returns-3 c =
     let eops = c .before .before .before .before .before .number .ensures ∙ sym (ops-counted b (s .pre .0)) in
     let eregions = c .before .before .before .number2 .ensures ∙ sym (regions-counted b (s .pre .0)) in
     let evalues = c .before .number3 .ensures ∙ sym (values-counted b (s .pre .0)) in
-    sym (next _ _ (le-leb (length (bufferStore b .ops) + 1) 512 (omega arith))
-    (next _ _ (le-leb (length (bufferStore b .regions) + a .regions) 256 (omega arith)) (stop _ _ (lt-leb (length (bufferStore b .values) + length (a .types .now)) 2048 (omega arith)))))
+    sym (next _ _ (le-leb (length (storeIn b .ops) + 1) 512 (omega arith))
+    (next _ _ (le-leb (length (storeIn b .regions) + a .regions) 256 (omega arith)) (stop _ _ (lt-leb (length (storeIn b .values) + length (a .types .now)) 2048 (omega arith)))))
 
 number-requires-4 : tie.Need-number-requires-4
 number-requires-4 c κs = search needs
@@ -111,9 +110,9 @@ returns-4 c =
     let eregions = c .before .before .before .before .before .number2 .ensures ∙ sym (regions-counted b (s .pre .0)) in
     let evalues = c .before .before .before .number3 .ensures ∙ sym (values-counted b (s .pre .0)) in
     let eoperands = c .before .number4 .ensures ∙ sym (operands-counted b (s .pre .0)) in
-    sym (next _ _ (le-leb (length (bufferStore b .ops) + 1) 512 (omega arith))
-    (next _ _ (le-leb (length (bufferStore b .regions) + a .regions) 256 (omega arith))
-    (next _ _ (le-leb (length (bufferStore b .values) + length (a .types .now)) 2048 (omega arith)) (stop _ _ (lt-leb (operandTotal (bufferStore b) + length (a .operands .now)) 2048 (omega arith))))))
+    sym (next _ _ (le-leb (length (storeIn b .ops) + 1) 512 (omega arith))
+    (next _ _ (le-leb (length (storeIn b .regions) + a .regions) 256 (omega arith))
+    (next _ _ (le-leb (length (storeIn b .values) + length (a .types .now)) 2048 (omega arith)) (stop _ _ (lt-leb (operandTotal (storeIn b) + length (a .operands .now)) 2048 (omega arith))))))
 
 number-requires-5 : tie.Need-number-requires-5
 number-requires-5 c κs = search needs
@@ -139,10 +138,10 @@ returns-5 c =
     let evalues = c .before .before .before .before .number3 .ensures ∙ sym (values-counted b (s .pre .0)) in
     let eoperands = c .before .before .number4 .ensures ∙ sym (operands-counted b (s .pre .0)) in
     let esuccessors = c .number5 .ensures ∙ sym (successors-counted b (s .pre .0)) in
-    sym (next _ _ (le-leb (length (bufferStore b .ops) + 1) 512 (omega arith))
-    (next _ _ (le-leb (length (bufferStore b .regions) + a .regions) 256 (omega arith))
-    (next _ _ (le-leb (length (bufferStore b .values) + length (a .types .now)) 2048 (omega arith))
-    (next _ _ (le-leb (operandTotal (bufferStore b) + length (a .operands .now)) 2048 (omega arith)) (last _ (ap (λ (x : ℕ). leb (x + length (a .successors .now)) 512) (sym esuccessors)))))))
+    sym (next _ _ (le-leb (length (storeIn b .ops) + 1) 512 (omega arith))
+    (next _ _ (le-leb (length (storeIn b .regions) + a .regions) 256 (omega arith))
+    (next _ _ (le-leb (length (storeIn b .values) + length (a .types .now)) 2048 (omega arith))
+    (next _ _ (le-leb (operandTotal (storeIn b) + length (a .operands .now)) 2048 (omega arith)) (last _ (ap (λ (x : ℕ). leb (x + length (a .successors .now)) 512) (sym esuccessors)))))))
 
 pub operation-room-spec : {M : Type 1} → statement M
 operation-room-spec =

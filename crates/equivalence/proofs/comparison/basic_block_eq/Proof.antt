@@ -3,12 +3,13 @@ use mathlib.Core.Option.{none}
 use mathlib.Core.Path.{_≡_, sym, ap, subst, _∙_}
 use Rattle.rules.specs.Building.{firstFailed}
 use Rattle.rules.specs.Fragments.{block}
+use Rattle.layout.specs.Reading.{storeIn}
 use Rattle.layout.specs.Columns.{columns}
 use Rattle.layout.specs.Causes.{causeOf}
 use Rattle.layout.proofs.Empty.{sound-of}
 use Rattle.fragments.specs.Ignoring.{ignoreOf}
 use Rattle.fragments.specs.Sorts.{sortOf}
-use Rattle.equivalence.specs.Walked.{storeIn, lent, Told, Few, Ready}
+use Rattle.equivalence.specs.Walked.{lent, Told, Few, Ready}
 use Rattle.equivalence.specs.Order.{Existing}
 use Rattle.equivalence.specs.Calls.{pairTests}
 use Rattle.equivalence.proofs.Answering.{pair-exists, block-there, refused-pair, walked, few-walk, block-walk, allowed-long}

@@ -3,6 +3,7 @@ use mathlib.Core.Option.{none}
 use mathlib.Core.Path.{_≡_, sym, ap, subst, _∙_}
 use Rattle.rules.specs.Building.{firstFailed}
 use Rattle.rules.specs.Fragments.{op}
+use Rattle.layout.specs.Reading.{storeIn}
 use Rattle.layout.specs.Columns.{columns}
 use Rattle.layout.specs.Causes.{causeOf}
 use Rattle.layout.proofs.Empty.{sound-of}
@@ -10,7 +11,7 @@ use Rattle.fragments.specs.Ignoring.{ignoreOf}
 use Rattle.fragments.specs.Sorts.{sortOf}
 use native.Mathlib.Omega.{arith}
 use Rattle.rules.specs.Comparison.{paper, pairOps, compareBy}
-use Rattle.equivalence.specs.Walked.{storeIn, lent, Told, Few, Ready, opWalk}
+use Rattle.equivalence.specs.Walked.{lent, Told, Few, Ready, opWalk}
 use Rattle.equivalence.specs.Calls.{pairTests}
 use Rattle.equivalence.specs.declared.types.EqResult.the-variants.{Eq}
 use Rattle.equivalence.proofs.Telling.{told-ended, told-bind}

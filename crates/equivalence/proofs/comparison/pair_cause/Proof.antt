@@ -1,9 +1,9 @@
 -- `pair_cause` meets its contract, test by test. Assumes nothing.
 use mathlib.Core.Path.{sym}
+use Rattle.layout.specs.Reading.{storeIn}
 use Rattle.layout.specs.Causes.{causeOf}
 use Rattle.layout.proofs.Scans.{failed, held}
 use Rattle.fragments.specs.Sorts.{sortOf}
-use Rattle.equivalence.specs.Walked.{storeIn}
 use Rattle.equivalence.proofs.Answering.{left-missing, right-missing, left-deep, right-deep, both-shallow}
 use borrow.Author.Needs.{needs}
 use Rattle.equivalence.proofs.comparison.pair_cause.Statement.{statement}

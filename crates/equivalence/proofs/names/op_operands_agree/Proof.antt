@@ -7,8 +7,7 @@ use lib.Dec.{ltb}
 use Rattle.rules.specs.Lists.{all, allPairs}
 use Rattle.rules.specs.Comparison.{operandsAgree}
 use Rattle.layout.specs.Columns.{columns}
-use Rattle.layout.specs.Reading.{valueCount}
-use Rattle.equivalence.specs.Walked.{storeIn}
+use Rattle.layout.specs.Reading.{valueCount, storeIn}
 use Rattle.equivalence.specs.Lent.{mappingOf, sameOperand}
 use Rattle.equivalence.proofs.Named.{operands-below}
 use borrow.Author.Needs.{needs}

@@ -6,8 +6,6 @@ use mathlib.Core.Path.{_≡_, sym, ap₂, subst, _∙_}
 use lib.Dec.{ltb}
 use Rattle.rules.specs.Lists.{all, allPairs}
 use Rattle.rules.specs.Comparison.{successorsAgree}
-use Rattle.layout.specs.Columns.{columns}
-use Rattle.equivalence.specs.Walked.{storeIn}
 use Rattle.equivalence.specs.Lent.{mappingOf, sameSuccessor}
 use Rattle.equivalence.proofs.Named.{successors-below}
 use borrow.Author.Needs.{needs}

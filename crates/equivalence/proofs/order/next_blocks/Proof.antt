@@ -1,7 +1,7 @@
 -- `next_blocks` meets its contract: the two lists are those of the variant. Assumes nothing.
 use mathlib.Core.Path.{ap₂, subst, _∙_}
 use Rattle.layout.specs.Columns.{columns}
-use Rattle.equivalence.specs.Walked.{storeIn, lefts, rights}
+use Rattle.equivalence.specs.Walked.{lefts, rights}
 use Rattle.equivalence.specs.Order.{bothOf, nextOf, Existing}
 use borrow.Author.Needs.{needs}
 use Rattle.equivalence.proofs.order.next_blocks.Statement.{statement}

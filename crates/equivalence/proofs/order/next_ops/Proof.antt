@@ -1,6 +1,5 @@
 -- `next_ops` meets its contract: each list is asked for its next. Assumes nothing.
 use mathlib.Core.Path.{ap₂, _∙_}
-use Rattle.equivalence.specs.Walked.{storeIn}
 use Rattle.equivalence.specs.Order.{bothOf, nextOf}
 use borrow.Author.Needs.{needs}
 use Rattle.equivalence.proofs.order.next_ops.Statement.{statement}

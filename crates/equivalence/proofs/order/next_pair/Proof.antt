@@ -4,10 +4,10 @@ use native.Mathlib.Omega.{arith}
 use mathlib.Core.Path.{_≡_, refl, sym, ap, subst, _∙_}
 use Rattle.rules.specs.Store.{opsOf}
 use Rattle.layout.specs.Columns.{columns}
-use Rattle.layout.specs.Reading.{blockCount}
+use Rattle.layout.specs.Reading.{blockCount, storeIn}
 use Rattle.layout.proofs.Laid.{laid-facts}
 use Rattle.layout.proofs.Seeking.{ops-rise}
-use Rattle.equivalence.specs.Walked.{storeIn, lefts, rights}
+use Rattle.equivalence.specs.Walked.{lefts, rights}
 use Rattle.equivalence.specs.Order.{pairsFrom, past, First, FirstPair, Existing}
 use Rattle.equivalence.proofs.Ordered.{Step, next-both, next-else, lefts-rise, rights-rise, in-lefts, in-rights, pairs-over, pairs-later, pairs-first, first-same}
 use borrow.Author.Needs.{needs}

@@ -3,13 +3,13 @@ use Prim.Native.Nat.{_+_, _<_, _≤_}
 use native.Mathlib.Omega.{arith}
 use mathlib.Core.Path.{ap, _∙_}
 use Rattle.layout.specs.Columns.{columns, at, blockArgumentFirst, blockArgumentEnd}
-use Rattle.layout.specs.Reading.{blockCount}
+use Rattle.layout.specs.Reading.{blockCount, storeIn, following}
 use Rattle.layout.proofs.Laid.{laid-facts}
 use Rattle.layout.proofs.Scans.{failed, held}
 use Rattle.fragments.specs.Ignoring.{ignoreOf}
-use Rattle.equivalence.specs.Lent.{mappingOf, withBlock, withValues, numbers}
+use Rattle.equivalence.specs.Lent.{mappingOf, withBlock, withValues}
 use Rattle.equivalence.specs.Rows.{span}
-use Rattle.equivalence.specs.Walked.{storeIn, lent, most}
+use Rattle.equivalence.specs.Walked.{lent, most}
 use Rattle.equivalence.proofs.Paired.{block-side, blocks-unlike, blocks-alike}
 use borrow.Author.Needs.{needs}
 use Rattle.equivalence.proofs.pairing.block_eq_map.Statement.{statement}
@@ -124,8 +124,8 @@ returns-2 c =
     let t = held (c .before .before .before .before .before .before .before .before .before .block-shells-eq .ensures) (c .before .before .before .before .before .before .before .before .if1 .left) in
     let sd = block-side (a .store .now) (s .pre .0 .sound) (ignoreOf (a .ignore)) (a .lhs) (a .rhs) ll rl t in
     blocks-alike (storeIn (a .store .now)) (ignoreOf (a .ignore)) (a .lhs) (a .rhs) (a .mapping .now) (a .paired) (c .before .before .map-owned .last .1 .0)
-    (numbers (at C blockArgumentFirst (a .lhs)) (span C blockArgumentFirst blockArgumentEnd (a .lhs))) (numbers (at C blockArgumentFirst (a .rhs)) (span C blockArgumentFirst blockArgumentEnd (a .lhs))) t (sd .left) (sd .right)
-    (c .before .before .map-owned .ensures ∙ ap (λ m. withValues m (numbers (at C blockArgumentFirst (a .lhs)) (span C blockArgumentFirst blockArgumentEnd (a .lhs))) (numbers (at C blockArgumentFirst (a .rhs)) (span C blockArgumentFirst blockArgumentEnd (a .lhs)))) (c .before .before .before .before .before .before .map-block .ensures))
+    (following (at C blockArgumentFirst (a .lhs)) (span C blockArgumentFirst blockArgumentEnd (a .lhs))) (following (at C blockArgumentFirst (a .rhs)) (span C blockArgumentFirst blockArgumentEnd (a .lhs))) t (sd .left) (sd .right)
+    (c .before .before .map-owned .ensures ∙ ap (λ m. withValues m (following (at C blockArgumentFirst (a .lhs)) (span C blockArgumentFirst blockArgumentEnd (a .lhs))) (following (at C blockArgumentFirst (a .rhs)) (span C blockArgumentFirst blockArgumentEnd (a .lhs)))) (c .before .before .before .before .before .before .map-block .ensures))
 
 pub block-eq-map-spec : {M : Type 1} → statement M
 block-eq-map-spec =

@@ -3,8 +3,9 @@ use Prim.Native.Nat.{_≤_, _+_, _-_}
 use native.Mathlib.Omega.{arith}
 use mathlib.Core.Path.{_≡_, ap₂, _∙_}
 use Prim.Native.Nat.{ℕ}
+use Rattle.layout.specs.Reading.{following}
 use Rattle.layout.specs.Columns.{columns, at}
-use Rattle.equivalence.specs.Lent.{mappingOf, withValues, numbers}
+use Rattle.equivalence.specs.Lent.{mappingOf, withValues}
 use Rattle.equivalence.specs.Rows.{span}
 use borrow.Author.Needs.{needs}
 use Rattle.equivalence.proofs.pairing.map_owned.Statement.{statement}
@@ -53,7 +54,7 @@ returns c =
     let e = c .before .before .before .before .before .number2 .ensures in
     let n : c .before .before .before .before .before .number2 .result - c .before .before .before .before .before .before .number .result ≡ span (columns (s .args .store .now)) (s .args .first) (s .args .end) (s .args .l) = ap₂ _-_ e a in
     c .before .before .map-values .ensures
-    ∙ ap₂ (withValues m) (ap₂ numbers a n) (ap₂ numbers (c .before .before .before .before .at .ensures) n)
+    ∙ ap₂ (withValues m) (ap₂ following a n) (ap₂ following (c .before .before .before .before .at .ensures) n)
 
 pub map-owned-spec : {M : Type 1} → statement M
 map-owned-spec =

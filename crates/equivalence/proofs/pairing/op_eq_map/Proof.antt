@@ -3,13 +3,13 @@ use Prim.Native.Nat.{_+_, _<_, _≤_}
 use native.Mathlib.Omega.{arith}
 use mathlib.Core.Path.{ap, _∙_}
 use Rattle.layout.specs.Columns.{columns, at, opResultFirst, opResultEnd}
-use Rattle.layout.specs.Reading.{opCount}
+use Rattle.layout.specs.Reading.{opCount, storeIn, following}
 use Rattle.layout.proofs.Laid.{laid-facts}
 use Rattle.layout.proofs.Scans.{failed, held}
 use Rattle.fragments.specs.Ignoring.{ignoreOf}
-use Rattle.equivalence.specs.Lent.{mappingOf, withOp, withValues, numbers}
+use Rattle.equivalence.specs.Lent.{mappingOf, withOp, withValues}
 use Rattle.equivalence.specs.Rows.{span}
-use Rattle.equivalence.specs.Walked.{storeIn, lent, most}
+use Rattle.equivalence.specs.Walked.{lent, most}
 use Rattle.equivalence.proofs.Paired.{op-side, ops-unlike, ops-alike}
 use borrow.Author.Needs.{needs}
 use Rattle.equivalence.proofs.pairing.op_eq_map.Statement.{statement}
@@ -124,8 +124,8 @@ returns-2 c =
     let t = held (c .before .before .before .before .before .before .before .before .before .op-shells-eq .ensures) (c .before .before .before .before .before .before .before .before .if1 .left) in
     let sd = op-side (a .store .now) (s .pre .0 .sound) (ignoreOf (a .ignore)) (a .lhs) (a .rhs) ll rl t in
     ops-alike (storeIn (a .store .now)) (ignoreOf (a .ignore)) (a .lhs) (a .rhs) (a .mapping .now) (a .paired) (c .before .before .map-owned .last .1 .0)
-    (numbers (at C opResultFirst (a .lhs)) (span C opResultFirst opResultEnd (a .lhs))) (numbers (at C opResultFirst (a .rhs)) (span C opResultFirst opResultEnd (a .lhs))) t (sd .left) (sd .right)
-    (c .before .before .map-owned .ensures ∙ ap (λ m. withValues m (numbers (at C opResultFirst (a .lhs)) (span C opResultFirst opResultEnd (a .lhs))) (numbers (at C opResultFirst (a .rhs)) (span C opResultFirst opResultEnd (a .lhs)))) (c .before .before .before .before .before .before .map-op .ensures))
+    (following (at C opResultFirst (a .lhs)) (span C opResultFirst opResultEnd (a .lhs))) (following (at C opResultFirst (a .rhs)) (span C opResultFirst opResultEnd (a .lhs))) t (sd .left) (sd .right)
+    (c .before .before .map-owned .ensures ∙ ap (λ m. withValues m (following (at C opResultFirst (a .lhs)) (span C opResultFirst opResultEnd (a .lhs))) (following (at C opResultFirst (a .rhs)) (span C opResultFirst opResultEnd (a .lhs)))) (c .before .before .before .before .before .before .map-op .ensures))
 
 pub op-eq-map-spec : {M : Type 1} → statement M
 op-eq-map-spec =

@@ -4,7 +4,7 @@ use native.Mathlib.Omega.{arith}
 use mathlib.Core.Path.{_≡_, refl, sym, ap, subst, _∙_}
 use lib.ListN.{length}
 use Rattle.layout.specs.Columns.{columns}
-use Rattle.layout.specs.Reading.{blockCount}
+use Rattle.layout.specs.Reading.{blockCount, storeIn}
 use Rattle.layout.specs.Children.{onFrom}
 use Rattle.layout.proofs.Laid.{laid-facts}
 use Rattle.layout.proofs.Seeking.{from-zero}
@@ -13,7 +13,7 @@ use Rattle.equivalence.specs.declared.types.EqResult.the-variants.{Eq}
 use Prim.Native.Nat.{_+_}
 use Rattle.rules.specs.Comparison.{paper, pairwise, pairBlocks, pass1}
 use Rattle.rules.proofs.Walking.Paired.{grows-pairwise, grows-pair-blocks}
-use Rattle.equivalence.specs.Walked.{storeIn, lent, Told, answerOf, lefts, rights, namedBy}
+use Rattle.equivalence.specs.Walked.{lent, Told, answerOf, lefts, rights, namedBy}
 use Rattle.equivalence.proofs.Ordered.{next-both, next-neither, next-unequal, lefts-rise, rights-rise, in-lefts, in-rights, bounded, pairwise-both, pairwise-over, pairwise-uneven}
 use Rattle.equivalence.proofs.Telling.{told-ended, told-bind, told-over, told-uneven, named-neq, few-now}
 use borrow.Author.Needs.{needs}

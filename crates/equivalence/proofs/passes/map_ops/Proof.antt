@@ -4,7 +4,7 @@ use native.Mathlib.Omega.{arith}
 use mathlib.Core.Path.{_≡_, refl, sym, ap, subst, _∙_}
 use lib.ListN.{length}
 use Rattle.layout.specs.Columns.{columns}
-use Rattle.layout.specs.Reading.{blockCount}
+use Rattle.layout.specs.Reading.{blockCount, storeIn}
 use Rattle.layout.specs.Children.{onFrom}
 use Rattle.layout.proofs.Laid.{laid-facts}
 use Rattle.layout.proofs.Seeking.{from-zero}
@@ -15,7 +15,7 @@ use Rattle.rules.specs.Store.{opsOf}
 use Rattle.rules.specs.Fragments.{block}
 use Rattle.rules.specs.Comparison.{State, Walk, paper, pairOf, pairwise, eachPair, pairOps, pass2}
 use Rattle.rules.proofs.Walking.Paired.{grows-each, grows-pairwise, grows-pair-ops}
-use Rattle.equivalence.specs.Walked.{storeIn, lent, Told, lefts, rights}
+use Rattle.equivalence.specs.Walked.{lent, Told, lefts, rights}
 use Rattle.equivalence.proofs.Ordered.{next-both, next-else, lefts-rise, rights-rise, in-lefts, in-rights, each-both, each-over}
 use Rattle.equivalence.proofs.Telling.{told-ended, told-bind, told-over, few-part}
 use borrow.Author.Needs.{needs}

@@ -4,7 +4,7 @@ use native.Mathlib.Omega.{arith}
 use mathlib.Core.Path.{_≡_, refl, sym, ap, subst, _∙_}
 use lib.ListN.{length}
 use Rattle.layout.specs.Columns.{columns}
-use Rattle.layout.specs.Reading.{blockCount, opCount}
+use Rattle.layout.specs.Reading.{blockCount, opCount, storeIn}
 use Rattle.layout.specs.Children.{onFrom}
 use Rattle.layout.proofs.Laid.{laid-facts}
 use Rattle.layout.proofs.Seeking.{from-zero, ops-rise}
@@ -15,7 +15,7 @@ use Rattle.rules.specs.Store.{opsOf}
 use Rattle.rules.specs.Fragments.{block}
 use Rattle.rules.specs.Comparison.{paper, pairOf, pairwise, pairOps}
 use Rattle.rules.proofs.Walking.Paired.{grows-pairwise, grows-pair-ops}
-use Rattle.equivalence.specs.Walked.{storeIn, lent, Told, answerOf}
+use Rattle.equivalence.specs.Walked.{lent, Told, answerOf}
 use Rattle.equivalence.specs.declared.types.EqResult.the-variants.{FirstNEQBlocks}
 use Rattle.equivalence.proofs.Ordered.{next-both, next-neither, next-unequal, op-in, pairwise-both, pairwise-over, pairwise-uneven}
 use Rattle.equivalence.proofs.Telling.{told-ended, told-bind, told-over, told-uneven, few-now}

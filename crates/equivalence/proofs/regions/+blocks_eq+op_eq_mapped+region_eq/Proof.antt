@@ -11,14 +11,14 @@ use Rattle.rules.specs.Store.{regionExists}
 use Rattle.rules.specs.Comparison.{Walk, _>>=_, paper, eachPair, pass1, pass2}
 use Rattle.rules.proofs.Walking.Paired.{grows-each}
 use Rattle.layout.specs.Columns.{columns, at, opRegionFirst, opRegionEnd}
-use Rattle.layout.specs.Reading.{opCount, regionCount}
+use Rattle.layout.specs.Reading.{opCount, regionCount, storeIn}
 use Rattle.layout.proofs.Laid.{laid-facts}
 use Rattle.layout.proofs.Scans.{failed, held}
 use Rattle.layout.proofs.Tabulate.{regions-length}
 use Rattle.layout.proofs.Ranges.{range, regions-range, in-range}
 use Rattle.fragments.specs.Ignoring.{ignoreOf}
 use Rattle.equivalence.specs.Rows.{span}
-use Rattle.equivalence.specs.Walked.{storeIn, lent, Told, Few, lefts, rights, namedBy, regionWalk, opWalk, listsWalk}
+use Rattle.equivalence.specs.Walked.{lent, Told, Few, lefts, rights, namedBy, regionWalk, opWalk, listsWalk}
 use Rattle.equivalence.specs.Order.{Existing, pairsFrom, past, First, FirstPair, walkPairs}
 use Rattle.equivalence.specs.declared.types.EqResult.the-variants.{Eq}
 use Rattle.equivalence.specs.declared.types.Lists.the-variants.{InRegions}

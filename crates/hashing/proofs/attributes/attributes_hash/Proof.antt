@@ -14,8 +14,8 @@ use Rattle.hashing.proofs.attributes.attributes_hash.Tie as tie
 count-kept-requires : tie.Need-count-kept-requires
 count-kept-requires c κs = search needs
 
-feed-count-requires : tie.Need-feed-count-requires
-feed-count-requires c κs = search needs
+with-count-requires : tie.Need-with-count-requires
+with-count-requires c κs = search needs
 
 feed-kept-requires : tie.Need-feed-kept-requires
 feed-kept-requires c κs = search needs
@@ -25,9 +25,9 @@ returns c =
     let a = c .before .before .before .before .args in
     let kept = keptFrom (columns (a .store .now)) (ignoreOf (a .ignore)) (a .first) (a .end) in
     fed-after (a .word) (count (length kept)) (concatMap attributeBytes kept)
-    (c .before .feed-count .ensures ∙ ap (λ (n : ℕ). fnvFrom (a .word) (count n)) (c .before .before .count-kept .ensures))
+    (c .before .with-count .ensures ∙ ap (λ (n : ℕ). fnvFrom (a .word) (count n)) (c .before .before .count-kept .ensures))
     (c .feed-kept .ensures)
 
 pub attributes-hash-spec : {M : Type 1} → statement M
 attributes-hash-spec =
-    tie.close (tie.spec count-kept-requires feed-count-requires feed-kept-requires returns)
+    tie.close (tie.spec count-kept-requires with-count-requires feed-kept-requires returns)

@@ -2,11 +2,12 @@
 use mathlib.Core.Path.{sym, ap, _∙_}
 use lib.ListN.{length-replicate}
 use Rattle.rules.specs.Fragments.{block}
+use Rattle.layout.specs.Reading.{storeIn}
 use Rattle.layout.specs.Causes.{causeOf}
 use Rattle.fragments.specs.Sorts.{sortOf}
 use Rattle.fragments.specs.Ignoring.{ignoreOf}
 use Rattle.hashing.specs.Words.{noNumber}
-use Rattle.hashing.specs.Walked.{storeIn, listedSteps}
+use Rattle.hashing.specs.Walked.{listedSteps}
 use Rattle.hashing.specs.Order.{listed, Existing}
 use Rattle.hashing.specs.declared.types.Blocks.the-variants.{Alone}
 use Rattle.hashing.proofs.Feeding.{stands-start}

@@ -1,9 +1,9 @@
 -- `hash_cause` meets its contract, test by test. Assumes nothing.
 use mathlib.Core.Path.{sym}
+use Rattle.layout.specs.Reading.{storeIn}
 use Rattle.layout.specs.Causes.{causeOf}
 use Rattle.layout.proofs.Scans.{failed, held}
 use Rattle.fragments.specs.Sorts.{sortOf}
-use Rattle.hashing.specs.Walked.{storeIn}
 use Rattle.hashing.proofs.Answering.{missing, too-deep, both-pass}
 use Rattle.hashing.proofs.hashes.hash_cause.Statement.{statement}
 use Rattle.hashing.proofs.hashes.hash_cause.Tie as tie

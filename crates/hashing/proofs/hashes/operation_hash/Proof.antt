@@ -4,11 +4,12 @@ use mathlib.Core.Path.{sym, ap, _∙_}
 use lib.ListN.{length-replicate}
 use Rattle.rules.specs.Store.{ofOp}
 use Rattle.rules.specs.Fragments.{op, shell}
+use Rattle.layout.specs.Reading.{storeIn}
 use Rattle.layout.specs.Causes.{causeOf}
 use Rattle.fragments.specs.Sorts.{sortOf}
 use Rattle.fragments.specs.Ignoring.{ignoreOf}
 use Rattle.hashing.specs.Words.{noNumber}
-use Rattle.hashing.specs.Walked.{storeIn, fullSteps}
+use Rattle.hashing.specs.Walked.{fullSteps}
 use Rattle.hashing.proofs.Feeding.{stands-start, room-first, room-rest, fed-then}
 use Rattle.hashing.proofs.Answering.{there, op-there, op-steps, begin-room, all-hash, refused, answered}
 use borrow.Author.Needs.{needs}

@@ -3,7 +3,8 @@ use Prim.Native.Nat.{_+_, _-_, _≤_}
 use native.Mathlib.Omega.{arith}
 use mathlib.Core.Path.{_≡_, refl, _∙_}
 use lib.ListN.{length}
-use Rattle.hashing.specs.Words.{numbersLength, following, NumbersValues}
+use Rattle.layout.specs.Reading.{following}
+use Rattle.hashing.specs.Words.{numbersLength, NumbersValues}
 use Rattle.hashing.proofs.Defining.{values-none, values-next, values-over}
 use borrow.Author.Needs.{needs}
 use Rattle.hashing.proofs.numbering.define_values.Statement.{statement}

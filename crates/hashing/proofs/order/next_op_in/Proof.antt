@@ -4,10 +4,9 @@ use native.Mathlib.Omega.{arith}
 use mathlib.Core.Path.{_≡_, refl, _∙_}
 use Rattle.rules.specs.Store.{opsOf}
 use Rattle.layout.specs.Columns.{columns}
-use Rattle.layout.specs.Reading.{blockCount}
+use Rattle.layout.specs.Reading.{blockCount, storeIn}
 use Rattle.layout.proofs.Laid.{laid-facts}
 use Rattle.layout.proofs.Seeking.{next-op, none-next}
-use Rattle.hashing.specs.Walked.{storeIn}
 use Rattle.hashing.specs.Order.{opsFrom, FirstOp}
 use Rattle.hashing.proofs.Ordered.{next-listed, block-in, ops-over, ops-later, ops-first, first-same}
 use borrow.Author.Needs.{needs}

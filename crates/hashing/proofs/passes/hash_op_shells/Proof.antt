@@ -7,12 +7,12 @@ use lib.ListN.{length}
 use Rattle.rules.specs.Lists.{concatMap}
 use Rattle.rules.specs.Fragments.{Step}
 use Rattle.layout.specs.Columns.{columns}
-use Rattle.layout.specs.Reading.{blockCount}
+use Rattle.layout.specs.Reading.{blockCount, storeIn}
 use Rattle.layout.specs.Children.{onFrom}
 use Rattle.layout.proofs.Laid.{laid-facts}
 use Rattle.layout.proofs.Seeking.{from-zero, none-next}
 use Rattle.fragments.specs.Ignoring.{ignoreOf}
-use Rattle.hashing.specs.Walked.{storeIn, opShells}
+use Rattle.hashing.specs.Walked.{opShells}
 use Rattle.hashing.specs.Order.{listed}
 use Rattle.hashing.proofs.Parting.{Partly, none-fed, all-fed, part-room, part-fed, concat-left}
 use Rattle.hashing.proofs.Ordered.{next-listed, block-in}

@@ -7,12 +7,12 @@ use lib.ListN.{length}
 use Rattle.rules.specs.Store.{ofOp, opsOf}
 use Rattle.rules.specs.Fragments.{Step, shell}
 use Rattle.layout.specs.Columns.{columns}
-use Rattle.layout.specs.Reading.{opCount}
+use Rattle.layout.specs.Reading.{opCount, storeIn}
 use Rattle.layout.specs.Children.{onFrom}
 use Rattle.layout.proofs.Laid.{laid-facts}
 use Rattle.layout.proofs.Seeking.{from-zero, none-next, next-op}
 use Rattle.fragments.specs.Ignoring.{ignoreOf}
-use Rattle.hashing.specs.Walked.{storeIn, opShells}
+use Rattle.hashing.specs.Walked.{opShells}
 use Rattle.hashing.proofs.Parting.{Partly, none-fed, all-fed, part-room, part-fed, map-left}
 use Rattle.hashing.proofs.Ordered.{op-in}
 use borrow.Author.Needs.{needs}

@@ -18,14 +18,14 @@ abbrev μ-loop : tie.MeasureT-loop
 loop-holds : tie.Need-loop-holds Inv-loop μ-loop
 loop-holds c = (omega arith, refl)
 
-mul-feed-leaf : tie.Need-mul-feed-leaf Inv-loop μ-loop
-mul-feed-leaf c = search needs
+mul-with-leaf : tie.Need-mul-with-leaf Inv-loop μ-loop
+mul-with-leaf c = search needs
 
-shared-slice-read-feed-leaf : tie.Need-shared-slice-read-feed-leaf Inv-loop μ-loop
-shared-slice-read-feed-leaf c = search needs
+shared-slice-read-with-leaf : tie.Need-shared-slice-read-with-leaf Inv-loop μ-loop
+shared-slice-read-with-leaf c = search needs
 
-feed-leaf-requires : tie.Need-feed-leaf-requires Inv-loop μ-loop
-feed-leaf-requires c κs = search needs
+with-leaf-requires : tie.Need-with-leaf-requires Inv-loop μ-loop
+with-leaf-requires c κs = search needs
 
 add-i : tie.Need-add-i Inv-loop μ-loop
 add-i c = search needs
@@ -37,7 +37,7 @@ loop-again : tie.Need-loop-again Inv-loop μ-loop
 loop-again c =
     let a = c .before .before .before .before .before .args in
     let h = c .before .before .loop-test .taken in
-    (omega arith, entry-fed leaf (a .types .now) (a .word) (c .before .before .before .loop .i) (c .before .before .before .loop .fed) h (c .before .before .before .loop .inv .1) (c .feed-leaf .ensures))
+    (omega arith, entry-fed leaf (a .types .now) (a .word) (c .before .before .before .loop .i) (c .before .before .before .loop .fed) h (c .before .before .before .loop .inv .1) (c .with-leaf .ensures))
 
 returns : tie.Need-returns Inv-loop μ-loop
 returns c =
@@ -51,9 +51,9 @@ hash-types-spec =
     Inv-loop
     μ-loop
     loop-holds
-    mul-feed-leaf
-    shared-slice-read-feed-leaf
-    feed-leaf-requires
+    mul-with-leaf
+    shared-slice-read-with-leaf
+    with-leaf-requires
     add-i
     loop-less
     loop-again

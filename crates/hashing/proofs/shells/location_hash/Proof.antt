@@ -11,14 +11,14 @@ returns c =
     let a = c .before .args in
     location-ignored (ignoreOf (a .ignore)) (a .location) (a .word) (c .if1 .taken)
 
-feed-leaf-requires : tie.Need-feed-leaf-requires
-feed-leaf-requires c κs = search needs
+with-leaf-requires : tie.Need-with-leaf-requires
+with-leaf-requires c κs = search needs
 
 returns-2 : tie.Need-returns-2
 unfolding ignoreOf
 returns-2 c =
     let a = c .before .before .args in
-    location-fed (ignoreOf (a .ignore)) (a .location) (a .word) (c .before .if1 .left) (c .feed-leaf .ensures)
+    location-fed (ignoreOf (a .ignore)) (a .location) (a .word) (c .before .if1 .left) (c .with-leaf .ensures)
 
 pub location-hash-spec : {M : Type 1} → statement M
-location-hash-spec = tie.close (tie.spec returns feed-leaf-requires returns-2)
+location-hash-spec = tie.close (tie.spec returns with-leaf-requires returns-2)

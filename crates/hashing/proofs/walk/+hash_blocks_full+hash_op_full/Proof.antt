@@ -9,12 +9,12 @@ use Rattle.rules.specs.Lists.{concatMap}
 use Rattle.rules.specs.Store.{regionsOf}
 use Rattle.rules.specs.Fragments.{Step}
 use Rattle.layout.specs.Columns.{columns, at, opRegionFirst, opRegionEnd}
-use Rattle.layout.specs.Reading.{opCount, regionCount}
+use Rattle.layout.specs.Reading.{opCount, regionCount, storeIn}
 use Rattle.layout.proofs.Laid.{laid-facts}
 use Rattle.layout.proofs.Ranges.{range, regions-range, in-range}
 use Rattle.layout.proofs.columns.number.Reads as number-reads
 use Rattle.fragments.specs.Ignoring.{ignoreOf}
-use Rattle.hashing.specs.Walked.{storeIn, fullSteps, Fed, Room}
+use Rattle.hashing.specs.Walked.{fullSteps, Fed, Room}
 use Rattle.hashing.specs.Order.{Existing, opsFrom, past, First, FirstOp}
 use Rattle.hashing.specs.declared.types.Blocks.the-variants.{InRegion}
 use Rattle.hashing.specs.declared.types.Place.{Place}

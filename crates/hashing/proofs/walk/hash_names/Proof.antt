@@ -7,10 +7,10 @@ use lib.Dec.{ltb}
 use lib.ListN.{length}
 use Rattle.rules.specs.Lists.{all, concatMap}
 use Rattle.rules.specs.Hash.{Numbering}
+use Rattle.layout.specs.Reading.{storeIn}
 use Rattle.layout.specs.Columns.{columns}
 use Rattle.layout.proofs.Tabulate.{ops-length}
 use Rattle.hashing.specs.Words.{valueBytes, blockBytes, FeedsNames}
-use Rattle.hashing.specs.Walked.{storeIn}
 use Rattle.hashing.proofs.Stepping.{fed-names}
 use Rattle.hashing.proofs.Rounds.{operands-few, successors-few}
 use Rattle.hashing.proofs.walk.hash_names.Statement.{statement}

@@ -1,0 +1,23 @@
+-- `hash_tag` meets its contract: it is the step of `Lent.Thin`, over `feed_tag`. Assumes nothing.
+use mir.Syntax.{w8}
+use contract.Running.{givenOf, tables, tablesOf}
+use denote.Triple.Spec.{tripleOf}
+use denote.Triple.Table.{entered, cited}
+use Rattle.rules.specs.Hash.{tag}
+use Rattle.hashing.proofs.Lent.Loan.{Feed}
+use Rattle.hashing.proofs.Lent.Thin.{meets}
+use Rattle.hashing.proofs.fnv.feed_tag.Symbol as feed-def
+use Rattle.hashing.proofs.fnv.feed_tag.Symbol.{name as #feed}
+use Rattle.hashing.proofs.fnv.feed_tag.Met as feed-thm
+use Rattle.hashing.proofs.state.hash_tag.Key.{name as #hash}
+use Rattle.hashing.proofs.state.hash_tag as hash
+use Rattle.hashing.proofs.state.hash_tag.Statement as stated
+use Rattle.hashing.proofs.state.hash_tag.Code as code
+
+pub hash-tag-spec : {M : Type 1} → stated.statement M
+unfolding code.routine tablesOf
+hash-tag-spec 𝓤 H 𝓜 𝓖 𝓡 =
+    entered 𝓤 H (tripleOf 𝓤 H (𝓖 .A) hash.signature (hash.spec 𝓤 H (𝓖 .A) (𝓜 .mem) (𝓡 .run)))
+    (tables 𝓤 H 𝓜 𝓡 code.env .C) (tables 𝓤 H 𝓜 𝓡 code.env .Λ) #hash code.function (code.unfolded 𝓤 H 𝓜 𝓡)
+    (meets w8 tag 𝓤 H (𝓖 .A) (givenOf 𝓤 H 𝓜 𝓖) #feed (tablesOf 𝓤 H 𝓜 (tables 𝓤 H 𝓜 𝓡 code.env))
+    (cited 𝓤 H (Feed w8 tag 𝓤 H (𝓖 .A)) 𝓜 𝓡 code.env #feed feed-def.routine code.calls-hashing·fnv·feed-tag (feed-thm.met 𝓤 H 𝓜 𝓖 𝓡)))

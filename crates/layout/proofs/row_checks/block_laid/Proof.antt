@@ -1,0 +1,131 @@
+-- `block_laid` meets its contract, test by test. Assumes nothing.
+use Prim.Native.Nat.{ℕ, _+_, _*_}
+use native.Mathlib.Omega.{arith}
+use mathlib.Core.Path.{sym, ap, _∙_}
+use borrow.Author.Tests.{lt-ltb, le-ltb, le-leb, lt-leb}
+use lib.Dec.{leb}
+use Rattle.layout.specs.Columns.{columns, at, regionBlockFirst, regionBlockEnd, blockRegion, blockArgumentFirst, blockArgumentEnd, blockOpEnd, valueOwner}
+use Rattle.layout.specs.Reading.{opCount, regionCount, valueCount, ownerCode}
+use Rattle.layout.specs.Soundness.{blockLaid, ownedWithin, within}
+use Rattle.layout.proofs.Laid.{counts-facts}
+use Rattle.layout.proofs.Scans.{stop, next, stop-two, next-two, last, failed, held}
+use borrow.Author.Needs.{needs}
+use Rattle.layout.proofs.row_checks.block_laid.Statement.{statement}
+use Rattle.layout.proofs.row_checks.block_laid.Tie as tie
+
+number-requires : tie.Need-number-requires
+number-requires c κs = search needs
+
+number-requires-2 : tie.Need-number-requires-2
+number-requires-2 c κs = search needs
+
+returns : tie.Need-returns
+unfolding blockLaid ownedWithin ownerCode opCount regionCount valueCount
+returns c =
+    let a = c .before .before .before .before .args in
+    let C = columns (a .store .now) in
+    sym (stop _ _ (le-ltb (at C blockRegion (a .m)) (at C 0 2) (omega arith)))
+
+holds-requires : tie.Need-holds-requires
+unfolding regionCount
+holds-requires c κs =
+    let s = c .before .before .before .before in
+    let k = counts-facts (columns (s .args .store .now)) (s .pre .0 .counted) in
+    omega (arith, k .regions)
+
+returns-2 : tie.Need-returns-2
+unfolding blockLaid ownedWithin ownerCode opCount regionCount valueCount
+returns-2 c =
+    let a = c .before .before .before .before .before .before .args in
+    let C = columns (a .store .now) in
+    sym (next _ _ (lt-ltb (at C blockRegion (a .m)) (at C 0 2) (omega arith))
+    (stop _ _ (failed (c .before .holds .ensures ∙ ap (λ (x : ℕ). within (at C regionBlockFirst x) (at C regionBlockEnd x) (a .m)) (c .before .before .before .before .number .ensures)) (c .if2 .taken))))
+
+number-requires-3 : tie.Need-number-requires-3
+number-requires-3 c κs = search needs
+
+cast-owns : tie.Need-cast-owns
+cast-owns c = search needs
+
+mul-owns : tie.Need-mul-owns
+mul-owns c = search needs
+
+add-owns : tie.Need-add-owns
+add-owns c = search needs
+
+owns-requires : tie.Need-owns-requires
+unfolding valueCount
+owns-requires c κs =
+    let s = c .before .before .before .before .before .before .before in
+    let k = counts-facts (columns (s .args .store .now)) (s .pre .0 .counted) in
+    omega (arith, k .values)
+
+returns-3 : tie.Need-returns-3
+unfolding blockLaid ownedWithin ownerCode opCount regionCount valueCount
+returns-3 c =
+    let a = c .before .before .before .before .before .before .before .before .before .args in
+    let C = columns (a .store .now) in
+    let place = held (c .before .before .before .before .holds .ensures
+    ∙ ap (λ (x : ℕ). within (at C regionBlockFirst x) (at C regionBlockEnd x) (a .m)) (c .before .before .before .before .before .before .before .number .ensures))
+    (c .before .before .before .if2 .left) in
+    sym (next _ _ (lt-ltb (at C blockRegion (a .m)) (at C 0 2) (omega arith))
+    (next _ _ place
+    (stop-two _ _ _ (failed
+    (c .before .owns .ensures ∙ ap (λ (t : ℕ). ownedWithin C valueOwner (at C blockArgumentFirst (a .m)) (at C blockArgumentEnd (a .m)) t (2 * a .m + 1)) (c .before .before .number3 .ensures)) (c .if3 .taken)))))
+
+number-requires-4 : tie.Need-number-requires-4
+number-requires-4 c κs = search needs
+
+number-requires-5 : tie.Need-number-requires-5
+number-requires-5 c κs = search needs
+
+returns-4 : tie.Need-returns-4
+unfolding blockLaid ownedWithin ownerCode opCount regionCount valueCount
+returns-4 c =
+    let a = c .before .before .before .before .before .before .before .before .before .before .before .before .args in
+    let C = columns (a .store .now) in
+    let place = held (c .before .before .before .before .before .before .before .holds .ensures
+    ∙ ap (λ (x : ℕ). within (at C regionBlockFirst x) (at C regionBlockEnd x) (a .m)) (c .before .before .before .before .before .before .before .before .before .before .number .ensures))
+    (c .before .before .before .before .before .before .if2 .left) in
+    let arguments = held (c .before .before .before .before .owns .ensures
+    ∙ ap (λ (t : ℕ). ownedWithin C valueOwner (at C blockArgumentFirst (a .m)) (at C blockArgumentEnd (a .m)) t (2 * a .m + 1)) (c .before .before .before .before .before .number3 .ensures))
+    (c .before .before .before .if3 .left) in
+    sym (next _ _ (lt-ltb (at C blockRegion (a .m)) (at C 0 2) (omega arith)) (next _ _ place (next-two _ _ _ arguments (stop _ _ (lt-leb (at C blockOpEnd (a .m)) (at C 0 0) (omega arith))))))
+
+number-requires-6 : tie.Need-number-requires-6
+number-requires-6 c κs = search needs
+
+returns-5 : tie.Need-returns-5
+unfolding blockLaid ownedWithin ownerCode opCount regionCount valueCount
+returns-5 c =
+    let a = c .before .before .before .before .before .before .before .before .before .before .before .before .before .args in
+    let C = columns (a .store .now) in
+    let place = held (c .before .before .before .before .before .before .before .before .holds .ensures
+    ∙ ap (λ (x : ℕ). within (at C regionBlockFirst x) (at C regionBlockEnd x) (a .m)) (c .before .before .before .before .before .before .before .before .before .before .before .number .ensures))
+    (c .before .before .before .before .before .before .before .if2 .left) in
+    let arguments = held (c .before .before .before .before .before .owns .ensures
+    ∙ ap (λ (t : ℕ). ownedWithin C valueOwner (at C blockArgumentFirst (a .m)) (at C blockArgumentEnd (a .m)) t (2 * a .m + 1)) (c .before .before .before .before .before .before .number3 .ensures))
+    (c .before .before .before .before .if3 .left) in
+    sym (next _ _ (lt-ltb (at C blockRegion (a .m)) (at C 0 2) (omega arith))
+    (next _ _ place (next-two _ _ _ arguments (next _ _ (le-leb (at C blockOpEnd (a .m)) (at C 0 0) (omega arith)) (last _ (ap (λ (x : ℕ). leb x 8) (sym (c .number6 .ensures))))))))
+
+pub block-laid-spec : {M : Type 1} → statement M
+block-laid-spec =
+    tie.close
+    (tie.spec
+    number-requires
+    number-requires-2
+    returns
+    holds-requires
+    returns-2
+    number-requires-3
+    cast-owns
+    mul-owns
+    add-owns
+    owns-requires
+    returns-3
+    number-requires-4
+    number-requires-5
+    returns-4
+    number-requires-6
+    returns-5)

@@ -1,0 +1,65 @@
+-- `read_sort` meets its contract, letter by letter. Assumes nothing.
+use mathlib.Core.Path.{sym, ap, _∙_}
+use Rattle.lines.specs.Reading.{fieldsLeft, wordOf}
+use Rattle.lines.specs.Parsing.{sortRead}
+use Rattle.fragments.specs.Sorts.{sortOf}
+use Rattle.lines.proofs.Meaning.{no-sort, sort-op, sort-block, sort-region, other-sort}
+use borrow.Author.Needs.{needs}
+use Rattle.lines.proofs.parsing.read_sort.Statement.{statement}
+use Rattle.lines.proofs.parsing.read_sort.Tie as tie
+
+word-at-requires : tie.Need-word-at-requires
+word-at-requires c κs = search needs
+
+enum-known-letter : tie.Need-enum-known-letter
+enum-known-letter c = search needs
+
+enum-told : tie.Need-enum-told
+enum-told c = search needs
+
+returns : tie.Need-returns
+unfolding wordOf sortRead
+returns c =
+    let line = c .before .before .before .before .args .line .now in
+    no-sort (fieldsLeft line (c .before .before .before .before .args .at)) (sym (c .before .before .word-at .ensures) ∙ ap (wordOf line) (c .enum-told .given .1))
+
+returns-2 : tie.Need-returns-2
+unfolding wordOf sortRead sortOf
+returns-2 c =
+    let line = c .before .before .before .before .before .before .args .line .now in
+    let w = sym (c .before .before .before .before .word-at .ensures) ∙ ap (wordOf line) (c .before .before .letter .given .1) in
+    sort-op (fieldsLeft line (c .before .before .before .before .before .before .args .at)) (fieldsLeft line (c .before .before .letter .given .0 .1 .0)) (c .before .before .letter .given .0 .0) w (c .match2 .keys1)
+
+returns-3 : tie.Need-returns-3
+unfolding wordOf sortRead sortOf
+returns-3 c =
+    let line = c .before .before .before .before .before .before .args .line .now in
+    let w = sym (c .before .before .before .before .word-at .ensures) ∙ ap (wordOf line) (c .before .before .letter .given .1) in
+    sort-block (fieldsLeft line (c .before .before .before .before .before .before .args .at)) (fieldsLeft line (c .before .before .letter .given .0 .1 .0)) (c .before .before .letter .given .0 .0) w (c .match2 .keys2)
+
+returns-4 : tie.Need-returns-4
+unfolding wordOf sortRead sortOf
+returns-4 c =
+    let line = c .before .before .before .before .before .before .args .line .now in
+    let w = sym (c .before .before .before .before .word-at .ensures) ∙ ap (wordOf line) (c .before .before .letter .given .1) in
+    sort-region (fieldsLeft line (c .before .before .before .before .before .before .args .at)) (fieldsLeft line (c .before .before .letter .given .0 .1 .0)) (c .before .before .letter .given .0 .0) w (c .match2 .keys3)
+
+returns-5 : tie.Need-returns-5
+unfolding wordOf sortRead
+returns-5 c =
+    let line = c .before .before .before .before .before .before .args .line .now in
+    let w = sym (c .before .before .before .before .word-at .ensures) ∙ ap (wordOf line) (c .before .before .letter .given .1) in
+    other-sort (fieldsLeft line (c .before .before .before .before .before .before .args .at)) (fieldsLeft line (c .before .before .letter .given .0 .1 .0)) (c .before .before .letter .given .0 .0) w (c .match2 .rest .0 .0 .1) (c .match2 .rest .0 .1) (c .match2 .rest .1)
+
+pub read-sort-spec : {M : Type 1} → statement M
+read-sort-spec =
+    tie.close
+    (tie.spec
+    word-at-requires
+    enum-known-letter
+    enum-told
+    returns
+    returns-2
+    returns-3
+    returns-4
+    returns-5)

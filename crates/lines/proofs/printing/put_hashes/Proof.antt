@@ -1,0 +1,44 @@
+-- `put_hashes` meets its contract: its four pieces are the line. Assumes nothing.
+use native.Mathlib.Omega.{arith}
+use Rattle.lines.proofs.Joined.{then, said}
+use Rattle.lines.proofs.Lines.{hashes-line}
+use borrow.Author.Needs.{needs}
+use Rattle.lines.proofs.printing.put_hashes.Statement.{statement}
+use Rattle.lines.proofs.printing.put_hashes.Tie as tie
+use Rattle.lines.proofs.printing.put_hashes.Reads as reads
+use Rattle.lines.proofs.printing.put_hashes.Lts as lts
+use Rattle.lines.proofs.writing.put_byte.Reads as put-byte-reads
+use Rattle.lines.proofs.writing.put_hexadecimal.Reads as put-hexadecimal-reads
+
+put-hexadecimal-requires : tie.Need-put-hexadecimal-requires
+put-hexadecimal-requires c κs = search needs
+
+put-byte-requires : tie.Need-put-byte-requires
+put-byte-requires c κs = search needs
+
+put-hexadecimal-requires-2 : tie.Need-put-hexadecimal-requires-2
+put-hexadecimal-requires-2 c κs = search needs
+
+put-byte-requires-2 : tie.Need-put-byte-requires-2
+put-byte-requires-2 c κs = search needs
+
+same-length : tie.Need-same-length
+same-length c = search needs
+
+returns : tie.Need-returns
+returns c =
+    let a = c .before .before .before .before .before .before .before .before .before .before .before .before .before .before .before .before .before .args in
+    let two = then (c .before .before .before .before .before .before .before .before .before .before .before .before .before .before .put-hexadecimal .ensures) (c .before .before .before .before .before .before .before .before .before .before .put-byte .ensures) (omega arith) in
+    let three = then two (c .before .before .before .before .before .before .put-hexadecimal2 .ensures) (omega arith) in
+    said (then three (c .before .before .put-byte2 .ensures) (omega arith)) (hashes-line (a .l) (a .r))
+
+pub put-hashes-spec : {M : Type 1} → statement M
+put-hashes-spec =
+    tie.close
+    (tie.spec
+    put-hexadecimal-requires
+    put-byte-requires
+    put-hexadecimal-requires-2
+    put-byte-requires-2
+    same-length
+    returns)

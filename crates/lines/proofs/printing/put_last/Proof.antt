@@ -1,0 +1,25 @@
+-- `put_last` meets its contract: the line feed is written behind the number. Assumes nothing.
+use native.Mathlib.Omega.{arith}
+use Rattle.lines.proofs.Joined.{then}
+use borrow.Author.Needs.{needs}
+use Rattle.lines.proofs.printing.put_last.Statement.{statement}
+use Rattle.lines.proofs.printing.put_last.Tie as tie
+use Rattle.lines.proofs.printing.put_last.Reads as reads
+use Rattle.lines.proofs.printing.put_last.Lts as lts
+use Rattle.lines.proofs.writing.put_byte.Reads as put-byte-reads
+use Rattle.lines.proofs.writing.put_decimal.Reads as put-decimal-reads
+
+put-decimal-requires : tie.Need-put-decimal-requires
+put-decimal-requires c κs = search needs
+
+put-byte-requires : tie.Need-put-byte-requires
+put-byte-requires c κs = search needs
+
+same-length : tie.Need-same-length
+same-length c = search needs
+
+returns : tie.Need-returns
+returns c = then (c .before .before .before .before .before .before .put-decimal .ensures) (c .before .before .put-byte .ensures) (omega arith)
+
+pub put-last-spec : {M : Type 1} → statement M
+put-last-spec = tie.close (tie.spec put-decimal-requires put-byte-requires same-length returns)

@@ -1,0 +1,43 @@
+-- `put_share` meets its contract: its two pieces are the line. Assumes nothing.
+use native.Mathlib.Omega.{arith}
+use Rattle.lines.proofs.Joined.{then, said}
+use Rattle.lines.proofs.Lines.{share-line}
+use borrow.Author.Needs.{needs}
+use Rattle.lines.proofs.printing.put_share.Statement.{statement}
+use Rattle.lines.proofs.printing.put_share.Tie as tie
+use Rattle.lines.proofs.printing.put_share.Reads as reads
+use Rattle.lines.proofs.printing.put_share.Lts as lts
+use Rattle.lines.proofs.printing.per_cent.Reads as per-cent-reads
+use Rattle.lines.proofs.printing.put_last.Reads as put-last-reads
+use Rattle.lines.proofs.writing.put_text.Reads as put-text-reads
+
+per-cent-requires : tie.Need-per-cent-requires
+per-cent-requires c κs = search needs
+
+slice-aggregate-put-text : tie.Need-slice-aggregate-put-text
+slice-aggregate-put-text c = search needs
+
+put-text-requires : tie.Need-put-text-requires
+put-text-requires c κs = search needs
+
+put-last-requires : tie.Need-put-last-requires
+put-last-requires c κs = search needs
+
+same-length : tie.Need-same-length
+same-length c = search needs
+
+returns : tie.Need-returns
+returns c =
+    let a = c .before .before .before .before .before .before .before .before .before .before .before .args in
+    said (then (c .before .before .before .before .before .before .put-text .ensures) (c .before .before .put-last .ensures) (omega arith)) (share-line (a .equal) (a .all) (c .before .before .before .before .before .before .before .before .before .per-cent .result) (c .before .before .before .before .before .before .before .before .before .per-cent .ensures))
+
+pub put-share-spec : {M : Type 1} → statement M
+put-share-spec =
+    tie.close
+    (tie.spec
+    per-cent-requires
+    slice-aggregate-put-text
+    put-text-requires
+    put-last-requires
+    same-length
+    returns)

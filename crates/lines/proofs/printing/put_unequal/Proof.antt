@@ -1,0 +1,46 @@
+-- `put_unequal` meets its contract: its four pieces are the line. Assumes nothing.
+use native.Mathlib.Omega.{arith}
+use Rattle.lines.proofs.Joined.{then, said}
+use Rattle.fragments.specs.Sorts.{sortOf}
+use Rattle.lines.proofs.Lines.{unequal-line}
+use borrow.Author.Needs.{needs}
+use Rattle.lines.proofs.printing.put_unequal.Statement.{statement}
+use Rattle.lines.proofs.printing.put_unequal.Tie as tie
+use Rattle.lines.proofs.printing.put_unequal.Reads as reads
+use Rattle.lines.proofs.printing.put_unequal.Lts as lts
+use Rattle.lines.proofs.printing.put_field.Reads as put-field-reads
+use Rattle.lines.proofs.printing.put_last.Reads as put-last-reads
+use Rattle.lines.proofs.printing.put_sort.Reads as put-sort-reads
+
+put-sort-requires : tie.Need-put-sort-requires
+put-sort-requires c κs = search needs
+
+put-field-requires : tie.Need-put-field-requires
+put-field-requires c κs = search needs
+
+put-field-requires-2 : tie.Need-put-field-requires-2
+put-field-requires-2 c κs = search needs
+
+put-last-requires : tie.Need-put-last-requires
+put-last-requires c κs = search needs
+
+same-length : tie.Need-same-length
+same-length c = search needs
+
+returns : tie.Need-returns
+returns c =
+    let a = c .before .before .before .before .before .before .before .before .before .before .before .before .before .before .before .before .before .args in
+    let two = then (c .before .before .before .before .before .before .before .before .before .before .before .before .before .before .put-sort .ensures) (c .before .before .before .before .before .before .before .before .before .before .put-field .ensures) (omega arith) in
+    let three = then two (c .before .before .before .before .before .before .put-field2 .ensures) (omega arith) in
+    said (then three (c .before .before .put-last .ensures) (omega arith)) (unequal-line (sortOf (a .sort)) (a .l) (a .r) (a .paired))
+
+pub put-unequal-spec : {M : Type 1} → statement M
+put-unequal-spec =
+    tie.close
+    (tie.spec
+    put-sort-requires
+    put-field-requires
+    put-field-requires-2
+    put-last-requires
+    same-length
+    returns)

@@ -1,0 +1,114 @@
+// The lines that a program prints.
+use crate::writing::put_byte;
+use crate::writing::put_decimal;
+use crate::writing::put_hexadecimal;
+use crate::writing::put_text;
+use fragments::types::Sort;
+ghost use mathlib.Core.Path.{_≡_};
+ghost use mathlib.Core.List.{[], _∷_, _++_};
+ghost use Prim.Native.Nat.{_+_, _≤_};
+ghost use lib.ListN.{length};
+ghost use Rattle.rules.specs.Bytes.{comma, lineFeed, decimal};
+ghost use Rattle.rules.specs.Listings.{refusal, equalLine, sortText, unequalLine, hashesLine, perCent, shareLine};
+ghost use Rattle.rules.specs.Comparison.{pairOf};
+ghost use Rattle.fragments.specs.Sorts.{sortOf};
+ghost use Rattle.lines.specs.Wrote.{Wrote};
+
+const COMMA: u8 = 44;
+
+const LINE_FEED: u8 = 10;
+
+// A number and the comma behind it.
+fn put_field(out: &mut [u8], at: usize, n: u32) -> usize
+    requires { ⌜ at + 11 ≤ length (now out) ⌝ }
+    ensures { λ r. ⌜ Wrote 11 (now (out .entry)) (now (out .exit)) at (decimal n ++ (comma ∷ [])) r ⌝ }
+{
+    let end = put_decimal(out, at, n);
+    put_byte(out, end, COMMA)
+}
+
+// A number and the line feed behind it.
+fn put_last(out: &mut [u8], at: usize, n: u32) -> usize
+    requires { ⌜ at + 11 ≤ length (now out) ⌝ }
+    ensures { λ r. ⌜ Wrote 11 (now (out .entry)) (now (out .exit)) at (decimal n ++ (lineFeed ∷ [])) r ⌝ }
+{
+    let end = put_decimal(out, at, n);
+    put_byte(out, end, LINE_FEED)
+}
+
+// That a line is refused, and for which cause.
+pub fn put_refusal(out: &mut [u8], at: usize, line: u32, cause: u32) -> usize
+    requires { ⌜ at + 30 ≤ length (now out) ⌝ }
+    ensures { λ r. ⌜ Wrote 30 (now (out .entry)) (now (out .exit)) at (refusal line cause) r ⌝ }
+{
+    let fields = put_text(out, at, b"refused,");
+    let last = put_field(out, fields, line);
+    put_last(out, last, cause)
+}
+
+// That two fragments are equal.
+pub fn put_equal(out: &mut [u8], at: usize, paired: u32) -> usize
+    requires { ⌜ at + 18 ≤ length (now out) ⌝ }
+    ensures { λ r. ⌜ Wrote 18 (now (out .entry)) (now (out .exit)) at (equalLine paired) r ⌝ }
+{
+    let last = put_text(out, at, b"eq,-,-,");
+    put_last(out, last, paired)
+}
+
+// A sort of fragment and the comma behind it.
+fn put_sort(out: &mut [u8], at: usize, sort: Sort) -> usize
+    requires { ⌜ at + 7 ≤ length (now out) ⌝ }
+    ensures { λ r. ⌜ Wrote 7 (now (out .entry)) (now (out .exit)) at (sortText (sortOf sort) ++ (comma ∷ [])) r ⌝ }
+{
+    match sort {
+        Sort::Op => put_text(out, at, b"op,"),
+        Sort::Block => put_text(out, at, b"block,"),
+        Sort::Region => put_text(out, at, b"region,"),
+    }
+}
+
+// The first pair that differs.
+pub fn put_unequal(out: &mut [u8], at: usize, sort: Sort, l: u32, r: u32, paired: u32) -> usize
+    requires { ⌜ at + 40 ≤ length (now out) ⌝ }
+    ensures { λ q. ⌜ Wrote 40 (now (out .entry)) (now (out .exit)) at (unequalLine (pairOf (sortOf sort) l r) paired) q ⌝ }
+{
+    let left = put_sort(out, at, sort);
+    let right = put_field(out, left, l);
+    let last = put_field(out, right, r);
+    put_last(out, last, paired)
+}
+
+// Two hashes.
+pub fn put_hashes(out: &mut [u8], at: usize, l: u64, r: u64) -> usize
+    requires { ⌜ at + 34 ≤ length (now out) ⌝ }
+    ensures { λ q. ⌜ Wrote 34 (now (out .entry)) (now (out .exit)) at (hashesLine l r) q ⌝ }
+{
+    let parted = put_hexadecimal(out, at, l);
+    let right = put_byte(out, parted, COMMA);
+    let end = put_hexadecimal(out, right, r);
+    put_byte(out, end, LINE_FEED)
+}
+
+// A part in whole per cent, rounded down; 0 over nothing.
+pub fn per_cent(part: u64, whole: u64) -> u32
+    requires { ⌜ part ≤ whole ⌝ }
+    requires { ⌜ whole ≤ 1125899906842624 ⌝ }
+    ensures { λ r. ⌜ r ≡ perCent part whole ⌝ }
+{
+    if whole == 0 {
+        return 0;
+    }
+    (part * 100 / whole) as u32
+}
+
+// The operations that were found equal, of all.
+pub fn put_share(out: &mut [u8], at: usize, equal: u64, all: u64) -> usize
+    requires { ⌜ at + 17 ≤ length (now out) ⌝ }
+    requires { ⌜ equal ≤ all ⌝ }
+    requires { ⌜ all ≤ 1125899906842624 ⌝ }
+    ensures { λ r. ⌜ Wrote 17 (now (out .entry)) (now (out .exit)) at (shareLine (record { equal = equal; all = all })) r ⌝ }
+{
+    let share = per_cent(equal, all);
+    let last = put_text(out, at, b"share,");
+    put_last(out, last, share)
+}

@@ -1,0 +1,92 @@
+-- What is read of a line that builds is what the line means, and each list that is read is there. Assumes nothing.
+use Prim.Native.Nat.{ℕ, _≤_}
+use mathlib.Core.Option.{none, some}
+use mathlib.Core.List.{List}
+use mathlib.Core.Path.{_≡_, sym, ap, subst, _∙_}
+use borrow.Author.Tests.{ne-eqb}
+use lib.ListN.{length, take}
+use Rattle.rules.specs.Building.{newOperation, newBlock}
+use Rattle.rules.specs.Lines.{building, operationLine, blockLine, attributeLine, operandLine, wholly}
+use Rattle.building.specs.Types.{parentOf}
+use Rattle.building.specs.declared.types.Parent.{Parent}
+use Rattle.lines.specs.Reading.{fieldsLeft}
+use Rattle.lines.specs.Parsing.{operationHead, headOf, listsOf, operationOf, ListsFit, ReadLists, blockLineOf, BlockFits, ReadBlock}
+use Rattle.lines.specs.declared.parsing.Head.{Head}
+use Rattle.lines.specs.declared.parsing.Head.the-variants.{At, Bad}
+use Rattle.lines.specs.declared.parsing.Lists.{Lists}
+use Rattle.lines.specs.declared.parsing.Lists.the-variants.{Are, Bad as NoLists}
+use Rattle.lines.specs.declared.parsing.BlockLine.{BlockLine}
+use Rattle.lines.specs.declared.parsing.BlockLine.the-variants.{Is, Bad as NoBlockLine}
+use Rattle.lines.proofs.Meaning.{operation-headless, operation-bad, operation-good}
+use Rattle.listing.specs.Building.{buildingLine}
+
+-- ---- the line of an operation
+
+module _ (line : List ℕ) (at : ℕ) (head : Head) (h : headOf line head ≡ operationHead (fieldsLeft line at)) where
+  pub headless : head ≡ Bad → none ≡ wholly (operationLine (fieldsLeft line at))
+  unfolding headOf
+  headless e = operation-headless (fieldsLeft line at) (sym h ∙ ap (headOf line) e)
+
+  module _ (kind : ℕ) (parent : Parent) (location regions next : ℕ) (e : head ≡ At kind parent location regions next) (types operands successors : List ℕ) (lists : Lists) (r : ReadLists line next types operands successors lists) where
+    pub listless : lists ≡ NoLists → none ≡ wholly (operationLine (fieldsLeft line at))
+    unfolding headOf listsOf
+    listless q = operation-bad (fieldsLeft line at) _ (fieldsLeft line next) (sym h ∙ ap (headOf line) e) (sym (r .same) ∙ ap (listsOf types operands successors) q)
+
+    pub operation-meant : (a b c : ℕ) → lists ≡ Are a b c
+        → some (building (newOperation kind (parentOf parent) location regions (take a types) (take b operands) (take c successors))) ≡ wholly (operationLine (fieldsLeft line at))
+    unfolding headOf listsOf operationOf
+    operation-meant a b c q =
+        operation-good (fieldsLeft line at) _ (fieldsLeft line next) (sym h ∙ ap (headOf line) e) _ (sym (r .same) ∙ ap (listsOf types operands successors) q)
+
+module _ {line : List ℕ} {at : ℕ} {types operands successors : List ℕ} {lists : Lists} (r : ReadLists line at types operands successors lists) {a b c : ℕ} (q : lists ≡ Are a b c) where
+  lists-fit : (a ≤ length types) × (b ≤ length operands) × (c ≤ length successors)
+  unfolding ListsFit
+  lists-fit = subst (ListsFit types operands successors) q (r .fit)
+
+  pub types-fit : a ≤ length types
+  types-fit = lists-fit .0
+
+  pub operands-fit : b ≤ length operands
+  operands-fit = lists-fit .1
+
+  pub successors-fit : c ≤ length successors
+  successors-fit = lists-fit .2
+
+-- ---- the line of a block
+
+module _ {line : List ℕ} {at : ℕ} {types : List ℕ} {read : BlockLine} (r : ReadBlock line at types read) where
+  pub blockless : read ≡ NoBlockLine → none ≡ wholly (blockLine (fieldsLeft line at))
+  unfolding blockLineOf
+  blockless q = sym (ap (blockLineOf types) q) ∙ r .same
+
+  module _ {region label location n : ℕ} (q : read ≡ Is region label location n) where
+    pub block-meant : some (building (newBlock region label location (take n types))) ≡ wholly (blockLine (fieldsLeft line at))
+    unfolding blockLineOf
+    block-meant = sym (ap (blockLineOf types) q) ∙ r .same
+
+    pub arguments-fit : n ≤ length types
+    unfolding BlockFits
+    arguments-fit = subst (BlockFits types) q (r .fit)
+
+-- ---- the line of a letter
+
+module _ (letter : ℕ) (fs : List (List ℕ)) where
+  pub letter-o : letter ≡ 111 → wholly (operationLine fs) ≡ buildingLine letter fs
+  unfolding buildingLine
+  letter-o e = sym (ap (λ (b : ℕ). buildingLine b fs) e)
+
+  pub letter-b : letter ≡ 98 → wholly (blockLine fs) ≡ buildingLine letter fs
+  unfolding buildingLine
+  letter-b e = sym (ap (λ (b : ℕ). buildingLine b fs) e)
+
+  pub letter-a : letter ≡ 97 → wholly (attributeLine fs) ≡ buildingLine letter fs
+  unfolding buildingLine
+  letter-a e = sym (ap (λ (b : ℕ). buildingLine b fs) e)
+
+  pub letter-s : letter ≡ 115 → wholly (operandLine fs) ≡ buildingLine letter fs
+  unfolding buildingLine
+  letter-s e = sym (ap (λ (b : ℕ). buildingLine b fs) e)
+
+  pub other-letter : (letter ≡ 111 → ⊥) → (letter ≡ 98 → ⊥) → (letter ≡ 97 → ⊥) → (letter ≡ 115 → ⊥) → none ≡ buildingLine letter fs
+  unfolding buildingLine
+  other-letter o b a s = rw (ne-eqb letter 111 o) (rw (ne-eqb letter 98 b) (rw (ne-eqb letter 97 a) (rw (ne-eqb letter 115 s))))

@@ -1,0 +1,276 @@
+-- The lines one after the other: what is printed so far, followed by what the rules print from here on, is what they print from the second
+-- line on; and five bytes of room for each byte of the listing are enough. Assumes nothing.
+use Prim.Native.Nat.{ℕ, suc, _+_, _-_, _*_, _<_, _≤_}
+use native.Mathlib.Numerals.{add-one}
+use native.Mathlib.Omega.{arith}
+use mathlib.Core.List.{List, [], _∷_, _++_, append-assoc}
+use mathlib.Core.Path.{_≡_, refl, sym, ap, subst, _∙_}
+use lib.ListN.{length, drop, length-drop}
+use lib.Seq.{drop-length}
+use Rattle.rules.specs.Store.{Store}
+use Rattle.rules.specs.Bytes.{lineFeed, Pieces, cutAt}
+use Rattle.rules.specs.Listings as rules
+use Rattle.rules.specs.Listings.{Outcome, prints, stops, refusal, does, proceed, atEnd, run, atStart, keeps, leaves, noTally, twinsProgram, sumsProgram, maxListing, maxOutput}
+use Rattle.rules.proofs.Listings.Short.{Within, Terse, does-within, twins-terse, sums-terse}
+use Rattle.layout.specs.Reading.{part, storeIn}
+use Rattle.layout.specs.Columns.{emptyBuffer}
+use Rattle.layout.specs.Soundness.{IsSound}
+use Rattle.layout.proofs.Scans.{part-length}
+use Rattle.layout.proofs.Empty.{zeros-read, zeros-sound}
+use Rattle.equivalence.specs.Lent.{emptyWords}
+use Rattle.lines.specs.Pieces.{piecesFrom, PieceEnd}
+use Rattle.lines.specs.Wrote.{Wrote}
+use Rattle.lines.proofs.Joined.{then, said, within}
+use Rattle.listing.specs.declared.types.Program.{Program}
+use Rattle.listing.specs.declared.types.Program.the-variants.{Twins, Sums}
+use Rattle.listing.specs.declared.types.Progress.{Progress}
+use Rattle.listing.specs.declared.types.Step.{Step}
+use Rattle.listing.specs.declared.types.Step.the-variants.{On, Stopped}
+use Rattle.listing.specs.Progress.{programOf, tallyOf, progressOf, Counted, Further}
+use Rattle.listing.specs.Asking.{outcomeOf, Goes}
+use Rattle.listing.specs.Stepping.{closes, LineDoes, Ran}
+use Rattle.listing.proofs.Written.{nothing}
+
+terse : (p : Program) → Terse (programOf p)
+unfolding programOf
+terse Twins = twins-terse
+terse Sums = sums-terse
+
+-- what stands in front of the first difference in a sum
+front : (xs ys zs : List ℕ) {whole : List ℕ} → whole ≡ xs ++ (ys ++ zs) → whole ≡ (xs ++ ys) ++ zs
+front xs ys zs e = e ∙ sym (append-assoc xs ys zs)
+
+module _ (p : Program) (listing : List ℕ) where
+  -- what the rules print from a place on, at which line number n begins, and the store that they leave
+  abbrev printsFrom : ℕ → ℕ → rules.Progress → List ℕ
+  printsFrom n at now = run (programOf p) n now (piecesFrom lineFeed listing at .whole) (piecesFrom lineFeed listing at .rest)
+
+  abbrev leavesFrom : ℕ → rules.Progress → Store
+  leavesFrom at now = leaves (programOf p) now (piecesFrom lineFeed listing at .whole)
+
+  -- ---- a line, and the lines behind it
+
+  module _ (n start e : ℕ) (end : PieceEnd listing start lineFeed e) (now : rules.Progress) where
+    line-first : e < length listing → printsFrom n start now ≡ proceed (does (programOf p) now (part listing start e)) n (λ next. printsFrom (suc n) (e + 1) next)
+    unfolding run
+    line-first l = ap (λ (q : Pieces). run (programOf p) n now (q .whole) (q .rest)) (end .ended l)
+
+    line-leaves : e < length listing → leavesFrom start now ≡ keeps (does (programOf p) now (part listing start e)) now (λ next. leavesFrom (e + 1) next)
+    unfolding leaves
+    line-leaves l = ap (λ (q : Pieces). leaves (programOf p) now (q .whole)) (end .ended l)
+
+    module _ (l : e < length listing) where
+      printed-on : (b : List ℕ) (next : rules.Progress) → does (programOf p) now (part listing start e) ≡ prints b next → printsFrom n start now ≡ b ++ printsFrom (n + 1) (e + 1) next
+      unfolding proceed
+      printed-on b next d =
+          line-first l
+          ∙ ap (λ (o : Outcome). proceed o n (λ next′. printsFrom (suc n) (e + 1) next′)) d
+          ∙ ap (λ (k : ℕ). b ++ printsFrom k (e + 1) next) (sym (add-one n))
+
+      left-on : (b : List ℕ) (next : rules.Progress) → does (programOf p) now (part listing start e) ≡ prints b next → leavesFrom start now ≡ leavesFrom (e + 1) next
+      unfolding keeps
+      left-on b next d = line-leaves l ∙ ap (λ (o : Outcome). keeps o now (λ next′. leavesFrom (e + 1) next′)) d
+
+      stops-here : (k : ℕ) → does (programOf p) now (part listing start e) ≡ stops k → printsFrom n start now ≡ refusal n k
+      unfolding proceed
+      stops-here k d = line-first l ∙ ap (λ (o : Outcome). proceed o n (λ next′. printsFrom (suc n) (e + 1) next′)) d
+
+      left-here : (k : ℕ) → does (programOf p) now (part listing start e) ≡ stops k → leavesFrom start now ≡ now .store
+      unfolding keeps
+      left-here k d = line-leaves l ∙ ap (λ (o : Outcome). keeps o now (λ next′. leavesFrom (e + 1) next′)) d
+
+      -- five bytes for each byte of the line, its line feed included
+      line-short : (b : List ℕ) (next : rules.Progress) → does (programOf p) now (part listing start e) ≡ prints b next → length b + 5 * start ≤ 5 * (e + 1)
+      line-short b next d =
+          let w : length b ≤ 5 * suc (length (part listing start e)) = subst (Within (5 * suc (length (part listing start e)))) d (does-within (programOf p) (terse p) now (part listing start e)) in
+          let m : length (part listing start e) ≡ e - start = part-length listing start e (end .within) in
+          let f : start ≤ e = end .behind in
+          omega arith
+
+    some-bytes : (xs : List ℕ) → (length xs ≡ 0 → ⊥) → atEnd (programOf p) n now xs ≡ refusal n 11
+    unfolding atEnd
+    some-bytes [] h = absurd (h refl)
+    some-bytes (x ∷ xs) h = refl
+
+    -- no line feed is left
+    pub unended : start < length listing → e ≡ length listing → printsFrom n start now ≡ refusal n 11
+    unfolding run
+    unended l q =
+        ap (λ (r : Pieces). run (programOf p) n now (r .whole) (r .rest)) (end .unended (omega arith))
+        ∙ some-bytes (drop start listing) (λ z. absurd (let w : ⊥ = omega (arith, length-drop start listing) in w))
+
+    pub nothing-more : start < length listing → e ≡ length listing → leavesFrom start now ≡ now .store
+    unfolding leaves
+    nothing-more l q = ap (λ (r : Pieces). leaves (programOf p) now (r .whole)) (end .unended (omega arith))
+
+  -- ---- behind the last line
+
+  module _ (n start : ℕ) (now : rules.Progress) (ends : start ≡ length listing) where
+    no-pieces : piecesFrom lineFeed listing start ≡ record { whole = []; rest = [] }
+    unfolding piecesFrom cutAt
+    no-pieces = ap (λ (k : ℕ). cutAt lineFeed (drop k listing)) ends ∙ ap (cutAt lineFeed) (drop-length listing)
+
+    closes-here : printsFrom n start now ≡ programOf p .close now
+    unfolding run atEnd
+    closes-here = ap (λ (q : Pieces). run (programOf p) n now (q .whole) (q .rest)) no-pieces
+
+    leaves-here : leavesFrom start now ≡ now .store
+    unfolding leaves
+    leaves-here = ap (λ (q : Pieces). leaves (programOf p) now (q .whole)) no-pieces
+
+closing : (p : Program) (store : List ℕ) (now : Progress) → programOf p .close (progressOf store now) ≡ closes p now
+unfolding programOf closes progressOf twinsProgram sumsProgram
+closing Twins store now = refl
+closing Sums store now = refl
+
+-- ---- the loop
+
+pub as-known : {p : Program} {line store store′ out out′ : List ℕ} {now : Progress} {r q : Step} → r ≡ q → LineDoes p line store store′ out out′ now r → LineDoes p line store store′ out out′ now q
+as-known {p} {line} {store} {store′} {out} {out′} {now} e d = subst (LineDoes p line store store′ out out′ now) e d
+
+module _ (p : Program) (listing : List ℕ) (from : ℕ) (before : List ℕ) where
+  pub record Running (store mapping out : List ℕ) (now : Progress) (n start : ℕ) : Type 0 where
+    pub sound : IsSound store
+    pub empty : mapping ≡ emptyWords
+    pub bytes : List ℕ
+    pub wrote : Wrote (5 * start) before out 0 bytes (now .at)
+    pub whole : printsFrom p listing 2 from atStart ≡ bytes ++ printsFrom p listing n start (progressOf store now)
+    pub store-left : leavesFrom p listing from atStart ≡ leavesFrom p listing start (progressOf store now)
+    pub room : now .at + 50 ≤ 5 * start
+    pub within : start ≤ length listing
+    pub part : now .equal ≤ now .all
+    pub few : now .all ≤ 4294967295 * start
+    pub lines : n ≤ start
+
+  module _ (roomy : maxOutput ≤ length before) (short : length listing ≤ maxListing) where
+    pub running-starts : (mapping : List ℕ) → mapping ≡ emptyWords → 10 ≤ from → from ≤ length listing → Running emptyBuffer mapping before (record { at = 0; equal = 0; all = 0 }) 2 from
+    unfolding progressOf tallyOf atStart noTally
+    running-starts mapping e long h =
+        record {
+          sound = zeros-sound;
+          empty = e;
+          bytes = [];
+          wrote = nothing (5 * from) before 0;
+          whole = ap (λ (s : Store). printsFrom p listing 2 from (record { store = s; tally = noTally })) (sym zeros-read);
+          store-left = ap (λ (s : Store). leavesFrom p listing from (record { store = s; tally = noTally })) (sym zeros-read);
+          room = omega arith;
+          within = h;
+          part = omega arith;
+          few = omega arith;
+          lines = omega arith;
+        }
+
+    module _ (store mapping out : List ℕ) (now : Progress) (n start : ℕ) (inv : Running store mapping out now n start) where
+      pub counts : Counted now
+      counts =
+          let a = inv .few in
+          let b = inv .within in
+          record { part = inv .part; few = omega arith }
+
+      pub has-room : now .at + 50 ≤ length before
+      has-room = let a = inv .room in let b = inv .within in omega arith
+
+      -- what was printed, and then these bytes, are all
+      finished : (last : List ℕ) (most : ℕ) (after : List ℕ) (r : ℕ) → most ≤ 40 → Wrote most out after (now .at) last r → printsFrom p listing n start (progressOf store now) ≡ last
+          → Wrote maxOutput before after 0 (printsFrom p listing 2 from atStart) r
+      finished last most after r m w e =
+          let a = inv .within in
+          let b = inv .room in
+          let c : now .at ≡ 0 + length (inv .bytes) = inv .wrote .behind in
+          let g : Wrote (length (inv .bytes)) before out 0 (inv .bytes) (now .at) = record { written = inv .wrote .written; behind = inv .wrote .behind; short = omega arith } in
+          within (said (then g w (omega (arith, has-room))) (sym (inv .whole ∙ ap (λ (xs : List ℕ). inv .bytes ++ xs) e))) (omega arith)
+
+      pub ran : (last : List ℕ) (most : ℕ) (store′ after : List ℕ) (r : ℕ) → store′ ≡ store → most ≤ 40 → Wrote most out after (now .at) last r
+          → printsFrom p listing n start (progressOf store now) ≡ last → leavesFrom p listing start (progressOf store now) ≡ storeIn store
+          → (mapping′ : List ℕ) → mapping′ ≡ emptyWords → Ran p listing from store′ mapping′ before after r
+      ran last most store′ after r s m w e f mapping′ q =
+          record {
+            wrote = finished last most after r m w e;
+            left = ap storeIn s ∙ sym (inv .store-left ∙ f);
+            sound = subst IsSound (sym s) (inv .sound);
+            empty = q;
+          }
+
+      pub ran-out : (after : List ℕ) (r : ℕ) → length listing ≤ start → Wrote 17 out after (now .at) (closes p now) r → Ran p listing from store mapping before after r
+      unfolding progressOf
+      ran-out after r l w =
+          let a = inv .within in
+          let e : start ≡ length listing = omega arith in
+          ran (closes p now) 17 store after r refl (omega arith) w
+          (closes-here p listing n start (progressOf store now) e ∙ closing p store now)
+          (leaves-here p listing n start (progressOf store now) e)
+          mapping (inv .empty)
+
+      module _ (e : ℕ) (end : PieceEnd listing start lineFeed e) (l : start < length listing) where
+        pub ran-unended : (after : List ℕ) (r : ℕ) → e ≡ length listing → Wrote 30 out after (now .at) (refusal n 11) r → Ran p listing from store mapping before after r
+        unfolding progressOf
+        ran-unended after r q w =
+            ran (refusal n 11) 30 store after r refl (omega arith) w
+            (unended p listing n start e end (progressOf store now) l q)
+            (nothing-more p listing n start e end (progressOf store now) l q)
+            mapping (inv .empty)
+
+        module _ (m : e ≡ length listing → ⊥) (store′ out′ : List ℕ) where
+          ended : e < length listing
+          ended = let w : e ≤ length listing = end .within in omega arith
+
+          module _ (k : ℕ) (did : LineDoes p (part listing start e) store store′ out out′ now (Stopped k)) where
+            stops-there : does (programOf p) (progressOf store now) (part listing start e) ≡ stops k
+            unfolding outcomeOf
+            stops-there = did .step .does
+
+            pub same-out : out′ ≡ out
+            unfolding Goes
+            same-out = did .step .goes
+
+            pub ran-stopped : (mapping′ after : List ℕ) (r : ℕ) → mapping′ ≡ emptyWords → Wrote 30 out′ after (now .at) (refusal n k) r → Ran p listing from store′ mapping′ before after r
+            unfolding progressOf
+            ran-stopped mapping′ after r q w =
+                ran (refusal n k) 30 store′ after r (did .kept k refl) (omega arith) (subst (λ (xs : List ℕ). Wrote 30 xs after (now .at) (refusal n k) r) same-out w)
+                (stops-here p listing n start e end (progressOf store now) ended k stops-there)
+                (left-here p listing n start e end (progressOf store now) ended k stops-there)
+                mapping′ q
+
+          module _ (next : Progress) (did : LineDoes p (part listing start e) store store′ out out′ now (On next)) where
+            goes-there : does (programOf p) (progressOf store now) (part listing start e) ≡ prints (did .step .bytes) (progressOf store′ next)
+            unfolding outcomeOf
+            goes-there = did .step .does
+
+            more : Wrote 40 out out′ (now .at) (did .step .bytes) (next .at)
+            unfolding Goes
+            more = did .step .goes .0
+
+            further : Further now next
+            unfolding Goes
+            further = did .step .goes .1
+
+            pub running-turn : (mapping′ : List ℕ) → mapping′ ≡ emptyWords → Running store′ mapping′ out′ next (n + 1) (e + 1)
+            running-turn mapping′ q =
+                let a = inv .room in
+                let b = inv .within in
+                let f : start ≤ e = end .behind in
+                let w = has-room in
+                let x : now .at ≡ 0 + length (inv .bytes) = inv .wrote .behind in
+                let y : next .at ≡ now .at + length (did .step .bytes) = more .behind in
+                let z : length (did .step .bytes) + 5 * start ≤ 5 * (e + 1) = line-short p listing n start e end (progressOf store now) ended (did .step .bytes) (progressOf store′ next) goes-there in
+                let g : Wrote (length (inv .bytes)) before out 0 (inv .bytes) (now .at) = record { written = inv .wrote .written; behind = inv .wrote .behind; short = omega arith } in
+                let h : Wrote (length (did .step .bytes)) out out′ (now .at) (did .step .bytes) (next .at) = record { written = more .written; behind = more .behind; short = omega arith } in
+                let u = inv .few in
+                let v = further .few in
+                let t = inv .lines in
+                let i = ended in
+                record {
+                  sound = did .sound;
+                  empty = q;
+                  bytes = inv .bytes ++ did .step .bytes;
+                  wrote = within (then g h (omega arith)) (omega arith);
+                  whole =
+                      front (inv .bytes) (did .step .bytes) _
+                      (inv .whole ∙ ap (λ (xs : List ℕ). inv .bytes ++ xs) (printed-on p listing n start e end (progressOf store now) ended (did .step .bytes) (progressOf store′ next) goes-there));
+                  store-left = inv .store-left ∙ left-on p listing n start e end (progressOf store now) ended (did .step .bytes) (progressOf store′ next) goes-there;
+                  room = omega arith;
+                  within = omega arith;
+                  part = further .part;
+                  few = omega arith;
+                  lines = omega arith;
+                }

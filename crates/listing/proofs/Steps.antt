@@ -1,0 +1,118 @@
+-- What a line does, by its letter: the code goes by the same tests as the rules. Assumes nothing.
+use Prim.Native.Nat.{ℕ, _<_, _≤_}
+use native.Mathlib.Omega.{arith}
+use mathlib.Core.Bool.{Bool, true, false, cond, true≢false}
+use mathlib.Core.Option.{Option, none, some}
+use mathlib.Core.List.{List, []}
+use mathlib.Core.Path.{_≡_, refl, ap, _∙_}
+use borrow.Author.Tests.{le-leb, lt-leb, eqb-true, eqb-false}
+use lib.Dec.{eqb}
+use lib.ListN.{length}
+use Rattle.rules.specs.Lines.{Line, field, operationLine, blockLine, attributeLine, operandLine, queryLine, wholly, parse}
+use Rattle.rules.specs.Listings as rules
+use Rattle.rules.specs.Listings.{Outcome, prints, stops, lineDoes, does, maxLine}
+use Rattle.layout.specs.Causes.{causeOf}
+use Rattle.layout.specs.Soundness.{IsSound}
+use Rattle.layout.specs.declared.causes.Cause.{Cause}
+use Rattle.layout.specs.declared.causes.Cause.the-variants.{None, Is}
+use Rattle.lines.specs.Reading.{fieldsLeft, oneByte}
+use Rattle.lines.proofs.Letters.{no-letter, operation-letter, block-letter, attribute-letter, operand-letter, query-letter, other-letter}
+use Rattle.listing.specs.declared.types.Program.{Program}
+use Rattle.listing.specs.declared.types.Progress.{Progress}
+use Rattle.listing.specs.declared.types.Step.{Step}
+use Rattle.listing.specs.declared.types.Step.the-variants.{On, Stopped}
+use Rattle.listing.specs.Progress.{programOf, tallyOf, progressOf, Counted, Further}
+use Rattle.listing.specs.Building.{buildingLine, ledTo, LineDid}
+use Rattle.listing.specs.Asking.{outcomeOf, Goes, Stepped}
+use Rattle.listing.specs.Stepping.{LineDoes}
+use Rattle.listing.proofs.Written.{nothing}
+
+-- ---- steps
+
+pub stopped : (o : Outcome) (store out : List ℕ) (now : Progress) (k : ℕ) → o ≡ stops k → Stepped o store out out now (Stopped k)
+unfolding outcomeOf Goes
+stopped o store out now k e = record { bytes = []; does = e; goes = refl }
+
+pub same-outcome : {o p : Outcome} {store before after : List ℕ} {now : Progress} {r : Step} → o ≡ p → Stepped p store before after now r → Stepped o store before after now r
+same-outcome e s = record { bytes = s .bytes; does = e ∙ s .does; goes = s .goes }
+
+-- nothing is counted
+same-count : (now : Progress) → Counted now → Further now now
+same-count now h = record { part = h .part; few = omega arith }
+
+abbrev isOn : Step → Bool
+isOn (On next) = true
+isOn (Stopped k) = false
+
+goes-on : {now : Progress} {k : ℕ} → On now ≡ Stopped k → ⊥
+goes-on h = true≢false (ap (λ r. isOn r) h)
+
+-- ---- a line by its letter
+
+module _ (p : rules.Program) (now : rules.Progress) (line : List ℕ) where
+  pub too-long : maxLine < length line → does p now line ≡ stops 11
+  unfolding does
+  too-long h = ap (λ (t : Bool). cond t (lineDoes p now (parse line)) (stops 11)) (lt-leb (length line) maxLine h)
+
+  module _ (short : length line ≤ maxLine) where
+    by-meaning : (meant : Option Line) → parse line ≡ meant → does p now line ≡ lineDoes p now meant
+    unfolding does
+    by-meaning meant e = ap (λ (t : Bool). cond t (lineDoes p now (parse line)) (stops 11)) (le-leb (length line) maxLine short) ∙ ap (lineDoes p now) e
+
+    pub unlettered : field oneByte (fieldsLeft line 0) ≡ none → does p now line ≡ stops 10
+    unfolding lineDoes
+    unlettered h = by-meaning none (no-letter line h)
+
+    module _ (b : ℕ) (gs : List (List ℕ)) (h : field oneByte (fieldsLeft line 0) ≡ some (b, gs)) where
+      pub asks : b ≡ 113 → does p now line ≡ lineDoes p now (wholly (queryLine gs))
+      asks e = by-meaning _ (query-letter line gs b h e)
+
+      -- the letters that build, one after the other
+      by-letter : (o c a s : Bool) → eqb b 111 ≡ o → eqb b 98 ≡ c → eqb b 97 ≡ a → eqb b 115 ≡ s → (b ≡ 113 → ⊥)
+          → parse line ≡ cond o (wholly (operationLine gs)) (cond c (wholly (blockLine gs)) (cond a (wholly (attributeLine gs)) (cond s (wholly (operandLine gs)) none)))
+      by-letter true c a s x y z w n = operation-letter line gs b h (eqb-true b 111 x)
+      by-letter false true a s x y z w n = block-letter line gs b h (eqb-true b 98 y)
+      by-letter false false true s x y z w n = attribute-letter line gs b h (eqb-true b 97 z)
+      by-letter false false false true x y z w n = operand-letter line gs b h (eqb-true b 115 w)
+      by-letter false false false false x y z w n = other-letter line gs b h (eqb-false b 111 x) (eqb-false b 98 y) (eqb-false b 97 z) (eqb-false b 115 w) n
+
+      pub builds : (b ≡ 113 → ⊥) → does p now line ≡ lineDoes p now (buildingLine b gs)
+      unfolding buildingLine
+      builds n = by-meaning _ (by-letter (eqb b 111) (eqb b 98) (eqb b 97) (eqb b 115) refl refl refl refl n)
+
+-- ---- what the code does
+
+module _ (p : Program) (line store out : List ℕ) (now : Progress) (sound : IsSound store) where
+  pub line-stopped : (k : ℕ) → does (programOf p) (progressOf store now) line ≡ stops k → LineDoes p line store store out out now (Stopped k)
+  line-stopped k e = record { step = stopped _ store out now k e; sound = sound; kept = λ cause q. refl }
+
+  pub line-asked : (after : List ℕ) (r : Step) (o : Outcome) → does (programOf p) (progressOf store now) line ≡ o → Stepped o store out after now r → LineDoes p line store store out after now r
+  line-asked after r o e s = record { step = same-outcome e s; sound = sound; kept = λ cause q. refl }
+
+  module _ (exit : List ℕ) (meant : Option Line) (r : Cause) (e : does (programOf p) (progressOf store now) line ≡ lineDoes (programOf p) (progressOf store now) meant) (did : LineDid store exit meant r) where
+    led : does (programOf p) (progressOf store now) line ≡ ledTo (progressOf exit now) (causeOf r)
+    unfolding progressOf
+    led = e ∙ did .does (programOf p) (tallyOf now)
+
+    pub line-refused : (k : ℕ) → r ≡ Is k → LineDoes p line store exit out out now (Stopped k)
+    unfolding ledTo causeOf
+    line-refused k q =
+        record {
+          step = stopped _ exit out now k (led ∙ ap (λ (x : Cause). ledTo (progressOf exit now) (causeOf x)) q);
+          sound = did .sound;
+          kept = λ cause z. did .kept k q;
+        }
+
+    pub line-built : Counted now → r ≡ None → LineDoes p line store exit out out now (On now)
+    unfolding ledTo causeOf outcomeOf Goes
+    line-built h q =
+        record {
+          step =
+              record {
+                bytes = [];
+                does = led ∙ ap (λ (x : Cause). ledTo (progressOf exit now) (causeOf x)) q;
+                goes = (nothing 40 out (now .at), same-count now h);
+              };
+          sound = did .sound;
+          kept = λ cause z. absurd (goes-on z);
+        }

@@ -1,0 +1,158 @@
+-- A comparison that is begun with no entries answers what the rules answer for the empty mapping, and what is printed and counted of it
+-- is what `twins` does for a `q`. Assumes nothing.
+use Prim.Native.Nat.{ℕ, _+_, _≤_}
+use native.Mathlib.Omega.{arith}
+use mathlib.Core.Bool.{Bool, true, false, true≢false, _&&_}
+use mathlib.Core.List.{List, [], _∷_, _++_, append-nil}
+use mathlib.Core.Logic.{inl, inr}
+use mathlib.Core.Option.{some}
+use mathlib.Core.Path.{_≡_, refl, sym, ap, subst, _∙_}
+use lib.ListN.{length, replicate, length-replicate, drop-of-length-le}
+use types.Run.{OneOf}
+use denote.Enum.Declared.{tagOf}
+use Rattle.rules.specs.Store.{Store}
+use Rattle.rules.specs.Fragments.{Sort, exists}
+use Rattle.rules.specs.Building.{firstFailed}
+use Rattle.rules.specs.Shells.{Ignore}
+use Rattle.rules.specs.Mapping.{Mapping, noImage, emptyMapping, allowed}
+use Rattle.rules.specs.Answers.{Comparison, refused, compareTests, comparisonBy, comparison}
+use Rattle.rules.specs.Listings.{prints, tallied, opsIn, lineDoes, twinsAnswer, twinsProgram}
+use Rattle.rules.proofs.Basics.Tests.{and-right}
+use Rattle.rules.proofs.Walking.Answered.{empty-allowed}
+use Rattle.layout.specs.Reading.{storeIn}
+use Rattle.layout.specs.Columns.{pasted}
+use Rattle.layout.specs.Soundness.{IsSound}
+use Rattle.layout.proofs.Empty.{sound-of}
+use Rattle.fragments.specs.Sorts.{sortOf}
+use Rattle.fragments.specs.Ignoring.{ignoreOf}
+use Rattle.equivalence.specs.Lent.{mappingOf, emptyWords}
+use Rattle.equivalence.specs.Walked.{answerOf}
+use Rattle.equivalence.specs.Calls.{Answered}
+use Rattle.equivalence.specs.declared.types.EqResult.{EqResult}
+use Rattle.equivalence.specs.declared.types.EqResult.the-variants.{Eq, FirstNEQOps, FirstNEQRegions, FirstNEQBlocks, Refused}
+use Rattle.equivalence.proofs.types.EqResult as result
+use Rattle.lines.specs.Parsing.{queryOf}
+use Rattle.lines.specs.Wrote.{Wrote}
+use Rattle.lines.specs.declared.parsing.Query.{Query}
+use Rattle.equivalence.proofs.Unmapped.{empty-words}
+use Rattle.listing.specs.declared.types.Progress.{Progress}
+use Rattle.listing.specs.declared.types.Step.the-variants.{On, Stopped}
+use Rattle.listing.specs.Progress.{progressOf, tallyOf, Counted}
+use Rattle.listing.specs.Asking.{isEq, verdictLine, answerTo, Compares, CountedMore, outcomeOf, Goes, Stepped}
+use Rattle.listing.proofs.Counts.{further}
+
+-- ---- the empty mapping
+
+words-are : (m : List ℕ) → m ≡ emptyWords → mappingOf m ≡ emptyMapping
+words-are m e = ap mappingOf e ∙ empty-words
+
+pub entries-allowed : (s : Store) (m : List ℕ) → m ≡ emptyWords → allowed s (mappingOf m) ≡ true
+entries-allowed s m e = subst (λ (x : Mapping). allowed s x ≡ true) (sym (words-are m e)) (empty-allowed s)
+
+entries-length : (m : List ℕ) → m ≡ emptyWords → length m ≡ 2816
+unfolding emptyWords
+entries-length m e = ap length e ∙ length-replicate 2816 noImage
+
+-- there is room for all words still, where their number has not changed
+pub room : (m after : List ℕ) → m ≡ emptyWords → length after ≡ length m → 0 + 2816 ≤ length after
+room m after e long = let n : length m ≡ 2816 = entries-length m e in omega arith
+
+-- as many words as there are, written over them all
+pub over-all : (l vs : List ℕ) → length l ≡ length vs → pasted l 0 vs ≡ vs
+over-all l vs e =
+    let past : length l ≤ 0 + length vs = omega arith in
+    ap (λ (xs : List ℕ). vs ++ xs) (drop-of-length-le l past) ∙ append-nil vs
+
+pub filled : (l : List ℕ) → length l ≡ 2816 → pasted l 0 (replicate 2816 noImage) ≡ emptyWords
+unfolding emptyWords
+filled l e = over-all l (replicate 2816 noImage) (e ∙ sym (length-replicate 2816 noImage))
+
+-- ---- the comparison
+
+module _ (b m after left : List ℕ) (q : Query) (r : EqResult) (sound : IsSound b) (e : m ≡ emptyWords) where
+  answered : Answered b m after (ignoreOf (q .ignore)) (sortOf (q .sort)) (q .left) (q .right) r → answerOf r ≡ answerTo b q
+  unfolding answerTo
+  answered h =
+      let ig = ignoreOf (q .ignore) in
+      let f = sortOf (q .sort) in
+      sym
+      (subst (λ (x : Mapping). comparison true (storeIn b) x ig f (q .left) (q .right) .answer ≡ answerOf r) (words-are m e)
+      (subst (λ (t : Bool). comparison t (storeIn b) (mappingOf m) ig f (q .left) (q .right) .answer ≡ answerOf r) (sound-of b sound) (ap (λ (c : Comparison). c .answer) (h .told))))
+
+  pub compares : Answered b m after (ignoreOf (q .ignore)) (sortOf (q .sort)) (q .left) (q .right) r
+      → length after ≡ length m → left ≡ pasted after 0 (replicate 2816 noImage) → Compares b left q r
+  compares h long w = record { same = answered h; empty = w ∙ filled after (long ∙ entries-length m e) }
+
+-- ---- an answer that is not refused: both fragments exist
+
+-- an answer by another variant than the last
+abbrev pub NotRefused : EqResult → Type 0
+NotRefused q = OneOf (0 ∷ 1 ∷ 2 ∷ 3 ∷ []) (tagOf result.the-type q)
+
+answers : (q : EqResult) → NotRefused q → (cause : ℕ) → answerOf q ≡ refused cause → ⊥
+unfolding answerOf
+answers (Eq n) k cause h = true≢false cc
+answers (FirstNEQOps l r n) k cause h = true≢false cc
+answers (FirstNEQRegions l r n) k cause h = true≢false cc
+answers (FirstNEQBlocks l r n) k cause h = true≢false cc
+answers (Refused c) (inl e) cause h = omega (arith, e)
+answers (Refused c) (inr (inl e)) cause h = omega (arith, e)
+answers (Refused c) (inr (inr (inl e))) cause h = omega (arith, e)
+answers (Refused c) (inr (inr (inr e))) cause h = omega (arith, e)
+
+-- with a sound store and an allowed mapping, a missing fragment is refused
+missing : (s : Store) (m : Mapping) (ig : Ignore) (f : Sort) (l r : ℕ) → allowed s m ≡ true → (exists s f l && exists s f r) ≡ false
+    → comparison true s m ig f l r .answer ≡ refused 2
+unfolding comparison comparisonBy compareTests firstFailed
+missing s m ig f l r a e = rw (a, e) refl
+
+pub right-exists : (b : List ℕ) (q : Query) (r : EqResult) → answerOf r ≡ answerTo b q → NotRefused r → exists (storeIn b) (sortOf (q .sort)) (q .right) ≡ true
+unfolding answerTo
+right-exists b q r same k = go (exists S f (q .left) && exists S f (q .right)) refl
+  where
+    S : Store
+    S = storeIn b
+
+    f : Sort
+    f = sortOf (q .sort)
+
+    go : (t : Bool) → (exists S f (q .left) && exists S f (q .right)) ≡ t → exists S f (q .right) ≡ true
+    go true e = and-right (exists S f (q .left)) (exists S f (q .right)) e
+    go false e = absurd (answers r k 2 (same ∙ missing S emptyMapping (ignoreOf (q .ignore)) f (q .left) (q .right) (empty-allowed S) e))
+
+-- ---- what `twins` does for a `q`
+
+twins-asks : (b : List ℕ) (now : Progress) (q : Query)
+    → lineDoes twinsProgram (progressOf b now) (some (queryOf q)) ≡ twinsAnswer (answerTo b q) (sortOf (q .sort)) (q .right) (progressOf b now)
+unfolding lineDoes twinsProgram progressOf queryOf answerTo
+twins-asks b now q = refl
+
+pub twins-stops : (b out : List ℕ) (now : Progress) (q : Query) (r : EqResult) (cause : ℕ) → answerOf r ≡ answerTo b q → r ≡ Refused cause
+    → Stepped (lineDoes twinsProgram (progressOf b now) (some (queryOf q))) b out out now (Stopped cause)
+unfolding twinsAnswer answerOf outcomeOf Goes
+twins-stops b out now q r cause same e =
+    record { bytes = []; does = twins-asks b now q ∙ rw (← same, e) refl; goes = refl }
+
+prints-on : (b : List ℕ) (now next : Progress) (q : Query) (r : EqResult) (at : ℕ) → NotRefused r
+    → CountedMore now at (isEq (answerOf r)) (opsIn (storeIn b) (sortOf (q .sort)) (q .right)) next
+    → twinsAnswer (answerOf r) (sortOf (q .sort)) (q .right) (progressOf b now) ≡ prints (verdictLine (answerOf r)) (progressOf b next)
+unfolding twinsAnswer tallied verdictLine isEq answerOf progressOf tallyOf
+prints-on b now next q (Eq n) at k m = rw (m .equal, m .all) refl
+prints-on b now next q (FirstNEQOps x y n) at k m = rw (m .equal, m .all) refl
+prints-on b now next q (FirstNEQRegions x y n) at k m = rw (m .equal, m .all) refl
+prints-on b now next q (FirstNEQBlocks x y n) at k m = rw (m .equal, m .all) refl
+prints-on b now next q (Refused c) at k m = absurd (answers (Refused c) k c refl)
+
+pub twins-goes : (b out out′ : List ℕ) (now next : Progress) (q : Query) (r : EqResult) (at : ℕ) → answerOf r ≡ answerTo b q → NotRefused r
+    → Counted now → Wrote 40 out out′ (now .at) (verdictLine (answerOf r)) at
+    → CountedMore now at (isEq (answerOf r)) (opsIn (storeIn b) (sortOf (q .sort)) (q .right)) next
+    → Stepped (lineDoes twinsProgram (progressOf b now) (some (queryOf q))) b out out′ now (On next)
+unfolding outcomeOf Goes
+twins-goes b out out′ now next q r at same k h w m =
+    record {
+      bytes = verdictLine (answerOf r);
+      does =
+          twins-asks b now q
+          ∙ subst (λ x. twinsAnswer x (sortOf (q .sort)) (q .right) (progressOf b now) ≡ prints (verdictLine (answerOf r)) (progressOf b next)) same (prints-on b now next q r at k m);
+      goes = (subst (λ (n : ℕ). Wrote 40 out out′ (now .at) (verdictLine (answerOf r)) n) (sym (m .printed)) w, further h m);
+    }

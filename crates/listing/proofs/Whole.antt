@@ -1,0 +1,125 @@
+-- A whole listing: its first line, and then the lines behind it; and what is refused of the lent buffers. Assumes nothing.
+use Prim.Native.Nat.{ℕ, _<_, _≤_}
+use native.Mathlib.Omega.{arith}
+use mathlib.Core.Bool.{Bool, true, false}
+use mathlib.Core.Option.{Option, none, some, Option·none-ne-some}
+use mathlib.Core.List.{List, [], _∷_}
+use mathlib.Core.Path.{_≡_, refl, sym, ap, ap₂, subst, _∙_}
+use borrow.Author.Tests.{eq-eqb, ne-eqb}
+use lib.Dec.{eqb}
+use lib.ListN.{length, replicate, length-replicate}
+use Rattle.rules.specs.Bytes.{lineFeed, Pieces, cutAt}
+use Rattle.rules.specs.Building.{firstFailed}
+use Rattle.rules.specs.Mapping.{noImage}
+use Rattle.rules.specs.Listings as rules
+use Rattle.rules.specs.Listings.{refusal, run, atStart, leaves, listingCause, behindFirst, unless, storeAfter, maxOutput}
+use Rattle.layout.specs.Causes.{causeOf}
+use Rattle.layout.specs.Columns.{bufferLength, emptyBuffer, pasted}
+use Rattle.layout.specs.declared.causes.Cause.{Cause}
+use Rattle.layout.specs.declared.causes.Cause.the-variants.{None, Is}
+use Rattle.lines.specs.Pieces.{piecesFrom}
+use Rattle.lines.specs.Wrote.{Wrote}
+use Rattle.lines.proofs.Joined.{said, within}
+use Rattle.equivalence.specs.Lent.{mappingLength, emptyWords}
+use Rattle.listing.specs.declared.types.Program.{Program}
+use Rattle.listing.specs.declared.types.Listed.the-variants.{Printed, Refused, NoRoom}
+use Rattle.listing.specs.Progress.{programOf}
+use Rattle.listing.specs.Stepping.{Headed, Ran}
+use Rattle.listing.specs.Calls.{Lent, lentTests, Prints, Answered, lent}
+use Rattle.listing.proofs.Verdicts.{over-all}
+
+-- ---- the first line
+
+pub emptied : (b : List ℕ) → length b ≡ bufferLength → pasted b 0 (replicate 34568 0) ≡ emptyBuffer
+unfolding emptyBuffer
+emptied b e = over-all b (replicate 34568 0) (e ∙ sym (length-replicate {A = ℕ} 34568 0))
+
+-- a refused first line leaves the buffers as they were
+module _ (p : Program) (listing store mapping out after : List ℕ) (n k : ℕ) (r : Cause) (h : Headed listing r) (e : r ≡ Is k) where
+  refused-for : listingCause listing ≡ some k
+  unfolding causeOf
+  refused-for = sym (h .same) ∙ ap causeOf e
+
+  pub first-refused : Wrote 30 out after 0 (refusal 1 k) n → Prints (programOf p) listing (lent store mapping out) (lent store mapping after) n
+  unfolding lent rules.listed unless
+  first-refused w =
+      let clash : listingCause listing ≡ none → ⊥ = λ q. Option·none-ne-some k (sym q ∙ refused-for) in
+      record {
+        wrote = within (said w (sym (ap (λ (c : Option ℕ). unless c (run (programOf p) 2 atStart (behindFirst (cutAt lineFeed listing .whole)) (cutAt lineFeed listing .rest))) refused-for))) (omega arith);
+        leaves =
+            record {
+              refused = λ cause q. (refl, refl);
+              reads = λ q. absurd (clash q);
+              sound = λ q. absurd (clash q);
+              empty = λ q. absurd (clash q);
+            };
+      }
+
+-- behind an accepted one the lines run
+module _ (p : Program) (listing store mapping out store′ mapping′ out′ : List ℕ) (n : ℕ) (r : Cause) (h : Headed listing r) (e : r ≡ None) (ran : Ran p listing 10 store′ mapping′ out out′ n) where
+  accepted : listingCause listing ≡ none
+  unfolding causeOf
+  accepted = sym (h .same) ∙ ap causeOf e
+
+  printed : rules.listed (programOf p) listing ≡ run (programOf p) 2 atStart (piecesFrom lineFeed listing 10 .whole) (piecesFrom lineFeed listing 10 .rest)
+  unfolding rules.listed unless
+  printed =
+      ap (λ (c : Option ℕ). unless c (run (programOf p) 2 atStart (behindFirst (cutAt lineFeed listing .whole)) (cutAt lineFeed listing .rest))) accepted
+      ∙ ap₂ (λ (ls : List (List ℕ)) (rest : List ℕ). run (programOf p) 2 atStart ls rest) (h .begun e .lines) (h .begun e .rest)
+
+  pub all-ran : Prints (programOf p) listing (lent store mapping out) (lent store′ mapping′ out′) n
+  unfolding lent storeAfter
+  all-ran =
+      record {
+        wrote = said (ran .wrote) (sym printed);
+        leaves =
+            record {
+              refused = λ cause q. absurd (Option·none-ne-some cause (sym accepted ∙ q));
+              reads = λ q. ran .left ∙ ap (leaves (programOf p) atStart) (sym (h .begun e .lines));
+              sound = λ q. ran .sound;
+              empty = λ q. ran .empty;
+            };
+      }
+
+-- ---- the lent buffers
+
+module _ (p : rules.Program) (listing store mapping out : List ℕ) where
+  tested : (a b : Bool) → eqb (length store) bufferLength ≡ a → eqb (length mapping) mappingLength ≡ b → firstFailed (lentTests (lent store mapping out)) ≡ firstFailed ((a, 1) ∷ (b, 8) ∷ [])
+  unfolding lent lentTests
+  tested a b e f = ap₂ (λ (x y : Bool). firstFailed ((x, 1) ∷ (y, 8) ∷ [])) e f
+
+  pub wrong-store : (length store ≡ bufferLength → ⊥) → Answered p listing (lent store mapping out) (lent store mapping out) (Refused 1)
+  unfolding Answered firstFailed
+  wrong-store h = (tested false (eqb (length mapping) mappingLength) (ne-eqb _ _ h) refl, refl)
+
+  module _ (s : length store ≡ bufferLength) where
+    pub wrong-mapping : (length mapping ≡ mappingLength → ⊥) → Answered p listing (lent store mapping out) (lent store mapping out) (Refused 8)
+    unfolding Answered firstFailed
+    wrong-mapping h = (tested true false (eq-eqb _ _ s) (ne-eqb _ _ h), refl)
+
+    module _ (m : length mapping ≡ mappingLength) where
+      right-lengths : firstFailed (lentTests (lent store mapping out)) ≡ none
+      unfolding firstFailed
+      right-lengths = tested true true (eq-eqb _ _ s) (eq-eqb _ _ m)
+
+      pub no-room : length out < maxOutput → Answered p listing (lent store mapping out) (lent store mapping out) NoRoom
+      unfolding Answered lent
+      no-room h = (right-lengths, h, refl)
+
+      pub answered : (after : Lent) (n : ℕ) → maxOutput ≤ length out → Prints p listing (lent store mapping out) after n → Answered p listing (lent store mapping out) after (Printed n)
+      unfolding Answered lent
+      answered after n h pr = (right-lengths, h, pr)
+
+-- a mapping with no entry stays one
+pub no-entries : length emptyWords ≡ mappingLength
+unfolding emptyWords
+no-entries = length-replicate mappingLength noImage
+
+module _ (p : rules.Program) (listing store out store′ mapping′ out′ : List ℕ) (n : ℕ) (pr : Prints p listing (lent store emptyWords out) (lent store′ mapping′ out′) n) where
+  still-none : (c : Option ℕ) → listingCause listing ≡ c → mapping′ ≡ emptyWords
+  unfolding lent
+  still-none none e = pr .leaves .empty e
+  still-none (some k) e = pr .leaves .refused k e .1
+
+  pub unmapped : Prints p listing (lent store emptyWords out) (lent store′ emptyWords out′) n
+  unmapped = subst (λ (m : List ℕ). Prints p listing (lent store emptyWords out) (lent store′ m out′) n) (still-none (listingCause listing) refl) pr

@@ -1,0 +1,99 @@
+-- `operation_does` meets its contract: a line that means nothing is cause 10, any other makes its call. Assumes nothing.
+use mathlib.Core.Path.{sym}
+use lib.Seq.{length-take-le}
+use Rattle.listing.proofs.Built.{unread, line-built}
+use Rattle.listing.proofs.Meant.{headless, listless, operation-meant, types-fit, operands-fit, successors-fit}
+use borrow.Author.Needs.{needs}
+use Rattle.listing.proofs.building_lines.operation_does.Statement.{statement}
+use Rattle.listing.proofs.building_lines.operation_does.Tie as tie
+
+read-head-requires : tie.Need-read-head-requires
+read-head-requires c κs = search needs
+
+enum-known-kind : tie.Need-enum-known-kind
+enum-known-kind c = search needs
+
+enum-told : tie.Need-enum-told
+enum-told c = search needs
+
+returns : tie.Need-returns
+returns c = unread _ _ (headless _ _ _ (c .before .before .read-head .ensures) (c .enum-told .given .1)) (c .before .before .before .before .before .pre .0)
+
+slice-aggregate-read-lists : tie.Need-slice-aggregate-read-lists
+slice-aggregate-read-lists c = search needs
+
+slice-aggregate-read-lists-2 : tie.Need-slice-aggregate-read-lists-2
+slice-aggregate-read-lists-2 c = search needs
+
+slice-aggregate-read-lists-3 : tie.Need-slice-aggregate-read-lists-3
+slice-aggregate-read-lists-3 c = search needs
+
+read-lists-requires : tie.Need-read-lists-requires
+read-lists-requires c κs = search needs
+
+enum-known-lists : tie.Need-enum-known-lists
+enum-known-lists c = search needs
+
+enum-told-2 : tie.Need-enum-told-2
+enum-told-2 c = search needs
+
+returns-2 : tie.Need-returns-2
+returns-2 c =
+    unread _ _ (listless _ _ _ (c .before .before .before .before .before .before .before .before .before .before .before .before .read-head .ensures) _ _ _ _ _ (c .before .before .before .before .before .before .before .before .before .before .kind .given .1) _ _ _ _ (c .before .before .before .before .before .read-lists .ensures) (c .enum-told2 .given .1)) (c .before .before .before .before .before .before .before .before .before .before .before .before .before .before .before .pre .0)
+
+array-share-prefix-types : tie.Need-array-share-prefix-types
+array-share-prefix-types c = types-fit (c .before .before .before .before .before .before .before .read-lists .ensures) (c .before .before .lists .given .1)
+
+slice-aggregate-new-operation : tie.Need-slice-aggregate-new-operation
+slice-aggregate-new-operation c = sym (length-take-le _ _ (types-fit (c .before .before .before .before .before .before .before .before .read-lists .ensures) (c .before .before .before .lists .given .1)))
+
+array-share-prefix-operands : tie.Need-array-share-prefix-operands
+array-share-prefix-operands c = operands-fit (c .before .before .before .before .before .before .before .before .read-lists .ensures) (c .before .before .before .lists .given .1)
+
+slice-aggregate-new-operation-2 : tie.Need-slice-aggregate-new-operation-2
+slice-aggregate-new-operation-2 c = sym (length-take-le _ _ (operands-fit (c .before .before .before .before .before .before .before .before .before .read-lists .ensures) (c .before .before .before .before .lists .given .1)))
+
+array-share-prefix-successors : tie.Need-array-share-prefix-successors
+array-share-prefix-successors c = successors-fit (c .before .before .before .before .before .before .before .before .before .read-lists .ensures) (c .before .before .before .before .lists .given .1)
+
+slice-aggregate-new-operation-3 : tie.Need-slice-aggregate-new-operation-3
+slice-aggregate-new-operation-3 c = sym (length-take-le _ _ (successors-fit (c .before .before .before .before .before .before .before .before .before .before .read-lists .ensures) (c .before .before .before .before .before .lists .given .1)))
+
+new-operation-requires : tie.Need-new-operation-requires
+new-operation-requires c κs = search needs
+
+refusal-in-requires : tie.Need-refusal-in-requires
+refusal-in-requires c κs = search needs
+
+same-length : tie.Need-same-length
+same-length c = search needs
+
+returns-3 : tie.Need-returns-3
+returns-3 c =
+    line-built _ _ _ _ _ (c .before .before .before .new-operation .ensures) (c .refusal-in .ensures) _ (operation-meant _ _ _ (c .before .before .before .before .before .before .before .before .before .before .before .before .before .before .before .before .before .before .before .before .before .read-head .ensures) _ _ _ _ _ (c .before .before .before .before .before .before .before .before .before .before .before .before .before .before .before .before .before .before .before .kind .given .1) _ _ _ _ (c .before .before .before .before .before .before .before .before .before .before .before .before .before .before .read-lists .ensures) _ _ _ (c .before .before .before .before .before .before .before .before .before .lists .given .1))
+
+pub operation-does-spec : {M : Type 1} → statement M
+operation-does-spec =
+    tie.close
+    (tie.spec
+    read-head-requires
+    enum-known-kind
+    enum-told
+    returns
+    slice-aggregate-read-lists
+    slice-aggregate-read-lists-2
+    slice-aggregate-read-lists-3
+    read-lists-requires
+    enum-known-lists
+    enum-told-2
+    returns-2
+    array-share-prefix-types
+    slice-aggregate-new-operation
+    array-share-prefix-operands
+    slice-aggregate-new-operation-2
+    array-share-prefix-successors
+    slice-aggregate-new-operation-3
+    new-operation-requires
+    refusal-in-requires
+    same-length
+    returns-3)

@@ -1,0 +1,85 @@
+-- `listed` meets its contract: a refused first line is all that is printed; behind any other the lines run on an empty store. Assumes nothing.
+use native.Mathlib.Omega.{arith}
+use mathlib.Core.Path.{_∙_}
+use Rattle.listing.proofs.Verdicts.{filled}
+use Rattle.listing.proofs.Whole.{emptied, first-refused, all-ran}
+use borrow.Author.Needs.{needs}
+use Rattle.listing.proofs.running.listed.Statement.{statement}
+use Rattle.listing.proofs.running.listed.Tie as tie
+
+header-cause-requires : tie.Need-header-cause-requires
+header-cause-requires c κs = search needs
+
+enum-known-cause : tie.Need-enum-known-cause
+enum-known-cause c = search needs
+
+put-refusal-requires : tie.Need-put-refusal-requires
+put-refusal-requires c κs = search needs
+
+same-length : tie.Need-same-length
+same-length c = search needs
+
+returns : tie.Need-returns
+returns c =
+    let a = c .before .before .before .before .before .before .before .before .before .before .before .before .args in
+    let listing = a .listing .now in
+    let store = a .store .now in
+    let mapping = a .mapping .now in
+    let out = a .out .now in
+    first-refused (a .program) listing store mapping out _ _ _ _ (c .before .before .before .before .before .before .before .header-cause .ensures) (c .before .before .before .before .before .cause .given .1) (c .before .before .put-refusal .ensures)
+
+enum-told : tie.Need-enum-told
+enum-told c = search needs
+
+fill-at-requires : tie.Need-fill-at-requires
+fill-at-requires c κs = search needs
+
+fill-at-requires-2 : tie.Need-fill-at-requires-2
+fill-at-requires-2 c κs = search needs
+
+run-requires : tie.Need-run-requires
+run-requires c κs =
+    let a = c .before .before .before .before .before .before .before .before .before .before .before .before .before .before .before .before .before .before .args in
+    let listing = a .listing .now in
+    let store = a .store .now in
+    let mapping = a .mapping .now in
+    let out = a .out .now in
+    let h = c .before .before .before .before .before .before .before .before .before .before .before .before .before .before .before .before .before .before .pre in
+    let b = c .before .before .before .before .before .before .before .before .before .before .before .before .before .header-cause .ensures .begun (c .before .before .before .before .before .before .before .before .before .before .before .enum-told .given .1) in
+    (c .before .before .before .before .before .before .before .before .before .fill-at .ensures ∙ emptied store (h .0), (c .before .before .before .before .before .fill-at2 .ensures ∙ filled mapping (h .1 .0), (omega arith, (b .long, (b .short, h .1 .1)))))
+
+same-length-2 : tie.Need-same-length-2
+same-length-2 c = search needs
+
+same-length-3 : tie.Need-same-length-3
+same-length-3 c = search needs
+
+same-length-4 : tie.Need-same-length-4
+same-length-4 c = search needs
+
+returns-2 : tie.Need-returns-2
+returns-2 c =
+    let a = c .before .before .before .before .before .before .before .before .before .before .before .before .before .before .before .before .before .before .before .before .before .before .before .before .before .args in
+    let listing = a .listing .now in
+    let store = a .store .now in
+    let mapping = a .mapping .now in
+    let out = a .out .now in
+    all-ran (a .program) listing store mapping out _ _ _ _ _ (c .before .before .before .before .before .before .before .before .before .before .before .before .before .before .before .before .before .before .before .before .header-cause .ensures) (c .before .before .before .before .before .before .before .before .before .before .before .before .before .before .before .before .before .before .enum-told .given .1) (c .before .before .before .before .before .before .run .ensures)
+
+pub listed-spec : {M : Type 1} → statement M
+listed-spec =
+    tie.close
+    (tie.spec
+    header-cause-requires
+    enum-known-cause
+    put-refusal-requires
+    same-length
+    returns
+    enum-told
+    fill-at-requires
+    fill-at-requires-2
+    run-requires
+    same-length-2
+    same-length-3
+    same-length-4
+    returns-2)

@@ -1,0 +1,66 @@
+-- What a `q` prints and leaves.
+use Prim.Native.Nat.{ℕ, _+_, _≤_}
+use mathlib.Core.Bool.{Bool, true, false, cond}
+use mathlib.Core.List.{List, []}
+use mathlib.Core.Path.{_≡_}
+use Rattle.rules.specs.Answers.{Compared, eq, neq, refused, comparison}
+use Rattle.rules.specs.Mapping.{emptyMapping}
+use Rattle.rules.specs.Listings.{Outcome, prints, stops, equalLine, unequalLine}
+use Rattle.layout.specs.Reading.{storeIn}
+use Rattle.fragments.specs.Sorts.{sortOf}
+use Rattle.fragments.specs.Ignoring.{ignoreOf}
+use Rattle.equivalence.specs.Lent.{emptyWords}
+use Rattle.equivalence.specs.Walked.{answerOf}
+use Rattle.equivalence.specs.declared.types.EqResult.{EqResult}
+use Rattle.lines.specs.Wrote.{Wrote}
+use Rattle.lines.specs.declared.parsing.Query.{Query}
+use Rattle.listing.specs.declared.types.Progress.{Progress}
+use Rattle.listing.specs.declared.types.Step.{Step}
+use Rattle.listing.specs.declared.types.Step.the-variants.{On, Stopped}
+use Rattle.listing.specs.Progress.{progressOf, Further}
+
+-- ---- a comparison
+
+unfoldable pub isEq : Compared → Bool
+isEq (eq paired) = true
+isEq (neq p paired) = false
+isEq (refused cause) = false
+
+-- the line of a comparison; a refused one has none
+unfoldable pub verdictLine : Compared → List ℕ
+verdictLine (eq paired) = equalLine paired
+verdictLine (neq p paired) = unequalLine p paired
+verdictLine (refused cause) = []
+
+-- the answer to a query, begun with an empty mapping
+unfoldable pub answerTo : List ℕ → Query → Compared
+answerTo store q = comparison true (storeIn store) emptyMapping (ignoreOf (q .ignore)) (sortOf (q .sort)) (q .left) (q .right) .answer
+
+-- it is answered, and the mapping is empty again
+pub record Compares (store mapping : List ℕ) (q : Query) (r : EqResult) : Type 0 where
+  pub same : answerOf r ≡ answerTo store q
+  pub empty : mapping ≡ emptyWords
+
+-- a right fragment more, with so many operations, found equal or not, and so many bytes printed
+pub record CountedMore (now : Progress) (at : ℕ) (found : Bool) (ops : ℕ) (next : Progress) : Type 0 where
+  pub printed : next .at ≡ at
+  pub equal : next .equal ≡ now .equal + cond found ops 0
+  pub all : next .all ≡ now .all + ops
+  -- a 32-bit number of operations
+  pub few : ops ≤ 4294967295
+
+-- ---- a step: what is printed goes behind what was printed, and the rules' outcome is this
+
+unfoldable pub outcomeOf : List ℕ → List ℕ → Step → Outcome
+outcomeOf store bytes (On next) = prints bytes (progressOf store next)
+outcomeOf store bytes (Stopped cause) = stops cause
+
+unfoldable pub Goes : List ℕ → List ℕ → Progress → List ℕ → Step → Type 0
+Goes before after now bytes (On next) = Wrote 40 before after (now .at) bytes (next .at) × Further now next
+Goes before after now bytes (Stopped cause) = after ≡ before
+
+-- of a step that leaves this store
+pub record Stepped (outcome : Outcome) (store : List ℕ) (before after : List ℕ) (now : Progress) (r : Step) : Type 0 where
+  pub bytes : List ℕ
+  pub does : outcome ≡ outcomeOf store bytes r
+  pub goes : Goes before after now bytes r

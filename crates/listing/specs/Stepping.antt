@@ -1,0 +1,58 @@
+-- What a line does, and what the lines from one on do.
+use Prim.Native.Nat.{ℕ, _≤_}
+use mathlib.Core.List.{List, []}
+use mathlib.Core.Path.{_≡_}
+use lib.ListN.{length}
+use Rattle.rules.specs.Bytes.{lineFeed, Pieces, cutAt}
+use Rattle.rules.specs.Listings.{does, run, atStart, leaves, shareLine, listingCause, behindFirst, maxListing, maxOutput}
+use Rattle.layout.specs.Reading.{storeIn}
+use Rattle.layout.specs.Causes.{causeOf}
+use Rattle.layout.specs.Soundness.{IsSound}
+use Rattle.layout.specs.declared.causes.Cause.{Cause}
+use Rattle.layout.specs.declared.causes.Cause.the-variants.{None}
+use Rattle.equivalence.specs.Lent.{emptyWords}
+use Rattle.lines.specs.Pieces.{piecesFrom}
+use Rattle.lines.specs.Wrote.{Wrote}
+use Rattle.listing.specs.declared.types.Program.{Program}
+use Rattle.listing.specs.declared.types.Program.the-variants.{Twins, Sums}
+use Rattle.listing.specs.declared.types.Progress.{Progress}
+use Rattle.listing.specs.declared.types.Step.{Step}
+use Rattle.listing.specs.declared.types.Step.the-variants.{Stopped}
+use Rattle.listing.specs.Asking.{Stepped}
+use Rattle.listing.specs.Progress.{programOf, tallyOf, progressOf}
+
+-- ---- the first line
+
+-- the second line begins behind its ten bytes
+pub record Begun (listing : List ℕ) : Type 0 where
+  pub long : 10 ≤ length listing
+  pub short : length listing ≤ maxListing
+  pub lines : behindFirst (cutAt lineFeed listing .whole) ≡ piecesFrom lineFeed listing 10 .whole
+  pub rest : cutAt lineFeed listing .rest ≡ piecesFrom lineFeed listing 10 .rest
+
+-- why no line behind the first is read; else it is the header
+pub record Headed (listing : List ℕ) (r : Cause) : Type 0 where
+  pub same : causeOf r ≡ listingCause listing
+  pub begun : r ≡ None → Begun listing
+
+-- what is printed behind the last line
+unfoldable pub closes : Program → Progress → List ℕ
+closes Twins now = shareLine (tallyOf now)
+closes Sums now = []
+
+-- ---- one line
+
+-- what the code does for a line, as what the rules' program does
+pub record LineDoes (p : Program) (line store store′ out out′ : List ℕ) (now : Progress) (r : Step) : Type 0 where
+  pub step : Stepped (does (programOf p) (progressOf store now) line) store′ out out′ now r
+  pub sound : IsSound store′
+  pub kept : (cause : ℕ) → r ≡ Stopped cause → store′ ≡ store
+
+-- ---- the lines from a place on, at which the second line begins
+
+-- all that they print is written, and the store is what they leave
+pub record Ran (p : Program) (listing : List ℕ) (from : ℕ) (store mapping out out′ : List ℕ) (r : ℕ) : Type 0 where
+  pub wrote : Wrote maxOutput out out′ 0 (run (programOf p) 2 atStart (piecesFrom lineFeed listing from .whole) (piecesFrom lineFeed listing from .rest)) r
+  pub left : storeIn store ≡ leaves (programOf p) atStart (piecesFrom lineFeed listing from .whole)
+  pub sound : IsSound store
+  pub empty : mapping ≡ emptyWords

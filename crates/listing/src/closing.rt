@@ -1,0 +1,21 @@
+// What is printed behind the last line.
+use crate::types::Program;
+use crate::types::Progress;
+use lines::printing::put_share;
+ghost use Prim.Native.Nat.{_+_, _≤_};
+ghost use lib.ListN.{length};
+ghost use Rattle.lines.specs.Wrote.{Wrote};
+ghost use Rattle.listing.specs.Progress.{Counted};
+ghost use Rattle.listing.specs.Stepping.{closes};
+
+// `twins` prints the share, `sums` nothing.
+pub fn close(program: Program, out: &mut [u8], progress: Progress) -> usize
+    requires { ⌜ (progress .at) + 17 ≤ length (now out) ⌝ }
+    requires { ⌜ Counted progress ⌝ }
+    ensures { λ r. ⌜ Wrote 17 (now (out .entry)) (now (out .exit)) (progress .at) (closes program progress) r ⌝ }
+{
+    match program {
+        Program::Twins => put_share(out, progress.at, progress.equal, progress.all),
+        Program::Sums => progress.at,
+    }
+}

@@ -1,0 +1,74 @@
+// The share: the operations inside right fragments, those found equal among them.
+use crate::types::Progress;
+use equivalence::types::EqResult;
+use fragments::sorts::size;
+use fragments::types::Size;
+use fragments::types::Sort;
+ghost use mathlib.Core.Path.{_≡_};
+ghost use mathlib.Core.Bool.{true};
+ghost use Rattle.rules.specs.Fragments.{exists};
+ghost use Rattle.rules.specs.Listings.{opsIn};
+ghost use Rattle.layout.specs.Reading.{storeIn};
+ghost use Rattle.layout.specs.Soundness.{IsSound};
+ghost use Rattle.fragments.specs.Sorts.{sortOf};
+ghost use Rattle.equivalence.specs.Walked.{answerOf};
+ghost use Rattle.listing.specs.Progress.{Counted};
+ghost use Rattle.listing.specs.Asking.{isEq, CountedMore};
+
+// The operations inside a fragment.
+fn ops_in(store: &[u32], sort: Sort, n: u32) -> u32
+    requires { ⌜ IsSound (now store) ⌝ }
+    requires { ⌜ exists (storeIn (now store)) (sortOf sort) n ≡ true ⌝ }
+    ensures { λ r. ⌜ r ≡ opsIn (storeIn (now (store .entry))) (sortOf sort) n ⌝ }
+{
+    match size(store, sort, n) {
+        Size::Of(n) => n,
+        Size::TooDeep => 0,
+    }
+}
+
+fn is_eq(result: EqResult) -> bool
+    ensures { λ r. ⌜ r ≡ isEq (answerOf result) ⌝ }
+{
+    match result {
+        EqResult::Eq(_) => true,
+        _ => false,
+    }
+}
+
+// A right fragment more, found equal or not, and so many bytes printed.
+fn count(progress: Progress, at: usize, found: bool, ops: u32) -> Progress
+    requires { ⌜ Counted progress ⌝ }
+    ensures { λ r. ⌜ CountedMore progress at found ops r ⌝ }
+{
+    let all = progress.all + ops as u64;
+    if found {
+        return Progress {
+            at,
+            equal: progress.equal + ops as u64,
+            all,
+        };
+    }
+    Progress {
+        at,
+        equal: progress.equal,
+        all,
+    }
+}
+
+// The right fragment of a comparison more.
+pub fn counted(
+    store: &[u32],
+    progress: Progress,
+    at: usize,
+    sort: Sort,
+    r: u32,
+    result: EqResult,
+) -> Progress
+    requires { ⌜ IsSound (now store) ⌝ }
+    requires { ⌜ exists (storeIn (now store)) (sortOf sort) r ≡ true ⌝ }
+    requires { ⌜ Counted progress ⌝ }
+    ensures { λ q. ⌜ CountedMore progress at (isEq (answerOf result)) (opsIn (storeIn (now (store .entry))) (sortOf sort) r) q ⌝ }
+{
+    count(progress, at, is_eq(result), ops_in(store, sort, r))
+}

@@ -1,0 +1,119 @@
+// The lines of a listing, one after the other.
+use crate::asking::query_does;
+use crate::building_lines::building_does;
+use crate::closing::close;
+use crate::header::MAX_LINE;
+use crate::header::header_cause;
+use crate::types::Program;
+use crate::types::Progress;
+use crate::types::Step;
+use equivalence::mapping::NONE;
+use layout::causes::Cause;
+use layout::lists::fill_at;
+use lines::pieces::piece_end;
+use lines::printing::put_refusal;
+use lines::reader::word_at;
+use lines::reading::Word;
+ghost use mathlib.Core.Path.{_≡_};
+ghost use Prim.Native.Nat.{_+_, _≤_};
+ghost use lib.ListN.{length};
+ghost use Rattle.rules.specs.Listings.{maxListing, maxOutput};
+ghost use Rattle.layout.specs.Columns.{bufferLength, emptyBuffer};
+ghost use Rattle.layout.specs.Soundness.{IsSound};
+ghost use Rattle.equivalence.specs.Lent.{mappingLength, emptyWords};
+ghost use Rattle.listing.specs.Progress.{programOf, Counted};
+ghost use Rattle.listing.specs.Stepping.{LineDoes, Ran};
+ghost use Rattle.listing.specs.Calls.{Prints, lent};
+
+// One line: its length, its letter, and then what it does.
+fn line_does(
+    program: Program,
+    store: &mut [u32],
+    mapping: &mut [u32],
+    out: &mut [u8],
+    progress: Progress,
+    line: &[u8],
+) -> Step
+    requires { ⌜ IsSound (now store) ⌝ }
+    requires { ⌜ now mapping ≡ emptyWords ⌝ }
+    requires { ⌜ (progress .at) + 40 ≤ length (now out) ⌝ }
+    requires { ⌜ Counted progress ⌝ }
+    ensures { λ r. ⌜ LineDoes program (now (line .entry)) (now (store .entry)) (now (store .exit)) (now (out .entry)) (now (out .exit)) progress r ⌝ }
+    ensures { λ r. ⌜ now (mapping .exit) ≡ emptyWords ⌝ }
+{
+    if line.len() > MAX_LINE {
+        return Step::Stopped(11);
+    }
+    let Word::At(letter, at) = word_at(line, 0) else {
+        return Step::Stopped(10);
+    };
+    if letter == b'q' {
+        return query_does(program, store, mapping, out, progress, line, at);
+    }
+    match building_does(store, line, letter, at) {
+        Cause::Is(cause) => Step::Stopped(cause),
+        Cause::None => Step::On(progress),
+    }
+}
+
+// The lines from the second on, which begins at `from`.
+fn run(
+    program: Program,
+    listing: &[u8],
+    store: &mut [u32],
+    mapping: &mut [u32],
+    out: &mut [u8],
+    from: usize,
+) -> usize
+    requires { ⌜ now store ≡ emptyBuffer ⌝ }
+    requires { ⌜ now mapping ≡ emptyWords ⌝ }
+    requires { ⌜ 10 ≤ from ⌝ }
+    requires { ⌜ from ≤ length (now listing) ⌝ }
+    requires { ⌜ length (now listing) ≤ maxListing ⌝ }
+    requires { ⌜ maxOutput ≤ length (now out) ⌝ }
+    ensures { λ r. ⌜ Ran program (now (listing .entry)) from (now (store .exit)) (now (mapping .exit)) (now (out .entry)) (now (out .exit)) r ⌝ }
+{
+    let mut progress = Progress {
+        at: 0,
+        equal: 0,
+        all: 0,
+    };
+    let mut number = 2;
+    let mut start = from;
+    while start < listing.len() {
+        let end = piece_end(listing, start, b'\n');
+        if end == listing.len() {
+            return put_refusal(out, progress.at, number, 11);
+        }
+        let step = line_does(program, store, mapping, out, progress, &listing[start..end]);
+        match step {
+            Step::Stopped(cause) => return put_refusal(out, progress.at, number, cause),
+            Step::On(next) => progress = next,
+        }
+        start = end + 1;
+        number += 1;
+    }
+    close(program, out, progress)
+}
+
+// A listing from its first line on, in buffers of their lengths and with room enough.
+pub fn listed(
+    program: Program,
+    listing: &[u8],
+    store: &mut [u32],
+    mapping: &mut [u32],
+    out: &mut [u8],
+) -> usize
+    requires { ⌜ length (now store) ≡ bufferLength ⌝ }
+    requires { ⌜ length (now mapping) ≡ mappingLength ⌝ }
+    requires { ⌜ maxOutput ≤ length (now out) ⌝ }
+    ensures { λ r. ⌜ Prints (programOf program) (now (listing .entry)) (lent (now (store .entry)) (now (mapping .entry)) (now (out .entry))) (lent (now (store .exit)) (now (mapping .exit)) (now (out .exit))) r ⌝ }
+{
+    let cause = header_cause(listing);
+    if let Cause::Is(number) = cause {
+        return put_refusal(out, 0, 1, number);
+    }
+    fill_at(store, 0, layout::columns::LENGTH, 0);
+    fill_at(mapping, 0, equivalence::mapping::LENGTH, NONE);
+    run(program, listing, store, mapping, out, 10)
+}

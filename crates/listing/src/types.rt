@@ -1,0 +1,26 @@
+// The two programs, how far one is, and what it answers.
+
+pub enum Program {
+    Twins,
+    Sums,
+}
+
+// How many bytes are printed, the operations in right fragments found equal, and those in all right fragments.
+pub struct Progress {
+    pub at: usize,
+    pub equal: u64,
+    pub all: u64,
+}
+
+// What a line leaves, or the cause for which it is refused.
+pub enum Step {
+    On(Progress),
+    Stopped(u32),
+}
+
+// How many bytes a listing prints. A lent buffer that is not of its length is refused by its number; too little room has none.
+pub enum Listed {
+    Printed(usize),
+    Refused(u32),
+    NoRoom,
+}

@@ -1,0 +1,16 @@
+-- What one read more leaves of the bytes that are to be read. Assumes nothing.
+use Prim.Native.Nat.{ℕ, _-_, _<_, _≤_}
+use mathlib.Core.Path.{_≡_, subst}
+use native.Mathlib.Omega.{arith}
+use Rattle.programs.specs.declared.input.Input.{Input}
+use Rattle.programs.specs.declared.input.Input.the-variants.{Read}
+use Rattle.programs.specs.Within.{Within}
+
+-- a read that answered lies within
+pub answered : (r : Input) (n all : ℕ) → r ≡ Read n → Within r all → n ≤ all
+unfolding Within
+answered r n all h w = subst (λ (q : Input). Within q all) h w
+
+-- the bytes that are left become fewer
+pub fewer : (all at next : ℕ) → at < next → next ≤ all → all - next < all - at
+fewer all at next h k = omega arith

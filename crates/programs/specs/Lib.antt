@@ -1,0 +1,2 @@
+-- What a contract of this crate says.
+pub mod Within

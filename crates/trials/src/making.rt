@@ -1,0 +1,107 @@
+// The lines that make a listing and what must be printed for it.
+use crate::text::byte_at;
+use crate::text::next;
+use crate::text::put_byte;
+use crate::text::put_decimal;
+use crate::text::read_number;
+
+// The case that is made: how many bytes its name, its group's begin, its listing and what must be printed have.
+pub struct Case {
+    pub name: usize,
+    pub kept: usize,
+    pub listing: usize,
+    pub wanted: usize,
+}
+
+// The turns of a line, by number, and where it begins behind them.
+pub struct Turns {
+    pub from: u64,
+    pub until: u64,
+    pub behind: usize,
+}
+
+// A byte of a line in one of its turns.
+fn put_made(to: &mut [u8], at: usize, byte: u8, turn: u64) -> usize {
+    match byte {
+        b'#' => put_decimal(to, at, turn),
+        b'/' => put_byte(to, at, b'\n'),
+        _ => put_byte(to, at, byte),
+    }
+}
+
+fn put_turn(to: &mut [u8], at: usize, text: &[u8], turn: u64) -> usize {
+    let mut behind = at;
+    let mut i = 0;
+    while i < text.len() {
+        behind = put_made(to, behind, text[i], turn);
+        i += 1;
+    }
+    behind
+}
+
+// A line in one of its turns, with its line feed if it is a whole one.
+fn put_line(to: &mut [u8], at: usize, text: &[u8], turn: u64, whole: bool) -> usize {
+    let behind = put_turn(to, at, text, turn);
+    if whole {
+        return put_byte(to, behind, b'\n');
+    }
+    behind
+}
+
+// A line in all its turns.
+fn put_turns(to: &mut [u8], at: usize, text: &[u8], turns: Turns, whole: bool) -> usize {
+    let mut behind = at;
+    let mut turn = turns.from;
+    while turn < turns.until {
+        behind = put_line(to, behind, text, turn, whole);
+        turn += 1;
+    }
+    behind
+}
+
+// What stands behind the star of a line.
+fn turns_of(line: &[u8]) -> Turns {
+    let from = read_number(line, 1);
+    let until = read_number(line, next(line, from.behind));
+    Turns {
+        from: from.value,
+        until: until.value,
+        behind: until.behind,
+    }
+}
+
+// A line in all its turns, behind the listing or behind what must be printed.
+fn with_line(case: Case, line: &[u8], turns: Turns, listing: &mut [u8], wanted: &mut [u8]) -> Case {
+    let mark = byte_at(line, turns.behind);
+    let at = next(line, turns.behind);
+    let mut made = case;
+    if mark == b'>' {
+        made.wanted = put_turns(wanted, case.wanted, &line[at..], turns, true);
+        return made;
+    }
+    made.listing = put_turns(listing, case.listing, &line[at..], turns, mark == b'<');
+    made
+}
+
+// A line of the listing, or one that must be printed.
+pub fn with_text(case: Case, line: &[u8], listing: &mut [u8], wanted: &mut [u8]) -> Case {
+    let once = Turns {
+        from: 0,
+        until: 1,
+        behind: 0,
+    };
+    with_line(case, line, once, listing, wanted)
+}
+
+// The same in turns.
+pub fn with_turns(case: Case, line: &[u8], listing: &mut [u8], wanted: &mut [u8]) -> Case {
+    with_line(case, line, turns_of(line), listing, wanted)
+}
+
+// One byte more of the listing.
+pub fn with_byte(case: Case, line: &[u8], listing: &mut [u8]) -> Case {
+    let n = read_number(line, 1);
+    let mut made = case;
+    made.listing = put_byte(listing, case.listing, (n.value % 256) as u8);
+    made
+}
