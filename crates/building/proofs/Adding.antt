@@ -1,5 +1,6 @@
 -- A call that adds an operation or a block, column by column.
 pub mod Entries
+pub mod RowWritten
 pub mod Grew
 pub mod Rows
 pub mod OperationAdded

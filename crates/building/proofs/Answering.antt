@@ -5,7 +5,6 @@ use mathlib.Core.Bool.{Bool, true, false, cond}
 use mathlib.Core.List.{List, [], _∷_}
 use mathlib.Core.Path.{_≡_, refl, sym, ap, subst, _∙_}
 use Rattle.rules.specs.Store.{Store}
-use Rattle.rules.specs.Building as answers
 use Rattle.rules.specs.Building.{Call, refused, answer, after}
 use Rattle.rules.proofs.Basics.Tests.{clash}
 use Rattle.layout.specs.Reading.{storeIn}

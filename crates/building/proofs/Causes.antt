@@ -16,9 +16,9 @@ use Rattle.layout.specs.Columns.{columns, at, opOperandFirst, opOperandEnd}
 use Rattle.layout.specs.Reading.{opCount, blockCount, regionCount, valueCount, storeIn}
 use Rattle.layout.specs.Soundness.{IsSound}
 use Rattle.layout.proofs.Scans.{stop, next, last}
-use Rattle.layout.proofs.Tabulate.{op-read}
+use Rattle.layout.proofs.Tabulate.{blocks-length, values-length, op-in, region-exists, value-exists, op-read}
 use Rattle.layout.proofs.Totals.{operands-length}
-use Rattle.building.proofs.Facts.{shaped, laid, op-exists, region-exists, value-exists, blocks-counted, values-counted}
+use Rattle.building.proofs.Facts.{shaped, laid}
 use Rattle.building.proofs.Adding.BlockAdded.{BlockRoom}
 
 pub none-fail : firstFailed [] ≡ none
@@ -46,43 +46,40 @@ module _ (b : List ℕ) (h : IsSound b) (region label location : ℕ) (types : L
   abbrev failing-block : Option ℕ
   failing-block = firstFailed (tests (storeIn b) (newBlock region label location types))
 
-  region-named : region < regionCount (columns b) → regionExists (storeIn b) region ≡ true
-  region-named l = region-exists b h region ∙ lt-ltb _ _ l
-
   blocks-fit : leb (length (storeIn b .blocks) + 1) maxBlocks ≡ leb (blockCount (columns b) + 1) maxBlocks
-  blocks-fit = ap (λ (n : ℕ). leb (n + 1) maxBlocks) (blocks-counted b h)
+  blocks-fit = ap (λ (n : ℕ). leb (n + 1) maxBlocks) (blocks-length (columns b))
 
   values-fit : leb (length (storeIn b .values) + length types) maxValues ≡ leb (valueCount (columns b) + length types) maxValues
-  values-fit = ap (λ (n : ℕ). leb (n + length types) maxValues) (values-counted b h)
+  values-fit = ap (λ (n : ℕ). leb (n + length types) maxValues) (values-length (columns b))
 
-  pub no-region : regionCount (columns b) ≤ region → failing-block ≡ some 2
+  pub no-region : regionExists (storeIn b) region ≡ false → failing-block ≡ some 2
   unfolding tests
-  no-region l = fails _ 2 _ (region-exists b h region ∙ le-ltb _ _ l)
+  no-region l = fails _ 2 _ l
 
-  module _ (l : region < regionCount (columns b)) where
+  module _ (l : regionExists (storeIn b) region ≡ true) where
     pub many-arguments : maxOwnValues < length types → failing-block ≡ some 4
     unfolding tests
-    many-arguments m = passes _ 2 _ (region-named l) (fails _ 4 _ (lt-leb _ _ m))
+    many-arguments m = passes _ 2 _ l (fails _ 4 _ (lt-leb _ _ m))
 
     pub many-blocks : length types ≤ maxOwnValues → maxBlocks < blockCount (columns b) + 1 → failing-block ≡ some 3
     unfolding tests blockRoom
-    many-blocks m u = passes _ 2 _ (region-named l) (passes _ 4 _ (le-leb _ _ m) (fails _ 3 _ (stop _ (leb (length (storeIn b .values) + length types) maxValues ∷ []) (blocks-fit ∙ lt-leb _ _ u))))
+    many-blocks m u = passes _ 2 _ l (passes _ 4 _ (le-leb _ _ m) (fails _ 3 _ (stop _ (leb (length (storeIn b .values) + length types) maxValues ∷ []) (blocks-fit ∙ lt-leb _ _ u))))
 
     pub many-values : length types ≤ maxOwnValues → blockCount (columns b) + 1 ≤ maxBlocks → maxValues < valueCount (columns b) + length types → failing-block ≡ some 3
     unfolding tests blockRoom
     many-values m u w =
-        passes _ 2 _ (region-named l)
+        passes _ 2 _ l
         (passes _ 4 _ (le-leb _ _ m)
         (fails _ 3 _ (next _ (leb (length (storeIn b .values) + length types) maxValues ∷ []) (blocks-fit ∙ le-leb _ _ u) (last _ (values-fit ∙ lt-leb _ _ w)))))
 
-  pub block-fits : BlockFits b region types → failing-block ≡ none
-  unfolding tests blockRoom
-  block-fits f =
-      passes _ 2 _ (region-named (f .named))
-      (passes _ 4 _ (le-leb _ _ (f .own))
-      (passes _ 3 _
-      (next _ (leb (length (storeIn b .values) + length types) maxValues ∷ []) (blocks-fit ∙ le-leb _ _ (f .room .blocks)) (last _ (values-fit ∙ le-leb _ _ (f .room .values))))
-      none-fail))
+    pub block-fits : length types ≤ maxOwnValues → BlockRoom (columns b) types → failing-block ≡ none
+    unfolding tests blockRoom
+    block-fits m room =
+        passes _ 2 _ l
+        (passes _ 4 _ (le-leb _ _ m)
+        (passes _ 3 _
+        (next _ (leb (length (storeIn b .values) + length types) maxValues ∷ []) (blocks-fit ∙ le-leb _ _ (room .blocks)) (last _ (values-fit ∙ le-leb _ _ (room .values))))
+        none-fail))
 
   pub fits-block : failing-block ≡ none → BlockFits b region types
   unfolding tests blockRoom
@@ -90,7 +87,7 @@ module _ (b : List ℕ) (h : IsSound b) (region label location : ℕ) (types : L
       let p = firstFailed-none _ e in
       let room = passed _ (p .1 .1 .0) in
       record {
-        named = ltb-true region _ (sym (region-exists b h region) ∙ p .0);
+        named = ltb-true region _ (sym (region-exists (columns b) region) ∙ p .0);
         own = leb-true _ _ (p .1 .0);
         room =
             record {
@@ -114,37 +111,38 @@ module _ (b : List ℕ) (h : IsSound b) (n i v : ℕ) where
   own-operands : n < opCount (columns b) → length (opAt (storeIn b) n .operands) ≡ at (columns b) opOperandEnd n - at (columns b) opOperandFirst n
   own-operands l = ap (λ (o : Op). length (o .operands)) (op-read (columns b) n l) ∙ operands-length (columns b) (shaped b h) (laid b h) n l
 
-  named : n < opCount (columns b) → v < valueCount (columns b) → every (opExists (storeIn b) n ∷ valueExists (storeIn b) v ∷ []) ≡ true
-  named l m = next (opExists (storeIn b) n) _ (op-exists b h n ∙ lt-ltb _ _ l) (last (valueExists (storeIn b) v) (value-exists b h v ∙ lt-ltb _ _ m))
-
   indexed : n < opCount (columns b) → ltb i (length (opAt (storeIn b) n .operands)) ≡ ltb i (at (columns b) opOperandEnd n - at (columns b) opOperandFirst n)
   indexed l = ap (λ (k : ℕ). ltb i k) (own-operands l)
 
-  pub no-op : opCount (columns b) ≤ n → failing ≡ some 2
+  pub no-op : opExists (storeIn b) n ≡ false → failing ≡ some 2
   unfolding tests
-  no-op l = fails _ 2 _ (stop (opExists (storeIn b) n) _ (op-exists b h n ∙ le-ltb _ _ l))
+  no-op e = fails _ 2 _ (stop (opExists (storeIn b) n) _ e)
 
-  pub no-value : n < opCount (columns b) → valueCount (columns b) ≤ v → failing ≡ some 2
-  unfolding tests
-  no-value l m =
-      fails _ 2 _ (next (opExists (storeIn b) n) _ (op-exists b h n ∙ lt-ltb _ _ l) (last (valueExists (storeIn b) v) (value-exists b h v ∙ le-ltb _ _ m)))
+  module _ (e : opExists (storeIn b) n ≡ true) where
+    pub no-value : valueExists (storeIn b) v ≡ false → failing ≡ some 2
+    unfolding tests
+    no-value m = fails _ 2 _ (next (opExists (storeIn b) n) _ e (last (valueExists (storeIn b) v) m))
 
-  pub no-operand : n < opCount (columns b) → v < valueCount (columns b) → at (columns b) opOperandEnd n - at (columns b) opOperandFirst n ≤ i → failing ≡ some 7
-  unfolding tests
-  no-operand l m u = passes _ 2 _ (named l m) (fails _ 7 _ (indexed l ∙ le-ltb _ _ u))
+    module _ (m : valueExists (storeIn b) v ≡ true) where
+      named : every (opExists (storeIn b) n ∷ valueExists (storeIn b) v ∷ []) ≡ true
+      named = next (opExists (storeIn b) n) _ e (last (valueExists (storeIn b) v) m)
 
-  pub operand-there : OperandThere b n i v → failing ≡ none
-  unfolding tests
-  operand-there t = passes _ 2 _ (named (t .op) (t .value)) (passes _ 7 _ (indexed (t .op) ∙ lt-ltb _ _ (t .operand)) none-fail)
+      pub no-operand : at (columns b) opOperandEnd n - at (columns b) opOperandFirst n ≤ i → failing ≡ some 7
+      unfolding tests
+      no-operand u = passes _ 2 _ named (fails _ 7 _ (indexed (op-in (columns b) n e) ∙ le-ltb _ _ u))
+
+      pub operand-there : i < at (columns b) opOperandEnd n - at (columns b) opOperandFirst n → failing ≡ none
+      unfolding tests
+      operand-there u = passes _ 2 _ named (passes _ 7 _ (indexed (op-in (columns b) n e) ∙ lt-ltb _ _ u) none-fail)
 
   pub there-operand : failing ≡ none → OperandThere b n i v
   unfolding tests
   there-operand e =
       let p = firstFailed-none _ e in
       let names = passed _ (p .0) in
-      let l = ltb-true n _ (sym (op-exists b h n) ∙ names .0) in
+      let l = op-in (columns b) n (names .0) in
       record {
         op = l;
-        value = ltb-true v _ (sym (value-exists b h v) ∙ names .1 .0);
+        value = ltb-true v _ (sym (value-exists (columns b) v) ∙ names .1 .0);
         operand = ltb-true i _ (sym (indexed l) ∙ p .1 .0);
       }

@@ -1,24 +1,24 @@
--- What a sound buffer gives: its columns have their lengths, are laid out, and are read as a sound store; so what exists and the totals
--- can be read off its counts. Assumes nothing.
+-- What a sound buffer gives: its columns have their lengths, are laid out, and are read as a sound store; so the
+-- totals can be read off its counts. Assumes nothing.
 use Prim.Native.Nat.{ℕ, _<_, _≤_}
 use mathlib.Core.Bool.{true}
 use mathlib.Core.Option.{Option, none, some}
-use mathlib.Core.Path.{_≡_, refl, sym, ap, subst, _∙_}
-use borrow.Author.Tests.{ltb-true, leb-true}
-use lib.Dec.{ltb, leb}
+use mathlib.Core.Path.{_≡_, refl, sym, subst, _∙_}
+use borrow.Author.Tests.{leb-true}
+use lib.Dec.{leb}
 use lib.ListN.{length}
 use mathlib.Core.List.{List}
 use Rattle.rules.specs.Lists.{isSome}
-use Rattle.rules.specs.Store.{opExists, blockExists, regionExists, valueExists, operandTotal, successorTotal, attributeTotal, parentExists, nestingHolds, levelsLeft, maxNesting, maxOwnRegions, maxOwnValues, maxOwnOperands, maxOwnSuccessors}
+use Rattle.rules.specs.Store.{blockExists, operandTotal, successorTotal, attributeTotal, parentExists, nestingHolds, levelsLeft, maxNesting, maxOwnRegions, maxOwnValues, maxOwnOperands, maxOwnSuccessors}
 use Rattle.rules.specs.Building.{operationFits}
 use Rattle.rules.proofs.Basics.Tests.{passed}
 use Rattle.rules.proofs.Soundness.Sound.{facts}
-use Rattle.layout.specs.Columns.{Cols, columns, at, opDepth, regionOp, blockRegion}
-use Rattle.layout.specs.Reading.{opCount, blockCount, regionCount, valueCount, operandCount, successorCount, attributeCount, storeOf, storeIn}
+use Rattle.layout.specs.Columns.{Cols, columns, at, opDepth, blockRegion}
+use Rattle.layout.specs.Reading.{opCount, blockCount, regionCount, operandCount, successorCount, attributeCount, around, storeOf, storeIn}
 use Rattle.layout.specs.Soundness.{IsSound}
 use Rattle.layout.proofs.Laid.{Shaped, Laid, Counts, laid-facts}
 use Rattle.layout.proofs.Buffer.{columns-shaped}
-use Rattle.layout.proofs.Tabulate.{ops-length, blocks-length, regions-length, values-length}
+use Rattle.layout.proofs.Tabulate.{ops-length, block-in}
 use Rattle.layout.proofs.Nesting.{nesting-at, nesting-under}
 use Rattle.layout.proofs.Totals.{operand-total, successor-total, attribute-total}
 use Rattle.building.specs.Raw.{depthUnder}
@@ -32,34 +32,6 @@ module _ (b : List ℕ) (h : IsSound b) where
 
   pub counts : Counts (columns b)
   counts = laid .counts
-
-  pub op-exists : (n : ℕ) → opExists (storeIn b) n ≡ ltb n (opCount (columns b))
-  unfolding opExists
-  op-exists n = ap (λ (k : ℕ). ltb n k) (ops-length (columns b))
-
-  pub block-exists : (n : ℕ) → blockExists (storeIn b) n ≡ ltb n (blockCount (columns b))
-  unfolding blockExists
-  block-exists n = ap (λ (k : ℕ). ltb n k) (blocks-length (columns b))
-
-  pub region-exists : (n : ℕ) → regionExists (storeIn b) n ≡ ltb n (regionCount (columns b))
-  unfolding regionExists
-  region-exists n = ap (λ (k : ℕ). ltb n k) (regions-length (columns b))
-
-  pub value-exists : (n : ℕ) → valueExists (storeIn b) n ≡ ltb n (valueCount (columns b))
-  unfolding valueExists
-  value-exists n = ap (λ (k : ℕ). ltb n k) (values-length (columns b))
-
-  pub ops-counted : length (storeIn b .ops) ≡ opCount (columns b)
-  ops-counted = ops-length (columns b)
-
-  pub blocks-counted : length (storeIn b .blocks) ≡ blockCount (columns b)
-  blocks-counted = blocks-length (columns b)
-
-  pub regions-counted : length (storeIn b .regions) ≡ regionCount (columns b)
-  regions-counted = regions-length (columns b)
-
-  pub values-counted : length (storeIn b .values) ≡ valueCount (columns b)
-  values-counted = values-length (columns b)
 
   pub operands-counted : operandTotal (storeIn b) ≡ operandCount (columns b)
   operands-counted = operand-total (columns b) shaped laid
@@ -75,15 +47,15 @@ module _ (b : List ℕ) (h : IsSound b) where
 pub record InBlock (C : Cols) (m : ℕ) : Type 0 where
   pub block : m < blockCount C
   pub region : at C blockRegion m < regionCount C
-  pub op : at C regionOp (at C blockRegion m) < opCount C
-  pub depth : at C opDepth (at C regionOp (at C blockRegion m)) ≤ maxNesting
+  pub op : around C m < opCount C
+  pub depth : at C opDepth (around C m) ≤ maxNesting
 
 pub in-block : (b : List ℕ) (h : IsSound b) (m : ℕ) → blockExists (storeIn b) m ≡ true → InBlock (columns b) m
 in-block b h m e =
     let C = columns b in
-    let l : m < blockCount C = ltb-true m (blockCount C) (sym (block-exists b h m) ∙ e) in
+    let l : m < blockCount C = block-in C m e in
     let r = laid b h .block m l .regionIn in
-    let n : ℕ = at C regionOp (at C blockRegion m) in
+    let n : ℕ = around C m in
     let o : n < opCount C = laid b h .region (at C blockRegion m) r .opIn in
     let k : n < length (storeOf C .ops) = subst (λ (j : ℕ). n < j) (sym (ops-length C)) o in
     record {

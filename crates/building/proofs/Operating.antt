@@ -4,30 +4,23 @@ use native.Mathlib.Omega.{arith}
 use mathlib.Core.Bool.{true}
 use mathlib.Core.List.{List}
 use mathlib.Core.Option.{Option, none, some}
-use mathlib.Core.Path.{_≡_, refl}
+use mathlib.Core.Path.{_≡_}
 use borrow.Author.Tests.{leb-true}
 use lib.ListN.{length}
 use Rattle.rules.specs.Store.{parentExists, operandTotal, successorTotal, maxOps, maxRegions, maxValues, maxOperands, maxSuccessors}
 use Rattle.rules.specs.Building.{newOperation, operationNames, operationRoom, tests, firstFailed}
 use Rattle.rules.proofs.Basics.Tests.{passed}
 use Rattle.rules.proofs.Soundness.Accepted.{firstFailed-none}
-use Rattle.layout.specs.Columns.{Cols, columns, at, write}
-use Rattle.layout.specs.Reading.{opCount, regionCount, valueCount, operandCount, successorCount, storeIn}
+use Rattle.layout.specs.Columns.{columns}
+use Rattle.layout.specs.Reading.{blockCount, storeIn}
 use Rattle.layout.specs.Soundness.{IsSound}
-use Rattle.building.specs.Raw.{OpRoom, parentBelow, opLeaves}
-use Rattle.building.specs.Calls.{operationTests}
-use Rattle.building.proofs.Facts.{counts, in-block, ops-counted, regions-counted, values-counted, operands-counted, successors-counted}
-use Rattle.building.proofs.Adding.OperationLaid.{ParentIn}
-
--- the words of one operation are none of the counts
-pub room-kept : (C : Cols) (n kind parent location depth : ℕ) (r v o s : ℕ) → OpRoom C r v o s → OpRoom (opLeaves C n kind parent location depth) r v o s
-unfolding opCount regionCount valueCount operandCount successorCount at opLeaves write
-room-kept C n kind parent location depth r v o s room =
-    record { ops = room .ops; regions = room .regions; values = room .values; operands = room .operands; successors = room .successors }
+use Rattle.building.specs.Raw.{OpRoom, parentBelow}
+use Rattle.layout.proofs.Tabulate.{ops-length, regions-length, values-length}
+use Rattle.building.proofs.Facts.{counts, in-block, operands-counted, successors-counted}
 
 module _ (b : List ℕ) (h : IsSound b) where
-  pub parent-in : (p : Option ℕ) → parentExists (storeIn b) p ≡ true → ParentIn (columns b) p
-  unfolding parentExists
+  pub parent-in : (p : Option ℕ) → parentExists (storeIn b) p ≡ true → parentBelow (blockCount (columns b)) p
+  unfolding parentExists parentBelow
   parent-in none e = tt
   parent-in (some m) e = in-block b h m e .block
 
@@ -51,9 +44,9 @@ module _ (b : List ℕ) (h : IsSound b) where
       let u : operandTotal (storeIn b) + length operands ≤ maxOperands = leb-true _ _ (p .1 .1 .1 .0) in
       let s : successorTotal (storeIn b) + length successors ≤ maxSuccessors = leb-true _ _ (p .1 .1 .1 .1 .0) in
       record {
-        ops = omega (arith, ops-counted b h);
-        regions = omega (arith, regions-counted b h);
-        values = omega (arith, values-counted b h);
+        ops = omega (arith, ops-length (columns b));
+        regions = omega (arith, regions-length (columns b));
+        values = omega (arith, values-length (columns b));
         operands = omega (arith, operands-counted b h);
         successors = omega (arith, successors-counted b h);
       }
@@ -63,15 +56,9 @@ module _ (b : List ℕ) (h : IsSound b) where
     pub parent : parentExists (storeIn b) p ≡ true
     pub room : OpRoom (columns b) regions (length types) (length operands) (length successors)
 
-  pub allowed : (p : Option ℕ) (regions : ℕ) (types operands successors : List ℕ) → firstFailed (operationTests (storeIn b) p regions types operands successors) ≡ none
-      → Allowed p regions types operands successors
-  unfolding operationTests tests
-  allowed p regions types operands successors e =
+  pub allowed : (kind : ℕ) (p : Option ℕ) (location regions : ℕ) (types operands successors : List ℕ)
+      → firstFailed (tests (storeIn b) (newOperation kind p location regions types operands successors)) ≡ none → Allowed p regions types operands successors
+  unfolding tests
+  allowed kind p location regions types operands successors e =
       let q = firstFailed-none _ e in
       record { parent = names-parent p operands successors (q .0); room = room-facts regions types operands successors (q .1 .1 .1 .0) }
-
--- the tests of the call itself
-pub same-tests : (b : List ℕ) (kind : ℕ) (p : Option ℕ) (location regions : ℕ) (types operands successors : List ℕ)
-    → operationTests (storeIn b) p regions types operands successors ≡ tests (storeIn b) (newOperation kind p location regions types operands successors)
-unfolding operationTests tests
-same-tests b kind p location regions types operands successors = refl

@@ -11,3 +11,4 @@ pub mod SetAttribute
 pub mod Owners
 pub mod Seeking
 pub mod Causes
+pub mod Placed

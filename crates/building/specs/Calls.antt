@@ -1,20 +1,15 @@
 -- What a building call does to a buffer, good or refused.
 use Prim.Native.Nat.{ℕ}
-use mathlib.Core.Bool.{Bool, true, cond}
+use mathlib.Core.Bool.{true, cond}
 use mathlib.Core.List.{List, [], _∷_}
-use mathlib.Core.Option.{Option}
 use mathlib.Core.Path.{_≡_}
-use Rattle.rules.specs.Store.{Store, emptyStore}
-use Rattle.rules.specs.Building.{Call, newOperation, tests, refused, answer, built, after}
+use Rattle.rules.specs.Store.{emptyStore}
+use Rattle.rules.specs.Building.{Call, refused, answer, built, after}
 use Rattle.layout.specs.Columns.{emptyBuffer}
 use Rattle.layout.specs.Reading.{storeIn}
 use Rattle.layout.specs.Soundness.{soundBuffer, IsSound}
 use Rattle.building.specs.declared.types.Built.{Built}
 use Rattle.building.specs.Types.{builtOf}
-
--- the tests of a new operation do not depend on its kind and location
-unfoldable pub operationTests : Store → Option ℕ → ℕ → List ℕ → List ℕ → List ℕ → List (Bool × ℕ)
-operationTests s parent regions types operands successors = tests s (newOperation 0 parent 0 regions types operands successors)
 
 -- a call on a sound buffer: the answer and the store afterwards are the rules', the buffer is sound again, and a refused call has
 -- changed no word

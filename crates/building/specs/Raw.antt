@@ -2,13 +2,20 @@
 use Prim.Native.Nat.{ℕ, zero, suc, _+_, _<_, _≤_}
 use mathlib.Core.Bool.{Bool, cond, _&&_}
 use mathlib.Core.Option.{Option, none, some}
-use mathlib.Core.List.{List, _∷_}
+use mathlib.Core.List.{List, [], _∷_}
 use lib.Dec.{eqb, leb, ltb}
 use lib.ListN.{length, replicate}
 use Rattle.rules.specs.Store.{Attribute, Owner, ofOp, ofBlock, maxOps, maxRegions, maxValues, maxOperands, maxSuccessors}
-use Rattle.layout.specs.Columns.{Cols, at, write, pour, counts, opKind, opParent, opLocation, opDepth, opRegionFirst, opRegionEnd, opResultFirst, opResultEnd, opOperandFirst, opOperandEnd, opSuccessorFirst, opSuccessorEnd, opAttributes, regionOp, regionBlockFirst, regionBlockEnd, blockRegion, blockLabel, blockLocation, blockArgumentFirst, blockArgumentEnd, blockOpFirst, blockOpEnd, blockAttributes, valueType, valueOwner, operandWords, successorWords, slotKey, slotKind, slotContent}
-use Rattle.layout.specs.Reading.{opCount, blockCount, regionCount, valueCount, operandCount, successorCount, attributeCount, ownerCode, slotsOf, part}
+use Rattle.layout.specs.Columns.{Cols, at, write, pour, counts, opKind, opDepth, opOperandFirst, regionOp, regionBlockFirst, regionBlockEnd, blockRegion, blockOpFirst, blockOpEnd, valueType, valueOwner, operandWords, successorWords, slotKey, slotKind, slotContent}
+use Rattle.layout.specs.Reading.{opCount, blockCount, regionCount, valueCount, operandCount, successorCount, attributeCount, around, ownerCode, slotsOf, part}
 use Rattle.layout.specs.Owners.{countColumn, ownerNumber, keyCount}
+use Rattle.building.specs.declared.attributes.Place.{Place}
+use Rattle.building.specs.declared.attributes.Place.the-variants as Places
+
+-- row n: its words, one to a column, from column k on
+unfoldable pub withRow : Cols → ℕ → ℕ → List ℕ → Cols
+withRow C k n [] = C
+withRow C k n (v ∷ vs) = withRow (write C k n v) (suc k) n vs
 
 -- ---- new values, of an operation or of a block
 
@@ -44,7 +51,7 @@ pub record OpRoom (C : Cols) (r v o s : ℕ) : Type 0 where
 -- the nesting of an operation with this parent
 unfoldable pub depthUnder : Cols → Option ℕ → ℕ
 depthUnder C none = 0
-depthUnder C (some b) = at C opDepth (at C regionOp (at C blockRegion b)) + 1
+depthUnder C (some b) = at C opDepth (around C b) + 1
 
 -- where a range of children begins once n is in it: with n if it was empty
 unfoldable pub begun : ℕ → ℕ → ℕ → ℕ
@@ -69,25 +76,24 @@ withRegions C n regions =
 unfoldable pub withPart : Cols → ℕ → ℕ → List ℕ → Cols
 withPart C k c xs = write (pour C k (at C counts c) xs) counts c (at C counts c + length xs)
 
--- the words of operation n, by themselves
-unfoldable pub opLeaves : Cols → ℕ → ℕ → ℕ → ℕ → ℕ → Cols
-opLeaves C n kind parent location depth =
-    write (write (write (write (write C opKind n kind) opParent n parent) opLocation n location) opDepth n depth) opAttributes n 0
-
--- a range of operation n
-unfoldable pub opRange : Cols → ℕ → ℕ → ℕ → ℕ → ℕ → Cols
-opRange C first end n from count = write (write C first n from) end n (from + count)
-
-unfoldable pub opRanges : Cols → ℕ → ℕ → ℕ → ℕ → ℕ → Cols
-opRanges C n regions results operands successors =
-    opRange
-    (opRange (opRange (opRange C opRegionFirst opRegionEnd n (regionCount C) regions) opResultFirst opResultEnd n (valueCount C) results) opOperandFirst opOperandEnd n (operandCount C) operands)
-    opSuccessorFirst opSuccessorEnd n (successorCount C) successors
+-- the words of a new operation's row, from its kind on
+unfoldable pub opRow : Cols → ℕ → ℕ → ℕ → ℕ → ℕ → ℕ → ℕ → ℕ → List ℕ
+opRow C kind parent location depth regions results operands successors =
+    kind
+    ∷ parent
+    ∷ location
+    ∷ depth
+    ∷ regionCount C ∷ (regionCount C + regions)
+    ∷ valueCount C ∷ (valueCount C + results)
+    ∷ operandCount C ∷ (operandCount C + operands)
+    ∷ successorCount C ∷ (successorCount C + successors)
+    ∷ 0
+    ∷ []
 
 unfoldable pub opWritten : Cols → ℕ → Option ℕ → ℕ → ℕ → ℕ → ℕ → ℕ → Cols
 opWritten C kind parent location regions results operands successors =
     opPlaced
-    (opRanges (opLeaves C (opCount C) kind (parentCode parent) location (depthUnder C parent)) (opCount C) regions results operands successors)
+    (withRow C opKind (opCount C) (opRow C kind (parentCode parent) location (depthUnder C parent) regions results operands successors))
     parent (opCount C)
 
 unfoldable pub withOperation : Cols → ℕ → Option ℕ → ℕ → ℕ → List ℕ → List ℕ → List ℕ → Cols
@@ -104,15 +110,10 @@ withOperation C kind parent location regions types operands successors =
 
 -- ---- new block
 
+-- the row of block m, from its region on
 unfoldable pub blockWritten : Cols → ℕ → ℕ → ℕ → ℕ → ℕ → Cols
 blockWritten C m region label location arguments =
-    write
-    (write
-    (write
-    (write (write (write (write (write C blockRegion m region) blockLabel m label) blockLocation m location) blockArgumentFirst m (valueCount C)) blockArgumentEnd m (valueCount C + arguments))
-    blockOpFirst m 0)
-    blockOpEnd m 0)
-    blockAttributes m 0
+    withRow C blockRegion m (region ∷ label ∷ location ∷ valueCount C ∷ (valueCount C + arguments) ∷ 0 ∷ 0 ∷ 0 ∷ [])
 
 unfoldable pub withBlock : Cols → ℕ → ℕ → ℕ → List ℕ → Cols
 withBlock C region label location types =
@@ -135,6 +136,11 @@ slotFor C w key = seek C key (slotsOf w) (keyCount C w)
 -- the key stands at that slot already
 unfoldable pub keyThere : Cols → Owner → ℕ → Bool
 keyThere C w key = ltb (slotFor C w key) (slotsOf w + keyCount C w) && eqb (at C slotKey (slotFor C w key)) key
+
+-- where the call puts it, once its tests are made: the cause of the first that failed, or the key's slot
+unfoldable pub placeFor : Cols → Owner → Attribute → Option ℕ → Place
+placeFor C w a (some cause) = Places.Refused cause
+placeFor C w a none = cond (keyThere C w (a .key)) (Places.Replaces (slotFor C w (a .key))) (Places.Adds (slotFor C w (a .key)))
 
 -- a word put before the words of a column from slot i up to slot e
 unfoldable pub inserted : Cols → ℕ → ℕ → ℕ → ℕ → Cols

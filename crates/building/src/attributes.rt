@@ -2,11 +2,8 @@
 use crate::types::Attribute;
 use crate::types::Built;
 use crate::types::Owner;
-use layout::causes::Cause;
 use layout::columns::ATTRIBUTES;
-use layout::columns::BLOCKS;
 use layout::columns::COUNTS;
-use layout::columns::OPS;
 use layout::columns::SLOT_CONTENT;
 use layout::columns::SLOT_KEY;
 use layout::columns::SLOT_KIND;
@@ -17,10 +14,10 @@ use layout::columns::put;
 use layout::owners::count_column;
 use layout::owners::first_slot;
 use layout::owners::key_count;
+use layout::owners::owner_exists;
 use layout::owners::owner_number;
 ghost use mathlib.Core.Path.{_≡_};
 ghost use mathlib.Core.Bool.{true};
-ghost use mathlib.Core.Option.{none};
 ghost use Prim.Native.Nat.{_+_, _<_, _≤_};
 ghost use lib.ListN.{length};
 ghost use Rattle.rules.specs.Store.{ownerExists};
@@ -30,19 +27,14 @@ ghost use Rattle.layout.specs.Reading.{slotsOf, storeIn};
 ghost use Rattle.layout.specs.Soundness.{IsSound};
 ghost use Rattle.layout.specs.Owners.{ownerOf, keyCount};
 ghost use Rattle.building.specs.Types.{attributeOf};
-ghost use Rattle.layout.specs.Causes.{causeOf};
-ghost use Rattle.building.specs.Raw.{seek, slotFor, keyThere, replaced, added, withAttribute};
+ghost use Rattle.building.specs.Raw.{seek, slotFor, keyThere, placeFor, replaced, added};
 ghost use Rattle.building.specs.Calls.{Did};
 
-// The owner exists.
-fn owner_exists(store: &[u32], owner: Owner) -> bool
-    requires { ⌜ IsSound (now store) ⌝ }
-    ensures { λ r. ⌜ r ≡ ownerExists (storeIn (now (store .entry))) (ownerOf owner) ⌝ }
-{
-    match owner {
-        Owner::Op(n) => n < at(store, COUNTS, OPS),
-        Owner::Block(b) => b < at(store, COUNTS, BLOCKS),
-    }
+// Where a set attribute goes: nowhere for a cause, or to its key's slot, where the key stands already or is to be put in.
+enum Place {
+    Refused(u32),
+    Replaces(usize),
+    Adds(usize),
 }
 
 // Of so many slots from `first` on, the first whose key is not below this one.
@@ -84,6 +76,30 @@ fn key_there(store: &[u32], owner: Owner, slot: usize, key: u32) -> bool
     at(store, SLOT_KEY, slot) == key
 }
 
+// Where the attribute goes.
+fn place_for(store: &[u32], owner: Owner, attribute: Attribute) -> Place
+    requires { ⌜ IsSound (now store) ⌝ }
+    ensures { λ r. ⌜ r ≡ placeFor (columns (now (store .entry))) (ownerOf owner) (attributeOf attribute) (firstFailed (tests (storeIn (now (store .entry))) (setAttribute (ownerOf owner) (attributeOf attribute)))) ⌝ }
+{
+    if attribute.kind > 63 {
+        return Place::Refused(6);
+    }
+    if !owner_exists(store, owner) {
+        return Place::Refused(2);
+    }
+    let slot = slot_for(store, owner, attribute.key);
+    if key_there(store, owner, slot, attribute.key) {
+        return Place::Replaces(slot);
+    }
+    if key_count(store, owner) >= 8 {
+        return Place::Refused(4);
+    }
+    if at(store, COUNTS, ATTRIBUTES) >= 1024 {
+        return Place::Refused(3);
+    }
+    Place::Adds(slot)
+}
+
 // The attribute at a slot is replaced.
 fn put_replaced(store: &mut [u32], slot: usize, attribute: Attribute)
     requires { ⌜ length (now store) ≡ bufferLength ⌝ }
@@ -117,57 +133,19 @@ fn put_added(store: &mut [u32], owner: Owner, slot: usize, attribute: Attribute)
     put(store, COUNTS, ATTRIBUTES, (total + 1) as u32);
 }
 
-// What the accepted call writes.
-fn put_attribute(store: &mut [u32], owner: Owner, attribute: Attribute)
-    requires { ⌜ IsSound (now store) ⌝ }
-    requires { ⌜ firstFailed (tests (storeIn (now store)) (setAttribute (ownerOf owner) (attributeOf attribute))) ≡ none ⌝ }
-    ensures { λ _. ⌜ columns (now (store .exit)) ≡ withAttribute (columns (now (store .entry))) (ownerOf owner) (attributeOf attribute) ⌝ }
-{
-    let slot = slot_for(store, owner, attribute.key);
-    if key_there(store, owner, slot, attribute.key) {
-        put_replaced(store, slot, attribute);
-        return;
-    }
-    put_added(store, owner, slot, attribute);
-}
-
-// The cause of the call's refusal, if there is one.
-fn attribute_cause(store: &[u32], owner: Owner, attribute: Attribute) -> Cause
-    requires { ⌜ IsSound (now store) ⌝ }
-    ensures { λ r. ⌜ causeOf r ≡ firstFailed (tests (storeIn (now (store .entry))) (setAttribute (ownerOf owner) (attributeOf attribute))) ⌝ }
-{
-    if attribute.kind > 63 {
-        return Cause::Is(6);
-    }
-    if !owner_exists(store, owner) {
-        return Cause::Is(2);
-    }
-    if key_there(
-        store,
-        owner,
-        slot_for(store, owner, attribute.key),
-        attribute.key,
-    ) {
-        return Cause::None;
-    }
-    if key_count(store, owner) >= 8 {
-        return Cause::Is(4);
-    }
-    if at(store, COUNTS, ATTRIBUTES) >= 1024 {
-        return Cause::Is(3);
-    }
-    Cause::None
-}
-
-// Sets an attribute, on a sound buffer.
+// The call, on a sound buffer.
 pub fn set_attribute(store: &mut [u32], owner: Owner, attribute: Attribute) -> Built
     requires { ⌜ IsSound (now store) ⌝ }
     ensures { λ r. ⌜ Did (now (store .entry)) (now (store .exit)) (setAttribute (ownerOf owner) (attributeOf attribute)) r ⌝ }
 {
-    match attribute_cause(store, owner, attribute) {
-        Cause::Is(cause) => Built::Refused(cause),
-        Cause::None => {
-            put_attribute(store, owner, attribute);
+    match place_for(store, owner, attribute) {
+        Place::Refused(cause) => Built::Refused(cause),
+        Place::Replaces(slot) => {
+            put_replaced(store, slot, attribute);
+            Built::Accepted
+        }
+        Place::Adds(slot) => {
+            put_added(store, owner, slot, attribute);
             Built::Accepted
         }
     }

@@ -1,26 +1,19 @@
 // The call that adds a block.
 use crate::types::Built;
 use crate::writes::extend;
-use crate::writes::put_range;
+use crate::writes::put_row;
 use crate::writes::put_values;
 use layout::causes::Cause;
-use layout::columns::BLOCK_ARGUMENT_END;
-use layout::columns::BLOCK_ARGUMENT_FIRST;
-use layout::columns::BLOCK_ATTRIBUTES;
-use layout::columns::BLOCK_LABEL;
-use layout::columns::BLOCK_LOCATION;
-use layout::columns::BLOCK_OP_END;
-use layout::columns::BLOCK_OP_FIRST;
 use layout::columns::BLOCK_REGION;
 use layout::columns::BLOCKS;
 use layout::columns::COUNTS;
 use layout::columns::REGION_BLOCK_END;
 use layout::columns::REGION_BLOCK_FIRST;
-use layout::columns::REGIONS;
 use layout::columns::VALUES;
 use layout::columns::at;
 use layout::columns::number;
 use layout::columns::put;
+use layout::existing::region_exists;
 ghost use mathlib.Core.Path.{_≡_};
 ghost use Prim.Native.Nat.{ℕ, _+_, _<_, _≤_};
 ghost use lib.ListN.{length};
@@ -37,7 +30,7 @@ fn block_cause(store: &[u32], region: u32, types: &[u32]) -> Cause
     requires { ⌜ IsSound (now store) ⌝ }
     ensures { λ r. ⌜ ((label location : ℕ) → causeOf r ≡ firstFailed (tests (storeIn (now (store .entry))) (newBlock region label location (now (types .entry))))) ⌝ }
 {
-    if region >= at(store, COUNTS, REGIONS) {
+    if !region_exists(store, region) {
         return Cause::Is(2);
     }
     if types.len() > 16 {
@@ -67,20 +60,9 @@ fn put_block_row(
     ensures { λ _. ⌜ columns (now (store .exit)) ≡ blockWritten (columns (now (store .entry))) m region label location arguments ⌝ }
 {
     let from = number(store, COUNTS, VALUES);
-    put(store, BLOCK_REGION, m, region);
-    put(store, BLOCK_LABEL, m, label);
-    put(store, BLOCK_LOCATION, m, location);
-    put_range(
-        store,
-        BLOCK_ARGUMENT_FIRST,
-        BLOCK_ARGUMENT_END,
-        m,
-        from,
-        arguments,
-    );
-    put(store, BLOCK_OP_FIRST, m, 0);
-    put(store, BLOCK_OP_END, m, 0);
-    put(store, BLOCK_ATTRIBUTES, m, 0);
+    let end = from + arguments;
+    let row = [region, label, location, from as u32, end as u32, 0, 0, 0];
+    put_row(store, BLOCK_REGION, m, &row);
 }
 
 // The block, its place in its region, and its arguments.

@@ -1,15 +1,14 @@
 // The call that sets an operand.
 use crate::types::Built;
 use layout::causes::Cause;
-use layout::columns::COUNTS;
 use layout::columns::OP_OPERAND_END;
 use layout::columns::OP_OPERAND_FIRST;
 use layout::columns::OPERAND_WORDS;
-use layout::columns::OPS;
-use layout::columns::VALUES;
 use layout::columns::at;
 use layout::columns::number;
 use layout::columns::put;
+use layout::existing::op_exists;
+use layout::existing::value_exists;
 ghost use mathlib.Core.Path.{_≡_};
 ghost use Prim.Native.Nat.{_+_, _<_};
 ghost use lib.ListN.{length};
@@ -26,10 +25,10 @@ fn operand_cause(store: &[u32], n: u32, i: u32, v: u32) -> Cause
     requires { ⌜ IsSound (now store) ⌝ }
     ensures { λ r. ⌜ causeOf r ≡ firstFailed (tests (storeIn (now (store .entry))) (setOperand n i v)) ⌝ }
 {
-    if n >= at(store, COUNTS, OPS) {
+    if !op_exists(store, n) {
         return Cause::Is(2);
     }
-    if v >= at(store, COUNTS, VALUES) {
+    if !value_exists(store, v) {
         return Cause::Is(2);
     }
     let first = at(store, OP_OPERAND_FIRST, n as usize);

@@ -1,4 +1,4 @@
-// New operation.
+// The call that adds an operation.
 use crate::tests::depth_under;
 use crate::tests::nesting_holds;
 use crate::tests::operation_fits;
@@ -7,23 +7,15 @@ use crate::tests::operation_room;
 use crate::types::Built;
 use crate::types::Parent;
 use crate::writes::extend;
-use crate::writes::put_op_leaves;
 use crate::writes::put_part;
-use crate::writes::put_range;
 use crate::writes::put_regions;
+use crate::writes::put_row;
 use crate::writes::put_values;
 use layout::causes::Cause;
 use layout::columns::BLOCK_OP_END;
 use layout::columns::BLOCK_OP_FIRST;
 use layout::columns::COUNTS;
-use layout::columns::OP_OPERAND_END;
-use layout::columns::OP_OPERAND_FIRST;
-use layout::columns::OP_REGION_END;
-use layout::columns::OP_REGION_FIRST;
-use layout::columns::OP_RESULT_END;
-use layout::columns::OP_RESULT_FIRST;
-use layout::columns::OP_SUCCESSOR_END;
-use layout::columns::OP_SUCCESSOR_FIRST;
+use layout::columns::OP_KIND;
 use layout::columns::OPERAND_WORDS;
 use layout::columns::OPERANDS;
 use layout::columns::OPS;
@@ -36,22 +28,53 @@ use layout::columns::number;
 use layout::columns::put;
 ghost use mathlib.Core.Path.{_≡_};
 ghost use mathlib.Core.Bool.{true};
-ghost use Prim.Native.Nat.{_<_};
+ghost use Prim.Native.Nat.{ℕ, _<_};
 ghost use lib.ListN.{length};
 ghost use Rattle.rules.specs.Store.{parentExists};
-ghost use Rattle.rules.specs.Building.{newOperation, firstFailed};
+ghost use Rattle.rules.specs.Building.{newOperation, tests, firstFailed};
 ghost use Rattle.layout.specs.Reading.{storeIn};
-ghost use Rattle.layout.specs.Columns.{bufferLength, columns};
+ghost use Rattle.layout.specs.Columns.{bufferLength, columns, opKind};
 ghost use Rattle.layout.specs.Soundness.{IsSound};
 ghost use Rattle.building.specs.Types.{parentOf};
 ghost use Rattle.layout.specs.Causes.{causeOf};
-ghost use Rattle.building.specs.Raw.{OpRoom, parentBelow, parentCode, opRanges, opPlaced, opWritten, withOperation};
-ghost use Rattle.building.specs.Calls.{operationTests, Did};
+ghost use Rattle.building.specs.Raw.{OpRoom, withRow, parentBelow, parentCode, opRow, opPlaced, opWritten, withOperation};
+ghost use Rattle.building.specs.Calls.{Did};
 
-// The ranges of operation n: so many of each, behind the old ones.
-fn put_ranges(
+// The cause for which the call is refused, if there is one; kind and location are never it.
+fn operation_cause(
+    store: &[u32],
+    parent: Parent,
+    regions: u32,
+    types: &[u32],
+    operands: &[u32],
+    successors: &[u32],
+) -> Cause
+    requires { ⌜ IsSound (now store) ⌝ }
+    ensures { λ r. ⌜ ((kind location : ℕ) → causeOf r ≡ firstFailed (tests (storeIn (now (store .entry))) (newOperation kind (parentOf parent) location regions (now (types .entry)) (now (operands .entry)) (now (successors .entry))))) ⌝ }
+{
+    if !operation_names(store, parent, operands, successors) {
+        return Cause::Is(2);
+    }
+    if !operation_fits(regions, types, operands, successors) {
+        return Cause::Is(4);
+    }
+    if !nesting_holds(store, parent) {
+        return Cause::Is(5);
+    }
+    if !operation_room(store, regions, types, operands, successors) {
+        return Cause::Is(3);
+    }
+    Cause::None
+}
+
+// The row of operation n: so many of each thing that it has, behind the old ones.
+fn put_op_row(
     store: &mut [u32],
     n: usize,
+    kind: u32,
+    parent: u32,
+    location: u32,
+    depth: u32,
     regions: usize,
     results: usize,
     operands: usize,
@@ -60,23 +83,28 @@ fn put_ranges(
     requires { ⌜ length (now store) ≡ bufferLength ⌝ }
     requires { ⌜ n < 512 ⌝ }
     requires { ⌜ OpRoom (columns (now store)) regions results operands successors ⌝ }
-    ensures { λ _. ⌜ columns (now (store .exit)) ≡ opRanges (columns (now (store .entry))) n regions results operands successors ⌝ }
+    ensures { λ _. ⌜ columns (now (store .exit)) ≡ withRow (columns (now (store .entry))) opKind n (opRow (columns (now (store .entry))) kind parent location depth regions results operands successors) ⌝ }
 {
     let r = number(store, COUNTS, REGIONS);
     let v = number(store, COUNTS, VALUES);
     let o = number(store, COUNTS, OPERANDS);
     let s = number(store, COUNTS, SUCCESSORS);
-    put_range(store, OP_REGION_FIRST, OP_REGION_END, n, r, regions);
-    put_range(store, OP_RESULT_FIRST, OP_RESULT_END, n, v, results);
-    put_range(store, OP_OPERAND_FIRST, OP_OPERAND_END, n, o, operands);
-    put_range(
-        store,
-        OP_SUCCESSOR_FIRST,
-        OP_SUCCESSOR_END,
-        n,
-        s,
-        successors,
-    );
+    let row = [
+        kind,
+        parent,
+        location,
+        depth,
+        r as u32,
+        (r + regions) as u32,
+        v as u32,
+        (v + results) as u32,
+        o as u32,
+        (o + operands) as u32,
+        s as u32,
+        (s + successors) as u32,
+        0,
+    ];
+    put_row(store, OP_KIND, n, &row);
 }
 
 // Operation n goes to the end of its block.
@@ -122,8 +150,18 @@ fn put_op(
     let n = number(store, COUNTS, OPS);
     let depth = depth_under(store, parent);
     let word = parent_word(parent);
-    put_op_leaves(store, n, kind, word, location, depth);
-    put_ranges(store, n, regions, results, operands, successors);
+    put_op_row(
+        store,
+        n,
+        kind,
+        word,
+        location,
+        depth,
+        regions,
+        results,
+        operands,
+        successors,
+    );
     place_op(store, parent, n);
 }
 
@@ -162,34 +200,7 @@ fn put_operation(
     put(store, COUNTS, OPS, (n + 1) as u32);
 }
 
-// The first test of a new operation that fails, if one does.
-fn operation_cause(
-    store: &[u32],
-    parent: Parent,
-    regions: u32,
-    types: &[u32],
-    operands: &[u32],
-    successors: &[u32],
-) -> Cause
-    requires { ⌜ IsSound (now store) ⌝ }
-    ensures { λ r. ⌜ causeOf r ≡ firstFailed (operationTests (storeIn (now (store .entry))) (parentOf parent) regions (now (types .entry)) (now (operands .entry)) (now (successors .entry))) ⌝ }
-{
-    if !operation_names(store, parent, operands, successors) {
-        return Cause::Is(2);
-    }
-    if !operation_fits(regions, types, operands, successors) {
-        return Cause::Is(4);
-    }
-    if !nesting_holds(store, parent) {
-        return Cause::Is(5);
-    }
-    if !operation_room(store, regions, types, operands, successors) {
-        return Cause::Is(3);
-    }
-    Cause::None
-}
-
-// New operation, on a buffer that is known to be sound.
+// The call, on a sound buffer.
 pub fn new_operation(
     store: &mut [u32],
     kind: u32,

@@ -1,23 +1,22 @@
 // The tests of the calls, in the order of their causes. Each asks for a sound buffer.
 use crate::types::Parent;
-use layout::columns::BLOCK_REGION;
+use layout::children::op_around;
 use layout::columns::BLOCKS;
 use layout::columns::COUNTS;
 use layout::columns::OP_DEPTH;
 use layout::columns::OPERANDS;
 use layout::columns::OPS;
-use layout::columns::REGION_OP;
 use layout::columns::REGIONS;
 use layout::columns::SUCCESSORS;
 use layout::columns::VALUES;
 use layout::columns::at;
 use layout::columns::number;
+use layout::existing::block_exists;
 use layout::lists::all_below;
 ghost use mathlib.Core.Path.{_≡_};
 ghost use mathlib.Core.Bool.{true};
 ghost use mathlib.Core.Option.{some};
-ghost use Prim.Native.Nat.{_≤_, _<_};
-ghost use lib.ListN.{length};
+ghost use Prim.Native.Nat.{_<_};
 ghost use Rattle.rules.specs.Store.{parentExists, nestingHolds, blockExists};
 ghost use Rattle.rules.specs.Building.{operationNames, operationFits, operationRoom};
 ghost use Rattle.layout.specs.Reading.{storeIn};
@@ -33,7 +32,7 @@ pub fn parent_exists(store: &[u32], parent: Parent) -> bool
 {
     match parent {
         Parent::None => true,
-        Parent::Block(b) => b < at(store, COUNTS, BLOCKS),
+        Parent::Block(b) => block_exists(store, b),
     }
 }
 
@@ -73,8 +72,7 @@ fn depth_in(store: &[u32], b: usize) -> u32
     requires { ⌜ blockExists (storeIn (now store)) b ≡ true ⌝ }
     ensures { λ r. ⌜ r ≡ depthUnder (columns (now (store .entry))) (some b) ⌝ }
 {
-    let around = number(store, REGION_OP, number(store, BLOCK_REGION, b));
-    at(store, OP_DEPTH, around) + 1
+    at(store, OP_DEPTH, op_around(store, b)) + 1
 }
 
 // The nesting of an operation with this parent.

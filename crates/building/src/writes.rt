@@ -1,10 +1,5 @@
 // What an accepted call writes. Each function writes what the definition of its contract says, column by column, and nothing else.
 use layout::columns::COUNTS;
-use layout::columns::OP_ATTRIBUTES;
-use layout::columns::OP_DEPTH;
-use layout::columns::OP_KIND;
-use layout::columns::OP_LOCATION;
-use layout::columns::OP_PARENT;
 use layout::columns::REGION_BLOCK_END;
 use layout::columns::REGION_BLOCK_FIRST;
 use layout::columns::REGION_OP;
@@ -18,37 +13,34 @@ use layout::columns::put;
 use layout::columns::put_all;
 use layout::columns::put_same;
 ghost use mathlib.Core.Path.{_≡_};
-ghost use Prim.Native.Nat.{_+_, _<_, _≤_};
+ghost use Prim.Native.Nat.{ℕ, _+_, _<_, _≤_};
 ghost use lib.ListN.{length};
 ghost use Rattle.layout.specs.Columns.{bufferLength, size, columns, counts};
-ghost use Rattle.layout.specs.Reading.{regionCount, valueCount, ownerCode};
-ghost use Rattle.building.specs.Raw.{opLeaves, opRange, extended, withPart, withRegions, withValuesBy};
+ghost use Rattle.layout.specs.Reading.{regionCount, valueCount};
+ghost use Rattle.building.specs.Raw.{withRow, begun, extended, withPart, withRegions, withValuesBy};
 
-// The words of operation n by themselves.
-pub fn put_op_leaves(store: &mut [u32], n: usize, kind: u32, parent: u32, location: u32, depth: u32)
+// Row n: its words, one to a column, from column `first` on.
+pub fn put_row(store: &mut [u32], first: usize, n: usize, row: &[u32])
     requires { ⌜ length (now store) ≡ bufferLength ⌝ }
-    requires { ⌜ n < 512 ⌝ }
-    ensures { λ _. ⌜ columns (now (store .exit)) ≡ opLeaves (columns (now (store .entry))) n kind parent location depth ⌝ }
+    requires { ⌜ first + length (now row) ≤ 32 ⌝ }
+    requires { ⌜ ((j : ℕ) → j < length (now row) → n < size (first + j)) ⌝ }
+    ensures { λ _. ⌜ columns (now (store .exit)) ≡ withRow (columns (now (store .entry))) first n (now (row .entry)) ⌝ }
 {
-    put(store, OP_KIND, n, kind);
-    put(store, OP_PARENT, n, parent);
-    put(store, OP_LOCATION, n, location);
-    put(store, OP_DEPTH, n, depth);
-    put(store, OP_ATTRIBUTES, n, 0);
+    let mut j = 0;
+    while j < row.len() {
+        put(store, first + j, n, row[j]);
+        j += 1;
+    }
 }
 
-// A range of operation n: so many numbers, from `from` on.
-pub fn put_range(store: &mut [u32], first: usize, end: usize, n: usize, from: usize, count: usize)
-    requires { ⌜ length (now store) ≡ bufferLength ⌝ }
-    requires { ⌜ first < 32 ⌝ }
-    requires { ⌜ end < 32 ⌝ }
-    requires { ⌜ n < size first ⌝ }
-    requires { ⌜ n < size end ⌝ }
-    requires { ⌜ from + count ≤ 2048 ⌝ }
-    ensures { λ _. ⌜ columns (now (store .exit)) ≡ opRange (columns (now (store .entry))) first end n from count ⌝ }
+// Where a range of children begins once n is in it: with n if it was empty.
+fn begin(first: u32, end: u32, n: u32) -> u32
+    ensures { λ r. ⌜ r ≡ begun first end n ⌝ }
 {
-    put(store, first, n, from as u32);
-    put(store, end, n, (from + count) as u32);
+    if end <= first {
+        return n;
+    }
+    first
 }
 
 // A child, number n, goes to the end of its owner's range.
@@ -64,16 +56,6 @@ pub fn extend(store: &mut [u32], first: usize, end: usize, owner: usize, n: usiz
     let begun = begin(at(store, first, owner), at(store, end, owner), n as u32);
     put(store, first, owner, begun);
     put(store, end, owner, (n + 1) as u32);
-}
-
-// Where a range of children begins once n is in it: with n if it was empty.
-fn begin(first: u32, end: u32, n: u32) -> u32
-    ensures { λ r. ⌜ r ≡ Rattle.building.specs.Raw.begun first end n ⌝ }
-{
-    if end <= first {
-        return n;
-    }
-    first
 }
 
 // So many regions, of operation n, without blocks.

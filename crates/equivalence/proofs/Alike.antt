@@ -1,105 +1,94 @@
--- The shells of two operations or blocks are compared by their rows: counts are lengths of ranges, attributes stand in slots, and the
--- types of an owner's values stand side by side. Assumes nothing.
-use Prim.Native.Nat.{ℕ, _+_, _-_, _<_}
-use native.Mathlib.Omega.{arith}
-use mathlib.Core.Bool.{Bool, true, false, cond, and-true}
+-- The shells of two operations or blocks are compared by their rows: a row has its owner's shell, and as many values. Assumes nothing.
+use Prim.Native.Nat.{ℕ}
+use mathlib.Core.Bool.{Bool, true, false, cond, _&&_}
 use mathlib.Core.Option.{none, some}
-use mathlib.Core.List.{[], _∷_, map}
-use mathlib.Core.Path.{_≡_, refl, ap, ap₂, _∙_}
+use mathlib.Core.List.{[], _∷_}
+use mathlib.Core.Path.{_≡_, refl, sym, ap, _∙_}
+use borrow.Author.Tests.{eqb-true}
 use lib.Dec.{eqb}
-use lib.ListN.{length}
 use Rattle.rules.specs.Lists.{every, sameList}
-use Rattle.rules.specs.Store.{Op, Block, ofOp, ofBlock, typeOf}
-use Rattle.rules.specs.Shells.{Ignore, unignored, unignoredLocation, shellOf, countsOf, sameAttribute, sameLocation, sameShells}
-use Rattle.layout.specs.Columns.{Cols, at, opKind, opRegionFirst, opRegionEnd, opSuccessorFirst, opSuccessorEnd, opOperandFirst, opOperandEnd, opResultFirst, opResultEnd, blockArgumentFirst, blockArgumentEnd}
-use Rattle.layout.specs.Reading.{opCount, blockCount, attributesFrom, opOf, blockOf, storeOf}
-use Rattle.layout.proofs.Laid.{Shaped, Laid}
-use Rattle.layout.proofs.Tabulate.{op-read, block-read}
-use Rattle.layout.proofs.Ranges.{length-range, regions-range, results-range, arguments-range}
-use Rattle.layout.proofs.Types.{types-read}
-use Rattle.layout.proofs.Totals.{operands-length, successors-length}
-use Rattle.fragments.specs.Ignoring.{keptFrom}
-use Rattle.equivalence.specs.Slots.{sameKept}
-use Rattle.equivalence.specs.Rows.{span, opCounts, sameLocations, typesOf, sameSlots, opRowsEq, blockRowsEq}
+use Rattle.rules.specs.Store.{ofOp, ofBlock}
+use Rattle.rules.specs.Shells.{Ignore, unignoredLocation, countsOf, sameAttribute, sameLocation, sameShells}
+use Rattle.rules.proofs.Basics.Tests.{passed}
+use Rattle.layout.specs.Columns.{Cols}
+use Rattle.layout.specs.Reading.{storeOf}
+use Rattle.fragments.specs.Rows.{rowShell, RowOf, HeadOf}
+use Rattle.fragments.specs.declared.types.Head.{Head}
+use Rattle.fragments.specs.declared.types.Row.{Row}
+use Rattle.fragments.proofs.ByRows.{row-count}
+use Rattle.equivalence.specs.Rows.{sameHeads, sameRows}
 
 -- ---- rows
 
-module _ (C : Cols) (shaped : Shaped C) (h : Laid C) where
-  op-counts : (n : ℕ) → n < opCount C → countsOf (storeOf C) (ofOp n) ≡ opCounts C n
-  unfolding countsOf opCounts span opOf
-  op-counts n l =
-      let e = op-read C n l in
-      λ i.
-      e i .kind
-      ∷ (ap length (regions-range C h n l) ∙ length-range _ _) i
-      ∷ (ap (λ (o : Op). length (o .successors)) e ∙ successors-length C shaped h n l) i
-      ∷ (ap (λ (o : Op). length (o .operands)) e ∙ operands-length C shaped h n l) i
-      ∷ (ap length (results-range C h n l) ∙ length-range _ _) i
-      ∷ []
+-- the last count stands with the row
+regrouped : (a b c d e f : Bool) → (a && (b && (c && (d && (e && true))))) && f ≡ (a && (b && (c && (d && true)))) && (e && f)
+regrouped false b c d e f = refl
+regrouped true false c d e f = refl
+regrouped true true false d e f = refl
+regrouped true true true false e f = refl
+regrouped true true true true false f = refl
+regrouped true true true true true f = refl
 
-  slots : (ig : Ignore) (first n : ℕ) → unignored ig (attributesFrom C first n) ≡ keptFrom C ig first (first + n)
-  unfolding keptFrom
-  slots ig first n = let z : n ≡ first + n - first = omega arith in ap (λ (k : ℕ). unignored ig (attributesFrom C first k)) z
+alone : (e f : Bool) → (e && true) && f ≡ e && f
+alone false f = refl
+alone true f = refl
 
-  pub op-shells : (ig : Ignore) (l r : ℕ) → l < opCount C → r < opCount C → sameShells (storeOf C) ig (ofOp l) (ofOp r) ≡ opRowsEq C ig l r
-  unfolding sameShells shellOf opRowsEq sameLocations sameSlots sameKept typesOf opOf every
-  op-shells ig l r ll rl =
-      let el = op-read C l ll in
-      let er = op-read C r rl in
-      let tl = ap (map (typeOf (storeOf C))) (results-range C h l ll) ∙ types-read C shaped h _ _ (h .op l ll .results .range .fits) in
-      let tr = ap (map (typeOf (storeOf C))) (results-range C h r rl) ∙ types-read C shaped h _ _ (h .op r rl .results .range .fits) in
-      let al = ap (λ (o : Op). unignored ig (o .attributes)) el ∙ slots ig _ _ in
-      let ar = ap (λ (o : Op). unignored ig (o .attributes)) er ∙ slots ig _ _ in
-      λ i.
-      every
-      (sameList eqb (op-counts l ll i) (op-counts r rl i)
-      ∷ sameLocation (unignoredLocation ig (el i .location)) (unignoredLocation ig (er i .location))
-      ∷ sameList sameAttribute (al i) (ar i)
-      ∷ sameList eqb (tl i) (tr i)
-      ∷ [])
+-- an operation's counts are those of its head, and the number of its results
+counts-read : {C : Cols} {n : ℕ} {h : Head} {r : Row} → HeadOf (storeOf C) n h → RowOf C (ofOp n) r
+    → countsOf (storeOf C) (ofOp n) ≡ h .kind ∷ h .regions ∷ h .successors ∷ h .operands ∷ r .values ∷ []
+unfolding countsOf
+counts-read e f = λ i. sym (e .kind) i ∷ sym (e .regions) i ∷ sym (e .successors) i ∷ sym (e .operands) i ∷ sym (row-count f) i ∷ []
 
-  pub block-shells : (ig : Ignore) (l r : ℕ) → l < blockCount C → r < blockCount C → sameShells (storeOf C) ig (ofBlock l) (ofBlock r) ≡ blockRowsEq C ig l r
-  unfolding sameShells shellOf countsOf sameList blockRowsEq span sameLocations sameSlots sameKept typesOf blockOf every
-  block-shells ig l r ll rl =
-      let el = block-read C l ll in
-      let er = block-read C r rl in
-      let vl = arguments-range C h l ll in
-      let vr = arguments-range C h r rl in
-      let tl = ap (map (typeOf (storeOf C))) vl ∙ types-read C shaped h _ _ (h .block l ll .arguments .range .fits) in
-      let tr = ap (map (typeOf (storeOf C))) vr ∙ types-read C shaped h _ _ (h .block r rl .arguments .range .fits) in
-      let al = ap (λ (o : Block). unignored ig (o .attributes)) el ∙ slots ig _ _ in
-      let ar = ap (λ (o : Block). unignored ig (o .attributes)) er ∙ slots ig _ _ in
-      let one = ap₂ (λ (x y : ℕ). sameList eqb (x ∷ []) (y ∷ [])) (ap length vl ∙ length-range (at C blockArgumentFirst l) (at C blockArgumentEnd l)) (ap length vr ∙ length-range (at C blockArgumentFirst r) (at C blockArgumentEnd r)) ∙ and-true (eqb (span C blockArgumentFirst blockArgumentEnd l) (span C blockArgumentFirst blockArgumentEnd r)) in
-      λ i.
-      every
-      (one i
-      ∷ sameLocation (unignoredLocation ig (el i .location)) (unignoredLocation ig (er i .location))
-      ∷ sameList sameAttribute (al i) (ar i)
-      ∷ sameList eqb (tl i) (tr i)
-      ∷ [])
-
--- ---- single tests
-
-pub counts-are : (C : Cols) (l r : ℕ)
-    → sameList eqb (opCounts C l) (opCounts C r)
-    ≡ every
-    (eqb (at C opKind l) (at C opKind r)
-    ∷ eqb (span C opRegionFirst opRegionEnd l) (span C opRegionFirst opRegionEnd r)
-    ∷ eqb (span C opSuccessorFirst opSuccessorEnd l) (span C opSuccessorFirst opSuccessorEnd r)
-    ∷ eqb (span C opOperandFirst opOperandEnd l) (span C opOperandFirst opOperandEnd r)
-    ∷ eqb (span C opResultFirst opResultEnd l) (span C opResultFirst opResultEnd r)
+-- what is compared beside the counts
+abbrev rest : Cols → Ignore → Row → Row → Bool
+rest C ig l r =
+    every
+    (sameLocation (rowShell C ig l .location) (rowShell C ig r .location)
+    ∷ sameList sameAttribute (rowShell C ig l .attributes) (rowShell C ig r .attributes)
+    ∷ sameList eqb (rowShell C ig l .types) (rowShell C ig r .types)
     ∷ [])
-unfolding opCounts sameList every
-counts-are C l r = refl
 
-module _ (C : Cols) (ig : Ignore) (k l r : ℕ) where
+module _ {C : Cols} (ig : Ignore) {a b : ℕ} {l r : Row} where
+  pub op-shells : {h g : Head} → HeadOf (storeOf C) a h → HeadOf (storeOf C) b g → RowOf C (ofOp a) l → RowOf C (ofOp b) r
+      → sameShells (storeOf C) ig (ofOp a) (ofOp b) ≡ sameHeads h g && sameRows C ig l r
+  unfolding sameShells every sameList sameHeads sameRows
+  op-shells {h} {g} eh eg el er =
+      (λ i.
+      every
+      (sameList eqb (counts-read eh el i) (counts-read eg er i)
+      ∷ sameLocation (el .shell ig i .location) (er .shell ig i .location)
+      ∷ sameList sameAttribute (el .shell ig i .attributes) (er .shell ig i .attributes)
+      ∷ sameList eqb (el .shell ig i .types) (er .shell ig i .types)
+      ∷ []))
+      ∙ regrouped (eqb (h .kind) (g .kind)) (eqb (h .regions) (g .regions)) (eqb (h .successors) (g .successors)) (eqb (h .operands) (g .operands)) (eqb (l .values) (r .values)) (rest C ig l r)
+
+  pub block-shells : RowOf C (ofBlock a) l → RowOf C (ofBlock b) r → sameShells (storeOf C) ig (ofBlock a) (ofBlock b) ≡ sameRows C ig l r
+  unfolding sameShells countsOf every sameList sameRows
+  block-shells el er =
+      (λ i.
+      every
+      (sameList eqb (sym (row-count el) i ∷ []) (sym (row-count er) i ∷ [])
+      ∷ sameLocation (el .shell ig i .location) (er .shell ig i .location)
+      ∷ sameList sameAttribute (el .shell ig i .attributes) (er .shell ig i .attributes)
+      ∷ sameList eqb (el .shell ig i .types) (er .shell ig i .types)
+      ∷ []))
+      ∙ alone (eqb (l .values) (r .values)) (rest C ig l r)
+
+-- rows that are the same have as many values
+pub as-many : (C : Cols) (ig : Ignore) (l r : Row) → sameRows C ig l r ≡ true → l .values ≡ r .values
+unfolding sameRows
+as-many C ig l r h = eqb-true (l .values) (r .values) (passed _ h .0)
+
+-- ---- locations
+
+module _ (ig : Ignore) (l r : ℕ) where
   unfoldable by : Bool → Bool
-  by t = sameLocation (cond t none (some (at C k l))) (cond t none (some (at C k r)))
+  by t = sameLocation (cond t none (some l)) (cond t none (some r))
 
-  pub location-ignored : ig .locations ≡ true → sameLocations C ig k l r ≡ true
-  unfolding sameLocations unignoredLocation sameLocation by
+  pub location-ignored : ig .locations ≡ true → sameLocation (unignoredLocation ig l) (unignoredLocation ig r) ≡ true
+  unfolding unignoredLocation sameLocation by
   location-ignored e = ap by e
 
-  pub location-compared : ig .locations ≡ false → sameLocations C ig k l r ≡ eqb (at C k l) (at C k r)
-  unfolding sameLocations unignoredLocation sameLocation by
+  pub location-compared : ig .locations ≡ false → sameLocation (unignoredLocation ig l) (unignoredLocation ig r) ≡ eqb l r
+  unfolding unignoredLocation sameLocation by
   location-compared e = ap by e

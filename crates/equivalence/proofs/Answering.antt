@@ -1,29 +1,27 @@
 -- A comparison that is refused by a test answers its cause, and one that is not answers where its walk has come to: in a sound store no
 -- walk is too deep. Assumes nothing.
-use Prim.Native.Nat.{ℕ, _+_, _<_, _≤_}
+use Prim.Native.Nat.{ℕ}
 use native.Mathlib.Decide.{ℕ-discrete}
-use mathlib.Core.Bool.{Bool, true, false, true≢false, cond, _&&_}
+use mathlib.Core.Bool.{Bool, true, false, true≢false, _&&_}
 use mathlib.Core.List.{List, [], _∷_}
-use mathlib.Core.Option.{Option, none, some}
+use mathlib.Core.Option.{none, some}
 use mathlib.Core.Path.{_≡_, refl, sym, ap, subst, _∙_}
-use borrow.Author.Tests.{ltb-true}
 use lib.ListN.{length}
-use Rattle.rules.specs.Store.{Store, sound, opExists, blockExists, regionExists}
-use Rattle.rules.specs.Fragments.{Sort, op, block, region, exists, levels}
+use Rattle.rules.specs.Store.{Store, sound}
+use Rattle.rules.specs.Fragments.{Sort, op, block, region, exists}
 use Rattle.rules.specs.Building.{firstFailed}
 use Rattle.rules.specs.Shells.{Ignore}
-use Rattle.rules.specs.Mapping.{Mapping, tableAllowed, allowed}
-use Rattle.rules.specs.Comparison.{State, unequal, oneLonger, tooDeep, Walk, on, ended, standing, _>>=_, paper, pairOps, checkOps, compareRegions, compareLists, compareBy, start, compare}
-use Rattle.rules.specs.Answers.{Compared, Comparison, eq, neq, refused, shallow, compareTests, comparisonOf, comparisonBy, comparison}
-use Rattle.rules.proofs.Basics.Tests.{and-left, and-right, passed}
+use Rattle.rules.specs.Mapping.{Mapping, allowed}
+use Rattle.rules.specs.Comparison.{State, unequal, oneLonger, tooDeep, Walk, on, ended, standing, _>>=_, paper, pairOps, compareBy, start, compare}
+use Rattle.rules.specs.Answers.{Comparison, eq, neq, refused, shallow, compareTests, comparisonOf, comparisonBy, comparison}
+use Rattle.rules.proofs.Basics.Tests.{and-left, and-right}
 use Rattle.rules.proofs.Walking.Deep.{compare-not-deep}
 use Rattle.rules.proofs.Walking.Paired.{paired-most}
-use Rattle.layout.specs.Columns.{Cols}
-use Rattle.layout.specs.Reading.{opCount, blockCount, regionCount, storeOf, storeIn}
+use Rattle.layout.specs.Reading.{storeIn}
 use Rattle.layout.specs.Soundness.{soundBuffer, IsSound}
-use Rattle.layout.proofs.Tabulate.{ops-length, blocks-length, regions-length}
+use Rattle.fragments.specs.Order.{listed}
 use Rattle.equivalence.specs.Lent.{mappingLength, mappingOf}
-use Rattle.equivalence.specs.Walked.{answerOf, lent, outcome, Told, Few, lefts, rights, namedBy, regionWalk, opWalk, listsWalk}
+use Rattle.equivalence.specs.Walked.{answerOf, lent, outcome, Told, Few, leftOf, rightOf, namedBy, regionWalk, opWalk, listsWalk}
 use Rattle.equivalence.specs.Calls.{pairTests, Answered}
 use Rattle.equivalence.specs.declared.types.EqResult.{EqResult}
 use Rattle.equivalence.specs.declared.types.EqResult.the-variants.{Refused}
@@ -66,19 +64,6 @@ module _ (s : Store) (f : Sort) (l r : ℕ) where
       pub both-shallow : shallow s f l ≡ true → shallow s f r ≡ true → firstFailed (pairTests s f l r) ≡ none
       unfolding pairTests firstFailed
       both-shallow e d = rw (el, er, e, d) refl
-
-module _ (C : Cols) (n : ℕ) where
-  pub op-there : exists (storeOf C) op n ≡ true → n < opCount C
-  unfolding exists opExists
-  op-there h = subst (λ (k : ℕ). n < k) (ops-length C) (ltb-true n _ h)
-
-  pub block-there : exists (storeOf C) block n ≡ true → n < blockCount C
-  unfolding exists blockExists
-  block-there h = subst (λ (k : ℕ). n < k) (blocks-length C) (ltb-true n _ h)
-
-  pub region-there : exists (storeOf C) region n ≡ true → n < regionCount C
-  unfolding exists regionExists
-  region-there h = subst (λ (k : ℕ). n < k) (regions-length C) (ltb-true n _ h)
 
 -- ---- walks
 
@@ -133,7 +118,7 @@ module _ (s : Store) (ig : Ignore) (l r : ℕ) (st : State) where
   op-walk = refl
 
   pub block-walk : compareBy paper s ig block l r st ≡ listsWalk s ig (Alone l r) st
-  unfolding compareBy listsWalk opWalk lefts rights namedBy
+  unfolding compareBy listsWalk opWalk leftOf rightOf listed namedBy
   block-walk = refl
 
   pub region-walk : compareBy paper s ig region l r st ≡ regionWalk s ig l r st

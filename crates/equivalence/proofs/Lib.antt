@@ -9,6 +9,5 @@ pub mod Paired
 pub mod Ordered
 pub mod Telling
 pub mod Named
-pub mod Below
 pub mod Rounds
 pub mod Answering

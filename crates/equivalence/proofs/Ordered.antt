@@ -1,26 +1,26 @@
 -- Two lists gone through side by side by their next numbers are gone through pair by pair: what is left of each from a child on is that
 -- child and what is left past it. Assumes nothing.
-use Prim.Native.Nat.{ℕ, zero, suc, _+_, _<_, _≤_}
+use Prim.Native.Nat.{ℕ, suc, _+_, _<_, _≤_}
 use native.Mathlib.Omega.{arith}
-use mathlib.Core.List.{List, [], _∷_, _++_, append-assoc, List·Memᴰ, List·Memᴰ·not-nil, List·Memᴰ·eq-of-singleton}
+use mathlib.Core.List.{List, [], _∷_, _++_, List·Memᴰ}
 use mathlib.Core.Logic.{_⊎_, inl, inr}
 use mathlib.Core.Option.{Option, none, some}
-use mathlib.Core.Path.{_≡_, refl, sym, ap, ap₂, subst, _∙_}
+use mathlib.Core.Path.{_≡_, refl, sym, ap, subst, _∙_}
 use lib.ListN.{length}
 use types.Run.{OneOf}
 use denote.Enum.Declared.{tagOf}
-use Rattle.rules.specs.Store.{Store, opsOf, blocksOf}
+use Rattle.rules.specs.Store.{Store, opsOf}
 use Rattle.rules.specs.Comparison.{State, Pair, unequal, oneLonger, Walk, on, ended, _>>=_, paper, oneMore, pairwise, eachPair, pass3}
 use Rattle.rules.proofs.Form.LockStep.{>>=-assoc}
-use Rattle.rules.proofs.Soundness.Children.{ops-in, blocks-in}
 use Rattle.layout.specs.Columns.{Cols}
-use Rattle.layout.specs.Reading.{opCount, blockCount, regionCount, storeOf}
-use Rattle.layout.proofs.Tabulate.{ops-length, blocks-length}
+use Rattle.layout.specs.Reading.{blockCount, regionCount}
 use Rattle.layout.proofs.Laid.{Laid}
 use Rattle.layout.specs.Children.{firstFrom, onFrom, foundFrom}
-use Rattle.layout.proofs.Seeking.{Rising, from-zero, from-found, from-none, found-in, found-again, ops-rise, blocks-rise}
-use Rattle.equivalence.specs.Walked.{lefts, rights, Bounded}
-use Rattle.equivalence.specs.Order.{bothOf, nextOf, Existing, zipped, pairsIn, pairsFrom, past, First, FirstPair, walkPairs}
+use Rattle.layout.proofs.Seeking.{Rising, from-zero, from-found, from-none, found-in, found-again}
+use Rattle.fragments.specs.Order.{Existing as ExistingList}
+use Rattle.fragments.proofs.Ordered.{listed-rise}
+use Rattle.equivalence.specs.Walked.{leftOf, rightOf, lefts, rights, Bounded}
+use Rattle.equivalence.specs.Order.{bothOf, nextOf, Existing, zipped, pairsIn, pairsFrom, past, First, walkPairs}
 use Rattle.equivalence.specs.declared.types.Lists.{Lists}
 use Rattle.equivalence.specs.declared.types.Lists.the-variants.{InRegions, Alone}
 use Rattle.equivalence.specs.declared.types.Next.{Next}
@@ -155,39 +155,8 @@ module _ (f : ℕ → ℕ → State → Walk) (a : ℕ) (ls : List ℕ) (b : ℕ
 
 -- ---- pairs of operations
 
-pub lefts-rise : (s : Store) (x : Lists) → Rising (lefts s x)
-unfolding lefts
-lefts-rise s (InRegions l r) = blocks-rise s l
-lefts-rise s (Alone l r) = (λ y m. absurd (List·Memᴰ·not-nil m), tt)
-
-pub rights-rise : (s : Store) (x : Lists) → Rising (rights s x)
-unfolding rights
-rights-rise s (InRegions l r) = blocks-rise s r
-rights-rise s (Alone l r) = (λ y m. absurd (List·Memᴰ·not-nil m), tt)
-
--- the blocks of two lists exist
-module _ (C : Cols) (x : Lists) (b : ℕ) (h : Existing C x) where
-  pub in-lefts : List·Memᴰ b (lefts (storeOf C) x) → b < blockCount C
-  unfolding lefts Existing
-  in-lefts = go x h
-    where
-      go : (x : Lists) → Existing C x → List·Memᴰ b (lefts (storeOf C) x) → b < blockCount C
-      go (InRegions l r) h m = subst (λ (n : ℕ). b < n) (blocks-length C) (blocks-in (storeOf C) l m .0)
-      go (Alone l r) h m = subst (λ (n : ℕ). n < blockCount C) (sym (List·Memᴰ·eq-of-singleton m)) (h .0)
-
-  pub in-rights : List·Memᴰ b (rights (storeOf C) x) → b < blockCount C
-  unfolding rights Existing
-  in-rights = go x h
-    where
-      go : (x : Lists) → Existing C x → List·Memᴰ b (rights (storeOf C) x) → b < blockCount C
-      go (InRegions l r) h m = subst (λ (n : ℕ). b < n) (blocks-length C) (blocks-in (storeOf C) r m .0)
-      go (Alone l r) h m = subst (λ (n : ℕ). n < blockCount C) (sym (List·Memᴰ·eq-of-singleton m)) (h .1)
-
-pub op-in : (C : Cols) (b n : ℕ) → List·Memᴰ n (opsOf (storeOf C) b) → n < opCount C
-op-in C b n m = subst (λ (k : ℕ). n < k) (ops-length C) (ops-in (storeOf C) b m .0)
-
 pub bounded : (C : Cols) → Laid C → (x : Lists) → Existing C x → Bounded x
-unfolding Bounded Existing
+unfolding Bounded ExistingList leftOf rightOf
 bounded C k (InRegions l r) h =
     let few : regionCount C ≤ 256 = k .counts .regions in
     let a : l < regionCount C = h .0 in
@@ -228,8 +197,8 @@ module _ (s : Store) (x : Lists) (p : Place) where
     pub pairs-first : (m n : ℕ) → Step (p .lop) (opsOf s l) (p .rop) (opsOf s r) m n → First s x p (record { lblock = l; rblock = r; lop = m; rop = n })
     unfolding pairsFrom pairsIn past zipped
     pairs-first m n ops =
-        let el : onFrom l (lefts s x) ≡ l ∷ onFrom (l + 1) (lefts s x) = from-found l l (lefts s x) (lefts-rise s x) (found-again (p .lblock) l (lefts s x) (blocks .lFound)) in
-        let er : onFrom r (rights s x) ≡ r ∷ onFrom (r + 1) (rights s x) = from-found r r (rights s x) (rights-rise s x) (found-again (p .rblock) r (rights s x) (blocks .rFound)) in
+        let el : onFrom l (lefts s x) ≡ l ∷ onFrom (l + 1) (lefts s x) = from-found l l (lefts s x) (listed-rise s (leftOf x)) (found-again (p .lblock) l (lefts s x) (blocks .lFound)) in
+        let er : onFrom r (rights s x) ≡ r ∷ onFrom (r + 1) (rights s x) = from-found r r (rights s x) (listed-rise s (rightOf x)) (found-again (p .rblock) r (rights s x) (blocks .rFound)) in
         record {
           pairs = rw (blocks .left, blocks .right, ops .left, ops .right, el, er) refl;
           lBlock = blocks .lIn;

@@ -2,80 +2,54 @@
 -- what the rules enter. Assumes nothing.
 use Prim.Native.Nat.{ℕ, _+_, _-_, _<_, _≤_}
 use native.Mathlib.Omega.{arith}
-use mathlib.Core.Bool.{Bool, true, false}
+use mathlib.Core.Bool.{true, false}
 use mathlib.Core.List.{List}
-use mathlib.Core.Path.{_≡_, refl, sym, ap, ap₂, subst, _∙_}
-use borrow.Author.Tests.{eqb-true}
-use lib.Dec.{eqb}
-use lib.ListN.{set}
-use Rattle.rules.specs.Store.{Store, Owner, ofOp, ofBlock, valuesOf}
-use Rattle.rules.specs.Fragments.{op, block}
+use mathlib.Core.Path.{_≡_, refl, sym, ap, _∙_}
+use Rattle.rules.specs.Store.{Store, Owner, ofOp, ofBlock, valuesOf, maxValues}
 use Rattle.rules.specs.Shells.{Ignore, sameShells}
-use Rattle.rules.specs.Mapping.{Mapping, enterAll}
-use Rattle.rules.specs.Comparison.{State, Walk, on, standing, expect, pairOf, enterOps, pairOps, enterBlocks, pairBlocks}
-use Rattle.rules.specs.Answers.{Comparison, comparisonOf}
-use Rattle.rules.proofs.Basics.Tests.{passed}
-use Rattle.layout.specs.Columns.{Cols, at, columns, opResultFirst, opResultEnd, blockArgumentFirst, blockArgumentEnd}
-use Rattle.layout.specs.Reading.{opCount, blockCount, storeOf, storeIn, following}
+use Rattle.rules.specs.Comparison.{standing, expect, enterOps, pairOps, enterBlocks, pairBlocks}
+use Rattle.rules.specs.Answers.{comparisonOf}
+use Rattle.rules.proofs.Basics.Tests.{and-right}
+use Rattle.layout.specs.Columns.{Cols, columns}
+use Rattle.layout.specs.Reading.{opCount, storeOf, storeIn, following}
 use Rattle.layout.specs.Soundness.{IsSound}
-use Rattle.layout.proofs.Laid.{Laid, laid-facts, Ranged}
-use Rattle.layout.proofs.Buffer.{columns-shaped}
-use Rattle.layout.proofs.Ranges.{range, results-range, arguments-range}
 use Rattle.equivalence.specs.Lent.{mappingOf, withOp, withBlock, withValues}
-use Rattle.equivalence.specs.Rows.{span, opRowsEq, blockRowsEq}
+use Rattle.fragments.specs.Rows.{RowOf}
+use Rattle.fragments.specs.declared.types.Row.{Row}
+use Rattle.fragments.proofs.ByRows.{opHead, head-whole}
+use Rattle.equivalence.specs.Rows.{sameHeads, sameRows}
 use Rattle.equivalence.specs.Walked.{answerOf, lent, outcome, Told}
 use Rattle.equivalence.specs.declared.types.EqResult.the-variants.{Eq, FirstNEQOps, FirstNEQBlocks}
-use Rattle.equivalence.proofs.Alike.{op-shells, block-shells, counts-are}
+use Rattle.equivalence.proofs.Alike.{op-shells, block-shells, as-many}
 
 -- ---- the values of two rows
 
--- the left values are a range, and so are the right ones, as many
-pub record Side (C : Cols) (w v : Owner) (first end l r : ℕ) : Type 0 where
-  pub rises : at C first l ≤ at C end l
-  pub fits : at C end l ≤ 2048
-  pub room : at C first r + span C first end l ≤ 2048
-  pub left : valuesOf (storeOf C) w ≡ following (at C first l) (span C first end l)
-  pub right : valuesOf (storeOf C) v ≡ following (at C first r) (span C first end l)
+-- the values of two rows that are alike: ranges within the store's, as many on both sides
+pub record Side (C : Cols) (w v : Owner) (l r : Row) : Type 0 where
+  pub leftFits : l .value + l .values ≤ maxValues
+  pub rightFits : r .value + l .values ≤ maxValues
+  pub left : valuesOf (storeOf C) w ≡ following (l .value) (l .values)
+  pub right : valuesOf (storeOf C) v ≡ following (r .value) (l .values)
 
-side : (C : Cols) (w v : Owner) (first end l r n : ℕ) → n ≤ 2048 → Ranged (at C first l) (at C end l) n → Ranged (at C first r) (at C end r) n
-    → valuesOf (storeOf C) w ≡ range (at C first l) (at C end l) → valuesOf (storeOf C) v ≡ range (at C first r) (at C end r)
-    → span C first end l ≡ span C first end r → Side C w v first end l r
-unfolding span range following
-side C w v first end l r n m rl rr vl vr same =
-    let rises : at C first l ≤ at C end l = rl .rises in
-    let fits : at C end l ≤ n = rl .fits in
-    let rr₁ : at C first r ≤ at C end r = rr .rises in
-    let rr₂ : at C end r ≤ n = rr .fits in
-    let e : at C end l - at C first l ≡ at C end r - at C first r = same in
+side : {C : Cols} {w v : Owner} {l r : Row} → RowOf C w l → RowOf C v r → l .values ≡ r .values → Side C w v l r
+side {l = l} {r = r} hl hr e =
     record {
-      rises = rises;
-      fits = omega arith;
-      room = omega arith;
-      left = vl;
-      right = vr ∙ ap (following (at C first r)) (sym same);
+      leftFits = hl .fits .values;
+      rightFits = omega (arith, hr .fits .values);
+      left = hl .values;
+      right = hr .values ∙ ap (following (r .value)) (sym e);
     }
 
-module _ (b : List ℕ) (h : IsSound b) (ig : Ignore) (l r : ℕ) where
-  pub op-side : l < opCount (columns b) → r < opCount (columns b) → sameShells (storeIn b) ig (ofOp l) (ofOp r) ≡ true
-      → Side (columns b) (ofOp l) (ofOp r) opResultFirst opResultEnd l r
-  unfolding opRowsEq
-  op-side ll rl t =
-      let C = columns b in
-      let k = laid-facts C (h .laid) in
-      let rows = passed _ (sym (op-shells C (columns-shaped b (h .sized)) k ig l r ll rl) ∙ t) in
-      let same = passed _ (sym (counts-are C l r) ∙ rows .0) .1 .1 .1 .1 .0 in
-      side C (ofOp l) (ofOp r) opResultFirst opResultEnd l r _ (k .counts .values) (k .op l ll .results .range) (k .op r rl .results .range)
-      (results-range C k l ll) (results-range C k r rl) (eqb-true _ _ same)
+module _ (b : List ℕ) (ig : Ignore) (x y : ℕ) {l r : Row} where
+  pub op-side : IsSound b → x < opCount (columns b) → y < opCount (columns b) → RowOf (columns b) (ofOp x) l → RowOf (columns b) (ofOp y) r
+      → sameShells (storeIn b) ig (ofOp x) (ofOp y) ≡ true → Side (columns b) (ofOp x) (ofOp y) l r
+  op-side s lx ly el er t =
+      let same = sym (op-shells ig (head-whole b s x lx) (head-whole b s y ly) el er) ∙ t in
+      side el er (as-many (columns b) ig l r (and-right (sameHeads (opHead (columns b) x) (opHead (columns b) y)) (sameRows (columns b) ig l r) same))
 
-  pub block-side : l < blockCount (columns b) → r < blockCount (columns b) → sameShells (storeIn b) ig (ofBlock l) (ofBlock r) ≡ true
-      → Side (columns b) (ofBlock l) (ofBlock r) blockArgumentFirst blockArgumentEnd l r
-  unfolding blockRowsEq
-  block-side ll rl t =
-      let C = columns b in
-      let k = laid-facts C (h .laid) in
-      let rows = passed _ (sym (block-shells C (columns-shaped b (h .sized)) k ig l r ll rl) ∙ t) in
-      side C (ofBlock l) (ofBlock r) blockArgumentFirst blockArgumentEnd l r _ (k .counts .values) (k .block l ll .arguments .range) (k .block r rl .arguments .range)
-      (arguments-range C k l ll) (arguments-range C k r rl) (eqb-true _ _ (rows .0))
+  pub block-side : RowOf (columns b) (ofBlock x) l → RowOf (columns b) (ofBlock y) r → sameShells (storeIn b) ig (ofBlock x) (ofBlock y) ≡ true
+      → Side (columns b) (ofBlock x) (ofBlock y) l r
+  block-side el er t = side el er (as-many (columns b) ig l r (sym (block-shells ig el er) ∙ t))
 
 -- ---- what is told
 

@@ -5,26 +5,29 @@ use native.Mathlib.Nat.{le-refl, le-trans}
 use native.Mathlib.Decide.{decLt}
 use native.Mathlib.Omega.{arith}
 use mathlib.Core.Bool.{true, false, _&&_}
-use mathlib.Core.List.{List, [], _∷_}
-use mathlib.Core.Logic.{_⊎_, inl, inr}
+use mathlib.Core.List.{List, [], _∷_, List·Memᴰ}
 use mathlib.Core.Path.{_≡_, refl, sym, ap, ap₂, subst, _∙_}
-use Rattle.rules.specs.Store.{Store, regionsOf, regionExists, blocksOf, sound}
+use lib.ListN.{length}
+use Rattle.rules.specs.Store.{Store, regionsOf, regionExists, sound}
 use Rattle.rules.specs.Fragments.{op, region, exists, levels}
 use Rattle.rules.specs.Shells.{Ignore}
-use Rattle.rules.specs.Comparison.{State, Walk, on, ended, standing, _>>=_, paper, eachPair, expect, pairOf, operandsAgree, successorsAgree, checkNames, checkOps, pass1, pass2, pass3, compareLists, compareRegions, compareBy}
+use Rattle.rules.specs.Comparison.{State, Walk, on, standing, _>>=_, paper, eachPair, expect, operandsAgree, successorsAgree, checkNames, checkOps, pass1, pass2, pass3, compareLists, compareRegions, compareBy}
 use Rattle.rules.specs.Answers.{comparisonOf}
 use Rattle.rules.proofs.Walking.Enough.{enough-one}
 use Rattle.rules.proofs.Walking.Deep.{walks-not-deep}
-use Rattle.rules.proofs.Walking.Paired.{Grows, grows-bind, grows-each, grows-ops, grows-pass2, grows-pass3, grows-regions}
-use Rattle.layout.proofs.Ranges.{range, range-empty, range-first}
+use Rattle.rules.proofs.Walking.Paired.{Grows, grows-bind, grows-ops, grows-pass2, grows-pass3, grows-regions}
+use Rattle.layout.specs.Columns.{Cols, at, opRegionFirst, opRegionEnd}
+use Rattle.layout.specs.Reading.{opCount, regionCount, storeOf}
+use Rattle.layout.proofs.Laid.{Laid}
+use Rattle.layout.proofs.Ranges.{range, range-empty, range-first, length-range, regions-range, in-range}
+use Rattle.fragments.specs.Order.{listed}
 use Rattle.equivalence.specs.Lent.{mappingOf}
-use Rattle.equivalence.specs.Walked.{answerOf, lent, outcome, Told, most, Few, lefts, rights, namedBy, regionWalk, opWalk, listsWalk}
+use Rattle.equivalence.specs.Walked.{answerOf, lent, outcome, Told, Few, leftOf, rightOf, lefts, rights, namedBy, regionWalk, opWalk, listsWalk}
 use Rattle.equivalence.specs.Order.{pairsFrom, walkPairs}
 use Rattle.equivalence.specs.declared.types.EqResult.{EqResult}
 use Rattle.equivalence.specs.declared.types.EqResult.the-variants.{Eq, FirstNEQOps}
 use Rattle.equivalence.specs.declared.types.Lists.{Lists}
 use Rattle.equivalence.specs.declared.types.Lists.the-variants.{InRegions}
-use Rattle.equivalence.specs.declared.types.Place.{Place}
 use Rattle.equivalence.proofs.Ordered.{pass3-pairs}
 use Rattle.equivalence.proofs.Telling.{NotEq, told-ended, told-bind, few-part}
 
@@ -33,7 +36,7 @@ module _ (s : Store) (ig : Ignore) where
 
   -- one region more to enter makes no difference
   pub region-lists : sound s ≡ true → (l r : ℕ) → regionExists s l ≡ true → (st : State) → regionWalk s ig l r st ≡ listsWalk s ig (InRegions l r) st
-  unfolding regionWalk listsWalk opWalk lefts rights namedBy compareRegions compareBy exists
+  unfolding regionWalk listsWalk opWalk leftOf rightOf listed namedBy compareRegions compareBy exists
   region-lists sd l r e st = sym (enough-one paper s ig levels l r st (λ t h. walks-not-deep s sd paper ig region l r e st t h))
 
   -- ---- two operations
@@ -74,10 +77,10 @@ module _ (s : Store) (ig : Ignore) where
   pairs-step l r qs st e = ap (λ (ps : List (ℕ × ℕ)). walkPairs (opWalk s ig) ps st) e
 
   module _ (x : Lists) (st : State) where
-    abbrev first : Walk
+    abbrev pub first : Walk
     first = pass1 paper s ig (namedBy x) (lefts s x) (rights s x) st
 
-    abbrev second : State → Walk
+    abbrev pub second : State → Walk
     second = pass2 paper s ig (lefts s x) (rights s x)
 
     abbrev third : State → Walk
@@ -94,28 +97,25 @@ module _ (s : Store) (ig : Ignore) where
     unfolding listsWalk compareLists
     first-ended q b k h = told-ended (first >>= second) third q b k (told-ended first second q b k h)
 
-    module _ (n : ℕ) (b : List ℕ) (h : Told first (Eq n) b) where
+    module _ (b : List ℕ) {n : ℕ} {q : EqResult} (e : q ≡ Eq n) (h : Told first q b) where
       past-first : listsWalk s ig x st ≡ second (lent b n) >>= third
       unfolding listsWalk compareLists
-      past-first = ap (λ (w : Walk). w >>= third) (told-bind first second n b h)
+      past-first = ap (λ (w : Walk). w >>= third) (told-bind first second b e h)
 
       pub few-second : Few (listsWalk s ig x st) → Few (second (lent b n))
       few-second f = few-part (listsWalk s ig x st) (second (lent b n)) third grows-third past-first f
 
-      pub second-ended : (q : EqResult) (c : List ℕ) → NotEq q → Told (second (lent b n)) q c → Told (listsWalk s ig x st) q c
-      second-ended q c k t = subst (λ (w : Walk). Told w q c) (sym past-first) (told-ended (second (lent b n)) third q c k t)
+      pub second-ended : (o : EqResult) (c : List ℕ) → NotEq o → Told (second (lent b n)) o c → Told (listsWalk s ig x st) o c
+      second-ended o c k t = subst (λ (w : Walk). Told w o c) (sym past-first) (told-ended (second (lent b n)) third o c k t)
 
-      pub third-starts : (m : ℕ) (c : List ℕ) → Told (second (lent b n)) (Eq m) c
+      pub third-starts : (c : List ℕ) {m : ℕ} {o : EqResult} → o ≡ Eq m → Told (second (lent b n)) o c
           → listsWalk s ig x st ≡ walkPairs (opWalk s ig) (pairsFrom s x (record { lblock = 0; rblock = 0; lop = 0; rop = 0 })) (lent c m)
-      third-starts m c t = past-first ∙ told-bind (second (lent b n)) third m c t ∙ pass3-pairs (opWalk s ig) s x (lent c m)
+      third-starts c {m} f t = past-first ∙ told-bind (second (lent b n)) third c f t ∙ pass3-pairs (opWalk s ig) s x (lent c m)
 
 -- ---- regions pair by pair
 
-pub plus-none : (n : ℕ) → n ≡ n + 0
-plus-none n = omega arith
-
 module _ (g : ℕ → ℕ → State → Walk) (l e r f i : ℕ) (st : State) where
-  pub regions-next : l + i < e → r + i < f
+  regions-next : l + i < e → r + i < f
       → eachPair g (range (l + i) e) (range (r + i) f) st ≡ g (l + i) (r + i) st >>= eachPair g (range (l + (i + 1)) e) (range (r + (i + 1)) f)
   unfolding eachPair
   regions-next a b =
@@ -123,7 +123,7 @@ module _ (g : ℕ → ℕ → State → Walk) (l e r f i : ℕ) (st : State) whe
       let er : range (r + i) f ≡ (r + i) ∷ range (r + (i + 1)) f = range-first (r + i) f b ∙ (let k : suc (r + i) ≡ r + (i + 1) = omega arith in ap (λ (n : ℕ). (r + i) ∷ range n f) k) in
       rw (el, er) refl
 
-  pub regions-over : min (e - l) (f - r) ≤ i → l ≤ e → r ≤ f → eachPair g (range (l + i) e) (range (r + i) f) st ≡ on st
+  regions-over : min (e - l) (f - r) ≤ i → l ≤ e → r ≤ f → eachPair g (range (l + i) e) (range (r + i) f) st ≡ on st
   unfolding eachPair
   regions-over h le rf = go (decLt (l + i) e)
     where
@@ -134,3 +134,53 @@ module _ (g : ℕ → ℕ → State → Walk) (l e r f i : ℕ) (st : State) whe
       go : Dec (l + i < e) → eachPair g (range (l + i) e) (range (r + i) f) st ≡ on st
       go (no a) = rw (range-empty (l + i) e (omega arith)) refl
       go (yes a) = rw (range-empty (r + i) f (omega arith)) (none-right (range (l + i) e))
+
+-- a pair of regions, by how many were compared before: it is in both ranges, and the left one is the left operation's
+pub record Turn (C : Cols) (l r a b i : ℕ) : Type 0 where
+  pub left : a + i < at C opRegionEnd l
+  pub right : b + i < at C opRegionEnd r
+  pub leftHere : a + i < regionCount C
+  pub rightHere : b + i < regionCount C
+  pub few : regionCount C ≤ 256
+  pub child : List·Memᴰ (a + i) (regionsOf (storeOf C) l)
+
+-- the regions of two operations are those from a and from b on, and n pairs of them
+module _ (C : Cols) (k : Laid C) (l r : ℕ) (ll : l < opCount C) (rl : r < opCount C) (a b : ℕ) (fl : a ≡ at C opRegionFirst l) (fr : b ≡ at C opRegionFirst r) where
+  pub regions-begin : (g : ℕ → ℕ → State → Walk) (st : State)
+      → eachPair g (regionsOf (storeOf C) l) (regionsOf (storeOf C) r) st ≡ eachPair g (range (a + 0) (at C opRegionEnd l)) (range (b + 0) (at C opRegionEnd r)) st
+  regions-begin g st =
+      let el : at C opRegionFirst l ≡ a + 0 = omega arith in
+      let er : at C opRegionFirst r ≡ b + 0 = omega arith in
+      ap₂ (λ (xs ys : List ℕ). eachPair g xs ys st) (regions-range C k l ll ∙ ap (λ (n : ℕ). range n (at C opRegionEnd l)) el) (regions-range C k r rl ∙ ap (λ (n : ℕ). range n (at C opRegionEnd r)) er)
+
+  many : (n : ℕ) → n < opCount C → length (regionsOf (storeOf C) n) ≡ at C opRegionEnd n - at C opRegionFirst n
+  many n h = ap length (regions-range C k n h) ∙ length-range (at C opRegionFirst n) (at C opRegionEnd n)
+
+  module _ (n i : ℕ) (e : n ≡ min (length (regionsOf (storeOf C) l)) (length (regionsOf (storeOf C) r))) where
+    pub turn : i < n → Turn C l r a b i
+    turn h =
+        let rise-l : at C opRegionFirst l ≤ at C opRegionEnd l = k .op l ll .regions .range .rises in
+        let fit-l : at C opRegionEnd l ≤ regionCount C = k .op l ll .regions .range .fits in
+        let rise-r : at C opRegionFirst r ≤ at C opRegionEnd r = k .op r rl .regions .range .rises in
+        let fit-r : at C opRegionEnd r ≤ regionCount C = k .op r rl .regions .range .fits in
+        let il : a + i < at C opRegionEnd l = omega (arith, many l ll, many r rl) in
+        record {
+          left = il;
+          right = omega (arith, many l ll, many r rl);
+          leftHere = omega arith;
+          rightHere = omega (arith, many l ll, many r rl);
+          few = k .counts .regions;
+          child = subst (List·Memᴰ (a + i)) (sym (regions-range C k l ll)) (in-range (at C opRegionFirst l) (at C opRegionEnd l) (a + i) (omega arith) il);
+        }
+
+    pub regions-done : (g : ℕ → ℕ → State → Walk) (st : State) → n ≤ i → eachPair g (range (a + i) (at C opRegionEnd l)) (range (b + i) (at C opRegionEnd r)) st ≡ on st
+    regions-done g st h =
+        let rise-l : at C opRegionFirst l ≤ at C opRegionEnd l = k .op l ll .regions .range .rises in
+        let rise-r : at C opRegionFirst r ≤ at C opRegionEnd r = k .op r rl .regions .range .rises in
+        regions-over g a (at C opRegionEnd l) b (at C opRegionEnd r) i st (omega (arith, many l ll, many r rl)) (omega arith) (omega arith)
+
+-- the walk over the rest is the walk over the next pair and those behind it
+pub turn-next : {C : Cols} {l r a b i : ℕ} (g : ℕ → ℕ → State → Walk) (st : State) → Turn C l r a b i
+    → eachPair g (range (a + i) (at C opRegionEnd l)) (range (b + i) (at C opRegionEnd r)) st
+    ≡ g (a + i) (b + i) st >>= eachPair g (range (a + (i + 1)) (at C opRegionEnd l)) (range (b + (i + 1)) (at C opRegionEnd r))
+turn-next {C} {l} {r} {a} {b} {i} g st w = regions-next g a (at C opRegionEnd l) b (at C opRegionEnd r) i st (w .left) (w .right)

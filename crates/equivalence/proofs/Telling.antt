@@ -6,14 +6,12 @@ use native.Mathlib.Omega.{arith}
 use mathlib.Core.Bool.{true≢false}
 use mathlib.Core.List.{List, [], _∷_}
 use mathlib.Core.Logic.{_⊎_, inl, inr}
-use mathlib.Core.Path.{_≡_, refl, sym, ap, subst, _∙_}
+use mathlib.Core.Path.{_≡_, refl, ap, subst}
 use types.Run.{OneOf}
 use denote.Enum.Declared.{tagOf}
-use Rattle.rules.specs.Mapping.{Mapping}
-use Rattle.rules.specs.Comparison.{State, Pair, Stop, unequal, oneLonger, tooDeep, Walk, on, ended, standing, _>>=_}
+use Rattle.rules.specs.Comparison.{State, Pair, unequal, oneLonger, tooDeep, Walk, on, ended, standing, _>>=_}
 use Rattle.rules.specs.Answers.{Compared, Comparison, eq, neq, refused, comparisonOf}
 use Rattle.rules.proofs.Walking.Paired.{Grows, grows-bind}
-use Rattle.equivalence.specs.Lent.{mappingOf}
 use Rattle.equivalence.specs.Walked.{answerOf, lent, outcome, Told, most, Few, namedBy, neqOf}
 use Rattle.equivalence.specs.declared.types.Lists.{Lists}
 use Rattle.equivalence.specs.declared.types.Lists.the-variants.{InRegions, Alone}
@@ -55,8 +53,8 @@ unfolding Told outcome comparisonOf standing
 told-ended (on st) f q b k h = absurd (equal-only q (st .paired) k (ap (λ (x : Comparison). x .answer) h))
 told-ended (ended why st) f q b k h = h
 
-pub told-bind : (w : Walk) (f : State → Walk) (n : ℕ) (b : List ℕ) → Told w (Eq n) b → w >>= f ≡ f (lent b n)
-told-bind w f n b h = ap (λ (v : Walk). v >>= f) (told-on w n b h)
+pub told-bind : (w : Walk) (f : State → Walk) (b : List ℕ) {q : EqResult} {n : ℕ} → q ≡ Eq n → Told w q b → w >>= f ≡ f (lent b n)
+told-bind w f b {q} {n} e h = ap (λ (v : Walk). v >>= f) (told-on w n b (subst (λ (r : EqResult). Told w r b) e h))
 
 -- a walk that is over
 pub told-over : (w : Walk) (b : List ℕ) (n : ℕ) → w ≡ on (lent b n) → Told w (Eq n) b

@@ -1,17 +1,16 @@
 -- Two lists gone through side by side: the next of each, and the pairs of operations that are left from a place on.
-use Prim.Native.Nat.{ℕ, _+_, _<_}
+use Prim.Native.Nat.{ℕ, _+_}
 use mathlib.Core.List.{List, [], _∷_, _++_, List·Memᴰ}
 use mathlib.Core.Path.{_≡_}
 use Rattle.rules.specs.Store.{Store, opsOf}
 use Rattle.rules.specs.Comparison.{State, Walk, on, _>>=_}
 use Rattle.layout.specs.Columns.{Cols}
-use Rattle.layout.specs.Reading.{blockCount, regionCount}
 use Rattle.layout.specs.Children.{firstFrom, onFrom, foundFrom}
 use Rattle.layout.specs.declared.children.Found.{Found}
 use Rattle.layout.specs.declared.children.Found.the-variants.{At, Nothing}
-use Rattle.equivalence.specs.Walked.{lefts, rights}
+use Rattle.fragments.specs.Order as order
+use Rattle.equivalence.specs.Walked.{leftOf, rightOf, lefts, rights}
 use Rattle.equivalence.specs.declared.types.Lists.{Lists}
-use Rattle.equivalence.specs.declared.types.Lists.the-variants.{InRegions, Alone}
 use Rattle.equivalence.specs.declared.types.Next.{Next}
 use Rattle.equivalence.specs.declared.types.Next.the-variants.{Both, Neither, Unequal}
 use Rattle.equivalence.specs.declared.types.Place.{Place}
@@ -29,9 +28,8 @@ unfoldable pub nextOf : ℕ → List ℕ → ℕ → List ℕ → Next
 nextOf a ls b rs = bothOf (foundFrom (firstFrom a ls)) (foundFrom (firstFrom b rs))
 
 -- two regions or two blocks of the store
-unfoldable pub Existing : Cols → Lists → Type 0
-Existing C (InRegions l r) = (l < regionCount C) × (r < regionCount C)
-Existing C (Alone l r) = (l < blockCount C) × (r < blockCount C)
+abbrev pub Existing : Cols → Lists → Type 0
+Existing C x = order.Existing C (leftOf x) × order.Existing C (rightOf x)
 
 -- ---- pairs of operations
 

@@ -1,14 +1,17 @@
 -- What the code tells of a walk: its answer and the words of the mapping stand for the rules' answer and mapping.
 use Prim.Native.Nat.{ℕ, _≤_}
-use mathlib.Core.List.{List, [], _∷_}
+use mathlib.Core.List.{List}
 use mathlib.Core.Path.{_≡_}
 use lib.ListN.{length}
-use Rattle.rules.specs.Store.{Store, blocksOf}
+use Rattle.rules.specs.Store.{Store}
 use Rattle.rules.specs.Fragments.{op, block, region, levels}
 use Rattle.rules.specs.Shells as rules
 use Rattle.rules.specs.Comparison.{State, Pair, Walk, standing, paper, pairOf, checkOps, compareLists, compareRegions}
 use Rattle.rules.specs.Answers.{Compared, Comparison, eq, neq, refused, comparisonOf}
 use Rattle.layout.specs.Soundness.{IsSound}
+use Rattle.fragments.specs.Order.{listed}
+use Rattle.fragments.specs.declared.types.Blocks.{Blocks}
+use Rattle.fragments.specs.declared.types.Blocks.the-variants as list
 use Rattle.equivalence.specs.Lent.{mappingLength, mappingOf}
 use Rattle.equivalence.specs.declared.types.EqResult.{EqResult}
 use Rattle.equivalence.specs.declared.types.EqResult.the-variants.{Eq, FirstNEQOps, FirstNEQRegions, FirstNEQBlocks, Refused}
@@ -49,13 +52,19 @@ Few w = standing w .paired ≤ most
 
 -- ---- two lists of blocks
 
-unfoldable pub lefts : Store → Lists → List ℕ
-lefts s (InRegions l r) = blocksOf s l
-lefts s (Alone l r) = l ∷ []
+unfoldable pub leftOf : Lists → Blocks
+leftOf (InRegions l r) = list.InRegion l
+leftOf (Alone l r) = list.Alone l
 
-unfoldable pub rights : Store → Lists → List ℕ
-rights s (InRegions l r) = blocksOf s r
-rights s (Alone l r) = r ∷ []
+unfoldable pub rightOf : Lists → Blocks
+rightOf (InRegions l r) = list.InRegion r
+rightOf (Alone l r) = list.Alone r
+
+abbrev pub lefts : Store → Lists → List ℕ
+lefts s x = listed s (leftOf x)
+
+abbrev pub rights : Store → Lists → List ℕ
+rights s x = listed s (rightOf x)
 
 -- the pair that unequal lengths name
 unfoldable pub namedBy : Lists → Pair

@@ -1,7 +1,8 @@
-// Comparison of two operations, two regions or two blocks on a sound store, begun with an allowed mapping.
+// Comparison of two fragments on a sound store, begun with an allowed mapping.
 use crate::pairing::op_eq_map;
 use crate::regions::blocks_eq;
 use crate::regions::op_eq_mapped;
+use crate::regions::region_eq;
 use crate::types::EqResult;
 use crate::types::Lists;
 use fragments::ignoring::Ignore;
@@ -12,14 +13,18 @@ use layout::causes::Cause;
 ghost use mathlib.Core.Bool.{true};
 ghost use mathlib.Core.Path.{_≡_};
 ghost use Rattle.rules.specs.Building.{firstFailed};
-ghost use Rattle.rules.specs.Fragments.{op, block, region};
+ghost use Rattle.rules.specs.Fragments.{op};
 ghost use Rattle.rules.specs.Mapping.{allowed};
-ghost use Rattle.layout.specs.Reading.{storeIn};
+ghost use Rattle.rules.specs.Comparison.{paper, compareBy};
+ghost use Prim.Native.Nat.{_<_};
+ghost use Rattle.layout.specs.Columns.{columns};
+ghost use Rattle.layout.specs.Reading.{opCount, storeIn};
 ghost use Rattle.layout.specs.Causes.{causeOf};
 ghost use Rattle.layout.specs.Soundness.{IsSound};
 ghost use Rattle.fragments.specs.Sorts.{sortOf};
 ghost use Rattle.fragments.specs.Ignoring.{ignoreOf};
 ghost use Rattle.equivalence.specs.Lent.{mappingOf};
+ghost use Rattle.equivalence.specs.Walked.{Ready, Told, Few, lent};
 ghost use Rattle.equivalence.specs.Calls.{Answered, pairTests};
 
 // Why two fragments are not compared: one does not exist, or one is nested too deep. Nothing is entered yet.
@@ -42,58 +47,58 @@ fn pair_cause(store: &[u32], sort: Sort, lhs: u32, rhs: u32) -> Cause
     Cause::None
 }
 
-// Compare two operations.
-pub fn operation_eq(
-    store: &[u32],
-    mapping: &mut [u32],
-    lhs: u32,
-    rhs: u32,
-    ignore: Ignore,
-) -> EqResult
-    requires { ⌜ IsSound (now store) ⌝ }
-    requires { ⌜ allowed (storeIn (now store)) (mappingOf (now mapping)) ≡ true ⌝ }
-    ensures { λ q. ⌜ Answered (now (store .entry)) (now (mapping .entry)) (now (mapping .exit)) (ignoreOf ignore) op lhs rhs q ⌝ }
+// Two operations: they are paired, then checked.
+fn ops_eq(store: &[u32], mapping: &mut [u32], lhs: usize, rhs: usize, ignore: Ignore) -> EqResult
+    requires { ⌜ Ready (now store) (now mapping) ⌝ }
+    requires { ⌜ lhs < opCount (columns (now store)) ⌝ }
+    requires { ⌜ rhs < opCount (columns (now store)) ⌝ }
+    requires { ⌜ Few (compareBy paper (storeIn (now store)) (ignoreOf ignore) op lhs rhs (lent (now mapping) 0)) ⌝ }
+    ensures { λ q. ⌜ Told (compareBy paper (storeIn (now (store .entry))) (ignoreOf ignore) op lhs rhs (lent (now (mapping .entry)) 0)) q (now (mapping .exit)) ⌝ }
 {
-    let cause = pair_cause(store, Sort::Op, lhs, rhs);
-    if let Cause::Is(n) = cause {
-        return EqResult::Refused(n);
-    }
-    let mapped = op_eq_map(store, mapping, lhs as usize, rhs as usize, ignore, 0);
+    let mapped = op_eq_map(store, mapping, lhs, rhs, ignore, 0);
     let EqResult::Eq(paired) = mapped else {
         return mapped;
     };
-    op_eq_mapped(store, mapping, lhs as usize, rhs as usize, ignore, paired)
+    op_eq_mapped(store, mapping, lhs, rhs, ignore, paired)
 }
 
-// Compare two regions.
-pub fn region_eq(store: &[u32], mapping: &mut [u32], lhs: u32, rhs: u32, ignore: Ignore) -> EqResult
-    requires { ⌜ IsSound (now store) ⌝ }
-    requires { ⌜ allowed (storeIn (now store)) (mappingOf (now mapping)) ≡ true ⌝ }
-    ensures { λ q. ⌜ Answered (now (store .entry)) (now (mapping .entry)) (now (mapping .exit)) (ignoreOf ignore) region lhs rhs q ⌝ }
-{
-    let cause = pair_cause(store, Sort::Region, lhs, rhs);
-    if let Cause::Is(n) = cause {
-        return EqResult::Refused(n);
-    }
-    crate::regions::region_eq(store, mapping, lhs as usize, rhs as usize, ignore, 0)
-}
-
-// Compare two blocks, each a list of one.
-pub fn basic_block_eq(
+// Two fragments by their sort; a block is a list of one.
+fn walk_eq(
     store: &[u32],
     mapping: &mut [u32],
+    sort: Sort,
+    lhs: usize,
+    rhs: usize,
+    ignore: Ignore,
+) -> EqResult
+    requires { ⌜ Ready (now store) (now mapping) ⌝ }
+    requires { ⌜ Rattle.rules.specs.Fragments.exists (storeIn (now store)) (sortOf sort) lhs ≡ true ⌝ }
+    requires { ⌜ Rattle.rules.specs.Fragments.exists (storeIn (now store)) (sortOf sort) rhs ≡ true ⌝ }
+    ensures { λ q. ⌜ Told (compareBy paper (storeIn (now (store .entry))) (ignoreOf ignore) (sortOf sort) lhs rhs (lent (now (mapping .entry)) 0)) q (now (mapping .exit)) ⌝ }
+{
+    match sort {
+        Sort::Op => ops_eq(store, mapping, lhs, rhs, ignore),
+        Sort::Block => blocks_eq(store, mapping, Lists::Alone(lhs, rhs), ignore, 0),
+        Sort::Region => region_eq(store, mapping, lhs, rhs, ignore, 0),
+    }
+}
+
+// Compare two fragments of one sort.
+pub fn fragments_eq(
+    store: &[u32],
+    mapping: &mut [u32],
+    sort: Sort,
     lhs: u32,
     rhs: u32,
     ignore: Ignore,
 ) -> EqResult
     requires { ⌜ IsSound (now store) ⌝ }
     requires { ⌜ allowed (storeIn (now store)) (mappingOf (now mapping)) ≡ true ⌝ }
-    ensures { λ q. ⌜ Answered (now (store .entry)) (now (mapping .entry)) (now (mapping .exit)) (ignoreOf ignore) block lhs rhs q ⌝ }
+    ensures { λ q. ⌜ Answered (now (store .entry)) (now (mapping .entry)) (now (mapping .exit)) (ignoreOf ignore) (sortOf sort) lhs rhs q ⌝ }
 {
-    let cause = pair_cause(store, Sort::Block, lhs, rhs);
+    let cause = pair_cause(store, sort, lhs, rhs);
     if let Cause::Is(n) = cause {
         return EqResult::Refused(n);
     }
-    let lists = Lists::Alone(lhs as usize, rhs as usize);
-    blocks_eq(store, mapping, lists, ignore, 0)
+    walk_eq(store, mapping, sort, lhs as usize, rhs as usize, ignore)
 }

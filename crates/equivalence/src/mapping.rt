@@ -8,7 +8,6 @@ ghost use mathlib.Core.Path.{_≡_};
 ghost use Prim.Native.Nat.{_+_, _<_, _≤_};
 ghost use lib.ListN.{length};
 ghost use Rattle.rules.specs.Mapping.{entriesAllowed, allowed};
-ghost use Rattle.layout.specs.Columns.{columns};
 ghost use Rattle.layout.specs.Reading.{storeIn, following};
 ghost use Rattle.layout.specs.Soundness.{Arranged};
 ghost use Rattle.equivalence.specs.Lent.{mappingLength, mappingOf, entryAllowed, withOp, withBlock, withValues};

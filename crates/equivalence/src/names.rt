@@ -8,7 +8,7 @@ use layout::parts::successors_of;
 ghost use mathlib.Core.Path.{_≡_};
 ghost use mathlib.Core.Bool.{true, _&&_};
 ghost use Prim.Native.Nat.{_<_};
-ghost use lib.Dec.{eqb, ltb};
+ghost use lib.Dec.{ltb};
 ghost use lib.ListN.{length, getD};
 ghost use Rattle.rules.specs.Lists.{all, allPairs};
 ghost use Rattle.rules.specs.Mapping.{orSelf};

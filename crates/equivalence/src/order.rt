@@ -8,13 +8,11 @@ use layout::children::next_block;
 use layout::children::next_op;
 use layout::children::one_from;
 ghost use mathlib.Core.Path.{_≡_};
-ghost use mathlib.Core.List.{[], _∷_};
 ghost use Prim.Native.Nat.{_<_};
 ghost use Rattle.rules.specs.Store.{opsOf};
 ghost use Rattle.layout.specs.Columns.{columns};
 ghost use Rattle.layout.specs.Reading.{blockCount, storeIn};
 ghost use Rattle.layout.specs.Soundness.{IsSound};
-ghost use Rattle.layout.specs.Children.{firstFrom, foundFrom};
 ghost use Rattle.equivalence.specs.Walked.{lefts, rights};
 ghost use Rattle.equivalence.specs.Order.{bothOf, nextOf, Existing, FirstPair};
 

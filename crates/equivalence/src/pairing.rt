@@ -6,40 +6,14 @@ use crate::shells::block_shells_eq;
 use crate::shells::op_shells_eq;
 use crate::types::EqResult;
 use fragments::ignoring::Ignore;
-use layout::columns::BLOCK_ARGUMENT_END;
-use layout::columns::BLOCK_ARGUMENT_FIRST;
-use layout::columns::OP_RESULT_END;
-use layout::columns::OP_RESULT_FIRST;
-use layout::columns::at;
-use layout::columns::number;
-ghost use mathlib.Core.Path.{_≡_};
+use fragments::rows::block_row;
+use fragments::rows::op_row;
 ghost use Prim.Native.Nat.{_-_, _+_, _<_, _≤_};
 ghost use Rattle.rules.specs.Comparison.{pairOps, pairBlocks};
-ghost use Rattle.layout.specs.Columns.{columns, size};
-ghost use Rattle.layout.specs.Reading.{opCount, blockCount, storeIn, following};
+ghost use Rattle.layout.specs.Columns.{columns};
+ghost use Rattle.layout.specs.Reading.{opCount, blockCount, storeIn};
 ghost use Rattle.fragments.specs.Ignoring.{ignoreOf};
-ghost use Rattle.equivalence.specs.Lent.{mappingOf, withValues};
-ghost use Rattle.equivalence.specs.Rows.{span};
 ghost use Rattle.equivalence.specs.Walked.{Ready, Told, lent, most};
-
-// Enters the values of two rows whose ranges are as long.
-fn map_owned(store: &[u32], mapping: &mut [u32], first: usize, end: usize, l: usize, r: usize)
-    requires { ⌜ Ready (now store) (now mapping) ⌝ }
-    requires { ⌜ first < 32 ⌝ }
-    requires { ⌜ end < 32 ⌝ }
-    requires { ⌜ l < size first ⌝ }
-    requires { ⌜ l < size end ⌝ }
-    requires { ⌜ r < size first ⌝ }
-    requires { ⌜ Rattle.layout.specs.Columns.at (columns (now store)) first l ≤ Rattle.layout.specs.Columns.at (columns (now store)) end l ⌝ }
-    requires { ⌜ Rattle.layout.specs.Columns.at (columns (now store)) end l ≤ 2048 ⌝ }
-    requires { ⌜ Rattle.layout.specs.Columns.at (columns (now store)) first r + span (columns (now store)) first end l ≤ 2048 ⌝ }
-    ensures { λ _. ⌜ mappingOf (now (mapping .exit)) ≡ withValues (mappingOf (now (mapping .entry))) (following (Rattle.layout.specs.Columns.at (columns (now (store .entry))) first l) (span (columns (now (store .entry))) first end l)) (following (Rattle.layout.specs.Columns.at (columns (now (store .entry))) first r) (span (columns (now (store .entry))) first end l)) ⌝ }
-{
-    let a = number(store, first, l);
-    let e = number(store, end, l);
-    let b = at(store, first, r);
-    map_values(mapping, a, b, e - a);
-}
 
 // Check that `lhs` and `rhs` have the same shape and map `lhs -> rhs`.
 pub fn op_eq_map(
@@ -59,8 +33,10 @@ pub fn op_eq_map(
     if !op_shells_eq(store, ignore, lhs, rhs) {
         return EqResult::FirstNEQOps(lhs as u32, rhs as u32, paired);
     }
+    let l = op_row(store, lhs);
+    let r = op_row(store, rhs);
     map_op(mapping, lhs, rhs as u32);
-    map_owned(store, mapping, OP_RESULT_FIRST, OP_RESULT_END, lhs, rhs);
+    map_values(mapping, l.value, r.value as u32, l.values);
     EqResult::Eq(paired + 1)
 }
 
@@ -82,14 +58,9 @@ pub fn block_eq_map(
     if !block_shells_eq(store, ignore, lhs, rhs) {
         return EqResult::FirstNEQBlocks(lhs as u32, rhs as u32, paired);
     }
+    let l = block_row(store, lhs);
+    let r = block_row(store, rhs);
     map_block(mapping, lhs, rhs as u32);
-    map_owned(
-        store,
-        mapping,
-        BLOCK_ARGUMENT_FIRST,
-        BLOCK_ARGUMENT_END,
-        lhs,
-        rhs,
-    );
+    map_values(mapping, l.value, r.value as u32, l.values);
     EqResult::Eq(paired + 1)
 }

@@ -10,16 +10,17 @@ use crate::types::Lists;
 use crate::types::NextOps;
 use crate::types::Place;
 use fragments::ignoring::Ignore;
-use layout::columns::OP_REGION_END;
+use fragments::rows::op_head;
 use layout::columns::OP_REGION_FIRST;
 use layout::columns::number;
 ghost use Prim.Native.Nat.{_<_, min};
 ghost use mathlib.Core.Path.{_≡_};
-ghost use Rattle.layout.specs.Columns.{columns, opRegionFirst, opRegionEnd};
+ghost use lib.ListN.{length};
+ghost use Rattle.rules.specs.Store.{regionsOf};
+ghost use Rattle.layout.specs.Columns.{columns};
 ghost use Rattle.layout.specs.Reading.{opCount, regionCount, storeIn};
 ghost use Rattle.layout.specs.Soundness.{IsSound};
 ghost use Rattle.fragments.specs.Ignoring.{ignoreOf};
-ghost use Rattle.equivalence.specs.Rows.{span};
 ghost use Rattle.equivalence.specs.Walked.{Ready, Told, Few, lent, regionWalk, opWalk, listsWalk};
 ghost use Rattle.equivalence.specs.Order.{Existing, past};
 
@@ -28,14 +29,14 @@ fn region_pairs(store: &[u32], lhs: usize, rhs: usize) -> usize
     requires { ⌜ IsSound (now store) ⌝ }
     requires { ⌜ lhs < opCount (columns (now store)) ⌝ }
     requires { ⌜ rhs < opCount (columns (now store)) ⌝ }
-    ensures { λ n. ⌜ n ≡ min (span (columns (now (store .entry))) opRegionFirst opRegionEnd lhs) (span (columns (now (store .entry))) opRegionFirst opRegionEnd rhs) ⌝ }
+    ensures { λ n. ⌜ n ≡ min (length (regionsOf (storeIn (now (store .entry))) lhs)) (length (regionsOf (storeIn (now (store .entry))) rhs)) ⌝ }
 {
-    let l = number(store, OP_REGION_END, lhs) - number(store, OP_REGION_FIRST, lhs);
-    let r = number(store, OP_REGION_END, rhs) - number(store, OP_REGION_FIRST, rhs);
-    if l < r {
-        return l;
+    let l = op_head(store, lhs);
+    let r = op_head(store, rhs);
+    if l.regions < r.regions {
+        return l.regions;
     }
-    r
+    r.regions
 }
 
 // The place past a pair of operations.

@@ -20,28 +20,10 @@ fn hash_of(input: &[u8]) -> u64
     word
 }
 
-// Writes a byte, a line feed as `\n`.
-fn show_byte(byte: u8) {
-    if byte == b'\n' {
-        io::write_all(1, b"\\n");
-    } else {
-        let one = [byte; 1];
-        io::write_all(1, &one);
-    }
-}
-
-fn show(input: &[u8]) {
-    let mut i = 0;
-    while i < input.len() {
-        show_byte(input[i]);
-        i += 1;
-    }
-}
-
-// The line of an input: how it was fed, and the hash.
-fn say(input: &[u8], how: &[u8], hash: u64, published: u64) {
+// The line of an input: its text, how it was fed, and the hash.
+fn say(text: &[u8], how: &[u8], hash: u64, published: u64) {
     io::write_all(1, b"\"");
-    show(input);
+    io::write_all(1, text);
     io::write_all(1, b"\"");
     io::write_all(1, how);
     io::write_all(1, b": ");
@@ -87,7 +69,8 @@ fn main() {
     vector(b"hi", 0x08ba5f07b55ec3da);
     vector(b"hello", 0xa430d84680aabd0b);
     vector(b"chongo was here!", 0x858e2fa32a55e61d);
-    vector(b"chongo was here!\n", 0x46810940eff5f915);
+    let chongo = hash_of(b"chongo was here!\n");
+    say(b"chongo was here!\\n", b"", chongo, 0x46810940eff5f915);
     vector(b"curds and whey", 0x23e520e2751bb46e);
     vector(b"127.0.0.1", 0xaabafe7104d914be);
     numbers();

@@ -7,17 +7,15 @@ use mathlib.Core.Path.{_≡_, sym, subst, _∙_}
 use borrow.Author.Tests.{leb-true}
 use lib.Dec.{leb}
 use Rattle.rules.specs.Lists.{allBelow}
-use Rattle.rules.specs.Store.{Attribute, Owner, ofOp, ofBlock, attributesHold}
+use Rattle.rules.specs.Store.{Attribute, ofOp, ofBlock, attributesHold}
 use Rattle.rules.proofs.Basics.Tests.{passed, all-at, and-left, and-right, allBelow-at}
 use Rattle.rules.proofs.Basics.Appended.{mem-getD}
 use Rattle.layout.specs.Columns.{Cols, columns, at, slotKind, opAttributes, blockAttributes}
 use Rattle.layout.specs.Reading.{opCount, blockCount, slotsOf, attributeAt, attributesFrom, opOf, blockOf}
 use Rattle.layout.specs.Soundness.{opRules, blockRules, rulesHold, IsSound}
-use Rattle.layout.specs.Owners.{countColumn, ownerNumber, keyCount}
 use Rattle.layout.proofs.Tabulate.{length-tabulate, getD-tabulate}
 use Rattle.layout.proofs.Buffer.{columns-shaped}
 use Rattle.layout.proofs.Rules.{rules-sound}
-use Rattle.layout.proofs.OwnerKeys.{ownerIn}
 use Rattle.fragments.specs.Ignoring.{Kinds}
 
 module _ (C : Cols) where
@@ -48,8 +46,3 @@ module _ (b : List ℕ) (s : IsSound b) where
       let all-ops = allBelow (opCount (columns b)) (opRules (columns b)) in
       let p : blockRules (columns b) n ≡ true = allBelow-at (blockCount (columns b)) (blockRules (columns b)) (and-right all-ops _ ruled) n l in
       kinds-of (columns b) _ _ (passed _ p .1 .1 .0)
-
-  pub owner-kinds : (w : Owner) → ownerIn (columns b) w → Kinds (columns b) (slotsOf w) (slotsOf w + keyCount (columns b) w)
-  unfolding keyCount countColumn ownerNumber
-  owner-kinds (ofOp n) l = op-kinds n l
-  owner-kinds (ofBlock m) l = block-kinds m l

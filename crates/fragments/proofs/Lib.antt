@@ -1,4 +1,4 @@
--- The sizes that the code tells are the rules', and so is what it leaves of attributes.
+-- The sizes that the code tells are the rules', and so is what it leaves of attributes; a list of blocks is gone through as the rules do.
 pub mod Counting
 pub mod Parts
 pub mod Most
@@ -6,3 +6,7 @@ pub mod Turns
 pub mod Told
 pub mod Kept
 pub mod KindsFit
+pub mod ByRows
+pub mod Ordered
+pub mod Below
+pub mod There

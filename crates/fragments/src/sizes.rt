@@ -4,7 +4,7 @@ use crate::types::Size;
 use layout::children::Found;
 use layout::children::next_block;
 use layout::children::next_op;
-use layout::columns::BLOCK_REGION;
+use layout::children::op_around;
 use layout::columns::OP_DEPTH;
 use layout::columns::OP_REGION_END;
 use layout::columns::OP_REGION_FIRST;
@@ -107,8 +107,7 @@ pub fn basic_block_size(store: &[u32], n: usize) -> Size
     requires { ⌜ n < blockCount (columns (now store)) ⌝ }
     ensures { λ r. ⌜ r ≡ sizeFrom (fragmentSize (storeIn (now (store .entry))) block n) ⌝ }
 {
-    let around = number(store, REGION_OP, number(store, BLOCK_REGION, n));
-    size_in_block(store, n, levels_left(store, around))
+    size_in_block(store, n, levels_left(store, op_around(store, n)))
 }
 
 // The size of a region, likewise.

@@ -1,12 +1,12 @@
 // A fragment by its sort and number.
-use crate::existing::block_exists;
-use crate::existing::op_exists;
-use crate::existing::region_exists;
 use crate::sizes::basic_block_size;
 use crate::sizes::operation_size;
 use crate::sizes::region_size;
 use crate::types::Size;
 use crate::types::Sort;
+use layout::existing::block_exists;
+use layout::existing::op_exists;
+use layout::existing::region_exists;
 ghost use mathlib.Core.Path.{_≡_};
 ghost use mathlib.Core.Bool.{true};
 ghost use lib.ListN.{length};

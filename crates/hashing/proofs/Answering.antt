@@ -1,26 +1,23 @@
 -- A hash that is refused by a test answers its cause, and one that is not answers the word that all steps of the fragment are fed into.
 -- Assumes nothing.
-use Prim.Native.Nat.{ℕ, _<_}
+use Prim.Native.Nat.{ℕ}
 use mathlib.Core.Bool.{Bool, true, false, true≢false, cond}
 use mathlib.Core.List.{List, [], _∷_, _++_}
 use mathlib.Core.Option.{Option, none, some}
 use mathlib.Core.Path.{_≡_, refl, sym, ap, subst, _∙_}
-use borrow.Author.Tests.{ltb-true}
-use Rattle.rules.specs.Store.{Store, ofOp, opExists, blockExists, regionExists, sound}
+use Rattle.rules.specs.Store.{Store, ofOp, sound}
 use Rattle.rules.specs.Fragments.{Sort, op, block, region, exists, Step, shell, steps}
 use Rattle.rules.specs.Building.{firstFailed}
 use Rattle.rules.specs.Shells.{Ignore}
 use Rattle.rules.specs.Hash.{noNumbers, hash}
 use Rattle.rules.specs.Answers.{shallow, hashTests, hashedBy, hashed}
-use Rattle.layout.specs.Columns.{columns}
-use Rattle.layout.specs.Reading.{opCount, blockCount, regionCount, storeIn}
+use Rattle.layout.specs.Reading.{storeIn}
 use Rattle.layout.specs.Soundness.{soundBuffer, IsSound}
 use Rattle.layout.proofs.Empty.{sound-of}
-use Rattle.layout.proofs.Tabulate.{ops-length, blocks-length, regions-length}
 use Rattle.hashing.specs.Walked.{Stands, Fed, Room, fullSteps, listedSteps, atStart}
-use Rattle.hashing.specs.Order.{listed}
+use Rattle.fragments.specs.Order.{listed}
 use Rattle.hashing.specs.Calls.{hashedOf, fragmentTests, Answered}
-use Rattle.hashing.specs.declared.types.Blocks.the-variants.{InRegion, Alone}
+use Rattle.fragments.specs.declared.types.Blocks.the-variants.{InRegion, Alone}
 use Rattle.hashing.specs.declared.types.Hashed.the-variants.{Hash, Refused}
 use Rattle.hashing.specs.declared.types.Hashing.{Hashing}
 use Rattle.hashing.proofs.Feeding.{room-start, fed-hash}
@@ -46,23 +43,9 @@ unfolding firstFailed
 first-passed true b i j h = refl
 first-passed false b i j h = let x : _≡_ {A = Bool} true false = cc in absurd (true≢false x)
 
-pub there : (s : Store) (f : Sort) (n : ℕ) → firstFailed (fragmentTests s f n) ≡ none → exists s f n ≡ true
+pub existing : (s : Store) (f : Sort) (n : ℕ) → firstFailed (fragmentTests s f n) ≡ none → exists s f n ≡ true
 unfolding fragmentTests
-there s f n h = first-passed (exists s f n) (shallow s f n) 2 12 h
-
--- as a number of the layout
-module _ (b : List ℕ) (n : ℕ) where
-  pub op-there : exists (storeIn b) op n ≡ true → n < opCount (columns b)
-  unfolding exists opExists
-  op-there e = subst (λ (k : ℕ). n < k) (ops-length (columns b)) (ltb-true _ _ e)
-
-  pub block-there : exists (storeIn b) block n ≡ true → n < blockCount (columns b)
-  unfolding exists blockExists
-  block-there e = subst (λ (k : ℕ). n < k) (blocks-length (columns b)) (ltb-true _ _ e)
-
-  pub region-there : exists (storeIn b) region n ≡ true → n < regionCount (columns b)
-  unfolding exists regionExists
-  region-there e = subst (λ (k : ℕ). n < k) (regions-length (columns b)) (ltb-true _ _ e)
+existing s f n h = first-passed (exists s f n) (shallow s f n) 2 12 h
 
 -- ---- the steps of a fragment, and the walk over them
 
@@ -78,15 +61,19 @@ pub region-steps : (s : Store) → sound s ≡ true → (n : ℕ) → steps s re
 unfolding steps
 region-steps s sd n = region-listed s sd n
 
-module _ (s : Store) (f : Sort) (n : ℕ) (xs : List Step) (e : steps s f n ≡ xs) {st : Hashing} (z : st ≡ atStart) where
-  pub begin-room : sound s ≡ true → exists s f n ≡ true → Room s xs st
-  begin-room sd h =
-      subst (λ (t : Hashing). Room s xs t) (sym z) (subst (λ (l : List Step). Room s l atStart) e (room-start s sd f n h))
+module _ (s : Store) (f : Sort) (n : ℕ) (xs : List Step) (e : steps s f n ≡ xs) {st : Hashing} where
+  pub steps-room : Room s (steps s f n) st → Room s xs st
+  steps-room r = subst (λ (l : List Step). Room s l st) e r
 
-  pub all-hash : (ig : Ignore) {numbers numbers′ : List ℕ} {st′ : Hashing} → Stands noNumbers numbers atStart → Fed s ig xs numbers numbers′ st st′ → st′ .word ≡ hash s ig f n
-  all-hash ig {numbers} {numbers′} {st′} h d =
-      fed-hash s ig f n h
-      (subst (λ (l : List Step). Fed s ig l numbers numbers′ atStart st′) (sym e) (subst (λ (t : Hashing). Fed s ig xs numbers numbers′ t st′) z d))
+  pub steps-fed : {ig : Ignore} {numbers numbers′ : List ℕ} {st′ : Hashing} → Fed s ig xs numbers numbers′ st st′ → Fed s ig (steps s f n) numbers numbers′ st st′
+  steps-fed {ig} {numbers} {numbers′} {st′} d = subst (λ (l : List Step). Fed s ig l numbers numbers′ st st′) (sym e) d
+
+module _ (s : Store) (f : Sort) (n : ℕ) {st : Hashing} (z : st ≡ atStart) where
+  pub begin-room : sound s ≡ true → exists s f n ≡ true → Room s (steps s f n) st
+  begin-room sd h = subst (λ (t : Hashing). Room s (steps s f n) t) (sym z) (room-start s sd f n h)
+
+  pub all-hash : (ig : Ignore) {numbers numbers′ : List ℕ} {st′ : Hashing} → Stands noNumbers numbers atStart → Fed s ig (steps s f n) numbers numbers′ st st′ → st′ .word ≡ hash s ig f n
+  all-hash ig {numbers} {numbers′} {st′} h d = fed-hash s ig f n h (subst (λ (t : Hashing). Fed s ig (steps s f n) numbers numbers′ t st′) z d)
 
 -- ---- answers
 

@@ -17,6 +17,7 @@ use Rattle.rules.specs.Lists.{position}
 use Rattle.rules.specs.Hash.{Numbering}
 use Rattle.rules.proofs.Form.Images.{position-some, position-kept, position-next, position-other}
 use Rattle.layout.specs.Reading.{tabulateFrom, following}
+use Rattle.fragments.proofs.ByRows.{following-length}
 use Rattle.hashing.specs.Words.{numbersLength, noNumber, numberOr, Words, withValues, withBlock, defineAt, NumbersValues, NumbersBlock}
 
 -- ---- one word
@@ -119,11 +120,6 @@ following-next : (a n : ℕ) → following a (suc n) ≡ following a n ++ (a + n
 unfolding following tabulateFrom
 following-next a zero = let e : a ≡ a + 0 = omega arith in ap (λ (k : ℕ). k ∷ []) e
 following-next a (suc n) = let e : suc a + n ≡ a + suc n = omega arith in ap (λ (l : List ℕ). a ∷ l) (following-next (suc a) n ∙ ap (λ (k : ℕ). following (suc a) n ++ k ∷ []) e)
-
-pub following-length : (a n : ℕ) → length (following a n) ≡ n
-unfolding following tabulateFrom
-following-length a zero = refl
-following-length a (suc n) = ap suc (following-length (suc a) n)
 
 -- none
 pub values-none : (ns : List ℕ) (id a : ℕ) → NumbersValues ns ns id (following a (a - a))

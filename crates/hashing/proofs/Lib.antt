@@ -12,7 +12,5 @@ mod Bytes
 mod Slots
 mod Reading
 mod Parting
-mod Ordered
-mod Below
 mod Rounds
 mod Answering

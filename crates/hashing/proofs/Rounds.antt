@@ -18,13 +18,13 @@ use Rattle.rules.proofs.Soundness.Sound.{facts}
 use Rattle.rules.proofs.Walking.EnoughSteps.{region-steps}
 use Rattle.layout.proofs.Ranges.{range, range-empty, range-first}
 use Rattle.hashing.specs.Walked.{Fed, Room, blockShells, opShells, fullSteps, listedSteps}
-use Rattle.hashing.specs.Order.{listed, opsFrom, past, First}
+use Rattle.fragments.specs.Order.{listed, opsFrom, past, First}
 use Rattle.hashing.specs.declared.types.Hashing.{Hashing}
-use Rattle.hashing.specs.declared.types.Blocks.{Blocks}
-use Rattle.hashing.specs.declared.types.Blocks.the-variants.{InRegion}
-use Rattle.hashing.specs.declared.types.Place.{Place}
+use Rattle.fragments.specs.declared.types.Blocks.{Blocks}
+use Rattle.fragments.specs.declared.types.Blocks.the-variants.{InRegion}
+use Rattle.fragments.specs.declared.types.Place.{Place}
 use Rattle.hashing.proofs.Feeding.{fed-then, room-first, room-rest}
-use Rattle.hashing.proofs.Ordered.{third-pass}
+use Rattle.fragments.proofs.Ordered.{third-pass}
 
 -- ---- what an operation names has a word
 

@@ -1,9 +1,8 @@
-// The hash of an operation, a region or a block on a sound store: a walk with no numbers given yet.
+// The hash of a fragment on a sound store: its steps are fed, with no numbers given yet.
 use crate::fnv::START;
 use crate::numbering::LENGTH;
 use crate::numbering::NONE;
 use crate::shells::hash_op_shell;
-use crate::types::Blocks;
 use crate::types::Hashed;
 use crate::types::Hashing;
 use crate::walk::hash_blocks_full;
@@ -11,17 +10,21 @@ use crate::walk::hash_op_full;
 use fragments::ignoring::Ignore;
 use fragments::sorts::exists;
 use fragments::sorts::is_shallow;
+use fragments::types::Blocks;
 use fragments::types::Sort;
 use layout::causes::Cause;
+ghost use mathlib.Core.Bool.{true};
 ghost use mathlib.Core.Path.{_≡_};
+ghost use Prim.Native.Nat.{_<_};
 ghost use Rattle.rules.specs.Building.{firstFailed};
-ghost use Rattle.layout.specs.Reading.{storeIn};
+ghost use Rattle.layout.specs.Reading.{opCount, storeIn};
 ghost use Rattle.layout.specs.Causes.{causeOf};
-ghost use Rattle.rules.specs.Fragments.{op, block, region};
+ghost use Rattle.rules.specs.Fragments.{op, steps};
+ghost use Rattle.layout.specs.Columns.{columns};
 ghost use Rattle.layout.specs.Soundness.{IsSound};
 ghost use Rattle.fragments.specs.Ignoring.{ignoreOf};
 ghost use Rattle.fragments.specs.Sorts.{sortOf};
-ghost use Rattle.hashing.specs.Walked.{atStart};
+ghost use Rattle.hashing.specs.Walked.{Ready, Fed, Room, atStart};
 ghost use Rattle.hashing.specs.Calls.{fragmentTests, Answered};
 
 // Why a fragment is not hashed: it does not exist, or an operation in it is nested too deep.
@@ -49,47 +52,48 @@ fn at_start() -> Hashing
     }
 }
 
-// Compute a structural hash for an operation.
-pub fn operation_hash(store: &[u32], n: u32, ignore: Ignore) -> Hashed
-    requires { ⌜ IsSound (now store) ⌝ }
-    ensures { λ q. ⌜ Answered (now (store .entry)) (ignoreOf ignore) op n q ⌝ }
+// An operation alone: its shell, then in full.
+fn hash_op(store: &[u32], numbers: &mut [u32], n: usize, ignore: Ignore, st: Hashing) -> Hashing
+    requires { ⌜ Ready (now store) (now numbers) ⌝ }
+    requires { ⌜ n < opCount (columns (now store)) ⌝ }
+    requires { ⌜ Room (storeIn (now store)) (steps (storeIn (now store)) op n) st ⌝ }
+    ensures { λ r. ⌜ Fed (storeIn (now (store .entry))) (ignoreOf ignore) (steps (storeIn (now (store .entry))) op n) (now (numbers .entry)) (now (numbers .exit)) st r ⌝ }
 {
-    let cause = hash_cause(store, Sort::Op, n);
-    if let Cause::Is(k) = cause {
-        return Hashed::Refused(k);
-    }
-    let mut numbers = [NONE; LENGTH];
-    let shell = hash_op_shell(store, &mut numbers, n as usize, ignore, at_start());
-    let full = hash_op_full(store, &mut numbers, n as usize, ignore, shell);
-    Hashed::Hash(full.word)
+    let shell = hash_op_shell(store, numbers, n, ignore, st);
+    hash_op_full(store, numbers, n, ignore, shell)
 }
 
-// Compute a structural hash for a region.
-pub fn region_hash(store: &[u32], n: u32, ignore: Ignore) -> Hashed
-    requires { ⌜ IsSound (now store) ⌝ }
-    ensures { λ q. ⌜ Answered (now (store .entry)) (ignoreOf ignore) region n q ⌝ }
+// A fragment by its sort; a block is a list of one.
+fn hash_steps(
+    store: &[u32],
+    numbers: &mut [u32],
+    sort: Sort,
+    n: usize,
+    ignore: Ignore,
+    st: Hashing,
+) -> Hashing
+    requires { ⌜ Ready (now store) (now numbers) ⌝ }
+    requires { ⌜ Rattle.rules.specs.Fragments.exists (storeIn (now store)) (sortOf sort) n ≡ true ⌝ }
+    requires { ⌜ Room (storeIn (now store)) (steps (storeIn (now store)) (sortOf sort) n) st ⌝ }
+    ensures { λ r. ⌜ Fed (storeIn (now (store .entry))) (ignoreOf ignore) (steps (storeIn (now (store .entry))) (sortOf sort) n) (now (numbers .entry)) (now (numbers .exit)) st r ⌝ }
 {
-    let cause = hash_cause(store, Sort::Region, n);
-    if let Cause::Is(k) = cause {
-        return Hashed::Refused(k);
+    match sort {
+        Sort::Op => hash_op(store, numbers, n, ignore, st),
+        Sort::Block => hash_blocks_full(store, numbers, Blocks::Alone(n), ignore, st),
+        Sort::Region => hash_blocks_full(store, numbers, Blocks::InRegion(n), ignore, st),
     }
-    let mut numbers = [NONE; LENGTH];
-    let blocks = Blocks::InRegion(n as usize);
-    let full = hash_blocks_full(store, &mut numbers, blocks, ignore, at_start());
-    Hashed::Hash(full.word)
 }
 
-// Compute a structural hash for a block, a list of one.
-pub fn basic_block_hash(store: &[u32], n: u32, ignore: Ignore) -> Hashed
+// Compute a structural hash for a fragment.
+pub fn fragment_hash(store: &[u32], sort: Sort, n: u32, ignore: Ignore) -> Hashed
     requires { ⌜ IsSound (now store) ⌝ }
-    ensures { λ q. ⌜ Answered (now (store .entry)) (ignoreOf ignore) block n q ⌝ }
+    ensures { λ q. ⌜ Answered (now (store .entry)) (ignoreOf ignore) (sortOf sort) n q ⌝ }
 {
-    let cause = hash_cause(store, Sort::Block, n);
+    let cause = hash_cause(store, sort, n);
     if let Cause::Is(k) = cause {
         return Hashed::Refused(k);
     }
     let mut numbers = [NONE; LENGTH];
-    let blocks = Blocks::Alone(n as usize);
-    let full = hash_blocks_full(store, &mut numbers, blocks, ignore, at_start());
-    Hashed::Hash(full.word)
+    let fed = hash_steps(store, &mut numbers, sort, n as usize, ignore, at_start());
+    Hashed::Hash(fed.word)
 }

@@ -1,10 +1,10 @@
 // The first two passes over a list of blocks: what they define is hashed by itself and numbered, before anything that they name is fed.
-use crate::order::next_in;
 use crate::shells::hash_block_shell;
 use crate::shells::hash_op_shell;
-use crate::types::Blocks;
 use crate::types::Hashing;
 use fragments::ignoring::Ignore;
+use fragments::order::next_in;
+use fragments::types::Blocks;
 use layout::children::Found;
 use layout::children::next_op;
 ghost use Prim.Native.Nat.{_<_};
@@ -13,7 +13,7 @@ ghost use Rattle.layout.specs.Columns.{columns};
 ghost use Rattle.layout.specs.Reading.{blockCount, storeIn};
 ghost use Rattle.fragments.specs.Ignoring.{ignoreOf};
 ghost use Rattle.hashing.specs.Walked.{Ready, blockShells, opShells, Fed, Room};
-ghost use Rattle.hashing.specs.Order.{listed, Existing};
+ghost use Rattle.fragments.specs.Order.{listed, Existing};
 
 // Pass 1: every block's shell.
 pub fn hash_block_shells(

@@ -2,19 +2,15 @@
 use crate::attributes::attributes_hash;
 use crate::numbering::define_block;
 use crate::numbering::define_values;
-use crate::rows::block_row;
-use crate::rows::op_row;
 use crate::state::with_head;
 use crate::state::with_leaf;
 use crate::types::Hashing;
-use crate::types::Row;
 use fragments::ignoring::Ignore;
-use layout::columns::OP_KIND;
-use layout::columns::OP_REGION_END;
-use layout::columns::OP_REGION_FIRST;
+use fragments::rows::block_row;
+use fragments::rows::op_head;
+use fragments::rows::op_row;
+use fragments::types::Row;
 use layout::columns::VALUE_TYPE;
-use layout::columns::at;
-use layout::columns::number;
 use layout::columns::words;
 ghost use mathlib.Core.List.{[], _∷_};
 ghost use mathlib.Core.Path.{_≡_};
@@ -29,7 +25,7 @@ ghost use Rattle.layout.specs.Columns.{bufferLength, columns};
 ghost use Rattle.layout.specs.Reading.{opCount, blockCount, storeIn};
 ghost use Rattle.layout.specs.Soundness.{IsSound};
 ghost use Rattle.fragments.specs.Ignoring.{ignoreOf};
-ghost use Rattle.hashing.specs.Rows.{Fits, rowShell};
+ghost use Rattle.fragments.specs.Rows.{Fits, rowShell};
 ghost use Rattle.hashing.specs.Walked.{Ready, Fed, Room};
 
 // A location, unless locations are ignored.
@@ -74,9 +70,8 @@ fn hash_head(store: &[u32], n: usize, word: u64) -> u64
     requires { ⌜ n < opCount (columns (now store)) ⌝ }
     ensures { λ r. ⌜ r ≡ fnvFrom word (headBytes (storeIn (now (store .entry))) (ofOp n)) ⌝ }
 {
-    let kind = at(store, OP_KIND, n);
-    let regions = number(store, OP_REGION_END, n) - number(store, OP_REGION_FIRST, n);
-    with_head(word, kind, regions as u64)
+    let head = op_head(store, n);
+    with_head(word, head.kind, head.regions as u64)
 }
 
 // Hash components of an operation that do not use or contain other things, and define its results.

@@ -2,15 +2,15 @@
 // an operation names is fed before everything beside it is numbered, and nothing in its regions is numbered before what it names is fed.
 use crate::numbering::hash_operands;
 use crate::numbering::hash_successors;
-use crate::order::next_op_in;
-use crate::order::past_op;
 use crate::passes::hash_block_shells;
 use crate::passes::hash_op_shells;
-use crate::types::Blocks;
 use crate::types::Hashing;
-use crate::types::NextOp;
-use crate::types::Place;
 use fragments::ignoring::Ignore;
+use fragments::order::next_op_in;
+use fragments::order::past_op;
+use fragments::types::Blocks;
+use fragments::types::NextOp;
+use fragments::types::Place;
 use layout::columns::OP_REGION_END;
 use layout::columns::OP_REGION_FIRST;
 use layout::columns::number;
@@ -23,7 +23,7 @@ ghost use Rattle.layout.specs.Columns.{columns};
 ghost use Rattle.layout.specs.Reading.{opCount, storeIn};
 ghost use Rattle.fragments.specs.Ignoring.{ignoreOf};
 ghost use Rattle.hashing.specs.Walked.{Ready, fullSteps, listedSteps, Fed, FedNames, Room};
-ghost use Rattle.hashing.specs.Order.{listed, Existing};
+ghost use Rattle.fragments.specs.Order.{listed, Existing};
 
 // What an operation names: its operands, then its successors.
 fn hash_names(store: &[u32], numbers: &[u32], n: usize, st: Hashing) -> Hashing

@@ -1,30 +1,26 @@
--- Demand 3 over the code. By its contract the buffer after a list of building calls reads as the rules' store after that list, and is
--- sound; by theirs, what a comparison and a hash answer on it are the rules' answers; and of those demand 3 is proved. Assumes nothing.
-use Prim.Native.Nat.{ℕ, zero, suc, _+_, _-_, _≤_}
-use native.Mathlib.Nat.{not-suc-le-zero, le-of-suc-le-suc}
-use native.Mathlib.Omega.{arith}
+-- Demand 3 over the code. By the contracts of the building calls the buffer after a list of them reads as the rules' store after that
+-- list, and is sound; by theirs, what a comparison and a hash answer on it is the rules' answer; and of those demand 3 is proved.
+-- Assumes nothing.
+use Prim.Native.Nat.{ℕ}
 use mathlib.Core.Bool.{Bool, true}
-use mathlib.Core.List.{List, [], _∷_}
-use mathlib.Core.Logic.{_↔_}
-use mathlib.Core.Path.{_≡_, refl, sym, ap, subst, _∙_}
-use lib.ListN.{take, drop, replicate}
-use Rattle.rules.specs.Store.{Store, sound}
-use Rattle.rules.specs.Fragments.{Sort, exists, Premise}
+use mathlib.Core.List.{List}
+use mathlib.Core.Path.{_≡_, sym, ap, subst, _∙_}
+use Rattle.rules.specs.Store.{sound}
+use Rattle.rules.specs.Fragments.{Sort}
 use Rattle.rules.specs.Shells.{Ignore}
-use Rattle.rules.specs.Mapping.{Mapping, noImage, emptyMapping}
-use Rattle.rules.specs.Answers.{Compared, Comparison, eq, neq, refused, comparison, hashIs, refusedHash, hashed}
+use Rattle.rules.specs.Mapping.{Mapping, emptyMapping}
+use Rattle.rules.specs.Answers.{Comparison, eq, comparison, hashIs, hashed}
 use Rattle.rules.specs.Hash.{hash}
 use Rattle.rules.specs.Laws.{Equal, In, Laws, LawsOfSound}
 use Rattle.rules.proofs.Walking.Answered.{equal-answered, hashed-is}
 use Rattle.rules.proofs.Laws.{laws-of-sound}
 use Rattle.layout.specs.Reading.{storeIn}
-use Rattle.layout.specs.Soundness.{soundBuffer, IsSound}
+use Rattle.layout.specs.Soundness.{soundBuffer}
 use Rattle.layout.proofs.Empty.{sound-facts}
 use Rattle.building.specs.Calls.{AfterCalls}
 use Rattle.building.proofs.Answering.{after-calls}
-use Rattle.equivalence.specs.Lent.{mappingLength, mappingOf, emptyWords}
+use Rattle.equivalence.specs.Lent.{mappingOf, emptyWords}
 use Rattle.equivalence.specs.Walked.{answerOf}
-use Rattle.equivalence.specs.Calls as comparisons
 use Rattle.equivalence.proofs.Unmapped.{empty-words}
 use Rattle.equivalence.specs.declared.types.EqResult.{EqResult}
 use Rattle.equivalence.specs.declared.types.EqResult.the-variants.{Eq, FirstNEQOps, FirstNEQRegions, FirstNEQBlocks, Refused}
@@ -78,7 +74,7 @@ module _ (b : List ℕ) (sd : soundBuffer b ≡ true) (ig : Ignore) (f : Sort) w
       hash-only h (hash (storeIn b) ig f x)
       (sym (subst (λ (t : Bool). hashed t (storeIn b) ig f x ≡ hashes.hashedOf h) sd (a .told)) ∙ hashed-is (storeIn b) ruled ig f x ix)
 
-  pub answers-obey : AnswersObey b ig f
+  answers-obey : AnswersObey b ig f
   answers-obey =
       record {
         reflexive = λ a ia q c. says a a ia ia q c (laws .reflexive a ia);

@@ -1,5 +1,5 @@
 -- The search for a child, word by word: what a word that was looked at leaves to search, and that the end of the search is the child list's first entry. Assumes nothing.
-use Prim.Native.Nat.{ℕ, zero, suc, _+_, _-_, _<_, _≤_}
+use Prim.Native.Nat.{ℕ, zero, suc, max, _+_, _-_, _<_, _≤_}
 use native.Mathlib.Decide.{ℕ-discrete}
 use native.Mathlib.Numerals.{add-one}
 use native.Mathlib.Omega.{arith}
@@ -57,23 +57,17 @@ module _ (C : Cols) (k w : ℕ) where
     scan-first : (a : ℕ) → n ≤ a → Passed a → firstFrom n xs ≡ firstWord C k w a (e - a)
     scan-first a l passed = scan-from (e - a) a l refl passed
 
--- ---- to search from n on, or from the range's begin on where that is later, is to look for the first child from n on
+-- ---- no child stands before the range, so to search from n on and from the range's begin on is to look for the first child from n on
 
 module _ (C : Cols) (h : Laid C) where
-  module _ (b : ℕ) (l : b < blockCount C) where
-    pub op-from : (n : ℕ) → firstFrom n (opsOf (storeOf C) b) ≡ firstWord C opParent (b + 1) n (at C blockOpEnd b - n)
-    op-from n = scan-first C opParent (b + 1) (at C blockOpEnd b) _ (ops-scan C h b l) n n (omega arith) (λ i p q. absurd (omega arith))
+  pub op-next : (b : ℕ) → b < blockCount C → (n : ℕ)
+      → firstFrom n (opsOf (storeOf C) b) ≡ firstWord C opParent (b + 1) (max n (at C blockOpFirst b)) (at C blockOpEnd b - max n (at C blockOpFirst b))
+  op-next b l n =
+      scan-first C opParent (b + 1) (at C blockOpEnd b) _ (ops-scan C h b l) n (max n (at C blockOpFirst b)) (omega arith)
+      (λ i p q f e. let t = h .block b l .ops in let s = ops-facts C h b (ops-mem C h b i (omega arith) (e ∙ add-one b)) .place in omega arith)
 
-    pub op-first : (n : ℕ) → n ≤ at C blockOpFirst b → firstFrom n (opsOf (storeOf C) b) ≡ firstWord C opParent (b + 1) (at C blockOpFirst b) (at C blockOpEnd b - at C blockOpFirst b)
-    op-first n m =
-        scan-first C opParent (b + 1) (at C blockOpEnd b) _ (ops-scan C h b l) n (at C blockOpFirst b) m
-        (λ i p q f e. let t = h .block b l .ops in let s = ops-facts C h b (ops-mem C h b i (omega arith) (e ∙ add-one b)) .place in omega arith)
-
-  module _ (r : ℕ) (l : r < regionCount C) where
-    pub block-from : (n : ℕ) → firstFrom n (blocksOf (storeOf C) r) ≡ firstWord C blockRegion r n (at C regionBlockEnd r - n)
-    block-from n = scan-first C blockRegion r (at C regionBlockEnd r) _ (blocks-scan C h r l) n n (omega arith) (λ i p q. absurd (omega arith))
-
-    pub block-first : (n : ℕ) → n ≤ at C regionBlockFirst r → firstFrom n (blocksOf (storeOf C) r) ≡ firstWord C blockRegion r (at C regionBlockFirst r) (at C regionBlockEnd r - at C regionBlockFirst r)
-    block-first n m =
-        scan-first C blockRegion r (at C regionBlockEnd r) _ (blocks-scan C h r l) n (at C regionBlockFirst r) m
-        (λ i p q f e. let t = h .region r l .blocks in let s = blocks-facts C h r (blocks-mem C h r i (omega arith) e) .place in omega arith)
+  pub block-next : (r : ℕ) → r < regionCount C → (n : ℕ)
+      → firstFrom n (blocksOf (storeOf C) r) ≡ firstWord C blockRegion r (max n (at C regionBlockFirst r)) (at C regionBlockEnd r - max n (at C regionBlockFirst r))
+  block-next r l n =
+      scan-first C blockRegion r (at C regionBlockEnd r) _ (blocks-scan C h r l) n (max n (at C regionBlockFirst r)) (omega arith)
+      (λ i p q f e. let t = h .region r l .blocks in let s = blocks-facts C h r (blocks-mem C h r i (omega arith) e) .place in omega arith)

@@ -9,7 +9,7 @@ use Rattle.rules.specs.Store.{ofOp, ofBlock, maxOps, maxBlocks, maxRegions, max
 use Rattle.rules.proofs.Basics.Tests.{and-left, and-right, and-both, passed, every-of, allBelow-at, allBelow-of}
 use Rattle.layout.specs.Columns.{Cols, size, at, opParent, opRegionFirst, opRegionEnd, opResultFirst, opResultEnd, opOperandFirst, opOperandEnd, opSuccessorFirst, opSuccessorEnd, opAttributes, regionOp, regionBlockFirst, regionBlockEnd, blockRegion, blockArgumentFirst, blockArgumentEnd, blockOpEnd, blockAttributes, valueOwner}
 use Rattle.layout.specs.Reading.{opCount, blockCount, regionCount, valueCount, operandCount, successorCount, attributeCount, parentFrom, ownerCode}
-use Rattle.layout.specs.Soundness.{ranged, within, owned, endBefore, tiled, placed, opLaid, blockLaid, regionLaid, valueLaid, attributeSum, countsHold, countsLaid, laidOut}
+use Rattle.layout.specs.Soundness.{ranged, within, owned, ownedWithin, endBefore, tiled, placed, regionsOwned, resultsOwned, listsTiled, opLaid, blockLaid, regionLaid, valueLaid, attributeSum, countsHold, countsLaid, laidOut}
 
 -- each column is as long as it should be
 abbrev pub Shaped : Cols → Type 0
@@ -86,13 +86,17 @@ pub within-of : (a e n : ℕ) → Within a e n → within a e n ≡ true
 unfolding within
 within-of a e n h = and-both _ _ (le-leb a n (h .from)) (lt-ltb n e (h .below))
 
-owned-facts : (C : Cols) (k a e n w : ℕ) → ranged a e n ≡ true → owned C k a e w ≡ true → Owned C k a e n w
-unfolding owned
-owned-facts C k a e n w r h = record { range = ranged-facts a e n r; words = λ i l. eqb-true _ w (allBelow-at (e - a) _ h i l) }
+owned-facts : (C : Cols) (k a e n w : ℕ) → ownedWithin C k a e n w ≡ true → Owned C k a e n w
+unfolding ownedWithin owned
+owned-facts C k a e n w h =
+    record {
+      range = ranged-facts a e n (and-left _ (owned C k a e w) h);
+      words = λ i l. eqb-true _ w (allBelow-at (e - a) _ (and-right (ranged a e n) _ h) i l);
+    }
 
-owned-of : (C : Cols) (k a e n w : ℕ) → Owned C k a e n w → owned C k a e w ≡ true
-unfolding owned
-owned-of C k a e n w h = allBelow-of (e - a) _ (λ i l. eq-eqb _ w (h .words i l))
+owned-of : (C : Cols) (k a e n w : ℕ) → Owned C k a e n w → ownedWithin C k a e n w ≡ true
+unfolding ownedWithin owned
+owned-of C k a e n w h = and-both _ _ (ranged-of a e n (h .range)) (allBelow-of (e - a) _ (λ i l. eq-eqb _ w (h .words i l)))
 
 tiled-facts : (C : Cols) (first end n total : ℕ) → tiled C first end n total ≡ true → Tiled C first end n total
 unfolding tiled
@@ -107,37 +111,23 @@ unfolding tiled
 tiled-of C first end n total h = and-both _ _ (eq-eqb _ _ (h .follows)) (ranged-of _ _ _ (h .range))
 
 pub op-facts : (C : Cols) (n : ℕ) → opLaid C n ≡ true → OpLaid C n
-unfolding opLaid
+unfolding opLaid regionsOwned resultsOwned listsTiled
 op-facts C n h =
     let p = passed _ h in
     record {
       place = p .0;
-      regions = owned-facts C _ _ _ _ _ (p .1 .0) (p .1 .1 .0);
-      results = owned-facts C _ _ _ _ _ (p .1 .1 .1 .0) (p .1 .1 .1 .1 .0);
-      operands = tiled-facts C _ _ _ _ (p .1 .1 .1 .1 .1 .0);
-      successors = tiled-facts C _ _ _ _ (p .1 .1 .1 .1 .1 .1 .0);
-      keys = leb-true _ _ (p .1 .1 .1 .1 .1 .1 .1 .0);
+      regions = owned-facts C _ _ _ _ _ (p .1 .0);
+      results = owned-facts C _ _ _ _ _ (p .1 .1 .0);
+      operands = tiled-facts C _ _ _ _ (and-left _ (tiled C opSuccessorFirst opSuccessorEnd n (successorCount C)) (p .1 .1 .1 .0));
+      successors = tiled-facts C _ _ _ _ (and-right (tiled C opOperandFirst opOperandEnd n (operandCount C)) _ (p .1 .1 .1 .0));
+      keys = leb-true _ _ (p .1 .1 .1 .1 .0);
     }
 
 pub op-of : (C : Cols) (n : ℕ) → OpLaid C n → opLaid C n ≡ true
-unfolding opLaid
+unfolding opLaid regionsOwned resultsOwned listsTiled
 op-of C n h =
-    every-of _ (
-      h .place,
-      (
-        ranged-of _ _ _ (h .regions .range),
-        (
-          owned-of C _ _ _ _ _ (h .regions),
-          (
-            ranged-of _ _ _ (h .results .range),
-            (
-              owned-of C _ _ _ _ _ (h .results),
-              (tiled-of C _ _ _ _ (h .operands), (tiled-of C _ _ _ _ (h .successors), (le-leb _ _ (h .keys), tt))),
-            ),
-          ),
-        ),
-      ),
-    )
+    let lists = and-both _ _ (tiled-of C _ _ _ _ (h .operands)) (tiled-of C _ _ _ _ (h .successors)) in
+    every-of _ (h .place, (owned-of C _ _ _ _ _ (h .regions), (owned-of C _ _ _ _ _ (h .results), (lists, (le-leb _ _ (h .keys), tt)))))
 
 pub block-facts : (C : Cols) (m : ℕ) → blockLaid C m ≡ true → BlockLaid C m
 unfolding blockLaid
@@ -146,27 +136,15 @@ block-facts C m h =
     record {
       regionIn = ltb-true _ _ (p .0);
       place = within-facts _ _ _ (p .1 .0);
-      arguments = owned-facts C _ _ _ _ _ (p .1 .1 .0) (p .1 .1 .1 .0);
-      ops = leb-true _ _ (p .1 .1 .1 .1 .0);
-      keys = leb-true _ _ (p .1 .1 .1 .1 .1 .0);
+      arguments = owned-facts C _ _ _ _ _ (p .1 .1 .0);
+      ops = leb-true _ _ (p .1 .1 .1 .0);
+      keys = leb-true _ _ (p .1 .1 .1 .1 .0);
     }
 
 pub block-of : (C : Cols) (m : ℕ) → BlockLaid C m → blockLaid C m ≡ true
 unfolding blockLaid
 block-of C m h =
-    every-of _ (
-      lt-ltb _ _ (h .regionIn),
-      (
-        within-of _ _ _ (h .place),
-        (
-          ranged-of _ _ _ (h .arguments .range),
-          (
-            owned-of C _ _ _ _ _ (h .arguments),
-            (le-leb _ _ (h .ops), (le-leb _ _ (h .keys), tt)),
-          ),
-        ),
-      ),
-    )
+    every-of _ (lt-ltb _ _ (h .regionIn), (within-of _ _ _ (h .place), (owned-of C _ _ _ _ _ (h .arguments), (le-leb _ _ (h .ops), (le-leb _ _ (h .keys), tt)))))
 
 pub region-facts : (C : Cols) (r : ℕ) → regionLaid C r ≡ true → RegionLaid C r
 unfolding regionLaid

@@ -11,15 +11,11 @@ use Rattle.rules.specs.Lists.{isSome}
 use Rattle.rules.specs.Store.{Store, parentOf, levelsLeft, maxNesting, nestingHolds, sound}
 use Rattle.rules.proofs.Basics.Tests.{passed, every-of}
 use Rattle.rules.proofs.Soundness.Sound.{facts}
-use Rattle.layout.specs.Columns.{Cols, at, opDepth, regionOp, blockRegion, blockOpFirst, blockOpEnd}
-use Rattle.layout.specs.Reading.{opCount, blockCount, regionCount, storeOf}
+use Rattle.layout.specs.Columns.{Cols, at, opDepth, blockRegion, blockOpFirst, blockOpEnd}
+use Rattle.layout.specs.Reading.{opCount, blockCount, regionCount, around, storeOf}
 use Rattle.layout.specs.Soundness.{placed}
 use Rattle.layout.proofs.Laid.{Laid, Within, within-facts, within-of}
 use Rattle.layout.proofs.Tabulate.{ops-length, parent-read, around-read}
-
--- the operation that a block's region belongs to
-abbrev pub around : Cols → ℕ → ℕ
-around C b = at C regionOp (at C blockRegion b)
 
 -- what `placed` says of an operation in block b
 pub record Placed (C : Cols) (n b : ℕ) : Type 0 where

@@ -2,15 +2,14 @@
 use Prim.Native.Nat.{ℕ, _+_, _<_, _≤_}
 use native.Mathlib.Omega.{arith}
 use mathlib.Core.Bool.{true}
-use mathlib.Core.Path.{_≡_, sym, ap, subst, _∙_}
-use borrow.Author.Tests.{ltb-true, lt-ltb}
-use lib.Dec.{ltb}
-use Rattle.rules.specs.Store.{Owner, ofOp, ofBlock, opExists, blockExists, ownerExists, maxOwnKeys}
+use mathlib.Core.Path.{_≡_, sym, subst, _∙_}
+use borrow.Author.Tests.{lt-ltb}
+use Rattle.rules.specs.Store.{Owner, ofOp, ofBlock, ownerExists, maxOwnKeys}
 use Rattle.layout.specs.Columns.{Cols, size}
 use Rattle.layout.specs.Reading.{opCount, blockCount, slotsOf, storeOf}
 use Rattle.layout.specs.Owners.{countColumn, ownerNumber, keyCount}
 use Rattle.layout.proofs.Laid.{Laid}
-use Rattle.layout.proofs.Tabulate.{ops-length, blocks-length}
+use Rattle.layout.proofs.Tabulate.{op-exists, block-exists, op-in, block-in}
 
 -- the owner is in the store
 abbrev pub ownerIn : Cols → Owner → Type 0
@@ -18,14 +17,14 @@ ownerIn C (ofOp n) = n < opCount C
 ownerIn C (ofBlock m) = m < blockCount C
 
 pub owner-in : (C : Cols) (w : Owner) → ownerExists (storeOf C) w ≡ true → ownerIn C w
-unfolding ownerExists opExists blockExists
-owner-in C (ofOp n) e = ltb-true n _ (sym (ap (ltb n) (ops-length C)) ∙ e)
-owner-in C (ofBlock m) e = ltb-true m _ (sym (ap (ltb m) (blocks-length C)) ∙ e)
+unfolding ownerExists
+owner-in C (ofOp n) e = op-in C n e
+owner-in C (ofBlock m) e = block-in C m e
 
 pub in-exists : (C : Cols) (w : Owner) → ownerIn C w → ownerExists (storeOf C) w ≡ true
-unfolding ownerExists opExists blockExists
-in-exists C (ofOp n) l = ap (ltb n) (ops-length C) ∙ lt-ltb n _ l
-in-exists C (ofBlock m) l = ap (ltb m) (blocks-length C) ∙ lt-ltb m _ l
+unfolding ownerExists
+in-exists C (ofOp n) l = op-exists C n ∙ lt-ltb n _ l
+in-exists C (ofBlock m) l = block-exists C m ∙ lt-ltb m _ l
 
 pub owner-keys : (C : Cols) (w : Owner) → Laid C → ownerIn C w → keyCount C w ≤ maxOwnKeys
 unfolding keyCount countColumn ownerNumber

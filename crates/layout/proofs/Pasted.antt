@@ -14,7 +14,7 @@ pub getD-behind : {A : Type 0} (xs ys : List A) (m n : ℕ) (d : A) → length x
 getD-behind xs ys m n d e = subst (λ (k : ℕ). getD (xs ++ ys) (k + n) d ≡ getD ys n d) e (getD-append-add xs ys n d)
 
 module _ (l : List ℕ) (n : ℕ) (vs : List ℕ) (fits : n + length vs ≤ length l) where
-  pasted-length : length (pasted l n vs) ≡ length l
+  pub pasted-length : length (pasted l n vs) ≡ length l
   pasted-length = simp (length-append, length-take, length-drop) (omega arith)
 
   head-length : length (take n l ++ vs) ≡ n + length vs

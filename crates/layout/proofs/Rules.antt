@@ -12,13 +12,13 @@ use Rattle.rules.specs.Lists.{every, all, allBelow}
 use Rattle.rules.specs.Store.{Op, Block, Value, Owner, ofOp, ofBlock, opExists, blockExists, regionExists, valueExists, ownerExists, parentExists, parentOf, opAfter, blockAfter, resultsOf, argumentsOf, attributesHold, maxOps, maxBlocks, maxRegions, maxValues, maxOperands, maxSuccessors, maxAttributes, maxOwnRegions, maxOwnValues, maxOwnOperands, maxOwnSuccessors, totalsHold, opHolds, blockHolds, sound}
 use Rattle.rules.proofs.Basics.Tests.{and-left, and-both}
 use Rattle.layout.specs.Columns.{Cols, at, regionOp}
-use Rattle.layout.specs.Reading.{tabulateFrom, tabulate, opCount, blockCount, regionCount, valueCount, opOf, blockOf, valueOf, storeOf}
+use Rattle.layout.specs.Reading.{tabulateFrom, tabulate, opCount, blockCount, regionCount, valueCount, around, opOf, blockOf, valueOf, storeOf}
 use Rattle.layout.specs.Soundness.{placed, inOwner, valueLaid, countsHold, opRules, blockRules, rulesHold, laidOut}
 use Rattle.layout.proofs.Laid.{Laid, Shaped, laid-facts, counts-of}
-use Rattle.layout.proofs.Tabulate.{ops-length, blocks-length, regions-length, values-length, op-read, block-read, parent-read, around-read}
+use Rattle.layout.proofs.Tabulate.{ops-length, blocks-length, regions-length, values-length, op-exists, block-exists, op-read, block-read, parent-read, around-read}
 use Rattle.layout.proofs.Scans.{below-cong}
 use Rattle.layout.proofs.Ranges.{length-range, regions-range, results-range, arguments-range}
-use Rattle.layout.proofs.Nesting.{placed-facts, nesting-at, around}
+use Rattle.layout.proofs.Nesting.{placed-facts, nesting-at}
 use Rattle.layout.proofs.Totals.{operands-length, successors-length, operand-total, successor-total, attribute-total}
 
 -- ---- tests
@@ -37,9 +37,9 @@ module _ {A : Type 0} (p : A → Bool) (f : ℕ → A) where
 
 module _ (C : Cols) where
   parent-in : (n : ℕ) (q : Option ℕ) → placed C n q ≡ true → parentExists (storeOf C) q ≡ true
-  unfolding parentExists blockExists
+  unfolding parentExists
   parent-in n none h = refl
-  parent-in n (some b) h = rw (blocks-length C) (lt-ltb b (blockCount C) (placed-facts C n b h .blockIn))
+  parent-in n (some b) h = block-exists C b ∙ lt-ltb b (blockCount C) (placed-facts C n b h .blockIn)
 
   parent-before : (n : ℕ) (q : Option ℕ) → placed C n q ≡ true → opAfter (storeOf C) n q ≡ true
   unfolding opAfter
@@ -48,10 +48,10 @@ module _ (C : Cols) where
       let p = placed-facts C n b h in
       rw (around-read C b (p .blockIn) (p .regionIn)) (lt-ltb (around C b) n (p .later))
 
-  owner-in : (v : ℕ) (w : Owner) → inOwner C v w ≡ true → ownerExists (storeOf C) w ≡ true
-  unfolding inOwner ownerExists opExists blockExists
-  owner-in v (ofOp n) h = rw (ops-length C) (and-left (ltb n (opCount C)) _ h)
-  owner-in v (ofBlock b) h = rw (blocks-length C) (and-left (ltb b (blockCount C)) _ h)
+  owner-named : (v : ℕ) (w : Owner) → inOwner C v w ≡ true → ownerExists (storeOf C) w ≡ true
+  unfolding inOwner ownerExists
+  owner-named v (ofOp n) h = op-exists C n ∙ and-left (ltb n (opCount C)) _ h
+  owner-named v (ofBlock b) h = block-exists C b ∙ and-left (ltb b (blockCount C)) _ h
 
 module _ (C : Cols) (shaped : Shaped C) (h : Laid C) where
   op-row : (n : ℕ) → n < opCount C → opHolds (storeOf C) n ≡ opRules C n
@@ -91,12 +91,12 @@ module _ (C : Cols) (shaped : Shaped C) (h : Laid C) where
       ∷ [])
 
   regions-in : all (opExists (storeOf C)) (storeOf C .regions) ≡ true
-  unfolding storeOf opExists
-  regions-in = all-tabulate _ (at C regionOp) (regionCount C) (λ r l. rw (ops-length C) (lt-ltb _ (opCount C) (h .region r l .opIn)))
+  unfolding storeOf
+  regions-in = all-tabulate _ (at C regionOp) (regionCount C) (λ r l. op-exists C _ ∙ lt-ltb _ (opCount C) (h .region r l .opIn))
 
   values-in : all (λ (v : Value). ownerExists (storeOf C) (v .owner)) (storeOf C .values) ≡ true
   unfolding storeOf valueOf valueLaid
-  values-in = all-tabulate _ (valueOf C) (valueCount C) (λ v l. owner-in C v _ (h .value v l))
+  values-in = all-tabulate _ (valueOf C) (valueCount C) (λ v l. owner-named C v _ (h .value v l))
 
   pub totals-counts : totalsHold (storeOf C) ≡ countsHold C
   unfolding totalsHold countsHold

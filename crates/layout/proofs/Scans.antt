@@ -11,7 +11,7 @@ use lib.Dec.{eqb}
 use lib.ListN.{length, getD, drop, length-drop}
 use lib.Seq.{length-take-le, getD-take, getD-drop, ext-getD}
 use Rattle.rules.specs.Lists.{every, all, allBelow, sameList}
-use Rattle.rules.proofs.Basics.Tests.{and-left, and-right, and-both, all-at, allBelow-at, allBelow-of, numbers-same}
+use Rattle.rules.proofs.Basics.Tests.{and-both, all-at, allBelow-at, allBelow-of, numbers-same}
 use Rattle.rules.proofs.Basics.Appended.{mem-getD}
 use Rattle.layout.specs.Columns.{Cols, at}
 use Rattle.layout.specs.Reading.{part}
@@ -89,15 +89,6 @@ failed {r = r} e h = sym e ∙ not-true r h
 
 pub held : {r t : Bool} → r ≡ t → not r ≡ false → t ≡ true
 held {r = r} e h = sym e ∙ not-false r h
-
--- the same, where two tests are answered as one
-pub stop-two : (s t : Bool) (ts : List Bool) → (s && t) ≡ false → every (s ∷ t ∷ ts) ≡ false
-unfolding every
-stop-two true t ts h = stop t ts h
-stop-two false t ts h = refl
-
-pub next-two : (s t : Bool) (ts : List Bool) {r : Bool} → (s && t) ≡ true → every ts ≡ r → every (s ∷ t ∷ ts) ≡ r
-next-two s t ts h e = next s (t ∷ ts) (and-left s t h) (next t ts (and-right s t h) e)
 
 -- one that fails is enough
 pub fails : (ts : List Bool) (i : ℕ) → getD ts i true ≡ false → every ts ≡ false

@@ -9,7 +9,7 @@ use mathlib.Core.Path.{_≡_, refl, sym, ap, _∙_}
 use borrow.Author.Tests.{le-leb, lt-leb}
 use lib.Dec.{eqb}
 use Rattle.rules.specs.Lists.{numbersFrom, numbersWhere}
-use Rattle.rules.specs.Store.{Store, Op, Block, noOp, noBlock, isParent, opsOf, blocksOf, regionsOf}
+use Rattle.rules.specs.Store.{Store, Op, Block, noOp, noBlock, isParent, opsOf, blocksOf}
 use Rattle.rules.proofs.Soundness.Children.{numbers-at}
 use Rattle.layout.specs.Children.{firstFrom, onFrom, foundFrom}
 use Rattle.layout.specs.declared.children.Found.{Found}
@@ -141,10 +141,6 @@ module _ (s : Store) where
   pub blocks-rise : (r : ℕ) → Rising (blocksOf s r)
   unfolding blocksOf numbersWhere
   blocks-rise r = numbers-rise (λ (o : Block). eqb (o .region) r) noBlock 0 (s .blocks)
-
-  pub regions-rise : (n : ℕ) → Rising (regionsOf s n)
-  unfolding regionsOf numbersWhere
-  regions-rise n = numbers-rise (λ (o : ℕ). eqb o n) 0 0 (s .regions)
 
 -- ---- a child that was found is the first of what is left from a number on
 

@@ -2,12 +2,15 @@
 use Prim.Native.Nat.{ℕ, zero, suc, _+_, _<_}
 use native.Mathlib.Nat.{add-zero, zero-add, add-suc, suc-add, not-suc-le-zero, le-of-suc-le-suc}
 use native.Mathlib.Omega.{arith}
-use mathlib.Core.List.{List, [], _∷_, _++_, append-nil, append-assoc}
+use mathlib.Core.Bool.{true}
+use mathlib.Core.List.{List, [], _∷_, _++_, map, append-nil, append-assoc}
 use mathlib.Core.Path.{_≡_, refl, sym, ap, ap₂, subst, _∙_}
+use borrow.Author.Tests.{ltb-true}
+use lib.Dec.{ltb}
 use lib.ListN.{length, getD}
-use Rattle.rules.specs.Store.{Op, Block, noOp, noBlock, noValue, opAt, blockAt, valueAt, parentOf, opAround}
+use Rattle.rules.specs.Store.{Op, Block, noOp, noBlock, noValue, opAt, blockAt, valueAt, parentOf, opAround, opExists, blockExists, regionExists, valueExists}
 use Rattle.layout.specs.Columns.{Cols, at, opParent, regionOp, blockRegion}
-use Rattle.layout.specs.Reading.{tabulateFrom, tabulate, opCount, blockCount, regionCount, valueCount, parentFrom, opOf, blockOf, valueOf, storeOf}
+use Rattle.layout.specs.Reading.{tabulateFrom, tabulate, opCount, blockCount, regionCount, valueCount, around, parentFrom, opOf, blockOf, valueOf, storeOf}
 
 module _ {A : Type 0} where
   pub length-from : (i n : ℕ) (f : ℕ → A) → length (tabulateFrom i n f) ≡ n
@@ -58,6 +61,11 @@ module _ {A : Type 0} where
       ∙ append-assoc (tabulate n f) (tabulate m (λ (i : ℕ). f (n + i))) (f (n + m) ∷ [])
       ∙ ap (λ (l : List A). tabulate n f ++ l) (sym (tabulate-suc m (λ (i : ℕ). f (n + i))))
 
+pub map-from : {A B : Type 0} (g : A → B) (f : ℕ → A) (i n : ℕ) → map g (tabulateFrom i n f) ≡ tabulateFrom i n (λ (k : ℕ). g (f k))
+unfolding tabulateFrom
+map-from g f i zero = refl
+map-from {B = B} g f i (suc n) = ap (λ (l : List B). g (f i) ∷ l) (map-from g f (suc i) n)
+
 -- ---- the store that the columns are read as
 
 module _ (C : Cols) where
@@ -76,6 +84,28 @@ module _ (C : Cols) where
   pub values-length : length (storeOf C .values) ≡ valueCount C
   unfolding storeOf
   values-length = length-tabulate (valueCount C) (valueOf C)
+
+  pub op-exists : (n : ℕ) → opExists (storeOf C) n ≡ ltb n (opCount C)
+  unfolding opExists
+  op-exists n = ap (ltb n) ops-length
+
+  pub block-exists : (n : ℕ) → blockExists (storeOf C) n ≡ ltb n (blockCount C)
+  unfolding blockExists
+  block-exists n = ap (ltb n) blocks-length
+
+  pub op-in : (n : ℕ) → opExists (storeOf C) n ≡ true → n < opCount C
+  op-in n e = ltb-true n _ (sym (op-exists n) ∙ e)
+
+  pub block-in : (n : ℕ) → blockExists (storeOf C) n ≡ true → n < blockCount C
+  block-in n e = ltb-true n _ (sym (block-exists n) ∙ e)
+
+  pub region-exists : (n : ℕ) → regionExists (storeOf C) n ≡ ltb n (regionCount C)
+  unfolding regionExists
+  region-exists n = ap (ltb n) regions-length
+
+  pub value-exists : (n : ℕ) → valueExists (storeOf C) n ≡ ltb n (valueCount C)
+  unfolding valueExists
+  value-exists n = ap (ltb n) values-length
 
   pub op-read : (n : ℕ) → n < opCount C → opAt (storeOf C) n ≡ opOf C n
   unfolding opAt storeOf
@@ -97,6 +127,6 @@ module _ (C : Cols) where
   unfolding parentOf opOf
   parent-read n h = ap (λ (o : Op). o .parent) (op-read n h)
 
-  pub around-read : (b : ℕ) → b < blockCount C → at C blockRegion b < regionCount C → opAround (storeOf C) b ≡ at C regionOp (at C blockRegion b)
+  pub around-read : (b : ℕ) → b < blockCount C → at C blockRegion b < regionCount C → opAround (storeOf C) b ≡ around C b
   unfolding opAround blockOf
   around-read b h l = ap (λ (o : Block). getD (storeOf C .regions) (o .region) 0) (block-read b h) ∙ region-read (at C blockRegion b) l

@@ -1,7 +1,7 @@
 -- The counts of operands, successors and attributes are the store's totals: the parts of a shared list stand one behind the other, so their lengths add up to where the last one ends. Assumes nothing.
 use Prim.Native.Nat.{ℕ, zero, suc, _+_, _-_, _<_}
 use native.Mathlib.Omega.{arith}
-use mathlib.Core.List.{List, _∷_, map}
+use mathlib.Core.List.{map}
 use mathlib.Core.Path.{_≡_, refl, ap, ap₂, _∙_}
 use lib.ListN.{length}
 use Rattle.rules.specs.Lists.{sum}
@@ -12,19 +12,14 @@ use Rattle.layout.specs.Soundness.{endBefore, attributeSum}
 use Rattle.layout.proofs.Laid.{Laid, Shaped, Tiled}
 use Rattle.layout.proofs.Scans.{part-length}
 use Rattle.layout.proofs.Sums.{sum-suc}
-use Rattle.layout.proofs.Tabulate.{length-tabulate, tabulate-cong}
+use Rattle.layout.proofs.Tabulate.{length-tabulate, tabulate-cong, map-from}
 
 -- ---- sums over a tabulated list
 
 module _ {A : Type 0} (g : A → ℕ) (f : ℕ → A) where
-  map-from : (i n : ℕ) → map g (tabulateFrom i n f) ≡ tabulateFrom i n (λ (k : ℕ). g (f k))
-  unfolding tabulateFrom
-  map-from i zero = refl
-  map-from i (suc n) = ap (λ (l : List ℕ). g (f i) ∷ l) (map-from (suc i) n)
-
   sum-same : (n : ℕ) (w : ℕ → ℕ) → ((k : ℕ) → k < n → g (f k) ≡ w k) → sum (map g (tabulate n f)) ≡ sum (tabulate n w)
   unfolding tabulate
-  sum-same n w same = ap sum (map-from 0 n ∙ tabulate-cong n (λ (k : ℕ). g (f k)) w same)
+  sum-same n w same = ap sum (map-from g f 0 n ∙ tabulate-cong n (λ (k : ℕ). g (f k)) w same)
 
 -- the lengths of the parts
 abbrev part-lengths : Cols → ℕ → ℕ → ℕ → ℕ

@@ -1,16 +1,16 @@
 -- The type of a value is read off its column, so the types of an owner's values, whose numbers are a range, stand there side by side.
 -- Assumes nothing.
-use Prim.Native.Nat.{ℕ, zero, suc, _+_, _-_, _<_, _≤_}
+use Prim.Native.Nat.{ℕ, _+_, _-_, _<_, _≤_}
 use native.Mathlib.Omega.{arith}
-use mathlib.Core.List.{List, _∷_, map}
-use mathlib.Core.Path.{_≡_, refl, sym, ap, subst, _∙_}
+use mathlib.Core.List.{map}
+use mathlib.Core.Path.{_≡_, sym, ap, subst, _∙_}
 use lib.ListN.{length}
 use lib.Seq.{ext-getD}
 use Rattle.rules.specs.Store.{typeOf}
 use Rattle.layout.specs.Columns.{Cols, at, valueType}
-use Rattle.layout.specs.Reading.{tabulateFrom, part, valueCount, valueOf, storeOf}
+use Rattle.layout.specs.Reading.{part, valueCount, valueOf, storeOf}
 use Rattle.layout.proofs.Laid.{Shaped, Laid}
-use Rattle.layout.proofs.Tabulate.{length-from, getD-from, value-read}
+use Rattle.layout.proofs.Tabulate.{length-from, getD-from, map-from, value-read}
 use Rattle.layout.proofs.Scans.{part-length, part-at}
 use Rattle.layout.proofs.Ranges.{range}
 
@@ -18,17 +18,12 @@ pub type-read : (C : Cols) (v : ℕ) → v < valueCount C → typeOf (storeOf C)
 unfolding typeOf valueOf
 type-read C v l = ap (λ x. x .type) (value-read C v l)
 
-map-from : (f : ℕ → ℕ) (a n : ℕ) → map f (tabulateFrom a n (λ (i : ℕ). i)) ≡ tabulateFrom a n f
-unfolding tabulateFrom
-map-from f a zero = refl
-map-from f a (suc n) = ap (λ (xs : List ℕ). f a ∷ xs) (map-from f (suc a) n)
-
 module _ (C : Cols) (shaped : Shaped C) (h : Laid C) where
   pub types-read : (a e : ℕ) → e ≤ valueCount C → map (typeOf (storeOf C)) (range a e) ≡ part (C valueType) a e
   unfolding range at
   types-read a e fits =
       let long : length (part (C valueType) a e) ≡ e - a = part-length (C valueType) a e (omega (arith, shaped valueType, h .counts .values)) in
-      map-from (typeOf (storeOf C)) a (e - a)
+      map-from (typeOf (storeOf C)) (λ (i : ℕ). i) a (e - a)
       ∙ ext-getD 0 _ _ (length-from a (e - a) (typeOf (storeOf C)) ∙ sym long)
       (λ i l.
       let b : i < e - a = subst (λ (k : ℕ). i < k) (length-from a (e - a) (typeOf (storeOf C))) l in

@@ -48,6 +48,10 @@ successorCount C = at C counts 5
 unfoldable pub attributeCount : Cols → ℕ
 attributeCount C = at C counts 6
 
+-- the operation that a block's region belongs to
+abbrev pub around : Cols → ℕ → ℕ
+around C b = at C regionOp (at C blockRegion b)
+
 -- ---- single words
 
 unfoldable pub parentFrom : ℕ → Option ℕ

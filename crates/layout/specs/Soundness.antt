@@ -1,15 +1,15 @@
 -- Which buffers are sound: of the right length, laid out, and sound by document 01's rules for what they are read as.
 use Prim.Native.Nat.{ℕ, zero, suc, _+_, _-_}
-use mathlib.Core.Bool.{Bool, true, _&&_}
+use mathlib.Core.Bool.{Bool, true, false, _&&_}
 use mathlib.Core.Option.{Option, none, some}
 use mathlib.Core.List.{List, [], _∷_}
 use mathlib.Core.Path.{_≡_}
 use lib.Dec.{eqb, leb, ltb}
-use lib.ListN.{length}
+use lib.ListN.{length, getD}
 use Rattle.rules.specs.Lists.{every, all, allBelow, sum}
 use Rattle.rules.specs.Store.{Owner, ofOp, ofBlock, sound, blockAfter, attributesHold, maxNesting, maxOps, maxBlocks, maxRegions, maxValues, maxOperands, maxSuccessors, maxAttributes, maxOwnKeys, maxOwnRegions, maxOwnValues, maxOwnOperands, maxOwnSuccessors}
 use Rattle.layout.specs.Columns.{Cols, at, columns, bufferLength, opParent, opDepth, opRegionFirst, opRegionEnd, opResultFirst, opResultEnd, opOperandFirst, opOperandEnd, opSuccessorFirst, opSuccessorEnd, opAttributes, regionOp, regionBlockFirst, regionBlockEnd, blockRegion, blockArgumentFirst, blockArgumentEnd, blockOpFirst, blockOpEnd, blockAttributes, valueOwner}
-use Rattle.layout.specs.Reading.{tabulate, opCount, blockCount, regionCount, valueCount, operandCount, successorCount, attributeCount, parentFrom, ownerFrom, ownerCode, opOf, blockOf, storeOf}
+use Rattle.layout.specs.Reading.{tabulate, opCount, blockCount, regionCount, valueCount, operandCount, successorCount, attributeCount, around, parentFrom, ownerFrom, ownerCode, opOf, blockOf, storeOf}
 
 -- ---- ranges
 
@@ -47,8 +47,8 @@ placed C n (some b) =
     every
     (ltb b (blockCount C)
     ∷ ltb (at C blockRegion b) (regionCount C)
-    ∷ ltb (at C regionOp (at C blockRegion b)) n
-    ∷ eqb (at C opDepth n) (at C opDepth (at C regionOp (at C blockRegion b)) + 1)
+    ∷ ltb (around C b) n
+    ∷ eqb (at C opDepth n) (at C opDepth (around C b) + 1)
     ∷ within (at C blockOpFirst b) (at C blockOpEnd b) n
     ∷ [])
 
@@ -67,12 +67,9 @@ unfoldable pub opLaid : Cols → ℕ → Bool
 opLaid C n =
     every
     (placed C n (parentFrom (at C opParent n))
-    ∷ ranged (at C opRegionFirst n) (at C opRegionEnd n) (regionCount C)
-    ∷ owned C regionOp (at C opRegionFirst n) (at C opRegionEnd n) n
-    ∷ ranged (at C opResultFirst n) (at C opResultEnd n) (valueCount C)
-    ∷ owned C valueOwner (at C opResultFirst n) (at C opResultEnd n) (ownerCode (ofOp n))
-    ∷ tiled C opOperandFirst opOperandEnd n (operandCount C)
-    ∷ tiled C opSuccessorFirst opSuccessorEnd n (successorCount C)
+    ∷ regionsOwned C n
+    ∷ resultsOwned C n
+    ∷ listsTiled C n
     ∷ leb (at C opAttributes n) maxOwnKeys
     ∷ [])
 
@@ -81,8 +78,7 @@ blockLaid C m =
     every
     (ltb (at C blockRegion m) (regionCount C)
     ∷ within (at C regionBlockFirst (at C blockRegion m)) (at C regionBlockEnd (at C blockRegion m)) m
-    ∷ ranged (at C blockArgumentFirst m) (at C blockArgumentEnd m) (valueCount C)
-    ∷ owned C valueOwner (at C blockArgumentFirst m) (at C blockArgumentEnd m) (ownerCode (ofBlock m))
+    ∷ ownedWithin C valueOwner (at C blockArgumentFirst m) (at C blockArgumentEnd m) (valueCount C) (ownerCode (ofBlock m))
     ∷ leb (at C blockOpEnd m) (opCount C)
     ∷ leb (at C blockAttributes m) maxOwnKeys
     ∷ [])
@@ -102,6 +98,10 @@ inOwner C v (ofBlock b) = ltb b (blockCount C) && within (at C blockArgumentFirs
 
 unfoldable pub valueLaid : Cols → ℕ → Bool
 valueLaid C v = inOwner C v (ownerFrom (at C valueOwner v))
+
+-- row i of a table; the tables go by their words of the counts: operations, blocks, regions, values
+unfoldable pub rowLaid : Cols → ℕ → ℕ → Bool
+rowLaid C table i = getD (opLaid C i ∷ blockLaid C i ∷ regionLaid C i ∷ valueLaid C i ∷ []) table false
 
 -- ---- counts
 
@@ -147,7 +147,7 @@ opRules C n =
 unfoldable pub blockRules : Cols → ℕ → Bool
 blockRules C m =
     every
-    (blockAfter m (parentFrom (at C opParent (at C regionOp (at C blockRegion m))))
+    (blockAfter m (parentFrom (at C opParent (around C m)))
     ∷ leb (at C blockArgumentEnd m - at C blockArgumentFirst m) maxOwnValues
     ∷ attributesHold (blockOf C m .attributes)
     ∷ [])

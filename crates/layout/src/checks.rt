@@ -23,9 +23,9 @@ ghost use Prim.Native.Nat.{_<_, _≤_, _+_};
 ghost use lib.Dec.{leb};
 ghost use lib.ListN.{length};
 ghost use Rattle.rules.specs.Lists.{allBelow, sum};
-ghost use Rattle.layout.specs.Columns.{bufferLength, size, columns, at};
-ghost use Rattle.layout.specs.Reading.{tabulate, opCount, blockCount, regionCount, valueCount};
-ghost use Rattle.layout.specs.Soundness.{Counted, opLaid, blockLaid, regionLaid, valueLaid, attributeSum, countsHold, countsLaid, laidOut};
+ghost use Rattle.layout.specs.Columns.{bufferLength, size, counts, columns, at};
+ghost use Rattle.layout.specs.Reading.{tabulate, opCount, blockCount};
+ghost use Rattle.layout.specs.Soundness.{Counted, opLaid, blockLaid, rowLaid, attributeSum, countsHold, countsLaid, laidOut};
 
 // The counts are within the totals.
 fn counts_hold(store: &[u32]) -> bool
@@ -53,63 +53,31 @@ fn counts_hold(store: &[u32]) -> bool
     number(store, COUNTS, ATTRIBUTES) <= 1024
 }
 
-// Each operation's row is laid out.
-fn ops_laid(store: &[u32]) -> bool
+// Row i of a table is laid out. The tables go by their words of the counts.
+fn row_laid(store: &[u32], table: usize, i: usize) -> bool
     requires { ⌜ Counted (now store) ⌝ }
-    ensures { λ r. ⌜ r ≡ allBelow (opCount (columns (now (store .entry)))) (opLaid (columns (now (store .entry)))) ⌝ }
+    requires { ⌜ table < 4 ⌝ }
+    requires { ⌜ i < at (columns (now store)) counts table ⌝ }
+    ensures { λ r. ⌜ r ≡ rowLaid (columns (now (store .entry))) table i ⌝ }
 {
-    let count = number(store, COUNTS, OPS);
-    let mut i = 0;
-    while i < count {
-        if !op_laid(store, i) {
-            return false;
-        }
-        i += 1;
+    match table {
+        OPS => op_laid(store, i),
+        BLOCKS => block_laid(store, i),
+        REGIONS => region_laid(store, i),
+        _ => value_laid(store, i),
     }
-    true
 }
 
-// Each block's row is laid out.
-fn blocks_laid(store: &[u32]) -> bool
+// Each row of a table is laid out.
+fn rows_laid(store: &[u32], table: usize) -> bool
     requires { ⌜ Counted (now store) ⌝ }
-    ensures { λ r. ⌜ r ≡ allBelow (blockCount (columns (now (store .entry)))) (blockLaid (columns (now (store .entry)))) ⌝ }
+    requires { ⌜ table < 4 ⌝ }
+    ensures { λ r. ⌜ r ≡ allBelow (at (columns (now (store .entry))) counts table) (rowLaid (columns (now (store .entry))) table) ⌝ }
 {
-    let count = number(store, COUNTS, BLOCKS);
+    let count = number(store, COUNTS, table);
     let mut i = 0;
     while i < count {
-        if !block_laid(store, i) {
-            return false;
-        }
-        i += 1;
-    }
-    true
-}
-
-// Each region's row is laid out.
-fn regions_laid(store: &[u32]) -> bool
-    requires { ⌜ Counted (now store) ⌝ }
-    ensures { λ r. ⌜ r ≡ allBelow (regionCount (columns (now (store .entry)))) (regionLaid (columns (now (store .entry)))) ⌝ }
-{
-    let count = number(store, COUNTS, REGIONS);
-    let mut i = 0;
-    while i < count {
-        if !region_laid(store, i) {
-            return false;
-        }
-        i += 1;
-    }
-    true
-}
-
-// Each value lies in its owner's range.
-fn values_laid(store: &[u32]) -> bool
-    requires { ⌜ Counted (now store) ⌝ }
-    ensures { λ r. ⌜ r ≡ allBelow (valueCount (columns (now (store .entry)))) (valueLaid (columns (now (store .entry)))) ⌝ }
-{
-    let count = number(store, COUNTS, VALUES);
-    let mut i = 0;
-    while i < count {
-        if !value_laid(store, i) {
+        if !row_laid(store, table, i) {
             return false;
         }
         i += 1;
@@ -171,16 +139,16 @@ pub fn laid_out(store: &[u32]) -> bool
     if !counts_hold(store) {
         return false;
     }
-    if !ops_laid(store) {
+    if !rows_laid(store, OPS) {
         return false;
     }
-    if !blocks_laid(store) {
+    if !rows_laid(store, BLOCKS) {
         return false;
     }
-    if !regions_laid(store) {
+    if !rows_laid(store, REGIONS) {
         return false;
     }
-    if !values_laid(store) {
+    if !rows_laid(store, VALUES) {
         return false;
     }
     counts_laid(store)

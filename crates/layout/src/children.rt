@@ -1,19 +1,20 @@
-// The children of a block and of a region: the first, and the next from a number on.
+// The children of a block and of a region, the next from a number on; and the operation around a block.
 use crate::columns::BLOCK_OP_END;
 use crate::columns::BLOCK_OP_FIRST;
 use crate::columns::BLOCK_REGION;
 use crate::columns::OP_PARENT;
 use crate::columns::REGION_BLOCK_END;
 use crate::columns::REGION_BLOCK_FIRST;
+use crate::columns::REGION_OP;
 use crate::columns::at;
 use crate::columns::number;
 ghost use mathlib.Core.Path.{_≡_};
 ghost use mathlib.Core.List.{[], _∷_};
-ghost use Prim.Native.Nat.{_-_, _<_, _≤_};
+ghost use Prim.Native.Nat.{max, _-_, _<_, _≤_};
 ghost use lib.ListN.{length};
 ghost use Rattle.rules.specs.Store.{opsOf, blocksOf};
 ghost use Rattle.layout.specs.Columns.{bufferLength, size, columns};
-ghost use Rattle.layout.specs.Reading.{blockCount, regionCount, storeIn};
+ghost use Rattle.layout.specs.Reading.{blockCount, regionCount, around, storeIn};
 ghost use Rattle.layout.specs.Soundness.{Arranged};
 ghost use Rattle.layout.specs.Children.{firstFrom, firstWord, foundFrom};
 
@@ -40,28 +41,25 @@ fn first_at(store: &[u32], column: usize, w: u32, a: usize, e: usize) -> Found
     Found::Nothing
 }
 
+// The larger of two numbers.
+fn larger(a: usize, b: usize) -> usize
+    ensures { λ r. ⌜ r ≡ max a b ⌝ }
+{
+    if a < b {
+        return b;
+    }
+    a
+}
+
 // The first operation of a block, from a number on.
 pub fn next_op(store: &[u32], block: usize, from: usize) -> Found
     requires { ⌜ Arranged (now store) ⌝ }
     requires { ⌜ block < blockCount (columns (now store)) ⌝ }
     ensures { λ r. ⌜ r ≡ foundFrom (firstFrom from (opsOf (storeIn (now (store .entry))) block)) ⌝ }
 {
-    let w = block as u32 + 1;
-    let first = number(store, BLOCK_OP_FIRST, block);
+    let start = larger(from, number(store, BLOCK_OP_FIRST, block));
     let end = number(store, BLOCK_OP_END, block);
-    if from < first {
-        return first_at(store, OP_PARENT, w, first, end);
-    }
-    first_at(store, OP_PARENT, w, from, end)
-}
-
-// The first operation of a block.
-pub fn first_op(store: &[u32], block: usize) -> Found
-    requires { ⌜ Arranged (now store) ⌝ }
-    requires { ⌜ block < blockCount (columns (now store)) ⌝ }
-    ensures { λ r. ⌜ r ≡ foundFrom (firstFrom 0 (opsOf (storeIn (now (store .entry))) block)) ⌝ }
-{
-    next_op(store, block, 0)
+    first_at(store, OP_PARENT, block as u32 + 1, start, end)
 }
 
 // The first block of a region, from a number on.
@@ -70,22 +68,18 @@ pub fn next_block(store: &[u32], region: usize, from: usize) -> Found
     requires { ⌜ region < regionCount (columns (now store)) ⌝ }
     ensures { λ r. ⌜ r ≡ foundFrom (firstFrom from (blocksOf (storeIn (now (store .entry))) region)) ⌝ }
 {
-    let w = region as u32;
-    let first = number(store, REGION_BLOCK_FIRST, region);
+    let start = larger(from, number(store, REGION_BLOCK_FIRST, region));
     let end = number(store, REGION_BLOCK_END, region);
-    if from < first {
-        return first_at(store, BLOCK_REGION, w, first, end);
-    }
-    first_at(store, BLOCK_REGION, w, from, end)
+    first_at(store, BLOCK_REGION, region as u32, start, end)
 }
 
-// The first block of a region.
-pub fn first_block(store: &[u32], region: usize) -> Found
+// The operation around a block.
+pub fn op_around(store: &[u32], block: usize) -> usize
     requires { ⌜ Arranged (now store) ⌝ }
-    requires { ⌜ region < regionCount (columns (now store)) ⌝ }
-    ensures { λ r. ⌜ r ≡ foundFrom (firstFrom 0 (blocksOf (storeIn (now (store .entry))) region)) ⌝ }
+    requires { ⌜ block < blockCount (columns (now store)) ⌝ }
+    ensures { λ r. ⌜ r ≡ around (columns (now (store .entry))) block ⌝ }
 {
-    next_block(store, region, 0)
+    number(store, REGION_OP, number(store, BLOCK_REGION, block))
 }
 
 // The first of a list of one, from a number on.

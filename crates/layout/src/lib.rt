@@ -3,6 +3,7 @@ pub mod causes;
 pub mod checks;
 pub mod children;
 pub mod columns;
+pub mod existing;
 pub mod lists;
 pub mod owners;
 pub mod parts;

@@ -1,11 +1,14 @@
-// The owner of attributes: its slots, and how many keys it has.
+// The owner of attributes: whether it exists, its slots, and how many keys it has.
 use crate::columns::BLOCK_ATTRIBUTES;
 use crate::columns::OP_ATTRIBUTES;
 use crate::columns::number;
+use crate::existing::block_exists;
+use crate::existing::op_exists;
 ghost use mathlib.Core.Path.{_≡_};
 ghost use mathlib.Core.Bool.{true};
+ghost use lib.ListN.{length};
 ghost use Rattle.rules.specs.Store.{ownerExists};
-ghost use Rattle.layout.specs.Columns.{columns};
+ghost use Rattle.layout.specs.Columns.{bufferLength, columns};
 ghost use Rattle.layout.specs.Reading.{slotsOf, storeIn};
 ghost use Rattle.layout.specs.Soundness.{IsSound};
 ghost use Rattle.layout.specs.Owners.{ownerOf, countColumn, ownerNumber, keyCount};
@@ -14,6 +17,16 @@ ghost use Rattle.layout.specs.Owners.{ownerOf, countColumn, ownerNumber,
 pub enum Owner {
     Op(u32),
     Block(u32),
+}
+
+pub fn owner_exists(store: &[u32], owner: Owner) -> bool
+    requires { ⌜ length (now store) ≡ bufferLength ⌝ }
+    ensures { λ r. ⌜ r ≡ ownerExists (storeIn (now (store .entry))) (ownerOf owner) ⌝ }
+{
+    match owner {
+        Owner::Op(n) => op_exists(store, n),
+        Owner::Block(b) => block_exists(store, b),
+    }
 }
 
 // The column of attribute counts that the owner's stands in.

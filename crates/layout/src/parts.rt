@@ -5,8 +5,7 @@ use crate::columns::OP_SUCCESSOR_END;
 use crate::columns::OP_SUCCESSOR_FIRST;
 use crate::columns::OPERAND_WORDS;
 use crate::columns::SUCCESSOR_WORDS;
-use crate::columns::number;
-use crate::columns::words;
+use crate::rows::row_words;
 ghost use mathlib.Core.Path.{_≡_};
 ghost use Prim.Native.Nat.{_<_};
 ghost use Rattle.rules.specs.Store.{opAt};
@@ -20,9 +19,7 @@ pub fn operands_of(store: &[u32], n: usize) -> &[u32]
     requires { ⌜ n < opCount (columns (now store)) ⌝ }
     ensures { λ r. ⌜ now r ≡ opAt (storeIn (now (store .entry))) n .operands ⌝ }
 {
-    let a = number(store, OP_OPERAND_FIRST, n);
-    let e = number(store, OP_OPERAND_END, n);
-    words(store, OPERAND_WORDS, a, e)
+    row_words(store, OP_OPERAND_FIRST, OP_OPERAND_END, n, OPERAND_WORDS)
 }
 
 // The successors of an operation.
@@ -31,7 +28,11 @@ pub fn successors_of(store: &[u32], n: usize) -> &[u32]
     requires { ⌜ n < opCount (columns (now store)) ⌝ }
     ensures { λ r. ⌜ now r ≡ opAt (storeIn (now (store .entry))) n .successors ⌝ }
 {
-    let a = number(store, OP_SUCCESSOR_FIRST, n);
-    let e = number(store, OP_SUCCESSOR_END, n);
-    words(store, SUCCESSOR_WORDS, a, e)
+    row_words(
+        store,
+        OP_SUCCESSOR_FIRST,
+        OP_SUCCESSOR_END,
+        n,
+        SUCCESSOR_WORDS,
+    )
 }

@@ -27,6 +27,7 @@ use crate::columns::REGIONS;
 use crate::columns::SUCCESSORS;
 use crate::columns::VALUE_OWNER;
 use crate::columns::VALUES;
+use crate::columns::at;
 use crate::columns::number;
 use crate::rows::holds;
 use crate::rows::is_tiled;
@@ -34,20 +35,9 @@ use crate::rows::owns;
 ghost use mathlib.Core.Path.{_≡_};
 ghost use mathlib.Core.Option.{some};
 ghost use Prim.Native.Nat.{_<_, _+_};
-ghost use lib.Dec.{eqb};
 ghost use Rattle.layout.specs.Columns.{columns, at, opParent};
 ghost use Rattle.layout.specs.Reading.{parentFrom};
 ghost use Rattle.layout.specs.Soundness.{Counted, placed, regionsOwned, resultsOwned, listsTiled, opLaid, blockLaid, regionLaid, valueLaid};
-
-// The depth is one more than the one around it.
-fn one_deeper(depth: usize, outer: usize) -> bool
-    ensures { λ r. ⌜ r ≡ eqb depth (outer + 1) ⌝ }
-{
-    if depth <= outer {
-        return false;
-    }
-    depth - outer == 1
-}
 
 // Operation n stands in block b, which stands in an operation before it, one region deeper, and in the block's range.
 fn placed_in(store: &[u32], n: usize, b: usize) -> bool
@@ -66,8 +56,8 @@ fn placed_in(store: &[u32], n: usize, b: usize) -> bool
     if around >= n {
         return false;
     }
-    let depth = number(store, OP_DEPTH, n);
-    if !one_deeper(depth, number(store, OP_DEPTH, around)) {
+    let outer = at(store, OP_DEPTH, around) as usize;
+    if number(store, OP_DEPTH, n) != outer + 1 {
         return false;
     }
     holds(store, BLOCK_OP_FIRST, BLOCK_OP_END, b, n)

@@ -3,9 +3,11 @@ use crate::columns::number;
 use crate::columns::words;
 use crate::lists::all_are;
 ghost use mathlib.Core.Path.{_≡_};
-ghost use Prim.Native.Nat.{_<_, _≤_};
+ghost use Prim.Native.Nat.{_-_, _<_, _≤_};
+ghost use lib.Dec.{leb};
 ghost use lib.ListN.{length};
 ghost use Rattle.layout.specs.Columns.{bufferLength, size, columns, at};
+ghost use Rattle.layout.specs.Reading.{part};
 ghost use Rattle.layout.specs.Soundness.{tiled, owned, ownedWithin};
 
 // The range begins no later than it ends, and ends within so many.
@@ -49,6 +51,41 @@ pub fn holds(store: &[u32], first: usize, end: usize, row: usize, n: usize) -> b
     ensures { λ r. ⌜ r ≡ Rattle.layout.specs.Soundness.within (at (columns (now (store .entry))) first row) (at (columns (now (store .entry))) end row) n ⌝ }
 {
     within(number(store, first, row), number(store, end, row), n)
+}
+
+// The range of a row has at most so many entries.
+pub fn at_most(store: &[u32], first: usize, end: usize, row: usize, most: usize) -> bool
+    requires { ⌜ length (now store) ≡ bufferLength ⌝ }
+    requires { ⌜ first < 32 ⌝ }
+    requires { ⌜ end < 32 ⌝ }
+    requires { ⌜ row < size first ⌝ }
+    requires { ⌜ row < size end ⌝ }
+    requires { ⌜ at (columns (now store)) first row ≤ at (columns (now store)) end row ⌝ }
+    ensures { λ r. ⌜ r ≡ leb (at (columns (now (store .entry))) end row - at (columns (now (store .entry))) first row) most ⌝ }
+{
+    let a = number(store, first, row);
+    let e = number(store, end, row);
+    e - a <= most
+}
+
+// The words of a column in the range of a row.
+pub fn row_words(store: &[u32], first: usize, end: usize, row: usize, column: usize) -> &[u32]
+    requires { ⌜ length (now store) ≡ bufferLength ⌝ }
+    requires { ⌜ first < 32 ⌝ }
+    requires { ⌜ end < 32 ⌝ }
+    requires { ⌜ column < 32 ⌝ }
+    requires { ⌜ row < size first ⌝ }
+    requires { ⌜ row < size end ⌝ }
+    requires { ⌜ at (columns (now store)) first row ≤ at (columns (now store)) end row ⌝ }
+    requires { ⌜ at (columns (now store)) end row ≤ size column ⌝ }
+    ensures { λ r. ⌜ now r ≡ part (columns (now (store .entry)) column) (at (columns (now (store .entry))) first row) (at (columns (now (store .entry))) end row) ⌝ }
+{
+    words(
+        store,
+        column,
+        number(store, first, row),
+        number(store, end, row),
+    )
 }
 
 // The range of a row ends within so many, and each word of a column in it is w.

@@ -1,8 +1,8 @@
 // Document 01's rules of a store, row by row, over a buffer that is laid out.
+use crate::children::op_around;
 use crate::columns::BLOCK_ARGUMENT_END;
 use crate::columns::BLOCK_ARGUMENT_FIRST;
 use crate::columns::BLOCK_ATTRIBUTES;
-use crate::columns::BLOCK_REGION;
 use crate::columns::BLOCKS;
 use crate::columns::COUNTS;
 use crate::columns::OP_ATTRIBUTES;
@@ -17,7 +17,6 @@ use crate::columns::OP_RESULT_FIRST;
 use crate::columns::OP_SUCCESSOR_END;
 use crate::columns::OP_SUCCESSOR_FIRST;
 use crate::columns::OPS;
-use crate::columns::REGION_OP;
 use crate::columns::SLOT_KEY;
 use crate::columns::SLOT_KIND;
 use crate::columns::VALUES;
@@ -29,14 +28,15 @@ use crate::owners::Owner;
 use crate::owners::first_slot;
 use crate::parts::operands_of;
 use crate::parts::successors_of;
+use crate::rows::at_most;
 ghost use mathlib.Core.Path.{_≡_};
 ghost use Prim.Native.Nat.{_+_, _-_, _<_, _≤_};
 ghost use lib.Dec.{leb, ltb};
 ghost use lib.ListN.{length};
 ghost use Rattle.rules.specs.Lists.{all, allBelow};
 ghost use Rattle.rules.specs.Store.{keysRise, attributesHold, maxAttributeKind, blockAfter, sound};
-ghost use Rattle.layout.specs.Columns.{bufferLength, size, columns, opParent, regionOp, blockRegion};
-ghost use Rattle.layout.specs.Reading.{attributesFrom, opCount, blockCount, valueCount, parentFrom, opOf, storeIn};
+ghost use Rattle.layout.specs.Columns.{bufferLength, columns, opParent};
+ghost use Rattle.layout.specs.Reading.{attributesFrom, opCount, blockCount, valueCount, around, parentFrom, opOf, storeIn};
 ghost use Rattle.layout.specs.Soundness.{Arranged, opRules, blockRules};
 
 // The keys of so many slots rise.
@@ -78,21 +78,6 @@ fn attributes_hold(store: &[u32], first: usize, count: usize) -> bool
         return false;
     }
     kinds_fit(store, first, count)
-}
-
-// A row's range has at most so many entries.
-fn at_most(store: &[u32], first: usize, end: usize, n: usize, most: usize) -> bool
-    requires { ⌜ length (now store) ≡ bufferLength ⌝ }
-    requires { ⌜ first < 32 ⌝ }
-    requires { ⌜ end < 32 ⌝ }
-    requires { ⌜ n < size first ⌝ }
-    requires { ⌜ n < size end ⌝ }
-    requires { ⌜ Rattle.layout.specs.Columns.at (columns (now store)) first n ≤ Rattle.layout.specs.Columns.at (columns (now store)) end n ⌝ }
-    ensures { λ r. ⌜ r ≡ leb (Rattle.layout.specs.Columns.at (columns (now (store .entry))) end n - Rattle.layout.specs.Columns.at (columns (now (store .entry))) first n) most ⌝ }
-{
-    let a = number(store, first, n);
-    let e = number(store, end, n);
-    e - a <= most
 }
 
 // An operation's operands are values of the store.
@@ -150,11 +135,9 @@ fn op_rules(store: &[u32], n: usize) -> bool
 fn block_after(store: &[u32], m: usize) -> bool
     requires { ⌜ Arranged (now store) ⌝ }
     requires { ⌜ m < blockCount (columns (now store)) ⌝ }
-    ensures { λ r. ⌜ r ≡ blockAfter m (parentFrom (Rattle.layout.specs.Columns.at (columns (now (store .entry))) opParent (Rattle.layout.specs.Columns.at (columns (now (store .entry))) regionOp (Rattle.layout.specs.Columns.at (columns (now (store .entry))) blockRegion m)))) ⌝ }
+    ensures { λ r. ⌜ r ≡ blockAfter m (parentFrom (Rattle.layout.specs.Columns.at (columns (now (store .entry))) opParent (around (columns (now (store .entry))) m))) ⌝ }
 {
-    let region = number(store, BLOCK_REGION, m);
-    let around = number(store, REGION_OP, region);
-    number(store, OP_PARENT, around) <= m
+    number(store, OP_PARENT, op_around(store, m)) <= m
 }
 
 // A block keeps the rules.

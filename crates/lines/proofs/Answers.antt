@@ -12,7 +12,7 @@ use lib.ListN.{length, getD, set, take, length-set}
 use lib.Seq.{take-suc-set}
 use Rattle.rules.specs.Lists.{sameList}
 use Rattle.rules.specs.Bytes.{isText, numberBelow}
-use Rattle.rules.specs.Lines.{andThen, giving, field, number, numbers, items, parentMeaning, parentBlock}
+use Rattle.rules.specs.Lines.{Reader, andThen, giving, field, number, numbers, items, parentMeaning, parentBlock}
 use Rattle.layout.specs.Reading.{part}
 use Rattle.layout.proofs.Scans.{and-false, part-length}
 use Rattle.lines.specs.Reading.{Answer, fieldsLeft, FieldEnd, oneByte, blockMeaning, readOf, itemsOf, On, ReadOn, ReadNumber, Fit, ReadItems}
@@ -22,6 +22,11 @@ use Rattle.lines.specs.declared.reading.Items.{Items}
 use Rattle.lines.specs.declared.reading.Items.the-variants.{At as ItemsAt, Bad as NoItems}
 use Rattle.lines.proofs.Cutting.{part-none, part-first}
 use Rattle.lines.proofs.Fields.{left-within, left-past}
+
+-- ---- an answer that is known, by what it tells
+
+pub told : {A B : Type 0} (f : A → B) {r v : A} {q : B} → f r ≡ q → r ≡ v → q ≡ f v
+told f e h = sym e ∙ ap f h
 
 -- ---- one field
 
@@ -72,15 +77,19 @@ byte-field ([] ∷ fs) gs b h = never (b, gs) h
 byte-field ((x ∷ []) ∷ fs) gs b h = ap (λ (p : ℕ × List (List ℕ)). (p .0 ∷ []) ∷ p .1) (taken (x, fs) (b, gs) h)
 byte-field ((x ∷ y ∷ xs) ∷ fs) gs b h = never (b, gs) h
 
-pub this-byte : (fs gs : List (List ℕ)) (b : ℕ) → field oneByte fs ≡ some (b, gs) → (n : ℕ) → b ≡ n → fs ≡ (n ∷ []) ∷ gs
+this-byte : (fs gs : List (List ℕ)) (b : ℕ) → field oneByte fs ≡ some (b, gs) → (n : ℕ) → b ≡ n → fs ≡ (n ∷ []) ∷ gs
 this-byte fs gs b h n e = byte-field fs gs b h ∙ ap (λ (m : ℕ). (m ∷ []) ∷ gs) e
+
+-- what a reader makes of it
+pub by-byte : {A : Type 0} (r : Reader A) (fs gs : List (List ℕ)) (b : ℕ) → field oneByte fs ≡ some (b, gs) → (n : ℕ) → b ≡ n → r fs ≡ r ((n ∷ []) ∷ gs)
+by-byte r fs gs b h n e = ap r (this-byte fs gs b h n e)
 
 -- ---- numbers
 
 module _ {line : List ℕ} {at : ℕ} {r : Read} (got : ReadNumber line at r) where
   pub read-number : (n p : ℕ) → r ≡ At n p → number (fieldsLeft line at) ≡ some (n, fieldsLeft line p)
   unfolding readOf
-  read-number n p e = sym (got .same) ∙ ap (readOf line) e
+  read-number n p e = told (readOf line) (got .same) e
 
   pub read-on : (n p : ℕ) → r ≡ At n p → On line at p
   unfolding ReadOn
@@ -88,7 +97,7 @@ module _ {line : List ℕ} {at : ℕ} {r : Read} (got : ReadNumber line at r) wh
 
   pub read-nothing : r ≡ Bad → number (fieldsLeft line at) ≡ none
   unfolding readOf
-  read-nothing e = sym (got .same) ∙ ap (readOf line) e
+  read-nothing e = told (readOf line) (got .same) e
 
 -- ---- parents
 
@@ -115,7 +124,7 @@ block-bad fs h = sym (block-meaning fs ∙ ap asBlock h)
 module _ (gs : List (List ℕ)) (b : ℕ) (fs : List (List ℕ)) (h : field oneByte fs ≡ some (b, gs)) where
   pub dash : b ≡ 45 → some (none, gs) ≡ parentBlock fs
   unfolding field parentBlock parentMeaning isText sameList
-  dash e = sym (ap parentBlock (this-byte fs gs b h 45 e))
+  dash e = sym (by-byte parentBlock fs gs b h 45 e)
 
   pub other-byte : (b ≡ 45 → ⊥) → field blockMeaning fs ≡ parentBlock fs
   unfolding field blockMeaning parentBlock parentMeaning isText sameList
@@ -170,7 +179,7 @@ items-some fs gs n h = ap (λ q. andThen q numbers) h
 module _ {line list : List ℕ} {at : ℕ} {r : Items} (got : ReadItems line at list r) where
   pub read-items : (n p : ℕ) → r ≡ ItemsAt n p → items (fieldsLeft line at) ≡ some (take n list, fieldsLeft line p)
   unfolding itemsOf
-  read-items n p e = sym (got .same) ∙ ap (itemsOf line list) e
+  read-items n p e = told (itemsOf line list) (got .same) e
 
   pub items-fit : (n p : ℕ) → r ≡ ItemsAt n p → n ≤ length list
   unfolding Fit
@@ -178,7 +187,7 @@ module _ {line list : List ℕ} {at : ℕ} {r : Items} (got : ReadItems line at 
 
   pub items-nothing : r ≡ NoItems → items (fieldsLeft line at) ≡ none
   unfolding itemsOf
-  items-nothing e = sym (got .same) ∙ ap (itemsOf line list) e
+  items-nothing e = told (itemsOf line list) (got .same) e
 
 -- so many items are in the list, and those that are left follow from a position on
 pub record Filling (line before : List ℕ) (count first : ℕ) (list : List ℕ) (p i : ℕ) : Type 0 where

@@ -10,9 +10,9 @@ use lib.Dec.{eqb}
 use lib.ListN.{length, getD, take, drop, length-drop, take-append-drop}
 use lib.Seq.{take-all, take-suc, drop-cons, drop-drop, getD-drop}
 use Rattle.rules.specs.Lists.{all}
-use Rattle.rules.specs.Bytes.{Pieces, cutAt}
+use Rattle.rules.specs.Bytes.{cutAt}
 use Rattle.rules.proofs.Basics.Appended.{all-append}
-use Rattle.rules.proofs.Listings.Cut.{Without, inFront, cut-first, cut-none}
+use Rattle.rules.proofs.Listings.Cut.{Without, cut-first, cut-none}
 use Rattle.layout.specs.Reading.{part}
 use Rattle.lines.specs.Pieces.{piecesFrom, PieceEnd}
 

@@ -6,13 +6,14 @@ use mathlib.Core.Bool.{Bool, true, false, cond}
 use mathlib.Core.List.{List, [], _∷_, _++_, append-assoc, append-nil}
 use mathlib.Core.Path.{_≡_, refl, sym, ap, ap₂, subst, _∙_}
 use lib.Dec.{ltb}
-use lib.ListN.{length, set, take, drop, length-append, length-take, length-drop, take-append-drop}
+use lib.ListN.{length, set, take, drop, length-append}
 use lib.Seq.{append-snoc}
 use borrow.Author.Tests.{lt-ltb, le-ltb}
 use Rattle.rules.specs.Bytes.{digit, lastDigits, digitCount, decimal}
 use Rattle.layout.specs.Columns.{pasted}
+use Rattle.layout.proofs.Pasted.{pasted-length}
 use Rattle.lines.specs.Wrote.{Wrote}
-use Rattle.lines.proofs.Joined.{within}
+use Rattle.lines.proofs.Joined.{pasted-none, within}
 
 pub digits-length : (b k n : ℕ) → length (lastDigits b k n) ≡ k
 unfolding lastDigits
@@ -36,14 +37,6 @@ pasted-before l ys n d h =
     ∙ set-before l (ys ++ drop (suc n + length ys) l) n d h
     ∙ ap (λ (k : ℕ). take n l ++ d ∷ (ys ++ drop k l)) e
     ∙ sym (append-assoc (take n l) (d ∷ ys) (drop (n + length (d ∷ ys)) l))
-
-pasted-none : (l : List ℕ) (n : ℕ) → l ≡ pasted l n []
-pasted-none l n =
-    sym (take-append-drop n l)
-    ∙ ap₂ (λ (xs : List ℕ) (k : ℕ). xs ++ drop k l) (sym (append-nil (take n l))) (sym (add-zero n))
-
-pasted-length : (l : List ℕ) (n : ℕ) (vs : List ℕ) → n + length vs ≤ length l → length (pasted l n vs) ≡ length l
-pasted-length l n vs fits = simp (length-append, length-take, length-drop) (omega arith)
 
 -- so many digits are left to write, of `rest`; the others stand in their places
 pub record Filling (l : List ℕ) (at b count n : ℕ) (out : List ℕ) (rest left : ℕ) : Type 0 where

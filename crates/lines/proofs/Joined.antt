@@ -1,9 +1,10 @@
 -- Bytes written one piece behind the other are written as one piece: what stands before and behind them is what was there. Assumes nothing.
 use Prim.Native.Nat.{ℕ, suc, _+_, _≤_, _<_}
+use native.Mathlib.Nat.{add-zero}
 use native.Mathlib.Omega.{arith}
-use mathlib.Core.List.{List, [], _∷_, _++_, append-assoc}
+use mathlib.Core.List.{List, [], _∷_, _++_, append-assoc, append-nil}
 use mathlib.Core.Path.{_≡_, refl, sym, ap, ap₂, subst, _∙_}
-use lib.ListN.{length, set, take, drop, length-append}
+use lib.ListN.{length, set, take, drop, length-append, take-append-drop}
 use lib.Seq.{take-at, drop-append-add, drop-drop, length-take-le, set-split, append-snoc}
 use Rattle.layout.specs.Columns.{pasted}
 use Rattle.lines.specs.Wrote.{Wrote}
@@ -53,6 +54,15 @@ pub within : {m n at r : ℕ} {before after bytes : List ℕ} → Wrote m before
 within {m} {n} {at} {r} {before} {after} {bytes} w h =
     let a : length bytes ≤ m = w .short in
     record { written = w .written; behind = w .behind; short = omega arith }
+
+-- nothing: every byte is as it was
+pub pasted-none : (l : List ℕ) (n : ℕ) → l ≡ pasted l n []
+pasted-none l n =
+    sym (take-append-drop n l)
+    ∙ ap₂ (λ (xs : List ℕ) (k : ℕ). xs ++ drop k l) (sym (append-nil (take n l))) (sym (add-zero n))
+
+pub nothing : (most : ℕ) (l : List ℕ) (at : ℕ) → Wrote most l l at [] at
+nothing most l at = record { written = pasted-none l at; behind = sym (add-zero at); short = omega arith }
 
 -- one byte
 pub set-one : (l : List ℕ) (at b : ℕ) → at < length l → set l at b ≡ pasted l at (b ∷ [])

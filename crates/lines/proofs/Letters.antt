@@ -14,7 +14,7 @@ use Rattle.rules.specs.Bytes.{isText}
 use Rattle.rules.specs.Lines.{Line, Reader, andThen, fieldsOf, field, oneOf, operationLine, blockLine, attributeLine, operandLine, queryLine, letter, wholly, parse}
 use Rattle.layout.proofs.Scans.{and-false}
 use Rattle.lines.specs.Reading.{Answer, fieldsLeft, oneByte}
-use Rattle.lines.proofs.Answers.{never, byte-field, this-byte}
+use Rattle.lines.proofs.Answers.{never, byte-field, by-byte}
 use Rattle.lines.proofs.Fields.{left-within}
 
 -- ---- words of one letter
@@ -80,28 +80,8 @@ module _ (line : List ℕ) where
   no-letter h = by-letter none (no-word letters (fieldsLeft line 0) h)
 
   module _ (gs : List (List ℕ)) (b : ℕ) (h : field oneByte (fieldsLeft line 0) ≡ some (b, gs)) where
-    abbrev this : (n : ℕ) → b ≡ n → letter (fieldsLeft line 0) ≡ letter ((n ∷ []) ∷ gs)
-    this n e = ap letter (this-byte (fieldsLeft line 0) gs b h n e)
-
-    pub operation-letter : b ≡ 111 → parse line ≡ wholly (operationLine gs)
-    unfolding letter field oneOf isText sameList
-    operation-letter e = by-letter (some (operationLine, gs)) (this 111 e)
-
-    pub block-letter : b ≡ 98 → parse line ≡ wholly (blockLine gs)
-    unfolding letter field oneOf isText sameList
-    block-letter e = by-letter (some (blockLine, gs)) (this 98 e)
-
-    pub attribute-letter : b ≡ 97 → parse line ≡ wholly (attributeLine gs)
-    unfolding letter field oneOf isText sameList
-    attribute-letter e = by-letter (some (attributeLine, gs)) (this 97 e)
-
-    pub operand-letter : b ≡ 115 → parse line ≡ wholly (operandLine gs)
-    unfolding letter field oneOf isText sameList
-    operand-letter e = by-letter (some (operandLine, gs)) (this 115 e)
-
-    pub query-letter : b ≡ 113 → parse line ≡ wholly (queryLine gs)
-    unfolding letter field oneOf isText sameList
-    query-letter e = by-letter (some (queryLine, gs)) (this 113 e)
+    pub letter-is : (n : ℕ) (r : Reader Line) → letter ((n ∷ []) ∷ gs) ≡ some (r, gs) → b ≡ n → parse line ≡ wholly (r gs)
+    letter-is n r q e = by-letter (some (r, gs)) (by-byte letter (fieldsLeft line 0) gs b h n e ∙ q)
 
     pub other-letter : (b ≡ 111 → ⊥) → (b ≡ 98 → ⊥) → (b ≡ 97 → ⊥) → (b ≡ 115 → ⊥) → (b ≡ 113 → ⊥) → parse line ≡ none
     unfolding letter wholly

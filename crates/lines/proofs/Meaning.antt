@@ -9,16 +9,14 @@ use mathlib.Core.Path.{_≡_, refl, sym, ap, _∙_}
 use borrow.Author.Tests.{ne-eqb}
 use lib.Dec.{eqb}
 use lib.ListN.{getD}
-use Rattle.rules.specs.Lists.{sameList}
 use Rattle.rules.specs.Store.{Owner, ofOp, ofBlock}
 use Rattle.rules.specs.Fragments.{Sort, op, block, region}
 use Rattle.rules.specs.Building.{newBlock, setAttribute, setOperand}
-use Rattle.rules.specs.Bytes.{isText}
 use Rattle.rules.specs.Lines.{Line, Reader, building, query, andThen, giving, _>>=_, field, oneOf, number, numbers, items, ignoreBits, yesOrNo, owner, sort, operationLine, blockLine, attributeLine, operandLine, queryLine, allRead, wholly}
 use Rattle.rules.proofs.Basics.Tests.{clash}
 use Rattle.lines.specs.Reading.{Answer, nothingLeft, oneByte}
 use Rattle.lines.specs.Parsing.{OpHead, OpLists, ownerNumber, operationHead, operationLists, operationOf}
-use Rattle.lines.proofs.Answers.{byte-field, this-byte}
+use Rattle.lines.proofs.Answers.{byte-field}
 use Rattle.lines.proofs.Letters.{words, other-word, no-word}
 
 -- ---- readers, one after the other
@@ -86,29 +84,9 @@ module _ (fs : List (List ℕ)) where
   no-owner h = no-word owners fs h
 
   module _ (gs : List (List ℕ)) (b : ℕ) (h : field oneByte fs ≡ some (b, gs)) where
-    pub sort-op : b ≡ 111 → some (op, gs) ≡ sort fs
-    unfolding sort field oneOf isText sameList
-    sort-op e = sym (ap sort (this-byte fs gs b h 111 e))
-
-    pub sort-block : b ≡ 98 → some (block, gs) ≡ sort fs
-    unfolding sort field oneOf isText sameList
-    sort-block e = sym (ap sort (this-byte fs gs b h 98 e))
-
-    pub sort-region : b ≡ 114 → some (region, gs) ≡ sort fs
-    unfolding sort field oneOf isText sameList
-    sort-region e = sym (ap sort (this-byte fs gs b h 114 e))
-
     pub other-sort : (b ≡ 111 → ⊥) → (b ≡ 98 → ⊥) → (b ≡ 114 → ⊥) → none ≡ sort fs
     unfolding sort
     other-sort n₁ n₂ n₃ = sym (other-word sorts fs gs b h (n₁, (n₂, (n₃, tt))))
-
-    pub owner-op : b ≡ 111 → owner fs ≡ some (ofOp, gs)
-    unfolding owner field oneOf isText sameList
-    owner-op e = ap owner (this-byte fs gs b h 111 e)
-
-    pub owner-block : b ≡ 98 → owner fs ≡ some (ofBlock, gs)
-    unfolding owner field oneOf isText sameList
-    owner-block e = ap owner (this-byte fs gs b h 98 e)
 
     pub other-owner : (b ≡ 111 → ⊥) → (b ≡ 98 → ⊥) → owner fs ≡ none
     unfolding owner

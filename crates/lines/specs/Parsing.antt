@@ -7,7 +7,7 @@ use lib.ListN.{length, take}
 use Rattle.rules.specs.Store as rules
 use Rattle.rules.specs.Fragments as sorts
 use Rattle.rules.specs.Building.{newOperation, newBlock, setAttribute, setOperand}
-use Rattle.rules.specs.Lines.{Line, building, query, Reader, andThen, _>>=_, giving, number, items, parentBlock, owner, blockLine, wholly}
+use Rattle.rules.specs.Lines.{Line, building, query, Reader, _>>=_, giving, number, items, parentBlock, owner, blockLine, wholly}
 use Rattle.layout.specs.Owners.{ownerOf}
 use Rattle.building.specs.Types.{parentOf, attributeOf}
 use Rattle.fragments.specs.Sorts.{sortOf}

@@ -1,12 +1,12 @@
 -- What the code tells of a line that it reads by position, as what the rules' readers give.
-use Prim.Native.Nat.{ℕ, _+_, _^_, _<_, _≤_}
-use mathlib.Core.Bool.{Bool, true, false, cond}
+use Prim.Native.Nat.{ℕ, _+_, _-_, _^_, _<_, _≤_}
+use mathlib.Core.Bool.{Bool, true, false, cond, not}
 use mathlib.Core.Option.{Option, none, some, Option·map}
 use mathlib.Core.List.{List, [], _∷_}
 use mathlib.Core.Path.{_≡_}
-use lib.Dec.{leb}
+use lib.Dec.{eqb, leb}
 use lib.ListN.{length, take, drop}
-use Rattle.rules.specs.Bytes.{numberBelow}
+use Rattle.rules.specs.Bytes.{isDigit, numberBelow}
 use Rattle.rules.specs.Lines.{fieldsOf, number, items}
 use Rattle.layout.specs.Reading.{part}
 use Rattle.building.specs.Types.{parentOf}
@@ -47,6 +47,18 @@ oneByte (b ∷ c ∷ bs) = none
 -- a parent that is a block
 unfoldable pub blockMeaning : List ℕ → Option (Option ℕ)
 blockMeaning f = Option·map some (numberBelow (2 ^ 32) f)
+
+-- ---- digits
+
+-- what a digit stands for; 10 for any other byte
+unfoldable pub digitValue : ℕ → ℕ
+digitValue b = cond (isDigit b) (b - 48) 10
+
+-- there are bytes, and the first of several is not `0`
+unfoldable pub startsWell : List ℕ → Bool
+startsWell [] = false
+startsWell (d ∷ []) = true
+startsWell (d ∷ e ∷ ds) = not (eqb d 48)
 
 -- ---- what the code answers
 

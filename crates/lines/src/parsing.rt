@@ -83,7 +83,7 @@ pub enum QueryLine {
 }
 
 // Three numbers.
-pub fn read_three(line: &[u8], at: usize) -> Three
+fn read_three(line: &[u8], at: usize) -> Three
     ensures { λ r. ⌜ threeOf (now (line .entry)) r ≡ numbers 3 (fieldsLeft (now (line .entry)) at) ⌝ }
 {
     let Read::At(a, p) = number_at(line, at) else {

@@ -90,7 +90,7 @@ pub fn put_hashes(out: &mut [u8], at: usize, l: u64, r: u64) -> usize
 }
 
 // A part in whole per cent, rounded down; 0 over nothing.
-pub fn per_cent(part: u64, whole: u64) -> u32
+fn per_cent(part: u64, whole: u64) -> u32
     requires { ⌜ part ≤ whole ⌝ }
     requires { ⌜ whole ≤ 1125899906842624 ⌝ }
     ensures { λ r. ⌜ r ≡ perCent part whole ⌝ }

@@ -3,13 +3,12 @@
 use crate::pieces::piece_end;
 use building::types::Parent;
 ghost use mathlib.Core.Path.{_≡_};
-ghost use Prim.Native.Nat.{_+_, _-_, _≤_};
+ghost use Prim.Native.Nat.{_+_, _≤_};
 ghost use lib.ListN.{length};
-ghost use Rattle.rules.specs.Lists.{all};
-ghost use Rattle.rules.specs.Bytes.{isDigit, wellWritten, numberBelow};
+ghost use Rattle.rules.specs.Bytes.{numberBelow};
 ghost use Rattle.rules.specs.Lines.{field, ignoreBits, parentBlock};
 ghost use Rattle.layout.specs.Reading.{part};
-ghost use Rattle.lines.specs.Reading.{fieldsLeft, FieldEnd, nothingLeft, oneByte, blockMeaning, numberOf, bitsOf, parentRead, wordOf, ReadNumber, ReadItems};
+ghost use Rattle.lines.specs.Reading.{fieldsLeft, FieldEnd, nothingLeft, oneByte, blockMeaning, digitValue, startsWell, numberOf, bitsOf, parentRead, wordOf, ReadNumber, ReadItems};
 
 // A number, or bytes that are none.
 pub enum Number {
@@ -62,74 +61,52 @@ pub fn at_end(line: &[u8], at: usize) -> bool
     at > line.len()
 }
 
-// A decimal digit.
-fn is_digit(b: u8) -> bool
-    ensures { λ r. ⌜ r ≡ isDigit b ⌝ }
+// What a digit stands for; 10 for any other byte.
+fn digit_value(b: u8) -> u64
+    ensures { λ r. ⌜ r ≡ digitValue b ⌝ }
 {
     if b < b'0' {
-        return false;
+        return 10;
     }
-    b <= b'9'
+    if b > b'9' {
+        return 10;
+    }
+    (b - b'0') as u64
 }
 
-// Each byte from a on up to e is a digit.
-fn all_digits(line: &[u8], a: usize, e: usize) -> bool
-    requires { ⌜ e ≤ length (now line) ⌝ }
-    ensures { λ r. ⌜ r ≡ all isDigit (part (now (line .entry)) a e) ⌝ }
-{
-    let mut i = a;
-    while i < e {
-        if !is_digit(line[i]) {
-            return false;
-        }
-        i += 1;
-    }
-    true
-}
-
-// The bytes from a on up to e are digits, at least one, and the first of several is not `0`.
-fn well_written(line: &[u8], a: usize, e: usize) -> bool
+// There are bytes from a on up to e, and the first of several is not `0`.
+fn starts_well(line: &[u8], a: usize, e: usize) -> bool
     requires { ⌜ a ≤ e ⌝ }
     requires { ⌜ e ≤ length (now line) ⌝ }
-    ensures { λ r. ⌜ r ≡ wellWritten (part (now (line .entry)) a e) ⌝ }
+    ensures { λ r. ⌜ r ≡ startsWell (part (now (line .entry)) a e) ⌝ }
 {
     let n = e - a;
     if n == 0 {
         return false;
     }
     if n == 1 {
-        return is_digit(line[a]);
+        return true;
     }
-    if line[a] == b'0' {
-        return false;
-    }
-    all_digits(line, a, e)
-}
-
-// What a digit stands for.
-fn digit_value(b: u8) -> u64
-    ensures { λ r. ⌜ r ≡ b - 48 ⌝ }
-{
-    if b < b'0' {
-        return 0;
-    }
-    (b - b'0') as u64
+    line[a] != b'0'
 }
 
 // The number that the bytes from a on up to e stand for, if it is no more than `most`. More digits only make it larger.
 fn number_to(line: &[u8], a: usize, e: usize, most: u64) -> Number
     requires { ⌜ a ≤ e ⌝ }
     requires { ⌜ e ≤ length (now line) ⌝ }
-    requires { ⌜ 255 ≤ most ⌝ }
+    requires { ⌜ 9 ≤ most ⌝ }
     ensures { λ r. ⌜ numberOf r ≡ numberBelow (most + 1) (part (now (line .entry)) a e) ⌝ }
 {
-    if !well_written(line, a, e) {
+    if !starts_well(line, a, e) {
         return Number::Bad;
     }
     let mut n: u64 = 0;
     let mut i = a;
     while i < e {
         let d = digit_value(line[i]);
+        if d > 9 {
+            return Number::Bad;
+        }
         if n > (most - d) / 10 {
             return Number::Bad;
         }

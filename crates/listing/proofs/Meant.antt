@@ -6,7 +6,7 @@ use mathlib.Core.Path.{_≡_, sym, ap, subst, _∙_}
 use borrow.Author.Tests.{ne-eqb}
 use lib.ListN.{length, take}
 use Rattle.rules.specs.Building.{newOperation, newBlock}
-use Rattle.rules.specs.Lines.{building, operationLine, blockLine, attributeLine, operandLine, wholly}
+use Rattle.rules.specs.Lines.{building, operationLine, blockLine, wholly}
 use Rattle.building.specs.Types.{parentOf}
 use Rattle.building.specs.declared.types.Parent.{Parent}
 use Rattle.lines.specs.Reading.{fieldsLeft}
@@ -17,6 +17,7 @@ use Rattle.lines.specs.declared.parsing.Lists.{Lists}
 use Rattle.lines.specs.declared.parsing.Lists.the-variants.{Are, Bad as NoLists}
 use Rattle.lines.specs.declared.parsing.BlockLine.{BlockLine}
 use Rattle.lines.specs.declared.parsing.BlockLine.the-variants.{Is, Bad as NoBlockLine}
+use Rattle.lines.proofs.Answers.{told}
 use Rattle.lines.proofs.Meaning.{operation-headless, operation-bad, operation-good}
 use Rattle.listing.specs.Building.{buildingLine}
 
@@ -25,18 +26,18 @@ use Rattle.listing.specs.Building.{buildingLine}
 module _ (line : List ℕ) (at : ℕ) (head : Head) (h : headOf line head ≡ operationHead (fieldsLeft line at)) where
   pub headless : head ≡ Bad → none ≡ wholly (operationLine (fieldsLeft line at))
   unfolding headOf
-  headless e = operation-headless (fieldsLeft line at) (sym h ∙ ap (headOf line) e)
+  headless e = operation-headless (fieldsLeft line at) (told (headOf line) h e)
 
   module _ (kind : ℕ) (parent : Parent) (location regions next : ℕ) (e : head ≡ At kind parent location regions next) (types operands successors : List ℕ) (lists : Lists) (r : ReadLists line next types operands successors lists) where
     pub listless : lists ≡ NoLists → none ≡ wholly (operationLine (fieldsLeft line at))
     unfolding headOf listsOf
-    listless q = operation-bad (fieldsLeft line at) _ (fieldsLeft line next) (sym h ∙ ap (headOf line) e) (sym (r .same) ∙ ap (listsOf types operands successors) q)
+    listless q = operation-bad (fieldsLeft line at) _ (fieldsLeft line next) (told (headOf line) h e) (told (listsOf types operands successors) (r .same) q)
 
     pub operation-meant : (a b c : ℕ) → lists ≡ Are a b c
         → some (building (newOperation kind (parentOf parent) location regions (take a types) (take b operands) (take c successors))) ≡ wholly (operationLine (fieldsLeft line at))
     unfolding headOf listsOf operationOf
     operation-meant a b c q =
-        operation-good (fieldsLeft line at) _ (fieldsLeft line next) (sym h ∙ ap (headOf line) e) _ (sym (r .same) ∙ ap (listsOf types operands successors) q)
+        operation-good (fieldsLeft line at) _ (fieldsLeft line next) (told (headOf line) h e) _ (told (listsOf types operands successors) (r .same) q)
 
 module _ {line : List ℕ} {at : ℕ} {types operands successors : List ℕ} {lists : Lists} (r : ReadLists line at types operands successors lists) {a b c : ℕ} (q : lists ≡ Are a b c) where
   lists-fit : (a ≤ length types) × (b ≤ length operands) × (c ≤ length successors)
@@ -71,21 +72,8 @@ module _ {line : List ℕ} {at : ℕ} {types : List ℕ} {read : BlockLine} (r :
 -- ---- the line of a letter
 
 module _ (letter : ℕ) (fs : List (List ℕ)) where
-  pub letter-o : letter ≡ 111 → wholly (operationLine fs) ≡ buildingLine letter fs
-  unfolding buildingLine
-  letter-o e = sym (ap (λ (b : ℕ). buildingLine b fs) e)
-
-  pub letter-b : letter ≡ 98 → wholly (blockLine fs) ≡ buildingLine letter fs
-  unfolding buildingLine
-  letter-b e = sym (ap (λ (b : ℕ). buildingLine b fs) e)
-
-  pub letter-a : letter ≡ 97 → wholly (attributeLine fs) ≡ buildingLine letter fs
-  unfolding buildingLine
-  letter-a e = sym (ap (λ (b : ℕ). buildingLine b fs) e)
-
-  pub letter-s : letter ≡ 115 → wholly (operandLine fs) ≡ buildingLine letter fs
-  unfolding buildingLine
-  letter-s e = sym (ap (λ (b : ℕ). buildingLine b fs) e)
+  pub letter-is : (n : ℕ) → letter ≡ n → buildingLine n fs ≡ buildingLine letter fs
+  letter-is n e = sym (ap (λ (b : ℕ). buildingLine b fs) e)
 
   pub other-letter : (letter ≡ 111 → ⊥) → (letter ≡ 98 → ⊥) → (letter ≡ 97 → ⊥) → (letter ≡ 115 → ⊥) → none ≡ buildingLine letter fs
   unfolding buildingLine

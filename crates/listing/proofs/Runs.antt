@@ -7,20 +7,18 @@ use mathlib.Core.List.{List, [], _∷_, _++_, append-assoc}
 use mathlib.Core.Path.{_≡_, refl, sym, ap, subst, _∙_}
 use lib.ListN.{length, drop, length-drop}
 use lib.Seq.{drop-length}
-use Rattle.rules.specs.Store.{Store}
+use Rattle.rules.specs.Store.{Store, emptyStore}
 use Rattle.rules.specs.Bytes.{lineFeed, Pieces, cutAt}
 use Rattle.rules.specs.Listings as rules
 use Rattle.rules.specs.Listings.{Outcome, prints, stops, refusal, does, proceed, atEnd, run, atStart, keeps, leaves, noTally, twinsProgram, sumsProgram, maxListing, maxOutput}
 use Rattle.rules.proofs.Listings.Short.{Within, Terse, does-within, twins-terse, sums-terse}
 use Rattle.layout.specs.Reading.{part, storeIn}
-use Rattle.layout.specs.Columns.{emptyBuffer}
 use Rattle.layout.specs.Soundness.{IsSound}
 use Rattle.layout.proofs.Scans.{part-length}
-use Rattle.layout.proofs.Empty.{zeros-read, zeros-sound}
 use Rattle.equivalence.specs.Lent.{emptyWords}
 use Rattle.lines.specs.Pieces.{piecesFrom, PieceEnd}
 use Rattle.lines.specs.Wrote.{Wrote}
-use Rattle.lines.proofs.Joined.{then, said, within}
+use Rattle.lines.proofs.Joined.{then, said, within, nothing}
 use Rattle.listing.specs.declared.types.Program.{Program}
 use Rattle.listing.specs.declared.types.Program.the-variants.{Twins, Sums}
 use Rattle.listing.specs.declared.types.Progress.{Progress}
@@ -28,8 +26,7 @@ use Rattle.listing.specs.declared.types.Step.{Step}
 use Rattle.listing.specs.declared.types.Step.the-variants.{On, Stopped}
 use Rattle.listing.specs.Progress.{programOf, tallyOf, progressOf, Counted, Further}
 use Rattle.listing.specs.Asking.{outcomeOf, Goes}
-use Rattle.listing.specs.Stepping.{closes, LineDoes, Ran}
-use Rattle.listing.proofs.Written.{nothing}
+use Rattle.listing.specs.Stepping.{secondLine, closes, LineDoes, Ran}
 
 terse : (p : Program) → Terse (programOf p)
 unfolding programOf
@@ -143,16 +140,16 @@ module _ (p : Program) (listing : List ℕ) (from : ℕ) (before : List ℕ) whe
     pub lines : n ≤ start
 
   module _ (roomy : maxOutput ≤ length before) (short : length listing ≤ maxListing) where
-    pub running-starts : (mapping : List ℕ) → mapping ≡ emptyWords → 10 ≤ from → from ≤ length listing → Running emptyBuffer mapping before (record { at = 0; equal = 0; all = 0 }) 2 from
+    pub running-starts : (store mapping : List ℕ) → IsSound store → storeIn store ≡ emptyStore → mapping ≡ emptyWords → secondLine ≤ from → from ≤ length listing → Running store mapping before (record { at = 0; equal = 0; all = 0 }) 2 from
     unfolding progressOf tallyOf atStart noTally
-    running-starts mapping e long h =
+    running-starts store mapping sound reads e long h =
         record {
-          sound = zeros-sound;
+          sound = sound;
           empty = e;
           bytes = [];
           wrote = nothing (5 * from) before 0;
-          whole = ap (λ (s : Store). printsFrom p listing 2 from (record { store = s; tally = noTally })) (sym zeros-read);
-          store-left = ap (λ (s : Store). leavesFrom p listing from (record { store = s; tally = noTally })) (sym zeros-read);
+          whole = ap (λ (s : Store). printsFrom p listing 2 from (record { store = s; tally = noTally })) (sym reads);
+          store-left = ap (λ (s : Store). leavesFrom p listing from (record { store = s; tally = noTally })) (sym reads);
           room = omega arith;
           within = h;
           part = omega arith;
@@ -169,6 +166,9 @@ module _ (p : Program) (listing : List ℕ) (from : ℕ) (before : List ℕ) whe
 
       pub has-room : now .at + 50 ≤ length before
       has-room = let a = inv .room in let b = inv .within in omega arith
+
+      pub few-lines : n ≤ maxListing
+      few-lines = let a = inv .lines in let b = inv .within in omega arith
 
       -- what was printed, and then these bytes, are all
       finished : (last : List ℕ) (most : ℕ) (after : List ℕ) (r : ℕ) → most ≤ 40 → Wrote most out after (now .at) last r → printsFrom p listing n start (progressOf store now) ≡ last

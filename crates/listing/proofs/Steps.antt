@@ -8,15 +8,17 @@ use mathlib.Core.Path.{_≡_, refl, ap, _∙_}
 use borrow.Author.Tests.{le-leb, lt-leb, eqb-true, eqb-false}
 use lib.Dec.{eqb}
 use lib.ListN.{length}
-use Rattle.rules.specs.Lines.{Line, field, operationLine, blockLine, attributeLine, operandLine, queryLine, wholly, parse}
+use Rattle.rules.specs.Lists.{sameList}
+use Rattle.rules.specs.Bytes.{isText}
+use Rattle.rules.specs.Lines.{Line, field, oneOf, operationLine, blockLine, attributeLine, operandLine, queryLine, letter, wholly, parse}
 use Rattle.rules.specs.Listings as rules
-use Rattle.rules.specs.Listings.{Outcome, prints, stops, lineDoes, does, maxLine}
+use Rattle.rules.specs.Listings.{Outcome, stops, lineDoes, does, maxLine}
 use Rattle.layout.specs.Causes.{causeOf}
 use Rattle.layout.specs.Soundness.{IsSound}
 use Rattle.layout.specs.declared.causes.Cause.{Cause}
 use Rattle.layout.specs.declared.causes.Cause.the-variants.{None, Is}
 use Rattle.lines.specs.Reading.{fieldsLeft, oneByte}
-use Rattle.lines.proofs.Letters.{no-letter, operation-letter, block-letter, attribute-letter, operand-letter, query-letter, other-letter}
+use Rattle.lines.proofs.Letters.{no-letter, letter-is, other-letter}
 use Rattle.listing.specs.declared.types.Program.{Program}
 use Rattle.listing.specs.declared.types.Progress.{Progress}
 use Rattle.listing.specs.declared.types.Step.{Step}
@@ -25,7 +27,7 @@ use Rattle.listing.specs.Progress.{programOf, tallyOf, progressOf, Count
 use Rattle.listing.specs.Building.{buildingLine, ledTo, LineDid}
 use Rattle.listing.specs.Asking.{outcomeOf, Goes, Stepped}
 use Rattle.listing.specs.Stepping.{LineDoes}
-use Rattle.listing.proofs.Written.{nothing}
+use Rattle.lines.proofs.Joined.{nothing}
 
 -- ---- steps
 
@@ -65,15 +67,17 @@ module _ (p : rules.Program) (now : rules.Progress) (line : List ℕ) where
 
     module _ (b : ℕ) (gs : List (List ℕ)) (h : field oneByte (fieldsLeft line 0) ≡ some (b, gs)) where
       pub asks : b ≡ 113 → does p now line ≡ lineDoes p now (wholly (queryLine gs))
-      asks e = by-meaning _ (query-letter line gs b h e)
+      unfolding letter field oneOf isText sameList
+      asks e = by-meaning _ (letter-is line gs b h 113 queryLine refl e)
 
       -- the letters that build, one after the other
       by-letter : (o c a s : Bool) → eqb b 111 ≡ o → eqb b 98 ≡ c → eqb b 97 ≡ a → eqb b 115 ≡ s → (b ≡ 113 → ⊥)
           → parse line ≡ cond o (wholly (operationLine gs)) (cond c (wholly (blockLine gs)) (cond a (wholly (attributeLine gs)) (cond s (wholly (operandLine gs)) none)))
-      by-letter true c a s x y z w n = operation-letter line gs b h (eqb-true b 111 x)
-      by-letter false true a s x y z w n = block-letter line gs b h (eqb-true b 98 y)
-      by-letter false false true s x y z w n = attribute-letter line gs b h (eqb-true b 97 z)
-      by-letter false false false true x y z w n = operand-letter line gs b h (eqb-true b 115 w)
+      unfolding letter field oneOf isText sameList
+      by-letter true c a s x y z w n = letter-is line gs b h 111 operationLine refl (eqb-true b 111 x)
+      by-letter false true a s x y z w n = letter-is line gs b h 98 blockLine refl (eqb-true b 98 y)
+      by-letter false false true s x y z w n = letter-is line gs b h 97 attributeLine refl (eqb-true b 97 z)
+      by-letter false false false true x y z w n = letter-is line gs b h 115 operandLine refl (eqb-true b 115 w)
       by-letter false false false false x y z w n = other-letter line gs b h (eqb-false b 111 x) (eqb-false b 98 y) (eqb-false b 97 z) (eqb-false b 115 w) n
 
       pub builds : (b ≡ 113 → ⊥) → does p now line ≡ lineDoes p now (buildingLine b gs)

@@ -1,45 +1,45 @@
 -- A comparison that is begun with no entries answers what the rules answer for the empty mapping, and what is printed and counted of it
 -- is what `twins` does for a `q`. Assumes nothing.
-use Prim.Native.Nat.{ℕ, _+_, _≤_}
+use Prim.Native.Nat.{ℕ}
 use native.Mathlib.Omega.{arith}
 use mathlib.Core.Bool.{Bool, true, false, true≢false, _&&_}
-use mathlib.Core.List.{List, [], _∷_, _++_, append-nil}
+use mathlib.Core.List.{List, [], _∷_}
 use mathlib.Core.Logic.{inl, inr}
 use mathlib.Core.Option.{some}
 use mathlib.Core.Path.{_≡_, refl, sym, ap, subst, _∙_}
-use lib.ListN.{length, replicate, length-replicate, drop-of-length-le}
+use lib.ListN.{length}
 use types.Run.{OneOf}
 use denote.Enum.Declared.{tagOf}
 use Rattle.rules.specs.Store.{Store}
 use Rattle.rules.specs.Fragments.{Sort, exists}
 use Rattle.rules.specs.Building.{firstFailed}
 use Rattle.rules.specs.Shells.{Ignore}
-use Rattle.rules.specs.Mapping.{Mapping, noImage, emptyMapping, allowed}
+use Rattle.rules.specs.Mapping.{Mapping, emptyMapping, allowed}
 use Rattle.rules.specs.Answers.{Comparison, refused, compareTests, comparisonBy, comparison}
 use Rattle.rules.specs.Listings.{prints, tallied, opsIn, lineDoes, twinsAnswer, twinsProgram}
 use Rattle.rules.proofs.Basics.Tests.{and-right}
 use Rattle.rules.proofs.Walking.Answered.{empty-allowed}
 use Rattle.layout.specs.Reading.{storeIn}
-use Rattle.layout.specs.Columns.{pasted}
 use Rattle.layout.specs.Soundness.{IsSound}
 use Rattle.layout.proofs.Empty.{sound-of}
 use Rattle.fragments.specs.Sorts.{sortOf}
 use Rattle.fragments.specs.Ignoring.{ignoreOf}
-use Rattle.equivalence.specs.Lent.{mappingOf, emptyWords}
+use Rattle.equivalence.specs.Lent.{mappingLength, mappingOf, emptyWords}
 use Rattle.equivalence.specs.Walked.{answerOf}
 use Rattle.equivalence.specs.Calls.{Answered}
 use Rattle.equivalence.specs.declared.types.EqResult.{EqResult}
 use Rattle.equivalence.specs.declared.types.EqResult.the-variants.{Eq, FirstNEQOps, FirstNEQRegions, FirstNEQBlocks, Refused}
 use Rattle.equivalence.proofs.types.EqResult as result
+use Rattle.equivalence.proofs.Unmapped.{empty-words}
 use Rattle.lines.specs.Parsing.{queryOf}
 use Rattle.lines.specs.Wrote.{Wrote}
 use Rattle.lines.specs.declared.parsing.Query.{Query}
-use Rattle.equivalence.proofs.Unmapped.{empty-words}
 use Rattle.listing.specs.declared.types.Progress.{Progress}
 use Rattle.listing.specs.declared.types.Step.the-variants.{On, Stopped}
 use Rattle.listing.specs.Progress.{progressOf, tallyOf, Counted}
 use Rattle.listing.specs.Asking.{isEq, verdictLine, answerTo, Compares, CountedMore, outcomeOf, Goes, Stepped}
 use Rattle.listing.proofs.Counts.{further}
+use Rattle.listing.proofs.Emptied.{empty-length}
 
 -- ---- the empty mapping
 
@@ -49,23 +49,9 @@ words-are m e = ap mappingOf e ∙ empty-words
 pub entries-allowed : (s : Store) (m : List ℕ) → m ≡ emptyWords → allowed s (mappingOf m) ≡ true
 entries-allowed s m e = subst (λ (x : Mapping). allowed s x ≡ true) (sym (words-are m e)) (empty-allowed s)
 
-entries-length : (m : List ℕ) → m ≡ emptyWords → length m ≡ 2816
-unfolding emptyWords
-entries-length m e = ap length e ∙ length-replicate 2816 noImage
-
--- there is room for all words still, where their number has not changed
-pub room : (m after : List ℕ) → m ≡ emptyWords → length after ≡ length m → 0 + 2816 ≤ length after
-room m after e long = let n : length m ≡ 2816 = entries-length m e in omega arith
-
--- as many words as there are, written over them all
-pub over-all : (l vs : List ℕ) → length l ≡ length vs → pasted l 0 vs ≡ vs
-over-all l vs e =
-    let past : length l ≤ 0 + length vs = omega arith in
-    ap (λ (xs : List ℕ). vs ++ xs) (drop-of-length-le l past) ∙ append-nil vs
-
-pub filled : (l : List ℕ) → length l ≡ 2816 → pasted l 0 (replicate 2816 noImage) ≡ emptyWords
-unfolding emptyWords
-filled l e = over-all l (replicate 2816 noImage) (e ∙ sym (length-replicate 2816 noImage))
+-- there are as many words still, where their number has not changed
+pub as-many : (m after : List ℕ) → m ≡ emptyWords → length after ≡ length m → length after ≡ mappingLength
+as-many m after e long = long ∙ ap length e ∙ empty-length
 
 -- ---- the comparison
 
@@ -80,8 +66,8 @@ module _ (b m after left : List ℕ) (q : Query) (r : EqResult) (sound : IsSound
       (subst (λ (t : Bool). comparison t (storeIn b) (mappingOf m) ig f (q .left) (q .right) .answer ≡ answerOf r) (sound-of b sound) (ap (λ (c : Comparison). c .answer) (h .told))))
 
   pub compares : Answered b m after (ignoreOf (q .ignore)) (sortOf (q .sort)) (q .left) (q .right) r
-      → length after ≡ length m → left ≡ pasted after 0 (replicate 2816 noImage) → Compares b left q r
-  compares h long w = record { same = answered h; empty = w ∙ filled after (long ∙ entries-length m e) }
+      → left ≡ emptyWords → Compares b left q r
+  compares h w = record { same = answered h; empty = w }
 
 -- ---- an answer that is not refused: both fragments exist
 

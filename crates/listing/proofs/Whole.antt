@@ -7,14 +7,13 @@ use mathlib.Core.List.{List, [], _∷_}
 use mathlib.Core.Path.{_≡_, refl, sym, ap, ap₂, subst, _∙_}
 use borrow.Author.Tests.{eq-eqb, ne-eqb}
 use lib.Dec.{eqb}
-use lib.ListN.{length, replicate, length-replicate}
-use Rattle.rules.specs.Bytes.{lineFeed, Pieces, cutAt}
+use lib.ListN.{length}
+use Rattle.rules.specs.Bytes.{lineFeed, cutAt}
 use Rattle.rules.specs.Building.{firstFailed}
-use Rattle.rules.specs.Mapping.{noImage}
 use Rattle.rules.specs.Listings as rules
 use Rattle.rules.specs.Listings.{refusal, run, atStart, leaves, listingCause, behindFirst, unless, storeAfter, maxOutput}
 use Rattle.layout.specs.Causes.{causeOf}
-use Rattle.layout.specs.Columns.{bufferLength, emptyBuffer, pasted}
+use Rattle.layout.specs.Columns.{bufferLength}
 use Rattle.layout.specs.declared.causes.Cause.{Cause}
 use Rattle.layout.specs.declared.causes.Cause.the-variants.{None, Is}
 use Rattle.lines.specs.Pieces.{piecesFrom}
@@ -24,15 +23,10 @@ use Rattle.equivalence.specs.Lent.{mappingLength, emptyWords}
 use Rattle.listing.specs.declared.types.Program.{Program}
 use Rattle.listing.specs.declared.types.Listed.the-variants.{Printed, Refused, NoRoom}
 use Rattle.listing.specs.Progress.{programOf}
-use Rattle.listing.specs.Stepping.{Headed, Ran}
+use Rattle.listing.specs.Stepping.{secondLine, Headed, Ran}
 use Rattle.listing.specs.Calls.{Lent, lentTests, Prints, Answered, lent}
-use Rattle.listing.proofs.Verdicts.{over-all}
 
 -- ---- the first line
-
-pub emptied : (b : List ℕ) → length b ≡ bufferLength → pasted b 0 (replicate 34568 0) ≡ emptyBuffer
-unfolding emptyBuffer
-emptied b e = over-all b (replicate 34568 0) (e ∙ sym (length-replicate {A = ℕ} 34568 0))
 
 -- a refused first line leaves the buffers as they were
 module _ (p : Program) (listing store mapping out after : List ℕ) (n k : ℕ) (r : Cause) (h : Headed listing r) (e : r ≡ Is k) where
@@ -56,12 +50,12 @@ module _ (p : Program) (listing store mapping out after : List ℕ) (n k : ℕ) 
       }
 
 -- behind an accepted one the lines run
-module _ (p : Program) (listing store mapping out store′ mapping′ out′ : List ℕ) (n : ℕ) (r : Cause) (h : Headed listing r) (e : r ≡ None) (ran : Ran p listing 10 store′ mapping′ out out′ n) where
+module _ (p : Program) (listing store mapping out store′ mapping′ out′ : List ℕ) (n : ℕ) (r : Cause) (h : Headed listing r) (e : r ≡ None) (ran : Ran p listing secondLine store′ mapping′ out out′ n) where
   accepted : listingCause listing ≡ none
   unfolding causeOf
   accepted = sym (h .same) ∙ ap causeOf e
 
-  printed : rules.listed (programOf p) listing ≡ run (programOf p) 2 atStart (piecesFrom lineFeed listing 10 .whole) (piecesFrom lineFeed listing 10 .rest)
+  printed : rules.listed (programOf p) listing ≡ run (programOf p) 2 atStart (piecesFrom lineFeed listing secondLine .whole) (piecesFrom lineFeed listing secondLine .rest)
   unfolding rules.listed unless
   printed =
       ap (λ (c : Option ℕ). unless c (run (programOf p) 2 atStart (behindFirst (cutAt lineFeed listing .whole)) (cutAt lineFeed listing .rest))) accepted
@@ -111,10 +105,6 @@ module _ (p : rules.Program) (listing store mapping out : List ℕ) where
       answered after n h pr = (right-lengths, h, pr)
 
 -- a mapping with no entry stays one
-pub no-entries : length emptyWords ≡ mappingLength
-unfolding emptyWords
-no-entries = length-replicate mappingLength noImage
-
 module _ (p : rules.Program) (listing store out store′ mapping′ out′ : List ℕ) (n : ℕ) (pr : Prints p listing (lent store emptyWords out) (lent store′ mapping′ out′) n) where
   still-none : (c : Option ℕ) → listingCause listing ≡ c → mapping′ ≡ emptyWords
   unfolding lent

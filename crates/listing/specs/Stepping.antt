@@ -3,7 +3,7 @@ use Prim.Native.Nat.{ℕ, _≤_}
 use mathlib.Core.List.{List, []}
 use mathlib.Core.Path.{_≡_}
 use lib.ListN.{length}
-use Rattle.rules.specs.Bytes.{lineFeed, Pieces, cutAt}
+use Rattle.rules.specs.Bytes.{lineFeed, cutAt}
 use Rattle.rules.specs.Listings.{does, run, atStart, leaves, shareLine, listingCause, behindFirst, maxListing, maxOutput}
 use Rattle.layout.specs.Reading.{storeIn}
 use Rattle.layout.specs.Causes.{causeOf}
@@ -23,12 +23,16 @@ use Rattle.listing.specs.Progress.{programOf, tallyOf, progressOf}
 
 -- ---- the first line
 
--- the second line begins behind its ten bytes
+-- where the second line begins: behind the header's nine bytes and their line feed
+abbrev pub secondLine : ℕ
+secondLine = 10
+
+-- the first line is the header, and the lines behind it begin there
 pub record Begun (listing : List ℕ) : Type 0 where
-  pub long : 10 ≤ length listing
+  pub long : secondLine ≤ length listing
   pub short : length listing ≤ maxListing
-  pub lines : behindFirst (cutAt lineFeed listing .whole) ≡ piecesFrom lineFeed listing 10 .whole
-  pub rest : cutAt lineFeed listing .rest ≡ piecesFrom lineFeed listing 10 .rest
+  pub lines : behindFirst (cutAt lineFeed listing .whole) ≡ piecesFrom lineFeed listing secondLine .whole
+  pub rest : cutAt lineFeed listing .rest ≡ piecesFrom lineFeed listing secondLine .rest
 
 -- why no line behind the first is read; else it is the header
 pub record Headed (listing : List ℕ) (r : Cause) : Type 0 where

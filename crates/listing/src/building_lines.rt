@@ -1,4 +1,5 @@
-// The lines that build: each is read whole, and then its call is made.
+// The lines that build: each is read whole, and then its call is made. A list has no more items than its line has bytes.
+use crate::header::MAX_LINE;
 use building::types::Built;
 use layout::causes::Cause;
 use lines::parsing::AttributeLine;
@@ -22,9 +23,6 @@ ghost use Rattle.building.specs.Types.{builtOf};
 ghost use Rattle.lines.specs.Reading.{fieldsLeft};
 ghost use Rattle.listing.specs.Building.{refusalIn, LineDid, buildingLine};
 
-// More items than bytes do not fit in a line.
-const MAX_ITEMS: usize = 512;
-
 // Why a call was refused, if it was.
 fn refusal_in(built: Built) -> Cause
     ensures { λ r. ⌜ causeOf r ≡ refusalIn (builtOf built) ⌝ }
@@ -44,9 +42,9 @@ fn operation_does(store: &mut [u32], line: &[u8], at: usize) -> Cause
     let Head::At(kind, parent, location, regions, next) = read_head(line, at) else {
         return Cause::Is(10);
     };
-    let mut types = [0; MAX_ITEMS];
-    let mut operands = [0; MAX_ITEMS];
-    let mut successors = [0; MAX_ITEMS];
+    let mut types = [0; MAX_LINE];
+    let mut operands = [0; MAX_LINE];
+    let mut successors = [0; MAX_LINE];
     let lists = read_lists(line, next, &mut types, &mut operands, &mut successors);
     let Lists::Are(a, b, c) = lists else {
         return Cause::Is(10);
@@ -68,7 +66,7 @@ fn block_does(store: &mut [u32], line: &[u8], at: usize) -> Cause
     requires { ⌜ length (now line) ≤ maxLine ⌝ }
     ensures { λ r. ⌜ LineDid (now (store .entry)) (now (store .exit)) (wholly (blockLine (fieldsLeft (now (line .entry)) at))) r ⌝ }
 {
-    let mut types = [0; MAX_ITEMS];
+    let mut types = [0; MAX_LINE];
     let BlockLine::Is(region, label, location, n) = block_line(line, at, &mut types) else {
         return Cause::Is(10);
     };

@@ -1,51 +1,26 @@
 // A `q` of `twins`: its fragments are compared, begun with an empty mapping, which is left empty.
 use crate::counting::counted;
+use crate::emptying::empty_mapping;
 use crate::types::Progress;
 use crate::types::Step;
-use equivalence::comparison::basic_block_eq;
-use equivalence::comparison::operation_eq;
-use equivalence::comparison::region_eq;
-use equivalence::mapping::LENGTH;
-use equivalence::mapping::NONE;
+use equivalence::comparison::fragments_eq;
 use equivalence::types::EqResult;
 use fragments::types::Sort;
-use layout::lists::fill_at;
 use lines::parsing::Query;
 use lines::printing::put_equal;
 use lines::printing::put_unequal;
-ghost use mathlib.Core.Bool.{true};
 ghost use mathlib.Core.Option.{some};
 ghost use mathlib.Core.Path.{_≡_};
 ghost use Prim.Native.Nat.{_+_, _≤_};
 ghost use lib.ListN.{length};
 ghost use Rattle.rules.specs.Listings.{twinsProgram, lineDoes};
-ghost use Rattle.rules.specs.Mapping.{allowed};
-ghost use Rattle.layout.specs.Reading.{storeIn};
 ghost use Rattle.layout.specs.Soundness.{IsSound};
-ghost use Rattle.fragments.specs.Sorts.{sortOf};
-ghost use Rattle.fragments.specs.Ignoring.{ignoreOf};
-ghost use Rattle.equivalence.specs.Lent.{mappingOf, emptyWords};
+ghost use Rattle.equivalence.specs.Lent.{emptyWords};
 ghost use Rattle.equivalence.specs.Walked.{answerOf};
-ghost use Rattle.equivalence.specs.Calls.{Answered};
 ghost use Rattle.lines.specs.Parsing.{queryOf};
 ghost use Rattle.lines.specs.Wrote.{Wrote};
 ghost use Rattle.listing.specs.Progress.{progressOf, Counted};
 ghost use Rattle.listing.specs.Asking.{verdictLine, Compares, Stepped};
-
-// Compare two fragments of one sort.
-fn fragments_eq(store: &[u32], mapping: &mut [u32], query: Query) -> EqResult
-    requires { ⌜ IsSound (now store) ⌝ }
-    requires { ⌜ allowed (storeIn (now store)) (mappingOf (now mapping)) ≡ true ⌝ }
-    ensures { λ q. ⌜ Answered (now (store .entry)) (now (mapping .entry)) (now (mapping .exit)) (ignoreOf (query .ignore)) (sortOf (query .sort)) (query .left) (query .right) q ⌝ }
-{
-    let sort = query.sort;
-    let ignore = query.ignore;
-    match sort {
-        Sort::Op => operation_eq(store, mapping, query.left, query.right, ignore),
-        Sort::Block => basic_block_eq(store, mapping, query.left, query.right, ignore),
-        Sort::Region => region_eq(store, mapping, query.left, query.right, ignore),
-    }
-}
 
 // Begun with an empty mapping, which is empty again afterwards.
 fn compare(store: &[u32], mapping: &mut [u32], query: Query) -> EqResult
@@ -53,8 +28,10 @@ fn compare(store: &[u32], mapping: &mut [u32], query: Query) -> EqResult
     requires { ⌜ now mapping ≡ emptyWords ⌝ }
     ensures { λ q. ⌜ Compares (now (store .entry)) (now (mapping .exit)) query q ⌝ }
 {
-    let result = fragments_eq(store, mapping, query);
-    fill_at(mapping, 0, LENGTH, NONE);
+    let sort = query.sort;
+    let ignore = query.ignore;
+    let result = fragments_eq(store, mapping, sort, query.left, query.right, ignore);
+    empty_mapping(mapping);
     result
 }
 

@@ -5,9 +5,12 @@ use lines::texts::same_bytes;
 ghost use Rattle.listing.specs.Stepping.{Headed};
 
 // The longest listing and the longest line, before its line feed.
-pub const MAX_LISTING: usize = 65536;
+const MAX_LISTING: usize = 65536;
 
 pub const MAX_LINE: usize = 512;
+
+// Where the second line begins: behind the header's nine bytes and their line feed.
+pub const SECOND_LINE: usize = 10;
 
 // Why no line behind the first is read.
 pub fn header_cause(listing: &[u8]) -> Cause

@@ -5,6 +5,7 @@ pub mod calls;
 pub mod closing;
 pub mod comparing;
 pub mod counting;
+pub mod emptying;
 pub mod header;
 pub mod running;
 pub mod summing;

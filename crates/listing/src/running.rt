@@ -2,14 +2,15 @@
 use crate::asking::query_does;
 use crate::building_lines::building_does;
 use crate::closing::close;
+use crate::emptying::empty_mapping;
+use crate::emptying::empty_store;
 use crate::header::MAX_LINE;
+use crate::header::SECOND_LINE;
 use crate::header::header_cause;
 use crate::types::Program;
 use crate::types::Progress;
 use crate::types::Step;
-use equivalence::mapping::NONE;
 use layout::causes::Cause;
-use layout::lists::fill_at;
 use lines::pieces::piece_end;
 use lines::printing::put_refusal;
 use lines::reader::word_at;
@@ -17,12 +18,14 @@ use lines::reading::Word;
 ghost use mathlib.Core.Path.{_≡_};
 ghost use Prim.Native.Nat.{_+_, _≤_};
 ghost use lib.ListN.{length};
+ghost use Rattle.rules.specs.Store.{emptyStore};
 ghost use Rattle.rules.specs.Listings.{maxListing, maxOutput};
-ghost use Rattle.layout.specs.Columns.{bufferLength, emptyBuffer};
+ghost use Rattle.layout.specs.Columns.{bufferLength};
+ghost use Rattle.layout.specs.Reading.{storeIn};
 ghost use Rattle.layout.specs.Soundness.{IsSound};
 ghost use Rattle.equivalence.specs.Lent.{mappingLength, emptyWords};
 ghost use Rattle.listing.specs.Progress.{programOf, Counted};
-ghost use Rattle.listing.specs.Stepping.{LineDoes, Ran};
+ghost use Rattle.listing.specs.Stepping.{secondLine, LineDoes, Ran};
 ghost use Rattle.listing.specs.Calls.{Prints, lent};
 
 // One line: its length, its letter, and then what it does.
@@ -65,9 +68,10 @@ fn run(
     out: &mut [u8],
     from: usize,
 ) -> usize
-    requires { ⌜ now store ≡ emptyBuffer ⌝ }
+    requires { ⌜ IsSound (now store) ⌝ }
+    requires { ⌜ storeIn (now store) ≡ emptyStore ⌝ }
     requires { ⌜ now mapping ≡ emptyWords ⌝ }
-    requires { ⌜ 10 ≤ from ⌝ }
+    requires { ⌜ secondLine ≤ from ⌝ }
     requires { ⌜ from ≤ length (now listing) ⌝ }
     requires { ⌜ length (now listing) ≤ maxListing ⌝ }
     requires { ⌜ maxOutput ≤ length (now out) ⌝ }
@@ -113,7 +117,7 @@ pub fn listed(
     if let Cause::Is(number) = cause {
         return put_refusal(out, 0, 1, number);
     }
-    fill_at(store, 0, layout::columns::LENGTH, 0);
-    fill_at(mapping, 0, equivalence::mapping::LENGTH, NONE);
-    run(program, listing, store, mapping, out, 10)
+    empty_store(store);
+    empty_mapping(mapping);
+    run(program, listing, store, mapping, out, SECOND_LINE)
 }

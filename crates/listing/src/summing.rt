@@ -1,11 +1,7 @@
 // A `q` of `sums`: both hashes are there before any is printed.
 use crate::types::Progress;
 use crate::types::Step;
-use fragments::ignoring::Ignore;
-use fragments::types::Sort;
-use hashing::hashes::basic_block_hash;
-use hashing::hashes::operation_hash;
-use hashing::hashes::region_hash;
+use hashing::hashes::fragment_hash;
 use hashing::types::Hashed;
 use lines::parsing::Query;
 use lines::printing::put_hashes;
@@ -14,24 +10,9 @@ ghost use Prim.Native.Nat.{_+_, _≤_};
 ghost use lib.ListN.{length};
 ghost use Rattle.rules.specs.Listings.{sumsProgram, lineDoes};
 ghost use Rattle.layout.specs.Soundness.{IsSound};
-ghost use Rattle.fragments.specs.Sorts.{sortOf};
-ghost use Rattle.fragments.specs.Ignoring.{ignoreOf};
-ghost use Rattle.hashing.specs.Calls.{Answered};
 ghost use Rattle.lines.specs.Parsing.{queryOf};
 ghost use Rattle.listing.specs.Progress.{progressOf, Counted};
 ghost use Rattle.listing.specs.Asking.{Stepped};
-
-// The hash of a fragment by its sort.
-fn fragment_hash(store: &[u32], sort: Sort, n: u32, ignore: Ignore) -> Hashed
-    requires { ⌜ IsSound (now store) ⌝ }
-    ensures { λ q. ⌜ Answered (now (store .entry)) (ignoreOf ignore) (sortOf sort) n q ⌝ }
-{
-    match sort {
-        Sort::Op => operation_hash(store, n, ignore),
-        Sort::Block => basic_block_hash(store, n, ignore),
-        Sort::Region => region_hash(store, n, ignore),
-    }
-}
 
 pub fn sums_does(store: &[u32], out: &mut [u8], progress: Progress, query: Query) -> Step
     requires { ⌜ IsSound (now store) ⌝ }

@@ -51,10 +51,12 @@ written-within most n before after bytes w room same =
     omega arith
 
 -- with room for all that a listing can make a program print
+pub roomy : length (replicate {A = ℕ} maxOutput 0) ≡ maxOutput
+roomy = length-replicate {A = ℕ} maxOutput 0
+
 pub printed-within : (n : ℕ) (after bytes : List ℕ) → Wrote maxOutput (replicate maxOutput 0) after 0 bytes n → length after ≡ maxOutput → n ≤ length after
 printed-within n after bytes w same =
-    let long = length-replicate {A = ℕ} maxOutput 0 in
-    written-within maxOutput n (replicate maxOutput 0) after bytes w (le-of-eq (sym long)) (same ∙ sym long)
+    written-within maxOutput n (replicate maxOutput 0) after bytes w (le-of-eq (sym roomy)) (same ∙ sym roomy)
 
 -- what the one of two programs writes, by its name
 pub by-program : (q v : types.Program) (before after listing : List ℕ) (n : ℕ) → q ≡ v → Wrote maxOutput before after 0 (listed (programOf v) listing) n → Wrote maxOutput before after 0 (listed (programOf q) listing) n

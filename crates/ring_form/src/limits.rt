@@ -3,11 +3,11 @@ use crate::answers::Store;
 use crate::answers::accepted;
 use crate::answers::made;
 use crate::answers::turned_down;
+use crate::calls::Call;
+use crate::calls::make;
 use crate::refusals::wide_before_deep;
 use crate::steps::Step;
 use crate::steps::take;
-use building::calls::new_block;
-use building::calls::new_operation;
 use building::types::Built;
 use building::types::Owner;
 use building::types::Parent;
@@ -16,25 +16,10 @@ use layout::sound::is_sound;
 
 // 8 regions, 16 results, 16 operands and 8 successors are accepted, and so are 16 arguments.
 pub fn full_lists(store: &mut Store) -> bool {
-    let types = [5; 16];
-    let operands = [0; 16];
-    let successors = [0; 8];
-    if !made(
-        new_operation(
-            store,
-            8,
-            Parent::Block(0),
-            3,
-            8,
-            &types,
-            &operands,
-            &successors,
-        ),
-        3,
-    ) {
+    if !made(make(store, Call::Op(Parent::Block(0), 8, 0, 16, 16, 8)), 3) {
         return false;
     }
-    made(new_block(store, 8, 4, 2, &types), 1)
+    made(make(store, Call::Block(8, 16)), 1)
 }
 
 // The answer is that of step i where it is accepted.
@@ -98,42 +83,42 @@ pub fn nesting() -> bool {
 
 // Cause 3, by the totals of regions, values and blocks: 256, 2,048 and 256. A region that doesn't exist is still cause 2.
 fn fill_blocks(store: &mut Store) -> bool {
-    if !fill(store, Step::Regions(8), 0, 32) {
+    if !fill(store, Step::Operation(8, 0, 0, 0), 0, 32) {
         return false;
     }
-    if !stops(store, Step::Regions(1), 32, 3) {
+    if !stops(store, Step::Operation(1, 0, 0, 0), 32, 3) {
         return false;
     }
-    if !fill(store, Step::Arguments, 0, 128) {
+    if !fill(store, Step::Block(16), 0, 128) {
         return false;
     }
-    if !stops(store, Step::Argument, 128, 3) {
+    if !stops(store, Step::Block(1), 128, 3) {
         return false;
     }
-    if !stops(store, Step::Result, 32, 3) {
+    if !stops(store, Step::Operation(0, 1, 0, 0), 32, 3) {
         return false;
     }
-    if !fill(store, Step::Block, 128, 256) {
+    if !fill(store, Step::Block(0), 128, 256) {
         return false;
     }
-    if !stops(store, Step::Block, 0, 3) {
+    if !stops(store, Step::Block(0), 0, 3) {
         return false;
     }
-    stops(store, Step::Block, 256, 2)
+    stops(store, Step::Block(0), 256, 2)
 }
 
 // Cause 3, by the totals of operands and successors: 2,048 and 512.
 fn fill_names(store: &mut Store) -> bool {
-    if !fill(store, Step::Operands, 32, 160) {
+    if !fill(store, Step::Operation(0, 0, 16, 0), 32, 160) {
         return false;
     }
-    if !stops(store, Step::Operand, 160, 3) {
+    if !stops(store, Step::Operation(0, 0, 1, 0), 160, 3) {
         return false;
     }
-    if !fill(store, Step::Successors, 160, 224) {
+    if !fill(store, Step::Operation(0, 0, 0, 8), 160, 224) {
         return false;
     }
-    stops(store, Step::Successor, 224, 3)
+    stops(store, Step::Operation(0, 0, 0, 1), 224, 3)
 }
 
 // Cause 3, by the totals of attributes and operations: 1,024 and 512. A ninth key and nine regions are
@@ -151,13 +136,13 @@ fn fill_rest(store: &mut Store) -> bool {
     if !fill(store, Step::Keys, 1023, 1024) {
         return false;
     }
-    if !fill(store, Step::Operation, 224, 512) {
+    if !fill(store, Step::Operation(0, 0, 0, 0), 224, 512) {
         return false;
     }
-    if !stops(store, Step::Operation, 512, 3) {
+    if !stops(store, Step::Operation(0, 0, 0, 0), 512, 3) {
         return false;
     }
-    stops(store, Step::Regions(9), 512, 4)
+    stops(store, Step::Operation(9, 0, 0, 0), 512, 4)
 }
 
 // Every total filled, one after the other, and the full store is sound.

@@ -1,6 +1,7 @@
 // A form for a bird-ring recorder, built by the four building calls, and every cause for which they refuse. Each line that the program
 // writes says whether the answers of a group of cases were those of document 01.
 mod answers;
+mod calls;
 mod form;
 mod limits;
 mod refusals;

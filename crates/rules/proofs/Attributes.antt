@@ -13,6 +13,7 @@ use Rattle.rules.specs.Lists.{all, any, keep, sameList}
 use Rattle.rules.specs.Store.{Attribute, keysRise, keysRiseAfter}
 use Rattle.rules.specs.Shells.{Ignore, unignored, sameAttribute}
 use Rattle.rules.proofs.Basics.Tests.{and-left, and-right, and-both, or-cases, or-left, or-right, all-at, all-of, clash}
+use Rattle.rules.proofs.Soundness.KeptAttributes.{rises-behind}
 use Rattle.rules.proofs.Form.SameShells.{attribute-same, attributes-same}
 
 -- the reading by keys, of 01 and of the Rust's `attributes_eq`: as many, and each key of the one with an equal attribute in the other
@@ -20,7 +21,7 @@ abbrev pub SameByKey : List Attribute → List Attribute → Type 0
 SameByKey xs ys = (length xs ≡ length ys) × (all (λ (a : Attribute). any (sameAttribute a) ys) xs ≡ true)
 
 module _ {A : Type 0} (p : A → A → Bool) (same : (a b : A) → (p a b ≡ true) ↔ (a ≡ b)) where
-  pub any-same : (a : A) (ys : List A) → (any (p a) ys ≡ true) ↔ List·Memᴰ a ys
+  any-same : (a : A) (ys : List A) → (any (p a) ys ≡ true) ↔ List·Memᴰ a ys
   unfolding any
   any-same a [] = (λ h. clash h refl, λ m. absurd (List·Memᴰ·not-nil m))
   any-same a (y ∷ ys) = (
@@ -43,11 +44,6 @@ unfolding keysRiseAfter
 rise-below j k l [] h = refl
 rise-below j k l (x ∷ xs) h = let c = rise-cons k x xs .0 h in rise-cons j x xs .1 (omega (arith, c .0), c .1)
 
-rise-tail : (k : ℕ) (xs : List Attribute) → keysRiseAfter k xs ≡ true → keysRise xs ≡ true
-unfolding keysRise
-rise-tail k [] h = refl
-rise-tail k (x ∷ xs) h = rise-cons k x xs .0 h .1
-
 rise-at : (k : ℕ) (xs : List Attribute) → keysRiseAfter k xs ≡ true → (a : Attribute) → List·Memᴰ a xs → k < a .key
 rise-at k [] h a m = absurd (List·Memᴰ·not-nil m)
 rise-at k (x ∷ xs) h a m =
@@ -65,14 +61,14 @@ module _ (p : Attribute → Bool) where
       go true rest = rise-cons k x (keep p xs) .1 (rise-cons k x xs .0 h .0, rest)
       go false rest = rise-below k (x .key) (omega (arith, rise-cons k x xs .0 h .0)) (keep p xs) rest
 
-  pub keep-rises : (xs : List Attribute) → keysRise xs ≡ true → keysRise (keep p xs) ≡ true
+  keep-rises : (xs : List Attribute) → keysRise xs ≡ true → keysRise (keep p xs) ≡ true
   unfolding keysRise keep
   keep-rises [] h = refl
   keep-rises (x ∷ xs) h = go (p x) (keep-after (x .key) xs h)
     where
       go : (b : Bool) → keysRiseAfter (x .key) (keep p xs) ≡ true → keysRise (cond b (x ∷ keep p xs) (keep p xs)) ≡ true
       go true rest = rest
-      go false rest = rise-tail (x .key) (keep p xs) rest
+      go false rest = rises-behind (x .key) (keep p xs) rest
 
 -- ---- a rising list inside a rising list
 
@@ -88,7 +84,7 @@ unfolding keysRise Within Fits
 fits [] hy [] hx sub = (omega arith, λ e. refl)
 fits [] hy (x ∷ xs) hx sub = absurd (List·Memᴰ·not-nil (sub x (List·Memᴰ·head refl)))
 fits (y ∷ ys) hy [] hx sub = (omega arith, λ e. absurd (omega arith))
-fits (y ∷ ys) hy (x ∷ xs) hx sub = go (fits ys (rise-tail (y .key) ys hy)) (List·Memᴰ·cases-cons (sub x (List·Memᴰ·head refl)))
+fits (y ∷ ys) hy (x ∷ xs) hx sub = go (fits ys (rises-behind (y .key) ys hy)) (List·Memᴰ·cases-cons (sub x (List·Memᴰ·head refl)))
   where
     -- what is in the first list and has a larger key than y stands behind y in the second
     behind : (a : Attribute) → List·Memᴰ a (x ∷ xs) → y .key < a .key → List·Memᴰ a ys
@@ -98,7 +94,7 @@ fits (y ∷ ys) hy (x ∷ xs) hx sub = go (fits ys (rise-tail (y .key) ys hy)) (
     go : ((zs : List Attribute) → keysRise zs ≡ true → Within zs ys → Fits zs ys) → (x ≡ y) ⊎ List·Memᴰ x ys → Fits (x ∷ xs) (y ∷ ys)
     go rest (inl e) =
         let k : x .key ≡ y .key = ap (λ (z : Attribute). z .key) e in
-        let w = rest xs (rise-tail (x .key) xs hx) (λ a m. behind a (List·Memᴰ·tail m) (omega (arith, rise-at (x .key) xs hx a m))) in
+        let w = rest xs (rises-behind (x .key) xs hx) (λ a m. behind a (List·Memᴰ·tail m) (omega (arith, rise-at (x .key) xs hx a m))) in
         (omega (arith, w .0), λ l. let es : xs ≡ ys = w .1 (omega arith) in cc)
     go rest (inr m) =
         let k : y .key < x .key = rise-at (y .key) ys hy x m in
@@ -109,7 +105,7 @@ fits (y ∷ ys) hy (x ∷ xs) hx sub = go (fits ys (rise-tail (y .key) ys hy)) (
 
 -- ---- the two readings
 
-pub same-by-key : (xs ys : List Attribute) → keysRise xs ≡ true → keysRise ys ≡ true
+same-by-key : (xs ys : List Attribute) → keysRise xs ≡ true → keysRise ys ≡ true
     → (sameList sameAttribute xs ys ≡ true) ↔ SameByKey xs ys
 unfolding Within Fits
 same-by-key xs ys hx hy = (

@@ -109,6 +109,8 @@ opWithOperand i v o =
 unfoldable pub valuesFor : Owner → List ℕ → List Value
 valuesFor w types = map (λ (t : ℕ). record { type = t; owner = w }) types
 
+-- "It goes to the end of its block", "It goes to the end of its region": the new one has the largest number, and children stand by
+-- rising number
 unfoldable pub applied : Store → Call → Store
 applied s (newOperation kind parent location regions types operands successors) =
     record {

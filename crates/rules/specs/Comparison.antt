@@ -86,7 +86,7 @@ enterOps s l r st =
             blocks = st .mapping .blocks;
             ops = set (st .mapping .ops) l r;
           };
-      paired = st .paired + 1;
+      paired = st .paired + 1;  -- the operation, not its results
     }
 
 unfoldable pub pairOps : Store → Ignore → ℕ → ℕ → State → Walk
@@ -103,7 +103,7 @@ enterBlocks s l r st =
             blocks = set (st .mapping .blocks) l r;
             ops = st .mapping .ops;
           };
-      paired = st .paired + 1;
+      paired = st .paired + 1;  -- the block, not its arguments
     }
 
 unfoldable pub pairBlocks : Store → Ignore → ℕ → ℕ → State → Walk

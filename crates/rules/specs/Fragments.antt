@@ -97,7 +97,8 @@ NamesNothingOf s f a b =
     × Disjoint (namesBlocks s f a) (definesBlocks s f b)
 
 -- 01's premise of the laws: the same fragment, or fragments that share no operation or block and of which neither names a value or
--- block that is defined in the other
+-- block that is defined in the other. Two "are the same fragment when their numbers are the same"; they "share the operations and blocks
+-- that both define"
 unfoldable pub Premise : Store → Sort → ℕ → ℕ → Type 0
 Premise s f a b =
     (a ≡ b)

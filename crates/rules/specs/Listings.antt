@@ -1,7 +1,6 @@
 -- 01, "Listings": the two programs, from the bytes of a listing to the bytes that are printed. "A program tests 11 (listing's length,
 -- line 1), then per line 11, 9, 10, then the call."
 use Prim.Native.Nat.{ℕ, suc, _+_, _*_, _/_}
-use Prim.Native.String.{String}
 use mathlib.Core.Bool.{Bool, true, false, cond}
 use mathlib.Core.Option.{Option, none, some, Option·getD}
 use mathlib.Core.List.{List, [], _∷_, _++_}
@@ -9,12 +8,12 @@ use lib.Dec.{eqb, leb}
 use lib.ListN.{length}
 use Rattle.rules.specs.Store.{Store, emptyStore}
 use Rattle.rules.specs.Fragments.{Sort, op, block, region, fragmentSize}
-use Rattle.rules.specs.Building.{Call, Built, made, accepted, refused, answer, built, firstFailed}
+use Rattle.rules.specs.Building.{Built, made, accepted, refused, answer, built, firstFailed}
 use Rattle.rules.specs.Shells.{Ignore}
 use Rattle.rules.specs.Mapping.{emptyMapping}
 use Rattle.rules.specs.Comparison.{Pair}
 use Rattle.rules.specs.Answers.{Compared, eq, neq, refused as refusedCompared, comparison, Hashed, hashIs, refusedHash, hashed}
-use Rattle.rules.specs.Bytes.{text, isText, comma, lineFeed, Pieces, cutAt, decimal, hexadecimal}
+use Rattle.rules.specs.Bytes.{text, isText, comma, lineFeed, cutAt, decimal, hexadecimal}
 use Rattle.rules.specs.Lines.{Line, building, query, parse}
 
 -- ---- what is printed
@@ -152,13 +151,14 @@ unfoldable pub unless : Option ℕ → List ℕ → List ℕ
 unless none out = out
 unless (some cause) out = refusal 1 cause
 
--- no listing makes either program print more
-abbrev pub maxOutput : ℕ
-maxOutput = 327680
-
+-- the first line has number 1
 unfoldable pub listed : Program → List ℕ → List ℕ
 listed p bytes =
     unless (listingCause bytes) (run p 2 atStart (behindFirst (cutAt lineFeed bytes .whole)) (cutAt lineFeed bytes .rest))
+
+-- no listing makes either program print more
+abbrev pub maxOutput : ℕ
+maxOutput = 327680
 
 -- ---- the store afterwards: what the lines have built, up to a refused one
 

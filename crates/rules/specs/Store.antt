@@ -1,6 +1,7 @@
 -- 01, "Store": what a store holds, its limits and totals, nesting, and when it is sound.
 -- Child lists are not kept: the children of an owner are the numbers of those that name it, by rising number. So "each list holds
 -- exactly its owner's children by rising number" and "belong to one owner each" hold of every store that can be written here.
+-- "Other fields are 32-bit unsigned": here they are any numbers, and the words of the layout bound them.
 use Prim.Native.Nat.{ℕ, zero, suc, _+_}
 use mathlib.Core.Bool.{Bool, true, false, _&&_}
 use mathlib.Core.Option.{Option, none, some}
@@ -29,6 +30,7 @@ pub record Op : Type 0 where
   pub successors : List ℕ
   pub attributes : List Attribute
 
+-- "label (0 is none, never compared)": no rule reads it
 pub record Block : Type 0 where
   pub region : ℕ
   pub label : ℕ
@@ -206,7 +208,8 @@ totalsHold s =
     ∷ leb (attributeTotal s) maxAttributes
     ∷ [])
 
--- ---- limits of one owner
+-- ---- limits of one owner: "0 to 8 regions", "0 to 16 result types, 0 to 16 operands", "0 to 8 successors", "0 to 16 argument types",
+-- "attribute kind 0 to 63", "At most 8 keys each"
 
 abbrev pub maxOwnValues : ℕ
 maxOwnValues = 16
@@ -243,7 +246,8 @@ attributesHold as′ =
     ∷ all (λ (a : Attribute). leb (a .kind) maxAttributeKind) as′
     ∷ [])
 
--- ---- "A store is sound when ..."
+-- ---- "A store is sound when every name in it exists, a nested operation has a larger number than any operation around it and a nested
+-- block than any block around it, ..., keys of one owner differ, and all limits hold."
 
 unfoldable pub opHolds : Store → ℕ → Bool
 opHolds s n =

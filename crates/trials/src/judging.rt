@@ -7,58 +7,69 @@ use lines::texts::same_bytes;
 use listing::calls::ROOM;
 use listing::types::Program;
 use programs::answers::printed;
+ghost use Rattle.io.specs.Counts.{Counts};
 
-// The program prints all that it must, and nothing else.
-fn holds(program: Program, listing: &[u8], wanted: &[u8]) -> bool {
-    let mut out = [0; ROOM];
-    let n = printed(program, listing, &mut out);
-    let end = within(&out, n);
-    same_bytes(&out[..end], wanted)
+// How many bytes of `out` are what the program prints, if it has room for all that may be.
+fn print(program: Program, listing: &[u8], out: &mut [u8]) -> usize
+    ensures { λ r. ⌜ Counts r (now (out .exit)) ⌝ }
+{
+    if out.len() < ROOM {
+        return 0;
+    }
+    printed(program, listing, out)
 }
 
-// What the program prints.
-fn show(program: Program, listing: &[u8]) {
-    let mut out = [0; ROOM];
-    let n = printed(program, listing, &mut out);
-    let end = within(&out, n);
-    io::write_all(1, &out[..end]);
+// The program prints all that it must, and nothing else.
+fn holds(program: Program, listing: &[u8], wanted: &[u8], out: &mut [u8]) -> bool {
+    let n = print(program, listing, out);
+    same_bytes(&out[..n], wanted)
+}
+
+// What the program of this name prints.
+fn show(name: &[u8], program: Program, listing: &[u8], out: &mut [u8]) {
+    io::write_all(1, name);
+    io::write_all(1, b" prints:\n");
+    let n = print(program, listing, out);
+    io::write_all(1, &out[..n]);
 }
 
 // The programs that a line names by its first letter. One that is not known never holds.
-fn all_hold(letter: u8, listing: &[u8], wanted: &[u8]) -> bool {
+fn all_hold(letter: u8, listing: &[u8], wanted: &[u8], out: &mut [u8]) -> bool {
     match letter {
-        b't' => holds(Program::Twins, listing, wanted),
-        b's' => holds(Program::Sums, listing, wanted),
-        b'b' => holds(Program::Twins, listing, wanted) && holds(Program::Sums, listing, wanted),
+        b't' => holds(Program::Twins, listing, wanted, out),
+        b's' => holds(Program::Sums, listing, wanted, out),
+        b'b' => holds(Program::Twins, listing, wanted, out)
+            && holds(Program::Sums, listing, wanted, out),
         _ => false,
     }
 }
 
 // What they print, where it is not what they must.
-fn show_all(letter: u8, listing: &[u8]) {
-    if letter != b's' {
-        io::write_all(1, b"twins prints:\n");
-        show(Program::Twins, listing);
-    }
-    if letter != b't' {
-        io::write_all(1, b"sums prints:\n");
-        show(Program::Sums, listing);
+fn show_all(letter: u8, listing: &[u8], out: &mut [u8]) {
+    match letter {
+        b't' => show(b"twins", Program::Twins, listing, out),
+        b's' => show(b"sums", Program::Sums, listing, out),
+        _ => {
+            show(b"twins", Program::Twins, listing, out);
+            show(b"sums", Program::Sums, listing, out);
+        }
     }
 }
 
 // The verdict's line.
 fn judge(line: &[u8], name: &[u8], listing: &[u8], wanted: &[u8]) {
+    let mut out = [0; ROOM];
     let letter = byte_at(line, 1);
     let at = next(line, 0);
     io::write_all(1, name);
     io::write_all(1, b" (");
     io::write_all(1, &line[at..]);
-    if all_hold(letter, listing, wanted) {
+    if all_hold(letter, listing, wanted, &mut out) {
         io::write_all(1, b"): holds\n");
         return;
     }
     io::write_all(1, b"): FAILS\n");
-    show_all(letter, listing);
+    show_all(letter, listing, &mut out);
 }
 
 // The case keeps its listing: another program may be run on it.

@@ -5,7 +5,7 @@
 //     ~      text of the listing with no line feed behind it
 //     %      one byte of the listing, by its number
 //     >      a line that must be printed
-//     *A,B   a line that begins with <, ~ or >, once for each number from A to the one before B
+//     *A,B,  a line that begins with <, ~ or >, once for each number from A to the one before B
 //     +      what the listing has by now begins each case of the group
 //     :      the name of a case; the case begins here
 //     =      run `twins`, `sums` or `both`, and say whether all is printed that must be, and nothing else

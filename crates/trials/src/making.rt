@@ -3,7 +3,8 @@ use crate::text::byte_at;
 use crate::text::next;
 use crate::text::put_byte;
 use crate::text::put_decimal;
-use crate::text::read_number;
+use lines::reader::number_at;
+use lines::reading::Read;
 
 // The case that is made: how many bytes its name, its group's begin, its listing and what must be printed have.
 pub struct Case {
@@ -14,14 +15,22 @@ pub struct Case {
 }
 
 // The turns of a line, by number, and where it begins behind them.
-pub struct Turns {
-    pub from: u64,
-    pub until: u64,
-    pub behind: usize,
+struct Turns {
+    from: u32,
+    until: u32,
+    behind: usize,
+}
+
+// A line that is none of a case file is shown, so that no case is passed over unseen.
+pub fn unknown(case: Case, line: &[u8]) -> Case {
+    io::write_all(1, b"unknown line: ");
+    io::write_all(1, line);
+    io::write_all(1, b"\n");
+    case
 }
 
 // A byte of a line in one of its turns.
-fn put_made(to: &mut [u8], at: usize, byte: u8, turn: u64) -> usize {
+fn put_made(to: &mut [u8], at: usize, byte: u8, turn: u32) -> usize {
     match byte {
         b'#' => put_decimal(to, at, turn),
         b'/' => put_byte(to, at, b'\n'),
@@ -29,7 +38,7 @@ fn put_made(to: &mut [u8], at: usize, byte: u8, turn: u64) -> usize {
     }
 }
 
-fn put_turn(to: &mut [u8], at: usize, text: &[u8], turn: u64) -> usize {
+fn put_turn(to: &mut [u8], at: usize, text: &[u8], turn: u32) -> usize {
     let mut behind = at;
     let mut i = 0;
     while i < text.len() {
@@ -40,7 +49,7 @@ fn put_turn(to: &mut [u8], at: usize, text: &[u8], turn: u64) -> usize {
 }
 
 // A line in one of its turns, with its line feed if it is a whole one.
-fn put_line(to: &mut [u8], at: usize, text: &[u8], turn: u64, whole: bool) -> usize {
+fn put_line(to: &mut [u8], at: usize, text: &[u8], turn: u32, whole: bool) -> usize {
     let behind = put_turn(to, at, text, turn);
     if whole {
         return put_byte(to, behind, b'\n');
@@ -57,17 +66,6 @@ fn put_turns(to: &mut [u8], at: usize, text: &[u8], turns: Turns, whole: bool) -
         turn += 1;
     }
     behind
-}
-
-// What stands behind the star of a line.
-fn turns_of(line: &[u8]) -> Turns {
-    let from = read_number(line, 1);
-    let until = read_number(line, next(line, from.behind));
-    Turns {
-        from: from.value,
-        until: until.value,
-        behind: until.behind,
-    }
 }
 
 // A line in all its turns, behind the listing or behind what must be printed.
@@ -95,13 +93,26 @@ pub fn with_text(case: Case, line: &[u8], listing: &mut [u8], wanted: &mut [u8])
 
 // The same in turns.
 pub fn with_turns(case: Case, line: &[u8], listing: &mut [u8], wanted: &mut [u8]) -> Case {
-    with_line(case, line, turns_of(line), listing, wanted)
+    let Read::At(from, p) = number_at(line, 1) else {
+        return unknown(case, line);
+    };
+    let Read::At(until, behind) = number_at(line, p) else {
+        return unknown(case, line);
+    };
+    let turns = Turns {
+        from,
+        until,
+        behind,
+    };
+    with_line(case, line, turns, listing, wanted)
 }
 
 // One byte more of the listing.
 pub fn with_byte(case: Case, line: &[u8], listing: &mut [u8]) -> Case {
-    let n = read_number(line, 1);
+    let Read::At(n, _) = number_at(line, 1) else {
+        return unknown(case, line);
+    };
     let mut made = case;
-    made.listing = put_byte(listing, case.listing, (n.value % 256) as u8);
+    made.listing = put_byte(listing, case.listing, (n % 256) as u8);
     made
 }

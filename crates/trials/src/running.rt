@@ -1,13 +1,14 @@
 // A case file, line by line.
 use crate::judging::judged;
 use crate::making::Case;
+use crate::making::unknown;
 use crate::making::with_byte;
 use crate::making::with_text;
 use crate::making::with_turns;
 use crate::text::byte_at;
 use crate::text::next;
-use crate::text::put_text;
 use lines::pieces::piece_end;
+use lines::writing::put_text;
 use listing::calls::ROOM;
 use programs::input::Input;
 use programs::input::read_to_end;
@@ -19,11 +20,19 @@ const NAME: usize = 128;
 
 const LISTING: usize = 66000;
 
+// A name that finds no room is dropped.
+fn put_name(name: &mut [u8], text: &[u8]) -> usize {
+    if text.len() <= name.len() {
+        return put_text(name, 0, text);
+    }
+    0
+}
+
 // A case begins with what its group has kept.
 fn begun(case: Case, line: &[u8], name: &mut [u8]) -> Case {
     let at = next(line, 0);
     Case {
-        name: put_text(name, 0, &line[at..]),
+        name: put_name(name, &line[at..]),
         kept: case.kept,
         listing: case.kept,
         wanted: 0,
@@ -43,14 +52,6 @@ fn keeping(case: Case) -> Case {
     let mut kept = case;
     kept.kept = case.listing;
     kept
-}
-
-// A line that begins with no known byte is shown, so that no case is passed over unseen.
-fn unknown(case: Case, line: &[u8]) -> Case {
-    io::write_all(1, b"unknown line: ");
-    io::write_all(1, line);
-    io::write_all(1, b"\n");
-    case
 }
 
 // One line, by its first byte.

@@ -3,6 +3,9 @@ ghost use Prim.Native.Nat.{ℕ, _<_, _≤_};
 ghost use lib.ListN.{length};
 ghost use Rattle.io.specs.Counts.{Counts};
 
+// The most digits of a number within 32 bits.
+const DIGITS: usize = 10;
+
 pub fn put_byte(to: &mut [u8], at: usize, byte: u8) -> usize {
     if at < to.len() {
         to[at] = byte;
@@ -11,20 +14,13 @@ pub fn put_byte(to: &mut [u8], at: usize, byte: u8) -> usize {
     at
 }
 
-pub fn put_text(to: &mut [u8], at: usize, text: &[u8]) -> usize {
-    let mut behind = at;
-    let mut i = 0;
-    while i < text.len() {
-        behind = put_byte(to, behind, text[i]);
-        i += 1;
+pub fn put_decimal(to: &mut [u8], at: usize, n: u32) -> usize {
+    if at < to.len() {
+        if to.len() - at >= DIGITS {
+            return lines::writing::put_decimal(to, at, n);
+        }
     }
-    behind
-}
-
-pub fn put_decimal(to: &mut [u8], at: usize, n: u64) -> usize {
-    let mut digits = [0; 20];
-    let k = io::decimal(n, &mut digits);
-    put_text(to, at, &digits[..k])
+    at
 }
 
 // `n`, or the number of bytes where that is less.
@@ -54,46 +50,4 @@ pub fn byte_at(bytes: &[u8], at: usize) -> u8 {
         return bytes[at];
     }
     0
-}
-
-// A number, and the place behind its digits.
-pub struct Number {
-    pub value: u64,
-    pub behind: usize,
-}
-
-// The value of a digit; of any other byte none, which is 10.
-fn digit(byte: u8) -> u64
-    ensures { λ r. ⌜ r ≤ 10 ⌝ }
-{
-    match byte {
-        b'0' => 0,
-        b'1' => 1,
-        b'2' => 2,
-        b'3' => 3,
-        b'4' => 4,
-        b'5' => 5,
-        b'6' => 6,
-        b'7' => 7,
-        b'8' => 8,
-        b'9' => 9,
-        _ => 10,
-    }
-}
-
-// The number of the digits from `at` on; from 2^32 on it takes no further digit.
-pub fn read_number(text: &[u8], at: usize) -> Number {
-    let mut value: u64 = 0;
-    let mut behind = at;
-    while behind < text.len() {
-        let more = digit(text[behind]);
-        if more == 10 {
-            return Number { value, behind };
-        }
-        if value < 4294967296 {
-            value = value * 10 + more;
-        }
-        behind += 1;
-    }
-    Number { value, behind }
 }

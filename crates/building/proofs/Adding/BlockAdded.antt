@@ -70,7 +70,6 @@ module _ (C D : Cols) (region label location : ℕ) (types : List ℕ) (h : Laid
   new-block place l =
       let er = a .regionWord in
       let ec = a .regionCounted in
-      let ev = a .values .count in
       let eo = a .opless in
       let ek = a .keys in
       record {
@@ -113,7 +112,6 @@ module _ (C D : Cols) (region label location : ℕ) (types : List ℕ) (h : Laid
       let e1 = a .opCounted in
       let e2 = a .blockCounted in
       let e3 = a .regionCounted in
-      let e4 = a .values .count in
       let e5 = a .operandCounted in
       let e6 = a .successorCounted in
       let e7 = a .attributeCounted in

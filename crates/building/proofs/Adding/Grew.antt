@@ -10,10 +10,10 @@ use lib.ListN.{getD}
 use Rattle.rules.specs.Store.{Owner, ofOp, ofBlock}
 use Rattle.rules.proofs.Basics.Tests.{and-left, and-right, and-both}
 use Rattle.layout.specs.Columns.{Cols, at, opKind, opParent, opLocation, opDepth, opRegionFirst, opRegionEnd, opResultFirst, opResultEnd, opOperandFirst, opOperandEnd, opSuccessorFirst, opSuccessorEnd, opAttributes, regionOp, regionBlockFirst, regionBlockEnd, blockRegion, blockLabel, blockLocation, blockArgumentFirst, blockArgumentEnd, blockOpFirst, blockOpEnd, blockAttributes, valueType, valueOwner, operandWords, successorWords, slotKey, slotKind, slotContent}
-use Rattle.layout.specs.Reading.{tabulate, part, opCount, blockCount, regionCount, valueCount, operandCount, successorCount, parentFrom, ownerFrom, slotsOf, attributeAt, attributesFrom, opOf, blockOf, valueOf}
+use Rattle.layout.specs.Reading.{tabulate, part, opCount, blockCount, regionCount, valueCount, operandCount, successorCount, around, parentFrom, ownerFrom, slotsOf, attributeAt, attributesFrom, opOf, blockOf, valueOf}
 use Rattle.layout.specs.Soundness.{within, placed, endBefore, inOwner, valueLaid}
 use Rattle.layout.proofs.Laid.{Within, Owned, Tiled, OpLaid, BlockLaid, RegionLaid, Laid, within-facts, within-of}
-use Rattle.layout.proofs.Nesting.{around, placed-facts, placed-of}
+use Rattle.layout.proofs.Nesting.{placed-facts, placed-of}
 
 -- the entries of column k below n are those of before
 abbrev pub Kept : Cols → Cols → ℕ → ℕ → Type 0

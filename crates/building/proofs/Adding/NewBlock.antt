@@ -11,9 +11,9 @@ use Rattle.rules.specs.Building.{newBlock, applied}
 use Rattle.layout.specs.Columns.{Cols, at, pasted, write, pour, counts, opKind, opParent, opLocation, opDepth, opRegionFirst, opRegionEnd, opResultFirst, opResultEnd, opOperandFirst, opOperandEnd, opSuccessorFirst, opSuccessorEnd, opAttributes, regionOp, regionBlockFirst, regionBlockEnd, blockRegion, blockLabel, blockLocation, blockArgumentFirst, blockArgumentEnd, blockOpFirst, blockOpEnd, blockAttributes, valueType, valueOwner, operandWords, successorWords, slotKey, slotKind, slotContent}
 use Rattle.layout.specs.Reading.{part, opCount, blockCount, regionCount, valueCount, operandCount, successorCount, attributeCount, ownerCode, storeOf}
 use Rattle.layout.proofs.Laid.{Shaped, Within, Laid}
-use Rattle.building.specs.Raw.{withValues, extended, blockWritten, withBlock}
+use Rattle.building.specs.Raw.{withValues, extended, withRow, blockWritten, withBlock}
 use Rattle.building.proofs.Adding.Entries.{Put, put, Run, run, same}
-use Rattle.layout.proofs.Buffer.{write-shaped}
+use Rattle.building.proofs.Adding.RowWritten.{row-shaped}
 use Rattle.building.proofs.Adding.Grew.{Grew}
 use Rattle.building.proofs.Adding.Rows.{ValuesAdded}
 use Rattle.building.proofs.Adding.BlockAdded.{BlockAdded, BlockRoom, added-reads, added-laid}
@@ -35,19 +35,13 @@ module _ (C : Cols) (region label location : ℕ) (types : List ℕ) where
   placed-other j e q = extended-other row regionBlockFirst regionBlockEnd region (blockCount C) refl refl j e q
 
   pub counts-placed : (j : ℕ) → at placed counts j ≡ at C counts j
-  unfolding at blockWritten write
+  unfolding at blockWritten withRow write
   counts-placed j = ap (λ (l : List ℕ). getD l j 0) (placed-other counts refl refl)
 
   module _ (sh : Shaped C) (room : BlockRoom C types) where
     placed-shaped : Shaped placed
     unfolding blockWritten
-    placed-shaped =
-        extended-shaped _ regionBlockFirst regionBlockEnd region (blockCount C)
-        (write-shaped _ blockAttributes _ _
-        (write-shaped _ blockOpEnd _ _
-        (write-shaped _ blockOpFirst _ _
-        (write-shaped _ blockArgumentEnd _ _
-        (write-shaped _ blockArgumentFirst _ _ (write-shaped _ blockLocation _ _ (write-shaped _ blockLabel _ _ (write-shaped C blockRegion _ _ sh))))))))
+    placed-shaped = extended-shaped _ regionBlockFirst regionBlockEnd region (blockCount C) (row-shaped C blockRegion _ _ sh)
 
     values-room : valueCount placed + length types ≤ 2048
     unfolding valueCount
@@ -82,14 +76,14 @@ module _ (C : Cols) (region label location : ℕ) (types : List ℕ) where
     row-put k v long e = let l = room .blocks in put C made k (blockCount C) v e (omega arith)
 
     type-run : Run C made valueType (valueCount C) types
-    unfolding withBlock withValues blockWritten write pour valueCount
+    unfolding withBlock withValues blockWritten withRow write pour valueCount
     type-run =
         run C made valueType (valueCount C) types
         (ap₂ (λ (l : List ℕ) (n : ℕ). pasted l n types) (placed-other valueType refl refl) (counts-placed 3))
         (let e : length (C valueType) ≡ 2048 = sh valueType in let l = room .values in omega arith)
 
     owner-run : Run C made valueOwner (valueCount C) (replicate (length types) (ownerCode (ofBlock (blockCount C))))
-    unfolding withBlock withValues blockWritten write pour valueCount
+    unfolding withBlock withValues blockWritten withRow write pour valueCount
     owner-run =
         let vs = replicate (length types) (ownerCode (ofBlock (blockCount C))) in
         run C made valueOwner (valueCount C) vs
@@ -107,7 +101,7 @@ module _ (C : Cols) (region label location : ℕ) (types : List ℕ) where
 
     module _ (h : Laid C) where
       range-wider : (r : ℕ) → r < regionCount C → Wider (at C regionBlockFirst r) (at C regionBlockEnd r) (at made regionBlockFirst r) (at made regionBlockEnd r) (blockCount C)
-      unfolding withBlock withValues blockWritten write pour at
+      unfolding withBlock withValues blockWritten withRow write pour at
       range-wider r l =
           let c = h .counts .regions in
           let f : length (C regionBlockFirst) ≡ 256 = sh regionBlockFirst in
@@ -115,7 +109,7 @@ module _ (C : Cols) (region label location : ℕ) (types : List ℕ) where
           extended-wider row regionBlockFirst regionBlockEnd region (blockCount C) refl refl r (omega arith) (omega arith) (h .region r l .blocks)
 
       range-place : region < regionCount C → Within (at made regionBlockFirst region) (at made regionBlockEnd region) (blockCount C)
-      unfolding withBlock withValues blockWritten write pour at
+      unfolding withBlock withValues blockWritten withRow write pour at
       range-place l =
           let c = h .counts .regions in
           let f : length (C regionBlockFirst) ≡ 256 = sh regionBlockFirst in
@@ -123,15 +117,15 @@ module _ (C : Cols) (region label location : ℕ) (types : List ℕ) where
           extended-place row regionBlockFirst regionBlockEnd region (blockCount C) refl refl (omega arith) (omega arith) (h .region region l .blocks)
 
       first-put : Put C made blockOpFirst (blockCount C) 0
-      unfolding withBlock withValues blockWritten write pour
+      unfolding withBlock withValues blockWritten withRow write pour
       first-put = row-put blockOpFirst 0 (sh blockOpFirst) (placed-other blockOpFirst refl refl)
 
       end-put : Put C made blockOpEnd (blockCount C) 0
-      unfolding withBlock withValues blockWritten write pour
+      unfolding withBlock withValues blockWritten withRow write pour
       end-put = row-put blockOpEnd 0 (sh blockOpEnd) (placed-other blockOpEnd refl refl)
 
       block-grew : Grew C made
-      unfolding withBlock withValues blockWritten write pour opCount blockCount regionCount valueCount operandCount successorCount
+      unfolding withBlock withValues blockWritten withRow write pour opCount blockCount regionCount valueCount operandCount successorCount
       block-grew =
           let e0 = counts-else 0 (λ e. omega arith) (λ e. omega arith) in
           let e1 = blocks-count in
@@ -180,7 +174,7 @@ module _ (C : Cols) (region label location : ℕ) (types : List ℕ) where
           }
 
       block-added : BlockAdded C made region label location types
-      unfolding withBlock withValues blockWritten write pour opCount blockCount regionCount operandCount successorCount attributeCount
+      unfolding withBlock withValues blockWritten withRow write pour opCount blockCount regionCount operandCount successorCount attributeCount
       block-added =
           record {
             grew = block-grew;

@@ -11,11 +11,11 @@ use Rattle.rules.specs.Building.{newOperation, applied}
 use Rattle.layout.specs.Columns.{Cols, at, write, pour, counts, regionBlockEnd, blockRegion, blockLabel, blockLocation, blockArgumentFirst, blockArgumentEnd, blockOpFirst, blockOpEnd, blockAttributes, slotKey, slotKind, slotContent}
 use Rattle.layout.specs.Reading.{opCount, blockCount, regionCount, valueCount, operandCount, successorCount, attributeCount, storeOf}
 use Rattle.layout.proofs.Laid.{Shaped, Within, Laid}
-use Rattle.building.specs.Raw.{withValues, opPlaced, withRegions, withPart, opLeaves, opRange, opRanges, opWritten, withOperation}
+use Rattle.building.specs.Raw.{withRow, withValues, parentBelow, opPlaced, withRegions, withPart, opRow, opWritten, withOperation}
 use Rattle.building.proofs.Adding.Entries.{Run, same}
 use Rattle.building.proofs.Adding.Grew.{Grew}
 use Rattle.building.proofs.Adding.OperationAdded.{OperationAdded, added-reads}
-use Rattle.building.proofs.Adding.OperationLaid.{OpRoom, ParentIn, added-laid}
+use Rattle.building.proofs.Adding.OperationLaid.{RoomFor, added-laid}
 use Rattle.building.proofs.Adding.Extended.{Wider, wider-same, extended-wider, extended-place}
 use Rattle.building.proofs.Adding.OperationColumns.{Row, row-puts, around-run, first-run, end-run, type-run, owner-run, operand-run, successor-run, values-added}
 use Rattle.building.proofs.Adding.OperationWritten.{row, placed, made, placed-other, counts-else, ops-count, regions-counted, values-counted, operands-counted, successors-counted}
@@ -35,7 +35,7 @@ place-under C parent n b e lf le l =
     subst (λ (p : Option ℕ). Within (at (opPlaced C p n) blockOpFirst b) (at (opPlaced C p n) blockOpEnd b) n) (sym e)
     (extended-place C blockOpFirst blockOpEnd b n refl refl lf le l)
 
-module _ (C : Cols) (kind : ℕ) (parent : Option ℕ) (location regions : ℕ) (types operands successors : List ℕ) (sh : Shaped C) (room : OpRoom C regions types operands successors) where
+module _ (C : Cols) (kind : ℕ) (parent : Option ℕ) (location regions : ℕ) (types operands successors : List ℕ) (sh : Shaped C) (room : RoomFor C regions types operands successors) where
   abbrev D : Cols
   D = made C kind parent location regions types operands successors
 
@@ -54,7 +54,7 @@ module _ (C : Cols) (kind : ℕ) (parent : Option ℕ) (location regions : ℕ) 
 
   module _ (h : Laid C) where
     range-wider : (m : ℕ) → m < blockCount C → Wider (at C blockOpFirst m) (at C blockOpEnd m) (at D blockOpFirst m) (at D blockOpEnd m) (opCount C)
-    unfolding withOperation opWritten withRegions withValues withPart opRanges opRange opLeaves write pour at
+    unfolding withOperation opWritten withRegions withValues withPart opRow withRow write pour at
     range-wider m l =
         let c = h .counts .blocks in
         let f : length (C blockOpFirst) ≡ 256 = sh blockOpFirst in
@@ -62,7 +62,7 @@ module _ (C : Cols) (kind : ℕ) (parent : Option ℕ) (location regions : ℕ) 
         wider-under (row C kind parent location regions types operands successors) parent (opCount C) m (omega arith) (omega arith) (h .block m l .ops)
 
     range-place : (b : ℕ) → parent ≡ some b → b < blockCount C → Within (at D blockOpFirst b) (at D blockOpEnd b) (opCount C)
-    unfolding withOperation opWritten withRegions withValues withPart opRanges opRange opLeaves write pour at
+    unfolding withOperation opWritten withRegions withValues withPart opRow withRow write pour at
     range-place b q l =
         let c = h .counts .blocks in
         let f : length (C blockOpFirst) ≡ 256 = sh blockOpFirst in
@@ -70,7 +70,7 @@ module _ (C : Cols) (kind : ℕ) (parent : Option ℕ) (location regions : ℕ) 
         place-under (row C kind parent location regions types operands successors) parent (opCount C) b q (omega arith) (omega arith) (h .block b l .ops)
 
     operation-grew : Grew C D
-    unfolding withOperation opWritten withRegions withValues withPart opRanges opRange opLeaves write pour opCount blockCount regionCount valueCount operandCount successorCount
+    unfolding withOperation opWritten withRegions withValues withPart opRow withRow write pour opCount blockCount regionCount valueCount operandCount successorCount
     operation-grew =
         let e0 = ops-count C kind parent location regions types operands successors sh room in
         let e1 = counts-kept 1 (λ q. omega arith) (λ q. omega arith) (λ q. omega arith) (λ q. omega arith) (λ q. omega arith) in
@@ -119,7 +119,7 @@ module _ (C : Cols) (kind : ℕ) (parent : Option ℕ) (location regions : ℕ) 
         }
 
     operation-added : OperationAdded C D kind parent location regions types operands successors
-    unfolding withOperation opWritten withRegions withValues withPart opRanges opRange opLeaves write pour opCount blockCount regionCount valueCount operandCount successorCount attributeCount
+    unfolding withOperation opWritten withRegions withValues withPart opRow withRow write pour opCount blockCount regionCount valueCount operandCount successorCount attributeCount
     operation-added =
         record {
           grew = operation-grew;
@@ -154,5 +154,6 @@ module _ (C : Cols) (kind : ℕ) (parent : Option ℕ) (location regions : ℕ) 
     pub operation-reads : storeOf (withOperation C kind parent location regions types operands successors) ≡ applied (storeOf C) (newOperation kind parent location regions types operands successors)
     operation-reads = added-reads C D kind parent location regions types operands successors h operation-added
 
-    pub operation-laid : ParentIn C parent → Laid (withOperation C kind parent location regions types operands successors)
-    operation-laid p = added-laid C D kind parent location regions types operands successors h operation-added room (λ b e. range-place b e (subst (ParentIn C) e p)) p
+    pub operation-laid : parentBelow (blockCount C) parent → Laid (withOperation C kind parent location regions types operands successors)
+    unfolding parentBelow
+    operation-laid p = added-laid C D kind parent location regions types operands successors h operation-added room (λ b e. range-place b e (subst (parentBelow (blockCount C)) e p)) p

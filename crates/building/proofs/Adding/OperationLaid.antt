@@ -16,20 +16,14 @@ use Rattle.layout.specs.Columns.{Cols, at, opRegionFirst, opRegionEnd, opResult
 use Rattle.layout.specs.Reading.{opCount, blockCount, regionCount, valueCount, attributeCount, parentFrom}
 use Rattle.layout.specs.Soundness.{endBefore, placed, inOwner, attributeSum}
 use Rattle.layout.proofs.Laid.{Within, OpLaid, RegionLaid, Laid, within-of}
-use Rattle.building.specs.Raw
-use Rattle.building.specs.Raw.{depthUnder}
+use Rattle.building.specs.Raw.{OpRoom, parentBelow, depthUnder}
 use Rattle.building.proofs.Adding.Grew.{placed-under, end-kept, op-kept, block-kept, region-kept}
 use Rattle.building.proofs.Adding.Rows.{values-laid, new-owned, old-or-last, old-or-new, rows-last, rows-kept, sum-last}
 use Rattle.building.proofs.Adding.OperationAdded.{OperationAdded, parent-read}
 
 -- there is room for an operation with so many regions and with these lists
-abbrev pub OpRoom : Cols → ℕ → List ℕ → List ℕ → List ℕ → Type 0
-OpRoom C r ts os ss = Raw.OpRoom C r (length ts) (length os) (length ss)
-
--- the parent, if any, exists
-abbrev pub ParentIn : Cols → Option ℕ → Type 0
-ParentIn C none = Unit {0}
-ParentIn C (some b) = b < blockCount C
+abbrev pub RoomFor : Cols → ℕ → List ℕ → List ℕ → List ℕ → Type 0
+RoomFor C r ts os ss = OpRoom C r (length ts) (length os) (length ss)
 
 module _ (C D : Cols) (kind : ℕ) (parent : Option ℕ) (location regions : ℕ) (types operands successors : List ℕ) (h : Laid C) (a : OperationAdded C D kind parent location regions types operands successors) where
   -- ---- the new operation
@@ -38,17 +32,16 @@ module _ (C D : Cols) (kind : ℕ) (parent : Option ℕ) (location regions : ℕ
   abbrev Place : Type 0
   Place = (b : ℕ) → parent ≡ some b → Within (at D blockOpFirst b) (at D blockOpEnd b) (opCount C)
 
-  new-placed : Place → (p : Option ℕ) → parent ≡ p → ParentIn C p → placed D (opCount C) p ≡ true
-  unfolding placed depthUnder
+  new-placed : Place → (p : Option ℕ) → parent ≡ p → parentBelow (blockCount C) p → placed D (opCount C) p ≡ true
+  unfolding placed depthUnder parentBelow
   new-placed place none e i = eq-eqb _ _ (a .depthWord ∙ ap (depthUnder C) e)
   new-placed place (some b) e i =
       placed-under C D h (a .grew) (opCount C) b i (h .region _ (h .block b i .regionIn) .opIn) (a .depthWord ∙ ap (depthUnder C) e) (place b e)
 
-  new-op : Place → ParentIn C parent → OpLaid D (opCount C)
+  new-op : Place → parentBelow (blockCount C) parent → OpLaid D (opCount C)
   new-op place i =
       let g = a .grew in
       let er = a .regionCounted in
-      let ev = a .values .count in
       let eo = a .operandCounted in
       let es = a .successorCounted in
       let of = a .operandFirst in
@@ -67,7 +60,7 @@ module _ (C D : Cols) (kind : ℕ) (parent : Option ℕ) (location regions : ℕ
 
   -- ---- the rows
 
-  ops-laid : Place → ParentIn C parent → (n : ℕ) → n < opCount D → OpLaid D n
+  ops-laid : Place → parentBelow (blockCount C) parent → (n : ℕ) → n < opCount D → OpLaid D n
   ops-laid place p n l = go (old-or-last n (opCount C) (subst (λ (m : ℕ). n < m) (a .opCounted) l))
     where
       go : (n < opCount C) ⊎ (n ≡ opCount C) → OpLaid D n
@@ -112,13 +105,12 @@ module _ (C D : Cols) (kind : ℕ) (parent : Option ℕ) (location regions : ℕ
       (ap sum (rows-kept (blockCount D) (blockCount C) (at D blockAttributes) (at C blockAttributes) (a .grew .blockKeys) (a .blockCounted)))
       ∙ h .attributes ∙ sym (a .attributeCounted)
 
-  pub added-laid : OpRoom C regions types operands successors → Place → ParentIn C parent → Laid D
+  pub added-laid : RoomFor C regions types operands successors → Place → parentBelow (blockCount C) parent → Laid D
   added-laid room place p =
       let c = h .counts in
       let e1 = a .opCounted in
       let e2 = a .blockCounted in
       let e3 = a .regionCounted in
-      let e4 = a .values .count in
       let e5 = a .operandCounted in
       let e6 = a .successorCounted in
       let e7 = a .attributeCounted in

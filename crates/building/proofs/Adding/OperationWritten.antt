@@ -8,12 +8,12 @@ use mathlib.Core.Path.{_≡_, refl, ap, _∙_}
 use lib.Dec.{eqb}
 use lib.ListN.{length, getD}
 use Rattle.rules.specs.Store.{ofOp}
-use Rattle.layout.specs.Columns.{Cols, size, at, write, counts, opKind, opParent, opLocation, opDepth, opRegionFirst, opRegionEnd, opResultFirst, opResultEnd, opOperandFirst, opOperandEnd, opSuccessorFirst, opSuccessorEnd, opAttributes, blockOpFirst, blockOpEnd, operandWords, successorWords}
+use Rattle.layout.specs.Columns.{Cols, size, at, write, counts, opKind, blockOpFirst, blockOpEnd, operandWords, successorWords}
 use Rattle.layout.specs.Reading.{opCount, regionCount, valueCount, operandCount, successorCount}
 use Rattle.layout.proofs.Laid.{Shaped}
-use Rattle.building.specs.Raw.{withValues, parentCode, depthUnder, opPlaced, withRegions, withPart, opLeaves, opRange, opRanges, opWritten, withOperation}
-use Rattle.layout.proofs.Buffer.{write-shaped}
-use Rattle.building.proofs.Adding.OperationLaid.{OpRoom}
+use Rattle.building.specs.Raw.{withRow, withValues, parentCode, depthUnder, opPlaced, withRegions, withPart, opRow, opWritten, withOperation}
+use Rattle.building.proofs.Adding.RowWritten.{row-shaped}
+use Rattle.building.proofs.Adding.OperationLaid.{RoomFor}
 use Rattle.building.proofs.Adding.Extended.{extended-shaped, extended-other}
 use Rattle.building.proofs.Adding.Layers.{count-same, count-other, regions-shaped, regions-count, regions-counts, values-shaped, values-count, values-counts, part-shaped, part-count, part-counts}
 
@@ -27,14 +27,10 @@ unfolding opPlaced
 shaped-under C none n sh = sh
 shaped-under C (some b) n sh = extended-shaped C blockOpFirst blockOpEnd b n sh
 
-range-shaped : (C : Cols) (first end n from count : ℕ) → Shaped C → Shaped (opRange C first end n from count)
-unfolding opRange
-range-shaped C first end n from count sh = write-shaped _ end _ _ (write-shaped C first _ _ sh)
-
 module _ (C : Cols) (kind : ℕ) (parent : Option ℕ) (location regions : ℕ) (types operands successors : List ℕ) where
   -- the operation's row, and its parent's range
   abbrev pub row : Cols
-  row = opRanges (opLeaves C (opCount C) kind (parentCode parent) location (depthUnder C parent)) (opCount C) regions (length types) (length operands) (length successors)
+  row = withRow C opKind (opCount C) (opRow C kind (parentCode parent) location (depthUnder C parent) regions (length types) (length operands) (length successors))
 
   abbrev pub placed : Cols
   placed = opPlaced row parent (opCount C)
@@ -59,21 +55,14 @@ module _ (C : Cols) (kind : ℕ) (parent : Option ℕ) (location regions : ℕ) 
   placed-other j e q = other-under row parent (opCount C) j e q
 
   pub counts-placed : (j : ℕ) → at placed counts j ≡ at C counts j
-  unfolding at opRanges opRange opLeaves write
+  unfolding at opRow withRow write
   counts-placed j = ap (λ (l : List ℕ). getD l j 0) (placed-other counts refl refl)
 
-  module _ (sh : Shaped C) (room : OpRoom C regions types operands successors) where
+  module _ (sh : Shaped C) (room : RoomFor C regions types operands successors) where
     -- ---- layer by layer
 
     s₀ : Shaped placed
-    unfolding opRanges opLeaves
-    s₀ =
-        shaped-under row parent (opCount C)
-        (range-shaped _ opSuccessorFirst opSuccessorEnd _ _ _
-        (range-shaped _ opOperandFirst opOperandEnd _ _ _
-        (range-shaped _ opResultFirst opResultEnd _ _ _
-        (range-shaped _ opRegionFirst opRegionEnd _ _ _
-        (write-shaped _ opAttributes _ _ (write-shaped _ opDepth _ _ (write-shaped _ opLocation _ _ (write-shaped _ opParent _ _ (write-shaped C opKind _ _ sh)))))))))
+    s₀ = shaped-under row parent (opCount C) (row-shaped C opKind _ _ sh)
 
     pub r₁ : regionCount placed + regions ≤ 256
     unfolding regionCount

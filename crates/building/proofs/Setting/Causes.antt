@@ -1,4 +1,4 @@
--- Why a set attribute is refused, read off the columns of a sound buffer: the first test that fails gives the cause, and where none does there is room. Assumes nothing.
+-- Where a set attribute goes, read off the columns of a sound buffer: the first test that fails gives the cause of a refusal, and where none does there is room. Assumes nothing.
 use Prim.Native.Nat.{ℕ, _+_, _<_, _≤_}
 use native.Mathlib.Omega.{arith}
 use mathlib.Core.Bool.{Bool, true, false, cond, _||_}
@@ -15,7 +15,9 @@ use Rattle.layout.specs.Columns.{columns}
 use Rattle.layout.specs.Reading.{attributeCount, storeIn}
 use Rattle.layout.specs.Soundness.{IsSound}
 use Rattle.layout.specs.Owners.{keyCount}
-use Rattle.building.specs.Raw.{keyThere}
+use Rattle.building.specs.declared.attributes.Place.{Place}
+use Rattle.building.specs.declared.attributes.Place.the-variants as Places
+use Rattle.building.specs.Raw.{slotFor, keyThere, placeFor}
 use Rattle.building.proofs.Facts.{attributes-counted}
 use Rattle.building.proofs.Setting.Owners.{key-test, keys-counted}
 use Rattle.building.proofs.Setting.SetAttribute.{Room}
@@ -27,35 +29,51 @@ module _ (b : List ℕ) (h : IsSound b) (w : Owner) (a : Attribute) where
   abbrev there : Bool
   there = keyThere (columns b) w (a .key)
 
-  pub kind-over : maxAttributeKind < a .kind → some 6 ≡ failing
-  unfolding tests firstFailed
+  abbrev slot : ℕ
+  slot = slotFor (columns b) w (a .key)
+
+  abbrev goes : Place
+  goes = placeFor (columns b) w a failing
+
+  pub kind-over : maxAttributeKind < a .kind → Places.Refused 6 ≡ goes
+  unfolding tests firstFailed placeFor
   kind-over l = simp (lt-leb _ _ l)
 
-  pub no-owner : a .kind ≤ maxAttributeKind → ownerExists (storeIn b) w ≡ false → some 2 ≡ failing
-  unfolding tests firstFailed
+  pub no-owner : a .kind ≤ maxAttributeKind → ownerExists (storeIn b) w ≡ false → Places.Refused 2 ≡ goes
+  unfolding tests firstFailed placeFor
   no-owner l e = simp (le-leb _ _ l, e)
+
+  -- one fails, or none
+  goes-not : (cause : ℕ) → failing ≡ some cause → Places.Refused cause ≡ goes
+  unfolding placeFor
+  goes-not cause e = ap (placeFor (columns b) w a) (sym e)
+
+  goes-on : failing ≡ none → cond there (Places.Replaces slot) (Places.Adds slot) ≡ goes
+  unfolding placeFor
+  goes-on e = ap (placeFor (columns b) w a) (sym e)
 
   module _ (l : a .kind ≤ maxAttributeKind) (e : ownerExists (storeIn b) w ≡ true) where
     -- the tests of room, over the columns
-    room-tests : failing ≡ cond (there || leb (keyCount (columns b) w + 1) maxOwnKeys) (cond (there || leb (attributeCount (columns b) + 1) maxAttributes) none (some 3)) (some 4)
+    room-tests : (t : Bool) → there ≡ t → failing ≡ cond (t || leb (keyCount (columns b) w + 1) maxOwnKeys) (cond (t || leb (attributeCount (columns b) + 1) maxAttributes) none (some 3)) (some 4)
     unfolding tests firstFailed
-    room-tests = simp (le-leb _ _ l, e, key-test b h w e (a .key), keys-counted b h w e, attributes-counted b h)
+    room-tests t q = simp (le-leb _ _ l, e, key-test b h w e (a .key), q, keys-counted b h w e, attributes-counted b h)
 
-    pub key-set : there ≡ true → none ≡ failing
-    key-set t = sym (room-tests ∙ ap (λ (x : Bool). cond (x || leb (keyCount (columns b) w + 1) maxOwnKeys) (cond (x || leb (attributeCount (columns b) + 1) maxAttributes) none (some 3)) (some 4)) t)
+    pub key-set : there ≡ true → Places.Replaces slot ≡ goes
+    key-set t = sym (ap (λ (x : Bool). cond x (Places.Replaces slot) (Places.Adds slot)) t) ∙ goes-on (room-tests true t)
 
     module _ (t : there ≡ false) where
-      new-tests : failing ≡ cond (leb (keyCount (columns b) w + 1) maxOwnKeys) (cond (leb (attributeCount (columns b) + 1) maxAttributes) none (some 3)) (some 4)
-      new-tests = room-tests ∙ ap (λ (x : Bool). cond (x || leb (keyCount (columns b) w + 1) maxOwnKeys) (cond (x || leb (attributeCount (columns b) + 1) maxAttributes) none (some 3)) (some 4)) t
+      pub many-keys : maxOwnKeys ≤ keyCount (columns b) w → Places.Refused 4 ≡ goes
+      many-keys m = goes-not 4 (room-tests false t ∙ simp (lt-leb (keyCount (columns b) w + 1) maxOwnKeys (omega arith)))
 
-      pub many-keys : maxOwnKeys ≤ keyCount (columns b) w → some 4 ≡ failing
-      many-keys m = sym (new-tests ∙ simp (lt-leb (keyCount (columns b) w + 1) maxOwnKeys (omega arith)))
+      module _ (m : keyCount (columns b) w < maxOwnKeys) where
+        total-test : failing ≡ cond (leb (attributeCount (columns b) + 1) maxAttributes) none (some 3)
+        total-test = room-tests false t ∙ simp (le-leb (keyCount (columns b) w + 1) maxOwnKeys (omega arith))
 
-      pub many-attributes : keyCount (columns b) w < maxOwnKeys → maxAttributes ≤ attributeCount (columns b) → some 3 ≡ failing
-      many-attributes m n = sym (new-tests ∙ simp (le-leb (keyCount (columns b) w + 1) maxOwnKeys (omega arith), lt-leb (attributeCount (columns b) + 1) maxAttributes (omega arith)))
+        pub many-attributes : maxAttributes ≤ attributeCount (columns b) → Places.Refused 3 ≡ goes
+        many-attributes n = goes-not 3 (total-test ∙ simp (lt-leb (attributeCount (columns b) + 1) maxAttributes (omega arith)))
 
-      pub room-left : keyCount (columns b) w < maxOwnKeys → attributeCount (columns b) < maxAttributes → none ≡ failing
-      room-left m n = sym (new-tests ∙ simp (le-leb (keyCount (columns b) w + 1) maxOwnKeys (omega arith), le-leb (attributeCount (columns b) + 1) maxAttributes (omega arith)))
+        pub room-left : attributeCount (columns b) < maxAttributes → Places.Adds slot ≡ goes
+        room-left n = sym (ap (λ (x : Bool). cond x (Places.Replaces slot) (Places.Adds slot)) t) ∙ goes-on (total-test ∙ simp (le-leb (attributeCount (columns b) + 1) maxAttributes (omega arith)))
 
   -- ---- and where all pass
 

@@ -73,15 +73,10 @@ module _ (C D : Cols) where
   inOwner-same v (ofOp n) = refl
   inOwner-same v (ofBlock b) = refl
 
-  operandBefore-same : (n : ℕ) → endBefore (patched C D) opOperandEnd n ≡ endBefore C opOperandEnd n
-  unfolding endBefore patched touched any at
-  operandBefore-same zero = refl
-  operandBefore-same (suc n) = refl
-
-  successorBefore-same : (n : ℕ) → endBefore (patched C D) opSuccessorEnd n ≡ endBefore C opSuccessorEnd n
-  unfolding endBefore patched touched any at
-  successorBefore-same zero = refl
-  successorBefore-same (suc n) = refl
+  before-same : (k n : ℕ) → eqb k counts ≡ false → touched k ≡ false → endBefore (patched C D) k n ≡ endBefore C k n
+  unfolding endBefore patched at
+  before-same k zero e u = refl
+  before-same k (suc n) e u = rw (e, u) refl
 
   op-patched : (n : ℕ) → OpLaid C n → at D opAttributes n ≤ maxOwnKeys → OpLaid (patched C D) n
   unfolding patched patchedCounts touched any opCount blockCount regionCount valueCount operandCount successorCount attributeCount at
@@ -90,8 +85,8 @@ module _ (C D : Cols) where
         place = placed-same n (parentFrom (at C opParent n)) ∙ h .place;
         regions = record { range = h .regions .range; words = h .regions .words };
         results = record { range = h .results .range; words = h .results .words };
-        operands = record { follows = h .operands .follows ∙ sym (operandBefore-same n); range = h .operands .range };
-        successors = record { follows = h .successors .follows ∙ sym (successorBefore-same n); range = h .successors .range };
+        operands = record { follows = h .operands .follows ∙ sym (before-same opOperandEnd n refl refl); range = h .operands .range };
+        successors = record { follows = h .successors .follows ∙ sym (before-same opSuccessorEnd n refl refl); range = h .successors .range };
         keys = keys;
       }
 
@@ -130,7 +125,7 @@ module _ (C D : Cols) where
         block = λ m l. block-patched m (h .block m l) (blockKeys m l);
         region = λ r l. record { opIn = h .region r l .opIn; place = h .region r l .place; blocks = h .region r l .blocks };
         value = λ v l. inOwner-same v _ ∙ h .value v l;
-        operandEnd = operandBefore-same (opCount C) ∙ h .operandEnd;
-        successorEnd = successorBefore-same (opCount C) ∙ h .successorEnd;
+        operandEnd = before-same opOperandEnd (opCount C) refl refl ∙ h .operandEnd;
+        successorEnd = before-same opSuccessorEnd (opCount C) refl refl ∙ h .successorEnd;
         attributes = total;
       }

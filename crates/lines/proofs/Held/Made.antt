@@ -1,7 +1,7 @@
 -- A function with plain parameters that makes the record, and passes it to a function f: `f(Reader { line, at })`. A walk of its MIR, by
 -- hand. A `&[u8]` is Copy: what the line owns is had twice, once for the exit, and once inside the record. In a local MIR erases the
 -- lifetime of the record's type. Assumes nothing.
-use mathlib.Core.Path.{_≡_, refl}
+use mathlib.Core.Path.{refl}
 use Prim.Native.Nat.{ℕ, _<_, _^_}
 use mathlib.Core.List.{List, [], _∷_}
 use lib.Dec.{T as Holds}

@@ -1,4 +1,5 @@
--- Lists that grow at their end or change at one place: each function here goes entry by entry, so what it gives for the old entries stays. Assumes nothing.
+-- Lists that grow at their end or change at one place: each function here goes entry by entry, so what it gives for the old entries stays.
+-- Assumes nothing.
 use Prim.Native.Nat.{ℕ, zero, suc, _+_, _<_}
 use native.Mathlib.Nat.{add-zero, not-suc-le-zero, le-of-suc-le-suc}
 use native.Mathlib.Omega.{arith}
@@ -17,17 +18,17 @@ cond-append false n l x y e = e
 module _ {ℓ} {A : Type ℓ} where
   -- ---- one after the other
 
-  pub numbersFrom-append : (n : ℕ) (p : A → Bool) (xs ys : List A) → numbersFrom n p (xs ++ ys) ≡ numbersFrom n p xs ++ numbersFrom (n + length xs) p ys
+  numbersFrom-append : (n : ℕ) (p : A → Bool) (xs ys : List A) → numbersFrom n p (xs ++ ys) ≡ numbersFrom n p xs ++ numbersFrom (n + length xs) p ys
   unfolding numbersFrom
   numbersFrom-append n p [] ys = rw add-zero refl
   numbersFrom-append n p (x ∷ xs) ys = cond-append (p x) n _ _ _ (numbersFrom-append (suc n) p xs ys ∙ ap (λ (k : ℕ). numbersFrom (suc n) p xs ++ numbersFrom k p ys) (omega arith))
 
-  pub numbersFrom-none : (n : ℕ) (p : A → Bool) (xs : List A) → ((x : A) → List·Memᴰ x xs → p x ≡ false) → numbersFrom n p xs ≡ []
+  numbersFrom-none : (n : ℕ) (p : A → Bool) (xs : List A) → ((x : A) → List·Memᴰ x xs → p x ≡ false) → numbersFrom n p xs ≡ []
   unfolding numbersFrom
   numbersFrom-none n p [] h = refl
   numbersFrom-none n p (x ∷ xs) h = rw (h x (List·Memᴰ·head refl)) (numbersFrom-none (suc n) p xs (λ y m. h y (List·Memᴰ·tail m)))
 
-  pub numbersFrom-every : (n : ℕ) (p : A → Bool) (xs : List A) → ((x : A) → List·Memᴰ x xs → p x ≡ true) → length (numbersFrom n p xs) ≡ length xs
+  numbersFrom-every : (n : ℕ) (p : A → Bool) (xs : List A) → ((x : A) → List·Memᴰ x xs → p x ≡ true) → length (numbersFrom n p xs) ≡ length xs
   unfolding numbersFrom
   numbersFrom-every n p [] h = refl
   numbersFrom-every n p (x ∷ xs) h = rw (h x (List·Memᴰ·head refl)) (ap suc (numbersFrom-every (suc n) p xs (λ y m. h y (List·Memᴰ·tail m))))
@@ -38,7 +39,8 @@ module _ {ℓ} {A : Type ℓ} where
   numbers-before p xs ys h = numbersFrom-append 0 p xs ys ∙ rw (numbersFrom-none (0 + length xs) p ys h) (append-nil _)
 
   -- the appended pass, and none before: as many places as are appended
-  pub numbers-new : (p : A → Bool) (xs ys : List A) → ((x : A) → List·Memᴰ x xs → p x ≡ false) → ((y : A) → List·Memᴰ y ys → p y ≡ true) → length (numbersWhere p (xs ++ ys)) ≡ length ys
+  pub numbers-new : (p : A → Bool) (xs ys : List A) → ((x : A) → List·Memᴰ x xs → p x ≡ false) → ((y : A) → List·Memᴰ y ys → p y ≡ true)
+      → length (numbersWhere p (xs ++ ys)) ≡ length ys
   unfolding numbersWhere
   numbers-new p xs ys f h = rw (numbersFrom-append 0 p xs ys, numbersFrom-none 0 p xs f) (numbersFrom-every (0 + length xs) p ys h)
 
@@ -80,7 +82,8 @@ module _ {ℓ} {A : Type ℓ} where
   length-update g (suc n) (x ∷ xs) = ap suc (length-update g n xs)
 
   -- what holds of the entry there and of the changed entry holds of the entry after the change
-  pub getD-update {κ} : (P : A → Type κ) (g : A → A) (n i : ℕ) (xs : List A) (d : A) → P (getD xs i d) → (i ≡ n → P (g (getD xs n d))) → P (getD (updateAt g n xs) i d)
+  pub getD-update {κ} : (P : A → Type κ) (g : A → A) (n i : ℕ) (xs : List A) (d : A) → P (getD xs i d) → (i ≡ n → P (g (getD xs n d)))
+      → P (getD (updateAt g n xs) i d)
   unfolding updateAt
   getD-update P g n i [] d p q = p
   getD-update P g zero zero (x ∷ xs) d p q = q refl
@@ -88,7 +91,8 @@ module _ {ℓ} {A : Type ℓ} where
   getD-update P g (suc n) zero (x ∷ xs) d p q = p
   getD-update P g (suc n) (suc i) (x ∷ xs) d p q = getD-update P g n i xs d p (λ e. q (ap suc e))
 
-  pub sum-update : (f : A → ℕ) (g : A → A) (n : ℕ) (xs : List A) (d : A) → n < length xs → sum (map f (updateAt g n xs)) + f (getD xs n d) ≡ sum (map f xs) + f (g (getD xs n d))
+  pub sum-update : (f : A → ℕ) (g : A → A) (n : ℕ) (xs : List A) (d : A) → n < length xs
+      → sum (map f (updateAt g n xs)) + f (getD xs n d) ≡ sum (map f xs) + f (g (getD xs n d))
   unfolding updateAt sum
   sum-update f g n [] d l = absurd (not-suc-le-zero l)
   sum-update f g zero (x ∷ xs) d l = omega arith

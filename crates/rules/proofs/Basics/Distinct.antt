@@ -1,8 +1,8 @@
--- Lists in which nothing stands twice. Assumes nothing.
+-- Lists in which nothing stands twice, and lists that are put together from lists. Assumes nothing.
 use Prim.Native.Nat.{ℕ}
-use mathlib.Core.List.{List, [], _∷_, _++_, map, List·Memᴰ, List·Memᴰ·head, List·Memᴰ·tail, List·Memᴰ·append-cases, Memᴰ·append-left, Memᴰ·append-right, Memᴰ·cast, List·Memᴰ·not-nil, List·Memᴰ·cases-cons, Memᴰ·of-map, append-assoc}
+use mathlib.Core.List.{List, [], _∷_, _++_, map, List·Memᴰ, List·Memᴰ·head, List·Memᴰ·tail, List·Memᴰ·append-cases, Memᴰ·append-left, Memᴰ·cast, List·Memᴰ·not-nil, Memᴰ·of-map, append-assoc}
 use mathlib.Core.Logic.{_⊎_, inl, inr, ⊎-elim}
-use mathlib.Core.Path.{_≡_, refl, sym, ap, ap₂, subst, _∙_}
+use mathlib.Core.Path.{_≡_, refl, sym, ap, ap₂, _∙_}
 use Rattle.rules.specs.Lists.{concatMap}
 use Rattle.rules.specs.Fragments.{Disjoint}
 
@@ -22,29 +22,16 @@ module _ {A : Type 0} where
   distinct-left [] ys d = tt
   distinct-left (x ∷ xs) ys d = (λ m. d .0 (Memᴰ·append-left ys m), distinct-left xs ys (d .1))
 
-  pub distinct-right : (xs ys : List A) → Distinct (xs ++ ys) → Distinct ys
-  distinct-right [] ys d = d
-  distinct-right (x ∷ xs) ys d = distinct-right xs ys (d .1)
-
-  pub distinct-apart : (xs ys : List A) → Distinct (xs ++ ys) → Disjoint xs ys
-  distinct-apart [] ys d y m k = List·Memᴰ·not-nil m
-  distinct-apart (x ∷ xs) ys d y m k =
-      ⊎-elim (λ e. d .0 (Memᴰ·append-right xs (Memᴰ·cast (sym e) k))) (λ m′. distinct-apart xs ys (d .1) y m′ k) (List·Memᴰ·cases-cons m)
-
 module _ {A B : Type 0} where
   pub mem-concatMap : (f : A → List B) (xs : List A) {y : B} → List·Memᴰ y (concatMap f xs) → (x : A) × List·Memᴰ x xs × List·Memᴰ y (f x)
   unfolding concatMap
   mem-concatMap f [] m = absurd (List·Memᴰ·not-nil m)
   mem-concatMap f (x ∷ xs) {y} m = go (λ k. mem-concatMap f xs k) (List·Memᴰ·append-cases (f x) m)
     where
-      go : (List·Memᴰ y (concatMap f xs) → (z : A) × List·Memᴰ z xs × List·Memᴰ y (f z)) → List·Memᴰ y (f x) ⊎ List·Memᴰ y (concatMap f xs) → (z : A) × List·Memᴰ z (x ∷ xs) × List·Memᴰ y (f z)
+      go : (List·Memᴰ y (concatMap f xs) → (z : A) × List·Memᴰ z xs × List·Memᴰ y (f z)) → List·Memᴰ y (f x) ⊎ List·Memᴰ y (concatMap f xs)
+          → (z : A) × List·Memᴰ z (x ∷ xs) × List·Memᴰ y (f z)
       go rest (inl k) = (x, List·Memᴰ·head refl, k)
       go rest (inr k) = let w = rest k in (w .0, List·Memᴰ·tail (w .1), w .2)
-
-  pub concatMap-mem : (f : A → List B) {x : A} {xs : List A} → List·Memᴰ x xs → {y : B} → List·Memᴰ y (f x) → List·Memᴰ y (concatMap f xs)
-  unfolding concatMap
-  concatMap-mem f {x} (List·Memᴰ·head {x = z} {xs} e) {y} k = Memᴰ·append-left (concatMap f xs) (subst (λ (w : A). List·Memᴰ y (f w)) e k)
-  concatMap-mem f {x} (List·Memᴰ·tail {x = z} {xs} m) {y} k = Memᴰ·append-right (f z) (concatMap-mem f m k)
 
   -- the parts are distinct, and what stands in two of them tells that they are the same
   pub distinct-concatMap : (f : A → List B) (xs : List A) → Distinct xs → ((x : A) → List·Memᴰ x xs → Distinct (f x))
@@ -72,7 +59,8 @@ module _ {A B : Type 0} where
   concatMap-append f [] ys = refl
   concatMap-append f (x ∷ xs) ys = ap (λ (l : List B). f x ++ l) (concatMap-append f xs ys) ∙ sym (append-assoc (f x) (concatMap f xs) (concatMap f ys))
 
-pub concatMap-concatMap : {A B C : Type 0} (f : B → List C) (g : A → List B) (xs : List A) → concatMap f (concatMap g xs) ≡ concatMap (λ (x : A). concatMap f (g x)) xs
+pub concatMap-concatMap : {A B C : Type 0} (f : B → List C) (g : A → List B) (xs : List A)
+    → concatMap f (concatMap g xs) ≡ concatMap (λ (x : A). concatMap f (g x)) xs
 unfolding concatMap
 concatMap-concatMap f g [] = refl
 concatMap-concatMap {C = C} f g (x ∷ xs) = concatMap-append f (g x) (concatMap g xs) ∙ ap (λ (l : List C). concatMap f (g x) ++ l) (concatMap-concatMap f g xs)

@@ -26,7 +26,7 @@ module _ {A : Type 0} where
   without-others (List·Memᴰ·tail m) y ne k = ⊎-elim (λ f. List·Memᴰ·head f) (λ k′. List·Memᴰ·tail (without-others m y ne k′)) (List·Memᴰ·cases-cons k)
 
   -- distinct entries that all stand in another list are at most as many as that has
-  pub distinct-most : (xs ys : List A) → Distinct xs → ((x : A) → List·Memᴰ x xs → List·Memᴰ x ys) → length xs ≤ length ys
+  distinct-most : (xs ys : List A) → Distinct xs → ((x : A) → List·Memᴰ x xs → List·Memᴰ x ys) → length xs ≤ length ys
   distinct-most [] ys d h = omega arith
   distinct-most (x ∷ xs) ys d h =
       let m = h x (List·Memᴰ·head refl) in

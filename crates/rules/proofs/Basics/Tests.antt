@@ -43,6 +43,10 @@ decided false = inr refl
 pub clash {ℓ} : {A : Type ℓ} {b : Bool} → b ≡ true → b ≡ false → A
 clash p q = absurd (true≢false (sym p ∙ q))
 
+-- what `cc` shows of constructors that differ
+pub impossible {ℓ} : {A : Type ℓ} → _≡_ {A = ℕ} 0 1 → A
+impossible h = absurd (omega arith)
+
 -- all of a list of tests pass, one by one
 abbrev pub Passed : List Bool → Type 0
 Passed [] = Unit {0}

@@ -58,7 +58,7 @@ module _ (s : Store) (sd : Sound s) where
       subst (λ (w : Owner). (ownerExists s w ≡ true) × (rank s w < 2 * opAround s b + 1)) f
       (owner-op s sd (opAround s b) (around-in s sd b (ltb-true _ _ h)), omega arith)
 
-  pub around-in-store : {a x : Owner} → ownerExists s x ≡ true → Around s a x → ownerExists s a ≡ true
+  around-in-store : {a x : Owner} → ownerExists s x ≡ true → Around s a x → ownerExists s a ≡ true
   around-in-store {a} {x} h (next e) = up-smaller x a h e .0
   around-in-store {a} {x} h (beyond {p = p} e k) = around-in-store (up-smaller x p h e .0) k
 

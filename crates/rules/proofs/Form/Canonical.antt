@@ -27,7 +27,7 @@ use Rattle.rules.proofs.Form.Events.{Event, step, more, done, events, u
 use Rattle.rules.proofs.Form.LockStep.{going, lock-step}
 use Rattle.rules.proofs.Form.Tokens.{Token, tokens, eventValues, eventBlocks, eventOperands, eventSuccessors, Rest, Whole, Related, Apart, tokens-equal, lock-goes-on}
 use Rattle.rules.proofs.Form.Hashes.{tokenBytes, tokens-bytes}
-use Rattle.rules.proofs.Form.Once.{values-once, values-here, blocks-once-in, blocks-here}
+use Rattle.rules.proofs.Form.Once.{values-once, values-here, blocks-once, blocks-here}
 use Rattle.rules.proofs.Walking.Deep.{compare-not-deep}
 
 -- ---- the empty mapping
@@ -59,7 +59,7 @@ module _ (f : Event → List ℕ) (g : Step → List ℕ) (atStep : (x : Step) �
 
 module _ (s : Store) (f : Sort) (n : ℕ) where
   -- all that a fragment defines
-  unfoldable pub all-defined : Numbering
+  unfoldable all-defined : Numbering
   all-defined = record { values = definesValues s f n; blocks = definesBlocks s f n }
 
   events-rest : Rest s noNumbers (events s f n) all-defined
@@ -131,13 +131,14 @@ module _ (s : Store) (sd : sound s ≡ true) where
           inside = λ x m. subst (λ (k : ℕ). x < k) (sym values-size) (le-trans (values-here s so f n x m) v);
         };
         blocks = record {
-          once = blocks-once-in s so f n h;
+          once = blocks-once s so f n h;
           inside = λ x m. subst (λ (k : ℕ). x < k) (sym blocks-size) (le-trans (blocks-here s so f n h x m) b);
         };
       }
 
   module _ (ig : Ignore) (f : Sort) where
-    begun : (a b : ℕ) (wa : In s f a) (wb : In s f b) → Related s ig EV EB empty-values empty-blocks (all-defined s f a) (all-defined s f b) (whole f a wa) (whole f b wb) (start emptyMapping) noNumbers noNumbers
+    begun : (a b : ℕ) (wa : In s f a) (wb : In s f b)
+        → Related s ig EV EB empty-values empty-blocks (all-defined s f a) (all-defined s f b) (whole f a wa) (whole f b wb) (start emptyMapping) noNumbers noNumbers
     unfolding start noNumbers enterAll
     begun a b wa wb = record { values = record { made = refl; lengths = refl }; blocks = record { made = refl; lengths = refl } }
 

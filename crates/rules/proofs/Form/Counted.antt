@@ -14,7 +14,7 @@ use Rattle.rules.proofs.Soundness.Sound.{facts}
 use Rattle.rules.proofs.Basics.Distinct.{Distinct, distinct-concatMap, mem-concatMap}
 use Rattle.rules.proofs.Basics.Pigeons.{pigeons}
 use Rattle.rules.proofs.Form.Events.{opOwner}
-use Rattle.rules.proofs.Form.Once.{owners-once, owners-here, values-once, values-here, blocks-once-in, blocks-here}
+use Rattle.rules.proofs.Form.Once.{owners-once, owners-here, values-once, values-here, blocks-once, blocks-here}
 
 op-owner : (w : Owner) {n : ℕ} → List·Memᴰ n (opOwner w) → w ≡ ofOp n
 unfolding opOwner
@@ -59,7 +59,7 @@ module _ (s : Store) (sd : sound s ≡ true) where
   pub blocks-most : (f : Sort) (n : ℕ) → exists s f n ≡ true → length (definesBlocks s f n) ≤ maxBlocks
   blocks-most f n e =
       let so = facts s sd in
-      let l : length (definesBlocks s f n) ≤ length (s .blocks) = pigeons (length (s .blocks)) (definesBlocks s f n) (blocks-once-in s so f n e) (blocks-here s so f n e) in
+      let l : length (definesBlocks s f n) ≤ length (s .blocks) = pigeons (length (s .blocks)) (definesBlocks s f n) (blocks-once s so f n e) (blocks-here s so f n e) in
       let t : length (s .blocks) ≤ maxBlocks = so .totals .blocks in
       omega arith
 

@@ -1,16 +1,17 @@
 -- A comparison is one lock-step pass over two lists of events: the steps of the walk, with a mark ahead of each list item and at each
 -- list's end, so that lists of unequal lengths meet at unequal marks. Assumes nothing.
 use Prim.Native.Nat.{ℕ, zero, suc, _+_}
-use mathlib.Core.Bool.{Bool, cond, _&&_}
+use mathlib.Core.Bool.{cond}
 use mathlib.Core.List.{List, [], _∷_, _++_, map}
 use mathlib.Core.Option.{Option, none, some}
 use mathlib.Core.Path.{_≡_, refl, ap, ap₂, _∙_}
-use Rattle.rules.specs.Lists.{concatMap, sameList}
+use Rattle.rules.specs.Lists.{concatMap}
 use Rattle.rules.specs.Store.{Store, Owner, ofOp, ofBlock, opsOf, blocksOf, regionsOf, valuesOf}
 use Rattle.rules.specs.Fragments.{Sort, op, block, region, levels, Step, shell, names, fullOp, listSteps, regionSteps, steps, blockOwner}
-use Rattle.rules.specs.Shells.{Ignore, countsOf, sameShells}
+use Rattle.rules.specs.Shells.{Ignore, sameShells}
 use Rattle.rules.specs.Mapping.{enterAll}
-use Rattle.rules.specs.Comparison.{State, operandsAgree, successorsAgree}
+use Rattle.rules.specs.Comparison.{State}
+use Rattle.rules.proofs.Form.Tested.{namesAgree}
 
 pub data Event : Type 0 where
   step : Step → Event
@@ -76,7 +77,8 @@ module _ (s : Store) where
   unfolding unmarked opEvents fullOp
   unmarked-op f g same n = ap (λ (l : List Step). names n ∷ l) (unmarked-list f g same (regionsOf s n))
 
-  unmarked-blocks : (f : ℕ → List Event) (g : ℕ → List Step) → ((n : ℕ) → unmarked (f n) ≡ g n) → (bs : List ℕ) → unmarked (blocksEvents s f bs) ≡ listSteps s g bs
+  unmarked-blocks : (f : ℕ → List Event) (g : ℕ → List Step) → ((n : ℕ) → unmarked (f n) ≡ g n) → (bs : List ℕ)
+      → unmarked (blocksEvents s f bs) ≡ listSteps s g bs
   unfolding blocksEvents listSteps
   unmarked-blocks f g same bs =
       unmarked-append (listEvents blocks bs ++ listEvents ops bs) (listEvents fulls bs)
@@ -119,7 +121,7 @@ abbrev pub andThen : Option State → (State → Option State) → Option State
 andThen none f = none
 andThen (some st) f = f st
 
-module _ (s : Store) (ig : Ignore) where
+module _ (s : Store) where
   unfoldable pub enterOwners : Owner → Owner → State → State
   enterOwners l r st =
       record {
@@ -132,26 +134,23 @@ module _ (s : Store) (ig : Ignore) where
         paired = st .paired + 1;
       }
 
-  unfoldable pub namesAgree : ℕ → ℕ → State → Bool
-  namesAgree l r st =
-      sameList (lib.Dec.eqb) (countsOf s (ofOp l)) (countsOf s (ofOp r)) && (operandsAgree s (st .mapping) l r && successorsAgree s (st .mapping) l r)
+  module _ (ig : Ignore) where
+    unfoldable pub meet : Event → Event → State → Option State
+    meet (step (shell l)) (step (shell r)) st = cond (sameShells s ig l r) (some (enterOwners l r st)) none
+    meet (step (shell l)) (step (names r)) st = none
+    meet (step (names l)) (step (shell r)) st = none
+    meet (step (names l)) (step (names r)) st = cond (namesAgree s l r st) (some st) none
+    meet (step x) more st = none
+    meet (step x) done st = none
+    meet more (step y) st = none
+    meet more more st = some st
+    meet more done st = none
+    meet done (step y) st = none
+    meet done more st = none
+    meet done done st = some st
 
-  unfoldable pub meet : Event → Event → State → Option State
-  meet (step (shell l)) (step (shell r)) st = cond (sameShells s ig l r) (some (enterOwners l r st)) none
-  meet (step (shell l)) (step (names r)) st = none
-  meet (step (names l)) (step (shell r)) st = none
-  meet (step (names l)) (step (names r)) st = cond (namesAgree l r st) (some st) none
-  meet (step x) more st = none
-  meet (step x) done st = none
-  meet more (step y) st = none
-  meet more more st = some st
-  meet more done st = none
-  meet done (step y) st = none
-  meet done more st = none
-  meet done done st = some st
-
-  unfoldable pub lock : List Event → List Event → State → Option State
-  lock [] [] st = some st
-  lock [] (e ∷ es) st = none
-  lock (e ∷ es) [] st = none
-  lock (e ∷ es) (e′ ∷ es′) st = andThen (meet e e′ st) (lock es es′)
+    unfoldable pub lock : List Event → List Event → State → Option State
+    lock [] [] st = some st
+    lock [] (e ∷ es) st = none
+    lock (e ∷ es) [] st = none
+    lock (e ∷ es) (e′ ∷ es′) st = andThen (meet e e′ st) (lock es es′)

@@ -36,7 +36,7 @@ position-some v (x ∷ xs) i h = go (eqb v x) refl (position v xs) refl (λ j. p
         let r = rest j p in
         (omega (arith, r .0), ap (λ (n : ℕ). getD (x ∷ xs) n 0) z ∙ r .1)
 
-pub position-none : (v : ℕ) (xs : List ℕ) → position v xs ≡ none → List·Memᴰ v xs → ⊥
+position-none : (v : ℕ) (xs : List ℕ) → position v xs ≡ none → List·Memᴰ v xs → ⊥
 unfolding position later
 position-none v [] h m = List·Memᴰ·not-nil m
 position-none v (x ∷ xs) h m = go (eqb v x) refl (position v xs) refl (λ p k. position-none v xs p k) h
@@ -47,12 +47,12 @@ position-none v (x ∷ xs) h m = go (eqb v x) refl (position v xs) refl (λ p k.
     go false e none p rest k = ⊎-elim (eqb-false v x e) (rest p) (List·Memᴰ·cases-cons m)
     go false e (some j) p rest k = Option·some-ne-none (suc j) k
 
-pub position-out : (v : ℕ) (xs : List ℕ) → (List·Memᴰ v xs → ⊥) → position v xs ≡ none
+position-out : (v : ℕ) (xs : List ℕ) → (List·Memᴰ v xs → ⊥) → position v xs ≡ none
 unfolding position later
 position-out v [] out = refl
 position-out v (x ∷ xs) out = rw (ne-eqb v x (λ e. out (List·Memᴰ·head e)), position-out v xs (λ m. out (List·Memᴰ·tail m)))
 
-pub position-at : (xs : List ℕ) → Distinct xs → (i : ℕ) → i < length xs → position (getD xs i 0) xs ≡ some i
+position-at : (xs : List ℕ) → Distinct xs → (i : ℕ) → i < length xs → position (getD xs i 0) xs ≡ some i
 unfolding position later
 position-at [] d i l = absurd (not-suc-le-zero l)
 position-at (x ∷ xs) d zero l = rw (eq-eqb x x refl)
@@ -91,19 +91,19 @@ position-other v x (y ∷ ys) ne = rw (position-other v x ys ne)
 
 -- ---- images
 
-pub image-set-other : (es : List ℕ) (x y v : ℕ) → v ≢ x → image (set es x y) v ≡ image es v
+image-set-other : (es : List ℕ) (x y v : ℕ) → v ≢ x → image (set es x y) v ≡ image es v
 unfolding image
 image-set-other es x y v ne = ap (λ (e : ℕ). orSelf e v) (getD-set-other es x v y noImage ne)
 
-pub orSelf-other : (e v : ℕ) → e ≢ noImage → orSelf e v ≡ e
+orSelf-other : (e v : ℕ) → e ≢ noImage → orSelf e v ≡ e
 unfolding orSelf
 orSelf-other e v ne = rw (ne-eqb e noImage ne)
 
-pub image-set-same : (es : List ℕ) (x y : ℕ) → x < length es → y ≢ noImage → image (set es x y) x ≡ y
+image-set-same : (es : List ℕ) (x y : ℕ) → x < length es → y ≢ noImage → image (set es x y) x ≡ y
 unfolding image
 image-set-same es x y l ne = ap (λ (e : ℕ). orSelf e x) (getD-set-same es x y noImage l) ∙ orSelf-other y x ne
 
-pub image-outside : (xs ys es : List ℕ) (v : ℕ) → (List·Memᴰ v xs → ⊥) → image (enterAll xs ys es) v ≡ image es v
+image-outside : (xs ys es : List ℕ) (v : ℕ) → (List·Memᴰ v xs → ⊥) → image (enterAll xs ys es) v ≡ image es v
 unfolding enterAll
 image-outside [] ys es v out = refl
 image-outside (x ∷ xs) [] es v out = refl
@@ -115,11 +115,11 @@ pub record Fits (size : ℕ) (xs ys : List ℕ) : Type 0 where
   pub inside : (x : ℕ) → List·Memᴰ x xs → x < size
   pub images : (y : ℕ) → List·Memᴰ y ys → y ≢ noImage
 
-pub image-inside : (xs ys es : List ℕ) (v i : ℕ) → Distinct xs → length xs ≡ length ys → Fits (length es) xs ys → position v xs ≡ some i
+image-inside : (xs ys es : List ℕ) (v i : ℕ) → Distinct xs → length xs ≡ length ys → Fits (length es) xs ys → position v xs ≡ some i
     → image (enterAll xs ys es) v ≡ getD ys i 0
 unfolding enterAll position later
 image-inside [] ys es v i d len fit h = absurd (Option·none-ne-some i h)
-image-inside (x ∷ xs) [] es v i d len fit h = absurd (let w : ⊥ = omega arith in w)
+image-inside (x ∷ xs) [] es v i d len fit h = absurd (omega arith)
 image-inside (x ∷ xs) (y ∷ ys) es v i d len fit h =
     go (eqb v x) refl (position v xs) refl
     (λ j p. image-inside xs ys (set es x y) v j (d .1) (omega arith)
@@ -143,11 +143,11 @@ image-inside (x ∷ xs) (y ∷ ys) es v i d len fit h =
     go false e (some j) p rest k = rest j p ∙ ap (λ (n : ℕ). getD (y ∷ ys) n 0) (Option·some-injective (suc j) i k)
 
 -- entering goes on where it left off
-pub enterAll-append : (xs ys xs′ ys′ es : List ℕ) → length xs ≡ length ys → enterAll (xs ++ xs′) (ys ++ ys′) es ≡ enterAll xs′ ys′ (enterAll xs ys es)
+enterAll-append : (xs ys xs′ ys′ es : List ℕ) → length xs ≡ length ys → enterAll (xs ++ xs′) (ys ++ ys′) es ≡ enterAll xs′ ys′ (enterAll xs ys es)
 unfolding enterAll
 enterAll-append [] [] xs′ ys′ es len = refl
-enterAll-append [] (y ∷ ys) xs′ ys′ es len = absurd (let w : ⊥ = omega arith in w)
-enterAll-append (x ∷ xs) [] xs′ ys′ es len = absurd (let w : ⊥ = omega arith in w)
+enterAll-append [] (y ∷ ys) xs′ ys′ es len = absurd (omega arith)
+enterAll-append (x ∷ xs) [] xs′ ys′ es len = absurd (omega arith)
 enterAll-append (x ∷ xs) (y ∷ ys) xs′ ys′ es len = enterAll-append xs ys xs′ ys′ (set es x y) (omega arith)
 
 -- ---- names
@@ -155,7 +155,7 @@ enterAll-append (x ∷ xs) (y ∷ ys) xs′ ys′ es len = enterAll-append xs ys
 -- a table that starts with none, into which the lists are entered
 module _ (es xs ys : List ℕ) (empty : (v : ℕ) → image es v ≡ v) (dx : Distinct xs) (dy : Distinct ys) (len : length xs ≡ length ys) (fit : Fits (length es) xs ys) where
   -- an image equals the right name only if the names are alike; the left name is none of those defined on the right
-  pub names-forth : (a b : ℕ) → (List·Memᴰ a ys → ⊥) → image (enterAll xs ys es) a ≡ b → nameOf xs a ≡ nameOf ys b
+  names-forth : (a b : ℕ) → (List·Memᴰ a ys → ⊥) → image (enterAll xs ys es) a ≡ b → nameOf xs a ≡ nameOf ys b
   unfolding nameOf nameAt
   names-forth a b out h = go (position a xs) refl
     where
@@ -171,7 +171,7 @@ module _ (es xs ys : List ℕ) (empty : (v : ℕ) → image es v ≡ v) (dx : Di
           rw (p, q)
 
   -- and always if they are
-  pub names-back : (a b : ℕ) → nameOf xs a ≡ nameOf ys b → image (enterAll xs ys es) a ≡ b
+  names-back : (a b : ℕ) → nameOf xs a ≡ nameOf ys b → image (enterAll xs ys es) a ≡ b
   unfolding nameOf nameAt
   names-back a b h = go (position a xs) refl (position b ys) refl h
     where

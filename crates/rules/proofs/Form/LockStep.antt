@@ -11,8 +11,8 @@ use Rattle.rules.specs.Fragments.{Sort, op, block, region, levels, shell
 use Rattle.rules.specs.Shells.{Ignore, sameShells}
 use Rattle.rules.specs.Mapping.{enterAll}
 use Rattle.rules.specs.Comparison.{State, Pair, Walk, on, ended, tooDeep, _>>=_, paper, oneMore, pairwise, pairOf, expect, pairOps, enterOps, pairBlocks, enterBlocks, pass1, compareBy}
-use Rattle.rules.proofs.Form.Tested.{testedNames, testedOps, tested2, tested3, testedLists, testedRegions, testedBy, compare-tested}
-use Rattle.rules.proofs.Form.Events.{Event, listEvents, one, opEvents, blocksEvents, regionEvents, events, opOwner, andThen, enterOwners, namesAgree, meet, lock}
+use Rattle.rules.proofs.Form.Tested.{namesAgree, testedNames, testedOps, tested2, tested3, testedLists, testedRegions, testedBy, compare-tested}
+use Rattle.rules.proofs.Form.Events.{Event, listEvents, one, opEvents, blocksEvents, regionEvents, events, opOwner, andThen, enterOwners, meet, lock}
 
 abbrev pub going : Walk → Option State
 going (on st) = some st
@@ -61,8 +61,8 @@ module _ (s : Store) (ig : Ignore) where
       tested (sameShells s ig (ofBlock l) (ofBlock r)) (pairOf block l r) st (enterBlocks s l r st) K (lock s ig E E′) (k (enterBlocks s l r st))
 
   names-mirror : (l r : ℕ) → Mirrors (testedNames s l r) (one names l) (one names r)
-  unfolding Mirrors testedNames lock meet namesAgree
-  names-mirror l r K E E′ k st = tested (namesAgree s ig l r st) (pairOf op l r) st st K (lock s ig E E′) (k st)
+  unfolding Mirrors testedNames lock meet
+  names-mirror l r K E E′ k st = tested (namesAgree s l r st) (pairOf op l r) st st K (lock s ig E E′) (k st)
 
   list-mirror : (f : ℕ → ℕ → State → Walk) (p : Pair) (ev : ℕ → List Event) → ((l r : ℕ) → Mirrors (f l r) (ev l) (ev r))
       → (ls rs : List ℕ) → Mirrors (pairwise paper f p ls rs) (listEvents ev ls) (listEvents ev rs)

@@ -117,9 +117,9 @@ module _ (s : Store) (sd : Sound s) where
   block-owner (ofOp n) m = absurd (List·Memᴰ·not-nil m)
   block-owner (ofBlock c) m = ap ofBlock (sym (List·Memᴰ·eq-of-singleton m))
 
-  pub blocks-once-in : (f : Sort) (n : ℕ) → exists s f n ≡ true → Distinct (definesBlocks s f n)
+  pub blocks-once : (f : Sort) (n : ℕ) → exists s f n ≡ true → Distinct (definesBlocks s f n)
   unfolding definesBlocks blockOwner
-  blocks-once-in f n h =
+  blocks-once f n h =
       distinct-concatMap blockOwner (definesOwners s f n) (owners-once f n h) (λ w m. alone w)
       (λ w x mw mx b k l. block-owner w k ∙ sym (block-owner x l))
     where

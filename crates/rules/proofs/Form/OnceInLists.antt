@@ -1,7 +1,6 @@
 -- A walk over a list of sibling blocks of a sound store comes to each operation and block once: what it comes to lies below one of the
 -- blocks only, and below one operation of it. Assumes nothing.
 use Prim.Native.Nat.{ℕ, _<_}
-use native.Mathlib.Omega.{arith}
 use mathlib.Core.Bool.{true}
 use mathlib.Core.List.{List, [], _∷_, _++_, map, List·Memᴰ, List·Memᴰ·append-cases, Memᴰ·of-map}
 use mathlib.Core.Logic.{_⊎_, inl, inr, ⊎-elim}
@@ -13,6 +12,7 @@ use Rattle.rules.specs.Store.{Store, Owner, ofOp, ofBlock, opsOf, ownerE
 use Rattle.rules.specs.Fragments.{Step, shell, listSteps, stepDefines, Disjoint}
 use Rattle.rules.proofs.Soundness.Sound.{Sound}
 use Rattle.rules.proofs.Soundness.Grown.{owner-op, owner-block}
+use Rattle.rules.proofs.Basics.Tests.{impossible}
 use Rattle.rules.proofs.Basics.Distinct.{Distinct, distinct-append, distinct-concatMap, distinct-map, mem-concatMap, concatMap-append, concatMap-concatMap, concatMap-cong}
 use Rattle.rules.proofs.Soundness.Children.{ops-in, ops-distinct}
 use Rattle.rules.proofs.Form.Ancestors.{up, Around, next, From, around-trans, siblings, same-branch}
@@ -132,7 +132,7 @@ module _ (s : Store) (sd : Sound s) where
         let u = in-shells-of (w .0) y (w .2) in
         let e : y ≡ ofBlock (v .0) = v .2 in
         let f : y ≡ ofOp (u .0) = u .2 in
-        let z : _≡_ {A = ℕ} 0 1 = cc in omega arith
+        impossible cc
 
     fulls-apart : Disjoint (blockShells ++ opShells) opFulls
     unfolding opShells opFulls

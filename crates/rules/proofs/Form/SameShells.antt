@@ -70,8 +70,8 @@ values-count s ig l r h = sym (len l) ∙ ap (λ (x : Shell). length (x .types))
 pub blocks-count : (s : Store) (l r : Owner) → countsOf s l ≡ countsOf s r → length (blockOwner l) ≡ length (blockOwner r)
 unfolding countsOf blockOwner
 blocks-count s (ofOp a) (ofOp b) h = refl
-blocks-count s (ofOp a) (ofBlock b) h = let e : _≡_ {A = ℕ} 5 1 = ap length h in absurd (let w : ⊥ = omega arith in w)
-blocks-count s (ofBlock a) (ofOp b) h = let e : _≡_ {A = ℕ} 1 5 = ap length h in absurd (let w : ⊥ = omega arith in w)
+blocks-count s (ofOp a) (ofBlock b) h = let e : _≡_ {A = ℕ} 5 1 = ap length h in absurd (omega arith)
+blocks-count s (ofBlock a) (ofOp b) h = let e : _≡_ {A = ℕ} 1 5 = ap length h in absurd (omega arith)
 blocks-count s (ofBlock a) (ofBlock b) h = refl
 
 -- ---- lists of names, pair by pair
@@ -81,8 +81,8 @@ module _ {B : Type 0} (p : ℕ → ℕ → Bool) (f g : ℕ → B) where
       → (xs ys : List ℕ) → length xs ≡ length ys → ((a : ℕ) → List·Memᴰ a xs → Ok a) → allPairs p xs ys ≡ true → map f xs ≡ map g ys
   unfolding allPairs
   pairs-forth Ok same [] [] len ok h = refl
-  pairs-forth Ok same [] (y ∷ ys) len ok h = absurd (let w : ⊥ = omega arith in w)
-  pairs-forth Ok same (x ∷ xs) [] len ok h = absurd (let w : ⊥ = omega arith in w)
+  pairs-forth Ok same [] (y ∷ ys) len ok h = absurd (omega arith)
+  pairs-forth Ok same (x ∷ xs) [] len ok h = absurd (omega arith)
   pairs-forth Ok same (x ∷ xs) (y ∷ ys) len ok h =
       ap₂ _∷_ (same x y (ok x (List·Memᴰ·head refl)) (and-left (p x y) (allPairs p xs ys) h))
       (pairs-forth Ok same xs ys (omega arith) (λ a m. ok a (List·Memᴰ·tail m)) (and-right (p x y) (allPairs p xs ys) h))

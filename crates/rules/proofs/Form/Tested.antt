@@ -11,8 +11,8 @@ use Rattle.rules.specs.Lists.{sameList}
 use Rattle.rules.specs.Store.{Store, ofOp, opsOf, blocksOf, regionsOf}
 use Rattle.rules.specs.Fragments.{Sort, op, block, region, levels}
 use Rattle.rules.specs.Shells.{Ignore, countsOf, sameShells}
-use Rattle.rules.specs.Comparison.{State, Pair, Stop, Walk, on, ended, tooDeep, unequal, _>>=_, paper, oneMore, pairwise, eachPair, pairOf, expect, pairOps, enterOps, pairBlocks, operandsAgree, successorsAgree, checkNames, checkOps, pass1, pass2, pass3, compareLists, compareRegions, compareBy}
-use Rattle.rules.proofs.Basics.Tests.{passed, numbers-same}
+use Rattle.rules.specs.Comparison.{State, Pair, Walk, on, ended, tooDeep, unequal, _>>=_, paper, oneMore, pairwise, eachPair, pairOf, expect, pairOps, enterOps, pairBlocks, operandsAgree, successorsAgree, checkNames, checkOps, pass1, pass2, pass3, compareLists, compareRegions, compareBy}
+use Rattle.rules.proofs.Basics.Tests.{impossible, passed, numbers-same}
 
 -- ---- lists of one length, pair by pair related
 
@@ -22,25 +22,23 @@ Pairs R [] (r ∷ rs) = ⊥
 Pairs R (l ∷ ls) [] = ⊥
 Pairs R (l ∷ ls) (r ∷ rs) = R l r × Pairs R ls rs
 
-on≢ended {ℓ} : {A : Type ℓ} {st : State} {why : Stop} {st′ : State} → ended why st ≡ on st′ → A
-on≢ended h = absurd (let z : _≡_ {A = ℕ} 0 1 = cc in let w : ⊥ = omega arith in w)
-
 -- a pairwise walk that goes on has found the lists of one length, and each pair related
-pub gained : (f : ℕ → ℕ → State → Walk) (p : Pair) (R : ℕ → ℕ → Type 0) → ((l r : ℕ) (st st′ : State) → f l r st ≡ on st′ → R l r)
+gained : (f : ℕ → ℕ → State → Walk) (p : Pair) (R : ℕ → ℕ → Type 0) → ((l r : ℕ) (st st′ : State) → f l r st ≡ on st′ → R l r)
     → (ls rs : List ℕ) (st st′ : State) → pairwise paper f p ls rs st ≡ on st′ → Pairs R ls rs
 unfolding pairwise oneMore
 gained f p R step [] [] st st′ h = tt
-gained f p R step [] (r ∷ rs) st st′ h = on≢ended h
-gained f p R step (l ∷ []) [] st st′ h = on≢ended h
-gained f p R step (l ∷ m ∷ ls) [] st st′ h = on≢ended h
+gained f p R step [] (r ∷ rs) st st′ h = impossible cc
+gained f p R step (l ∷ []) [] st st′ h = impossible cc
+gained f p R step (l ∷ m ∷ ls) [] st st′ h = impossible cc
 gained f p R step (l ∷ ls) (r ∷ rs) st st′ h = go (f l r st) refl (λ st₁ k. gained f p R step ls rs st₁ st′ k) h
   where
-    go : (w : Walk) → f l r st ≡ w → ((st₁ : State) → pairwise paper f p ls rs st₁ ≡ on st′ → Pairs R ls rs) → w >>= pairwise paper f p ls rs ≡ on st′ → R l r × Pairs R ls rs
+    go : (w : Walk) → f l r st ≡ w → ((st₁ : State) → pairwise paper f p ls rs st₁ ≡ on st′ → Pairs R ls rs) → w >>= pairwise paper f p ls rs ≡ on st′
+        → R l r × Pairs R ls rs
     go (on st₁) e rest k = (step l r st st₁ e, rest st₁ k)
-    go (ended why st₁) e rest k = on≢ended k
+    go (ended why st₁) e rest k = impossible cc
 
 -- where the pairs are related, testing lengths changes nothing
-pub testing : (f g : ℕ → ℕ → State → Walk) (p : Pair) (R : ℕ → ℕ → Type 0) → ((l r : ℕ) → R l r → (st : State) → f l r st ≡ g l r st)
+testing : (f g : ℕ → ℕ → State → Walk) (p : Pair) (R : ℕ → ℕ → Type 0) → ((l r : ℕ) → R l r → (st : State) → f l r st ≡ g l r st)
     → (ls rs : List ℕ) → Pairs R ls rs → (st : State) → eachPair f ls rs st ≡ pairwise paper g p ls rs st
 unfolding eachPair pairwise
 testing f g p R same [] [] q st = refl
@@ -54,8 +52,8 @@ testing f g p R same (l ∷ ls) (r ∷ rs) q st = ap (λ (w : Walk). w >>= eachP
 
 pub same-length : (ls rs : List ℕ) → length ls ≡ length rs → Pairs (λ (l r : ℕ). Unit {0}) ls rs
 same-length [] [] h = tt
-same-length [] (r ∷ rs) h = absurd (let w : ⊥ = omega arith in w)
-same-length (l ∷ ls) [] h = absurd (let w : ⊥ = omega arith in w)
+same-length [] (r ∷ rs) h = absurd (omega arith)
+same-length (l ∷ ls) [] h = absurd (omega arith)
 same-length (l ∷ ls) (r ∷ rs) h = (tt, same-length ls rs (omega arith))
 
 -- ---- the comparison with every length tested
@@ -65,10 +63,12 @@ module _ (s : Store) where
   abbrev pub Counts : ℕ → ℕ → Type 0
   Counts l r = countsOf s (ofOp l) ≡ countsOf s (ofOp r)
 
+  unfoldable pub namesAgree : ℕ → ℕ → State → Bool
+  namesAgree l r st =
+      sameList eqb (countsOf s (ofOp l)) (countsOf s (ofOp r)) && (operandsAgree s (st .mapping) l r && successorsAgree s (st .mapping) l r)
+
   unfoldable pub testedNames : ℕ → ℕ → State → Walk
-  testedNames l r st =
-      expect (sameList eqb (countsOf s (ofOp l)) (countsOf s (ofOp r)) && (operandsAgree s (st .mapping) l r && successorsAgree s (st .mapping) l r))
-      (pairOf op l r) st st
+  testedNames l r st = expect (namesAgree l r st) (pairOf op l r) st st
 
   unfoldable pub testedOps : (ℕ → ℕ → State → Walk) → ℕ → ℕ → State → Walk
   testedOps regions l r st = testedNames l r st >>= pairwise paper regions (pairOf op l r) (regionsOf s l) (regionsOf s r)
@@ -100,7 +100,7 @@ module _ (s : Store) where
       where
         go : (b : Bool) → sameShells s ig (ofOp l) (ofOp r) ≡ b → cond b (on (enterOps s l r st)) (ended (unequal (pairOf op l r)) st) ≡ on st′ → Counts l r
         go true e k = numbers-same _ _ .0 (passed _ e .0)
-        go false e k = on≢ended k
+        go false e k = impossible cc
 
     regions-count : (l r : ℕ) → Counts l r → length (regionsOf s l) ≡ length (regionsOf s r)
     unfolding countsOf
@@ -108,7 +108,7 @@ module _ (s : Store) where
 
     ops-tested : (f g : ℕ → ℕ → State → Walk) → ((l r : ℕ) (st : State) → f l r st ≡ g l r st) → (l r : ℕ) → Counts l r → (st : State)
         → checkOps s f l r st ≡ testedOps g l r st
-    unfolding checkOps testedOps checkNames testedNames
+    unfolding checkOps testedOps checkNames testedNames namesAgree
     ops-tested f g same l r c st =
         rw (numbers-same (countsOf s (ofOp l)) (countsOf s (ofOp r)) .1 c)
         (go (expect (operandsAgree s (st .mapping) l r && successorsAgree s (st .mapping) l r) (pairOf op l r) st st))

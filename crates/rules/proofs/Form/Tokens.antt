@@ -2,7 +2,6 @@
 -- the lock-step pass succeed; and where the pass succeeds, and the left names nothing that the right defines, the tokens are equal.
 -- Assumes nothing.
 use Prim.Native.Nat.{ℕ}
-use native.Mathlib.Omega.{arith}
 use mathlib.Core.Bool.{Bool, true, false, cond, _&&_}
 use mathlib.Core.List.{List, [], _∷_, _++_, map, append-assoc, List·Memᴰ, Memᴰ·append-left, Memᴰ·append-right, head-eq-of-cons-eq, tail-eq-of-cons-eq, nil≢cons, cons≢nil}
 use mathlib.Core.Option.{Option, none, some, Option·some-injective, Option·none-ne-some}
@@ -17,13 +16,11 @@ use Rattle.rules.specs.Shells.{Ignore, Shell, shellOf, countsOf, sameShe
 use Rattle.rules.specs.Mapping.{image}
 use Rattle.rules.specs.Comparison.{State, operandsAgree, successorsAgree}
 use Rattle.rules.specs.Hash.{Numbering, numbered, Name, nameOf}
-use Rattle.rules.proofs.Basics.Tests.{and-left, and-right, and-both, numbers-same}
+use Rattle.rules.proofs.Basics.Tests.{and-left, and-right, and-both, impossible, numbers-same}
 use Rattle.rules.proofs.Form.Images.{Empty, Once, Entered, entered-more, name-forth, name-back}
-use Rattle.rules.proofs.Form.Events.{Event, step, more, done, andThen, enterOwners, namesAgree, meet, lock}
+use Rattle.rules.proofs.Form.Tested.{namesAgree}
+use Rattle.rules.proofs.Form.Events.{Event, step, more, done, andThen, enterOwners, meet, lock}
 use Rattle.rules.proofs.Form.SameShells.{shells→≡, ≡→shells, values-count, blocks-count, pairs-forth, pairs-back}
-
-impossible {ℓ} : {A : Type ℓ} → _≡_ {A = ℕ} 0 1 → A
-impossible h = absurd (let w : ⊥ = omega arith in w)
 
 pub data Token : Type 0 where
   shellToken : List ℕ → Shell → Token
@@ -115,7 +112,7 @@ module _ (s : Store) (ig : Ignore) (EV EB : List ℕ) (emptyV : Empty EV) (empty
 
   -- two shells that are equal, entered
   entered : (l r : Owner) (L R : Numbering) (st : State) → countsOf s l ≡ countsOf s r → shellOf s ig l ≡ shellOf s ig r → Related st L R
-      → Related (enterOwners s ig l r st) (next s (step (shell l)) L) (next s (step (shell r)) R)
+      → Related (enterOwners s l r st) (next s (step (shell l)) L) (next s (step (shell r)) R)
   unfolding enterOwners next numbered
   entered l r L R st c h rel =
       record {
@@ -146,7 +143,7 @@ module _ (s : Store) (ig : Ignore) (EV EB : List ℕ) (emptyV : Empty EV) (empty
 
     -- two operations' names agree exactly when their tokens are equal
     names-tokens : (l r : ℕ) → Disjoint (opAt s l .operands) (DR .values) → Disjoint (opAt s l .successors) (DR .blocks)
-        → namesAgree s ig l r st ≡ true → token s ig (step (names l)) L ≡ token s ig (step (names r)) R
+        → namesAgree s l r st ≡ true → token s ig (step (names l)) L ≡ token s ig (step (names r)) R
     unfolding namesAgree operandsAgree successorsAgree token countsOf
     names-tokens l r outV outB h =
         let counts : countsOf s (ofOp l) ≡ countsOf s (ofOp r) = numbers-same (countsOf s (ofOp l)) (countsOf s (ofOp r)) .0 (and-left _ _ h) in
@@ -165,7 +162,7 @@ module _ (s : Store) (ig : Ignore) (EV EB : List ℕ) (emptyV : Empty EV) (empty
         in
         λ i. namesToken (counts i) (operands i) (successors i)
 
-    tokens-names : (l r : ℕ) → token s ig (step (names l)) L ≡ token s ig (step (names r)) R → namesAgree s ig l r st ≡ true
+    tokens-names : (l r : ℕ) → token s ig (step (names l)) L ≡ token s ig (step (names r)) R → namesAgree s l r st ≡ true
     unfolding namesAgree operandsAgree successorsAgree token
     tokens-names l r h =
         and-both (sameList eqb (countsOf s (ofOp l)) (countsOf s (ofOp r))) (operandsAgree s (st .mapping) l r && successorsAgree s (st .mapping) l r)
@@ -189,19 +186,19 @@ module _ (s : Store) (ig : Ignore) (EV EB : List ℕ) (emptyV : Empty EV) (empty
     unfolding meet token next numbered concatMap eventOperands eventSuccessors stepOperands stepSuccessors
     step-forth (step (shell l)) (step (shell r)) st′ tail a h = go (sameShells s ig l r) refl h
       where
-        go : (b : Bool) → sameShells s ig l r ≡ b → cond b (some (enterOwners s ig l r st)) none ≡ some st′
+        go : (b : Bool) → sameShells s ig l r ≡ b → cond b (some (enterOwners s l r st)) none ≡ some st′
             → (token s ig (step (shell l)) L ≡ token s ig (step (shell r)) R) × Related st′ (next s (step (shell l)) L) (next s (step (shell r)) R)
         go true e k =
             let p = shells→≡ s ig l r e in (
               λ i. shellToken (p .0 i) (p .1 i),
-              subst (λ (x : State). Related x (next s (step (shell l)) L) (next s (step (shell r)) R)) (Option·some-injective (enterOwners s ig l r st) st′ k) (entered l r L R st (p .0) (p .1) rel),
+              subst (λ (x : State). Related x (next s (step (shell l)) L) (next s (step (shell r)) R)) (Option·some-injective (enterOwners s l r st) st′ k) (entered l r L R st (p .0) (p .1) rel),
             )
         go false e k = absurd (Option·none-ne-some st′ k)
     step-forth (step (shell l)) (step (names r)) st′ tail a h = absurd (Option·none-ne-some st′ h)
     step-forth (step (names l)) (step (shell r)) st′ tail a h = absurd (Option·none-ne-some st′ h)
-    step-forth (step (names l)) (step (names r)) st′ tail a h = go (namesAgree s ig l r st) refl h
+    step-forth (step (names l)) (step (names r)) st′ tail a h = go (namesAgree s l r st) refl h
       where
-        go : (b : Bool) → namesAgree s ig l r st ≡ b → cond b (some st) none ≡ some st′
+        go : (b : Bool) → namesAgree s l r st ≡ b → cond b (some st) none ≡ some st′
             → (token s ig (step (names l)) L ≡ token s ig (step (names r)) R) × Related st′ L R
         go true e k =
             (names-tokens l r (λ v m. a .values v (Memᴰ·append-left (concatMap (eventOperands s) tail) m)) (λ b m. a .blocks b (Memᴰ·append-left (concatMap (eventSuccessors s) tail) m)) e, same-state st′ k)
@@ -228,7 +225,7 @@ module _ (s : Store) (ig : Ignore) (EV EB : List ℕ) (emptyV : Empty EV) (empty
     step-back (step (shell l)) (step (shell r)) h =
         let c : countsOf s l ≡ countsOf s r = cc in
         let k : shellOf s ig l ≡ shellOf s ig r = cc in
-        record { state = enterOwners s ig l r st; met = rw (≡→shells s ig l r c k); related = entered l r L R st c k rel }
+        record { state = enterOwners s l r st; met = rw (≡→shells s ig l r c k); related = entered l r L R st c k rel }
     step-back (step (shell l)) (step (names r)) h = impossible cc
     step-back (step (names l)) (step (shell r)) h = impossible cc
     step-back (step (names l)) (step (names r)) h = record { state = st; met = rw (tokens-names l r h); related = rel }

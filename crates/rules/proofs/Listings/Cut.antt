@@ -4,7 +4,7 @@ use Prim.Native.Nat.{ℕ, suc, _+_}
 use native.Mathlib.Omega.{arith}
 use mathlib.Core.Bool.{Bool, true, false, cond, not}
 use mathlib.Core.List.{List, [], _∷_, _++_}
-use mathlib.Core.Path.{_≡_, refl, ap}
+use mathlib.Core.Path.{_≡_, refl}
 use borrow.Author.Tests.{eq-eqb, not-true}
 use lib.Dec.{eqb}
 use lib.ListN.{length}
@@ -37,15 +37,6 @@ cut-none b (x ∷ xs) h =
     let e : eqb x b ≡ false = not-true (eqb x b) (and-left _ (all (λ (y : ℕ). not (eqb y b)) xs) h) in
     rw (e, cut-none b xs (and-right (not (eqb x b)) _ h))
 
--- the same of fields
-pub fields-first : (f rest : List ℕ) → Without comma f → fieldsOf (f ++ comma ∷ rest) ≡ f ∷ fieldsOf rest
-unfolding fieldsOf
-fields-first f rest h = rw (cut-first comma f rest h)
-
-pub fields-last : (f : List ℕ) → Without comma f → fieldsOf f ≡ f ∷ []
-unfolding fieldsOf
-fields-last f h = rw (cut-none comma f h)
-
 -- ---- nothing is lost
 
 -- the bytes of pieces, each with the byte that ends it
@@ -53,11 +44,12 @@ abbrev pub weight : List (List ℕ) → ℕ
 weight [] = 0
 weight (p ∷ ps) = suc (length p + weight ps)
 
-pub weight-append : (ps qs : List (List ℕ)) → weight (ps ++ qs) ≡ weight ps + weight qs
+weight-append : (ps qs : List (List ℕ)) → weight (ps ++ qs) ≡ weight ps + weight qs
 weight-append [] qs = omega arith
 weight-append (p ∷ ps) qs = omega (arith, weight-append ps qs)
 
-longer-weight : (x : ℕ) (ps : List (List ℕ)) (rest : List ℕ) → weight (longerBy x ps rest .whole) + length (longerBy x ps rest .rest) ≡ suc (weight ps + length rest)
+longer-weight : (x : ℕ) (ps : List (List ℕ)) (rest : List ℕ)
+    → weight (longerBy x ps rest .whole) + length (longerBy x ps rest .rest) ≡ suc (weight ps + length rest)
 unfolding longerBy
 longer-weight x [] rest = omega arith
 longer-weight x (p ∷ ps) rest = omega arith

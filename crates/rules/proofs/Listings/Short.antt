@@ -1,10 +1,11 @@
 -- A line prints at most 40 bytes, only where it means something, and then it has 8 bytes at least, its line feed included. So a program
--- prints at most five bytes for each byte of its listing, and what it prints at the end takes no more than the header leaves. Assumes nothing.
+-- prints at most five bytes for each byte of its listing, and what it prints at the end takes no more than the header leaves. Assumes
+-- nothing.
 use Prim.Native.Nat.{ℕ, suc, _+_, _*_, _≤_}
 use native.Mathlib.Omega.{arith}
 use mathlib.Core.Bool.{Bool, true, false, cond}
 use mathlib.Core.Option.{Option, none, some}
-use mathlib.Core.List.{List, [], _∷_, _++_}
+use mathlib.Core.List.{List, [], _∷_}
 use mathlib.Core.Path.{_≡_, refl, ap}
 use borrow.Author.Tests.{leb-true}
 use lib.Dec.{leb}
@@ -13,11 +14,10 @@ use Rattle.rules.specs.Store.{Store}
 use Rattle.rules.specs.Fragments.{Sort}
 use Rattle.rules.specs.Building.{Built, made, accepted, refused, answer, built, firstFailed}
 use Rattle.rules.specs.Shells.{Ignore}
-use Rattle.rules.specs.Mapping.{emptyMapping}
-use Rattle.rules.specs.Answers.{Compared, eq, neq, refused as refusedCompared, comparison, Hashed, hashIs, refusedHash, hashed}
+use Rattle.rules.specs.Answers.{Compared, eq, neq, refused as refusedCompared, Hashed, hashIs, refusedHash}
 use Rattle.rules.specs.Bytes.{text, isText, lineFeed, cutAt}
 use Rattle.rules.specs.Lines.{Line, building, query, parse}
-use Rattle.rules.specs.Listings.{Progress, Outcome, prints, stops, Program, buildingDoes, lineDoes, maxLine, does, proceed, atEnd, run, atStart, headerTests, headerCause, listingCause, behindFirst, unless, maxListing, maxOutput, listed, refusal, twinsAnswer, twinsProgram, twins, sumsAnswer, sumsProgram, sums}
+use Rattle.rules.specs.Listings.{Progress, Outcome, prints, stops, Program, buildingDoes, lineDoes, maxLine, does, proceed, atEnd, run, atStart, headerTests, headerCause, listingCause, behindFirst, unless, maxListing, maxOutput, listed, twinsAnswer, twinsProgram, twins, sumsAnswer, sumsProgram, sums}
 use Rattle.rules.proofs.Basics.Tests.{numbers-same}
 use Rattle.rules.proofs.Listings.Cut.{weight, cut-weight}
 use Rattle.rules.proofs.Listings.Written.{lastMost, lineMost, refusal-short, share-short, equal-short, unequal-short, hashes-short}
@@ -42,7 +42,8 @@ more : (j k : ℕ) (o : Outcome) → j ≤ k → Within j o → Within k o
 more j k (prints out next) h w = omega arith
 more j k (stops cause) h w = tt
 
-proceed-short : (j k n : ℕ) (o : Outcome) (g : Progress → List ℕ) → Within j o → ((next : Progress) → length (g next) ≤ k) → lastMost ≤ k → length (proceed o n g) ≤ j + k
+proceed-short : (j k n : ℕ) (o : Outcome) (g : Progress → List ℕ) → Within j o → ((next : Progress) → length (g next) ≤ k) → lastMost ≤ k
+    → length (proceed o n g) ≤ j + k
 unfolding proceed
 proceed-short j k n (prints out next) g w f h = omega (arith, length-append out (g next), f next)
 proceed-short j k n (stops cause) g w f h = omega (arith, refusal-short n cause)
@@ -78,7 +79,8 @@ module _ (p : Program) (t : Terse p) where
       )
 
 -- what follows a header, which has 9 bytes, or a refusal
-header-short : (line : List ℕ) (a b : Bool) (k : ℕ) (out : List ℕ) → isText "opstore,1" line ≡ b → suc (length line) + k ≤ maxListing → length out ≤ 5 * k + lastMost
+header-short : (line : List ℕ) (a b : Bool) (k : ℕ) (out : List ℕ) → isText "opstore,1" line ≡ b → suc (length line) + k ≤ maxListing
+    → length out ≤ 5 * k + lastMost
     → length (unless (firstFailed ((a, 11) ∷ (b, 9) ∷ [])) out) ≤ maxOutput
 unfolding unless firstFailed isText
 header-short line false b k out e h m = omega (arith, refusal-short 1 11)
@@ -88,7 +90,8 @@ header-short line true true k out e h m =
     omega arith
 
 module _ (p : Program) (t : Terse p) where
-  from-header-short : (lines : List (List ℕ)) (rest : List ℕ) → weight lines ≤ maxListing → length (unless (headerCause lines rest) (run p 2 atStart (behindFirst lines) rest)) ≤ maxOutput
+  from-header-short : (lines : List (List ℕ)) (rest : List ℕ) → weight lines ≤ maxListing
+      → length (unless (headerCause lines rest) (run p 2 atStart (behindFirst lines) rest)) ≤ maxOutput
   unfolding headerCause headerTests behindFirst unless
   from-header-short [] [] h = omega (arith, refusal-short 1 9)
   from-header-short [] (x ∷ rest) h = omega (arith, refusal-short 1 11)

@@ -1,11 +1,11 @@
 -- Each field that is read has a byte at least, beside the one that ends it, so a line that means something is not short: the shortest is
 -- `s` with three numbers. Assumes nothing.
-use Prim.Native.Nat.{ℕ, zero, suc, _+_, _^_, _≤_}
+use Prim.Native.Nat.{ℕ, zero, suc, _+_, _≤_}
 use Prim.Native.String.{String}
 use native.Mathlib.Omega.{arith}
 use mathlib.Core.Bool.{Bool, true, false, cond}
 use mathlib.Core.Option.{Option, none, some, Option·map, Option·some-injective, Option·none-ne-some}
-use mathlib.Core.List.{List, [], _∷_, _++_}
+use mathlib.Core.List.{List, [], _∷_}
 use mathlib.Core.Path.{_≡_, refl, sym, ap, subst, _∙_}
 use lib.Dec.{eqb}
 use lib.ListN.{length}
@@ -15,7 +15,7 @@ use Rattle.rules.specs.Lines.{Line, Reader, fieldsOf, andThen, _>>=_, gi
 use Rattle.rules.proofs.Listings.Cut.{weight, fields-weight}
 
 -- whatever the reader gives, it has taken k bytes
-abbrev pub Takes : {A : Type 0} → ℕ → Reader A → Type 0
+abbrev Takes : {A : Type 0} → ℕ → Reader A → Type 0
 Takes {A} k r = (fs : List (List ℕ)) (a : A) (left : List (List ℕ)) → r fs ≡ some (a, left) → k + weight left ≤ weight fs
 
 module _ {A : Type 0} where
@@ -29,7 +29,8 @@ module _ {A : Type 0} where
   giving-takes a fs b left e = rw (same-left a b fs left e) (omega arith)
 
   -- of a field that is read: what is left
-  mapped-left : (o : Option A) (fs left : List (List ℕ)) (a : A) → _≡_ {A = Option (A × List (List ℕ))} (Option·map (λ b. (b, fs)) o) (some (a, left)) → left ≡ fs
+  mapped-left : (o : Option A) (fs left : List (List ℕ)) (a : A) → _≡_ {A = Option (A × List (List ℕ))} (Option·map (λ b. (b, fs)) o) (some (a, left))
+      → left ≡ fs
   mapped-left none fs left a e = absurd (Option·none-ne-some _ e)
   mapped-left (some b) fs left a e = same-left b a fs left e
 
@@ -41,7 +42,7 @@ module _ {A : Type 0} where
 
 module _ {A B : Type 0} (j k : ℕ) (r : Reader A) (f : A → Reader B) where
   -- a reader after another, of which only what the first gives counts
-  pub after-takes : Takes j r → ((fs : List (List ℕ)) (a : A) (left : List (List ℕ)) → r fs ≡ some (a, left) → Takes k (f a)) → Takes (j + k) (r >>= f)
+  after-takes : Takes j r → ((fs : List (List ℕ)) (a : A) (left : List (List ℕ)) → r fs ≡ some (a, left) → Takes k (f a)) → Takes (j + k) (r >>= f)
   after-takes t u fs b left e = go (r fs) refl e
     where
       go : (o : Option (A × List (List ℕ))) → r fs ≡ o → andThen o f ≡ some (b, left) → j + k + weight left ≤ weight fs
@@ -197,7 +198,7 @@ letter-takes : Takes 2 letter
 unfolding letter oneOf isText sameList
 letter-takes = field-takes _ refl
 
-pub line-takes : Takes 8 (letter >>= λ line. line)
+line-takes : Takes 8 (letter >>= λ line. line)
 line-takes = after-takes 2 6 _ _ letter-takes letter-gives
 
 -- a line that means something has 7 bytes at least, before its line feed

@@ -1,9 +1,9 @@
 -- A number is printed in at most ten digits, a hash in sixteen, and a line is its fields with a byte behind each: so a printed line is
 -- short. Assumes nothing.
-use Prim.Native.Nat.{ℕ, zero, suc, _+_, _/_, _%_, _≤_}
+use Prim.Native.Nat.{ℕ, zero, suc, _/_, _%_, _≤_}
 use native.Mathlib.Omega.{arith}
 use mathlib.Core.Bool.{Bool, true, false, cond}
-use mathlib.Core.List.{List, [], _∷_, _++_}
+use mathlib.Core.List.{List, [], _∷_}
 use mathlib.Core.Path.{_≡_, refl}
 use lib.Dec.{ltb}
 use lib.ListN.{length, length-append}
@@ -18,7 +18,7 @@ unfolding lastDigits
 digits-length b zero n = refl
 digits-length b (suc k) n = omega (arith, length-append (lastDigits b k (n / b)) (digit (n % b) ∷ []), digits-length b k (n / b))
 
-pub count-most : (k n : ℕ) → digitCount k n ≤ k
+count-most : (k n : ℕ) → digitCount k n ≤ k
 unfolding digitCount
 count-most zero n = omega arith
 count-most (suc k) n = go (ltb n 10) (count-most k (n / 10))
@@ -27,15 +27,15 @@ count-most (suc k) n = go (ltb n 10) (count-most k (n / 10))
     go true h = omega arith
     go false h = omega arith
 
-pub decimal-short : (n : ℕ) → length (decimal n) ≤ maxDigits
+decimal-short : (n : ℕ) → length (decimal n) ≤ maxDigits
 unfolding decimal
 decimal-short n = omega (arith, digits-length 10 (digitCount maxDigits n) n, count-most maxDigits n)
 
-pub hexadecimal-length : (n : ℕ) → length (hexadecimal n) ≡ 16
+hexadecimal-length : (n : ℕ) → length (hexadecimal n) ≡ 16
 unfolding hexadecimal
 hexadecimal-length n = digits-length 16 16 n
 
-pub printed-length : (f : List ℕ) (fs : List (List ℕ)) → length (printed (f ∷ fs)) ≡ weight (f ∷ fs)
+printed-length : (f : List ℕ) (fs : List (List ℕ)) → length (printed (f ∷ fs)) ≡ weight (f ∷ fs)
 unfolding printed
 printed-length f [] = omega (arith, length-append f (lineFeed ∷ []))
 printed-length f (g ∷ fs) = omega (arith, length-append f (comma ∷ printed (g ∷ fs)), printed-length g fs)

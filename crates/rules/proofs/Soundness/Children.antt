@@ -42,7 +42,7 @@ module _ {A : Type 0} (p : A → Bool) (d : A) where
       go true e rest k = ⊎-elim (first e) (λ m′. next (rest m′)) (List·Memᴰ·cases-cons k)
       go false e rest k = next (rest k)
 
-  pub numbers-distinct : (n : ℕ) (xs : List A) → Distinct (numbersFrom n p xs)
+  numbers-distinct : (n : ℕ) (xs : List A) → Distinct (numbersFrom n p xs)
   unfolding numbersFrom
   numbers-distinct n [] = tt
   numbers-distinct n (x ∷ xs) = go (p x) (numbers-distinct (suc n) xs)
@@ -54,7 +54,7 @@ module _ {A : Type 0} (p : A → Bool) (d : A) where
       go true rest = (before, rest)
       go false rest = rest
 
-  pub where-at : (xs : List A) {v : ℕ} → List·Memᴰ v (numbersWhere p xs) → (v < length xs) × (p (getD xs v d) ≡ true)
+  where-at : (xs : List A) {v : ℕ} → List·Memᴰ v (numbersWhere p xs) → (v < length xs) × (p (getD xs v d) ≡ true)
   unfolding numbersWhere
   where-at xs {v} m =
       let a = numbers-at 0 xs m in
@@ -62,7 +62,7 @@ module _ {A : Type 0} (p : A → Bool) (d : A) where
       let l : a .place < length xs = a .inside in
       (subst (λ (k : ℕ). k < length xs) (sym e) l, subst (λ (k : ℕ). p (getD xs k d) ≡ true) (sym e) (a .passes))
 
-  pub where-distinct : (xs : List A) → Distinct (numbersWhere p xs)
+  where-distinct : (xs : List A) → Distinct (numbersWhere p xs)
   unfolding numbersWhere
   where-distinct xs = numbers-distinct 0 xs
 

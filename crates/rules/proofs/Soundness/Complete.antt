@@ -1,11 +1,12 @@
--- The limit tests of a call, causes 4, 5 and 3, ask only what soundness asks of the store with the call done, so a call whose names exist is refused only where that store would not be sound. Assumes nothing.
+-- The limit tests of a call, causes 4, 5 and 3, ask only what soundness asks of the store with the call done, so a call whose names exist
+-- is refused only where that store would not be sound. Assumes nothing.
 use Prim.Native.Nat.{ℕ, _<_}
 use native.Mathlib.Omega.{arith}
-use mathlib.Core.Bool.{Bool, true, cond}
-use mathlib.Core.Option.{none, some}
-use mathlib.Core.List.{List, [], _∷_, map}
+use mathlib.Core.Bool.{Bool, true}
+use mathlib.Core.Option.{none}
+use mathlib.Core.List.{[], _∷_, map}
 use mathlib.Core.Logic.{_↔_}
-use mathlib.Core.Path.{_≡_, refl, sym, subst}
+use mathlib.Core.Path.{_≡_, refl}
 use borrow.Author.Tests.{ltb-true, le-leb}
 use lib.Dec.{eqb}
 use lib.ListN.{length}
@@ -15,7 +16,7 @@ use Rattle.rules.specs.Building.{Call, newOperation, newBlock, setAttrib
 use Rattle.rules.proofs.Basics.Tests.{passed, every-of}
 use Rattle.rules.proofs.Soundness.Sound.{Sound, facts, sound-of}
 use Rattle.rules.proofs.Basics.Appended.{length-update, sum-update}
-use Rattle.rules.proofs.Soundness.Accepted.{AllPassed, firstFailed-none}
+use Rattle.rules.proofs.Soundness.Accepted.{AllPassed, firstFailed-none, all-passed}
 use Rattle.rules.proofs.Soundness.KeptNewOperation.{OpAllowed}
 use Rattle.rules.proofs.Soundness.KeptNewBlock.{BlockAllowed}
 use Rattle.rules.proofs.Soundness.Kept.{applied-sound}
@@ -28,11 +29,6 @@ ofNames t = any (eqb (t .1)) (6 ∷ 2 ∷ 7 ∷ [])
 -- the call's tests of these causes pass
 unfoldable pub namesHold : Store → Call → Bool
 namesHold s c = every (map (λ (t : Bool × ℕ). t .0) (keep ofNames (tests s c)))
-
-all-passed : (ts : List (Bool × ℕ)) → AllPassed ts → firstFailed ts ≡ none
-unfolding firstFailed
-all-passed [] p = refl
-all-passed (t ∷ ts) p = subst (λ (b : Bool). cond b (firstFailed ts) (some (t .1)) ≡ none) (sym (p .0)) (all-passed ts (p .1))
 
 limits-hold : (s : Store) (c : Call) → Sound s → namesHold s c ≡ true → Sound (applied s c) → AllPassed (tests s c)
 unfolding namesHold ofNames any keep applied tests operationNames operationFits operationRoom blockRoom attributesOf attributeTotal opAt blockAt ownerExists opExists blockExists opWithAttribute blockWithAttribute

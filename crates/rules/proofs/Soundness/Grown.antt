@@ -1,4 +1,5 @@
--- A store that grew: what was there keeps its parent, its region and the operation around it, so what a sound store names is named still. Assumes nothing.
+-- A store that grew: what was there keeps its parent, its region and the operation around it, so what a sound store names is named still.
+-- Assumes nothing.
 use Prim.Native.Nat.{ℕ, zero, suc, _<_, _≤_}
 use native.Mathlib.Omega.{arith}
 use mathlib.Core.Bool.{true}
@@ -24,7 +25,8 @@ pub record Grown (s t : Store) : Type 0 where
   pub around : (r : ℕ) → r < length (s .regions) → getD (t .regions) r 0 ≡ getD (s .regions) r 0
 
 -- a store whose lists are those of another with something behind them has grown from it
-pub appended-grown : (s t : Store) (a : List Op) (b : List Block) (r : List ℕ) (v : List Value) → t .ops ≡ s .ops ++ a → t .blocks ≡ s .blocks ++ b → t .regions ≡ s .regions ++ r → t .values ≡ s .values ++ v → Grown s t
+pub appended-grown : (s t : Store) (a : List Op) (b : List Block) (r : List ℕ) (v : List Value) → t .ops ≡ s .ops ++ a → t .blocks ≡ s .blocks ++ b
+    → t .regions ≡ s .regions ++ r → t .values ≡ s .values ++ v → Grown s t
 unfolding parentOf opAt blockAt
 appended-grown s t a b r v eo eb er ev =
     record {
@@ -59,7 +61,7 @@ module _ (s : Store) (h : Sound s) where
   unfolding opExists
   region-op r l = ltb-true _ _ (all-at (opExists s) (s .regions) (h .regionsIn) (mem-getD (s .regions) r 0 l))
 
-  pub block-region : (b : ℕ) → b < length (s .blocks) → blockAt s b .region < length (s .regions)
+  block-region : (b : ℕ) → b < length (s .blocks) → blockAt s b .region < length (s .regions)
   unfolding regionExists
   block-region b l = ltb-true _ _ (h .block b l .regionIn)
 
@@ -84,11 +86,11 @@ module _ (s t : Store) (g : Grown s t) where
   unfolding valueExists
   value-kept v = below-kept v _ _ (g .values)
 
-  pub block-exists-kept : (b : ℕ) → blockExists s b ≡ true → blockExists t b ≡ true
+  block-exists-kept : (b : ℕ) → blockExists s b ≡ true → blockExists t b ≡ true
   unfolding blockExists
   block-exists-kept b = below-kept b _ _ (g .blocks)
 
-  pub op-exists-kept : (n : ℕ) → opExists s n ≡ true → opExists t n ≡ true
+  op-exists-kept : (n : ℕ) → opExists s n ≡ true → opExists t n ≡ true
   unfolding opExists
   op-exists-kept n = below-kept n _ _ (g .ops)
 
@@ -113,12 +115,12 @@ module _ (s t : Store) (g : Grown s t) where
       }
 
   module _ (h : Sound s) where
-    pub around-kept : (b : ℕ) → b < length (s .blocks) → opAround t b ≡ opAround s b
+    around-kept : (b : ℕ) → b < length (s .blocks) → opAround t b ≡ opAround s b
     unfolding opAround
     around-kept b l = ap (λ (r : ℕ). getD (t .regions) r 0) (g .region b l) ∙ g .around _ (block-region s h b l)
 
     -- the block around the operation around a block
-    pub outer-kept : (b : ℕ) → b < length (s .blocks) → parentOf t (opAround t b) ≡ parentOf s (opAround s b)
+    outer-kept : (b : ℕ) → b < length (s .blocks) → parentOf t (opAround t b) ≡ parentOf s (opAround s b)
     outer-kept b l = ap (parentOf t) (around-kept b l) ∙ g .parent _ (around-in s h b l)
 
     pub levels-kept : (k : ℕ) (p : Option ℕ) → parentExists s p ≡ true → levelsLeft k t p ≡ levelsLeft k s p
@@ -139,7 +141,8 @@ module _ (s t : Store) (g : Grown s t) where
     after-kept n none e a = refl
     after-kept n (some b) e a = ap (λ (o : ℕ). ltb o n) (around-kept b (ltb-true _ _ e)) ∙ a
 
-    pub op-kept : (n : ℕ) → n < length (s .ops) → OpFits t (opAt t n) → length (regionsOf t n) ≤ maxOwnRegions → length (resultsOf t n) ≤ maxOwnValues → OpSound t n
+    pub op-kept : (n : ℕ) → n < length (s .ops) → OpFits t (opAt t n) → length (regionsOf t n) ≤ maxOwnRegions → length (resultsOf t n) ≤ maxOwnValues
+        → OpSound t n
     op-kept n l f r v =
         let o = h .op n l in
         let e : parentOf t n ≡ parentOf s n = g .parent n l in
@@ -156,7 +159,8 @@ module _ (s t : Store) (g : Grown s t) where
           attributesFit = f .attributesFit;
         }
 
-    pub block-kept : (m : ℕ) → m < length (s .blocks) → length (argumentsOf t m) ≤ maxOwnValues → attributesHold (blockAt t m .attributes) ≡ true → BlockSound t m
+    pub block-kept : (m : ℕ) → m < length (s .blocks) → length (argumentsOf t m) ≤ maxOwnValues → attributesHold (blockAt t m .attributes) ≡ true
+        → BlockSound t m
     unfolding regionExists
     block-kept m l v f =
         record {

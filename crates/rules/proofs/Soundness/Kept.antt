@@ -1,4 +1,5 @@
--- Each building call, accepted or refused, keeps a sound store sound: an accepted one passed its tests, a refused one changes nothing. Assumes nothing.
+-- Each building call, accepted or refused, keeps a sound store sound: an accepted one passed its tests, a refused one changes nothing.
+-- Assumes nothing.
 use Prim.Native.Nat.{ℕ, _<_}
 use native.Mathlib.Omega.{arith}
 use mathlib.Core.Bool.{true}

@@ -1,4 +1,5 @@
--- Attributes after one is put: it goes before the first larger key and in the place of its own key, so keys rise still, and the list grows only where the key is new. Assumes nothing.
+-- Attributes after one is put: it goes before the first larger key and in the place of its own key, so keys rise still, and the list grows
+-- only where the key is new. Assumes nothing.
 use Prim.Native.Nat.{ℕ, suc, _+_, _<_, _≤_}
 use native.Mathlib.Omega.{arith}
 use mathlib.Core.Bool.{Bool, true, false, cond, _||_}
@@ -22,7 +23,8 @@ unfolding attributesHold
 keys-rise bs h = passed _ h .0
 
 -- before the head, in its place, or behind it
-pub put-cases {ℓ} : (P : List Attribute → Type ℓ) (a b : Attribute) (bs : List Attribute) → (a .key < b .key → P (a ∷ b ∷ bs)) → (a .key ≡ b .key → P (a ∷ bs)) → (b .key < a .key → P (b ∷ putAttribute a bs)) → P (putAttribute a (b ∷ bs))
+pub put-cases {ℓ} : (P : List Attribute → Type ℓ) (a b : Attribute) (bs : List Attribute) → (a .key < b .key → P (a ∷ b ∷ bs))
+    → (a .key ≡ b .key → P (a ∷ bs)) → (b .key < a .key → P (b ∷ putAttribute a bs)) → P (putAttribute a (b ∷ bs))
 unfolding putAttribute
 put-cases P a b bs f g h = go (ltb (a .key) (b .key)) (eqb (a .key) (b .key)) refl refl
   where
@@ -72,7 +74,7 @@ put-kinds p a (b ∷ bs) e h =
     (λ u. and-both _ _ e (and-right (p b) _ h))
     (λ u. and-both (p b) _ (and-left (p b) (all p bs) h) (put-kinds p a bs e (and-right (p b) _ h)))
 
-pub put-longer : (a : Attribute) (bs : List Attribute) → length (putAttribute a bs) ≤ length bs + 1
+put-longer : (a : Attribute) (bs : List Attribute) → length (putAttribute a bs) ≤ length bs + 1
 unfolding putAttribute
 put-longer a [] = omega arith
 put-longer a (b ∷ bs) = put-cases (λ (xs : List Attribute). length xs ≤ suc (length bs) + 1) a b bs (λ u. omega arith) (λ u. omega arith) (λ u. omega (arith, put-longer a bs))
@@ -85,7 +87,7 @@ not-below j k (b ∷ bs) l h =
     let u : k < b .key = ltb-true _ _ (and-left _ (keysRiseAfter (b .key) bs) h) in
     rw (ne-eqb (b .key) j (λ e. omega arith)) (not-below j (b .key) bs (omega arith) (and-right (ltb k (b .key)) _ h))
 
-rises-behind : (k : ℕ) (bs : List Attribute) → keysRiseAfter k bs ≡ true → keysRise bs ≡ true
+pub rises-behind : (k : ℕ) (bs : List Attribute) → keysRiseAfter k bs ≡ true → keysRise bs ≡ true
 unfolding keysRiseAfter keysRise
 rises-behind k [] h = refl
 rises-behind k (b ∷ bs) h = and-right (ltb k (b .key)) _ h
@@ -104,14 +106,16 @@ put-replaced a (b ∷ bs) h e =
     (λ u. ap suc (put-replaced a bs (rises-behind (b .key) bs h) (rw (ne-eqb (b .key) (a .key) (λ x. omega arith)) at e)))
 
 -- of m things there may be n; of those bs are some, and the test allows one more where the key is new
-pub put-within : (a : Attribute) (bs : List Attribute) (m n : ℕ) → attributesHold bs ≡ true → (hasKey (a .key) bs || leb (m + 1) n) ≡ true → m ≤ n → m + length (putAttribute a bs) ≤ n + length bs
+pub put-within : (a : Attribute) (bs : List Attribute) (m n : ℕ) → attributesHold bs ≡ true → (hasKey (a .key) bs || leb (m + 1) n) ≡ true → m ≤ n
+    → m + length (putAttribute a bs) ≤ n + length bs
 put-within a bs m n h t l = go (or-cases _ _ t)
   where
     go : (hasKey (a .key) bs ≡ true) ⊎ (leb (m + 1) n ≡ true) → m + length (putAttribute a bs) ≤ n + length bs
     go (inl e) = omega (arith, put-replaced a bs (keys-rise bs h) e)
     go (inr e) = omega (arith, put-longer a bs, leb-true (m + 1) n e)
 
-pub put-holds : (a : Attribute) (bs : List Attribute) → leb (a .kind) maxAttributeKind ≡ true → (hasKey (a .key) bs || leb (length bs + 1) maxOwnKeys) ≡ true → attributesHold bs ≡ true → attributesHold (putAttribute a bs) ≡ true
+pub put-holds : (a : Attribute) (bs : List Attribute) → leb (a .kind) maxAttributeKind ≡ true
+    → (hasKey (a .key) bs || leb (length bs + 1) maxOwnKeys) ≡ true → attributesHold bs ≡ true → attributesHold (putAttribute a bs) ≡ true
 unfolding attributesHold
 put-holds a bs k t h =
     let p = passed _ h in

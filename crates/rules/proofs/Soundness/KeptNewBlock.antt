@@ -1,4 +1,5 @@
--- A new block keeps a store sound: its region exists and so stands in an operation whose own block is older, nothing of before names it, and its arguments are its own. Assumes nothing.
+-- A new block keeps a store sound: its region exists and so stands in an operation whose own block is older, nothing of before names it,
+-- and its arguments are its own. Assumes nothing.
 use Prim.Native.Nat.{ℕ, _+_, _<_, _≤_}
 use native.Mathlib.Decide.{ℕ-discrete}
 use native.Mathlib.Omega.{arith}

@@ -1,4 +1,5 @@
--- A new operation keeps a store sound: its tests are what soundness asks of it, nothing of before names it, and what it adds is its own. Assumes nothing.
+-- A new operation keeps a store sound: its tests are what soundness asks of it, nothing of before names it, and what it adds is its own.
+-- Assumes nothing.
 use Prim.Native.Nat.{ℕ, _+_, _<_, _≤_}
 use native.Mathlib.Decide.{ℕ-discrete}
 use native.Mathlib.Omega.{arith}

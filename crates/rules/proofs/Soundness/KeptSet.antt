@@ -1,4 +1,5 @@
--- A change of one operation or block that keeps its parent or region keeps a store sound: nothing else is named by what changes, and the changed one is tested. Assumes nothing.
+-- A change of one operation or block that keeps its parent or region keeps a store sound: nothing else is named by what changes, and the
+-- changed one is tested. Assumes nothing.
 use Prim.Native.Nat.{ℕ, _+_, _<_, _≤_}
 use native.Mathlib.Omega.{arith}
 use mathlib.Core.Bool.{true}
@@ -72,7 +73,10 @@ module _ (s : Store) (ops : List Op) (blocks : List Block) (h : Sound s) (c : Ch
 
 -- one operation changes in its operands and attributes
 module _ (s : Store) (g : Op → Op) (k : ℕ) (h : Sound s) (l : k < length (s .ops)) where
-  pub op-set : ((o : Op) → g o .parent ≡ o .parent) → OpFits s (g (opAt s k)) → length (g (opAt s k) .operands) ≡ length (opAt s k .operands) → length (g (opAt s k) .successors) ≡ length (opAt s k .successors) → attributeTotal s + length (g (opAt s k) .attributes) ≤ maxAttributes + length (opAt s k .attributes) → Sound (withLists s (updateAt g k (s .ops)) (s .blocks))
+  pub op-set : ((o : Op) → g o .parent ≡ o .parent) → OpFits s (g (opAt s k)) → length (g (opAt s k) .operands) ≡ length (opAt s k .operands)
+      → length (g (opAt s k) .successors) ≡ length (opAt s k .successors)
+      → attributeTotal s + length (g (opAt s k) .attributes) ≤ maxAttributes + length (opAt s k .attributes)
+      → Sound (withLists s (updateAt g k (s .ops)) (s .blocks))
   unfolding parentOf opAt blockAt operandTotal successorTotal attributeTotal
   op-set keeps fit operands successors attributes =
       changed-sound s (updateAt g k (s .ops)) (s .blocks) h (
@@ -91,7 +95,9 @@ module _ (s : Store) (g : Op → Op) (k : ℕ) (h : Sound s) (l : k < length (s 
 
 -- one block changes in its attributes
 module _ (s : Store) (g : Block → Block) (k : ℕ) (h : Sound s) (l : k < length (s .blocks)) where
-  pub block-set : ((b : Block) → g b .region ≡ b .region) → attributesHold (g (blockAt s k) .attributes) ≡ true → attributeTotal s + length (g (blockAt s k) .attributes) ≤ maxAttributes + length (blockAt s k .attributes) → Sound (withLists s (s .ops) (updateAt g k (s .blocks)))
+  pub block-set : ((b : Block) → g b .region ≡ b .region) → attributesHold (g (blockAt s k) .attributes) ≡ true
+      → attributeTotal s + length (g (blockAt s k) .attributes) ≤ maxAttributes + length (blockAt s k .attributes)
+      → Sound (withLists s (s .ops) (updateAt g k (s .blocks)))
   unfolding parentOf opAt blockAt operandTotal successorTotal attributeTotal
   block-set keeps fit attributes =
       changed-sound s (s .ops) (updateAt g k (s .blocks)) h (

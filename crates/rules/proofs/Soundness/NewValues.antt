@@ -1,4 +1,5 @@
--- Values of a new owner: no value of a sound store names it, and the new values name no other, so old owners keep their values and the new one has just its own. Assumes nothing.
+-- Values of a new owner: no value of a sound store names it, and the new values name no other, so old owners keep their values and the new
+-- one has just its own. Assumes nothing.
 use Prim.Native.Nat.{ℕ}
 use mathlib.Core.Bool.{Bool, true, false}
 use mathlib.Core.List.{List, _++_, List·Memᴰ, Memᴰ·of-map}

@@ -1,4 +1,5 @@
--- A sound store to which something was added had room for it: its totals are those of before and the new, and the new one's own lists are just what it brought. Assumes nothing.
+-- A sound store to which something was added had room for it: its totals are those of before and the new, and the new one's own lists are
+-- just what it brought. Assumes nothing.
 use Prim.Native.Nat.{ℕ, zero, suc, _+_, _<_, _≤_}
 use native.Mathlib.Nat.{not-suc-le-zero, le-of-suc-le-suc}
 use native.Mathlib.Omega.{arith}
@@ -66,7 +67,8 @@ module _ (s : Store) (o : Op) (regions : ℕ) (types : List ℕ) (h : Sound s) (
         successorsLeft = omega (arith, sum-append (λ (x : Op). length (x .successors)) (s .ops) (o ∷ []), u .totals .successors);
       }
 
-pub block-allowed : (s : Store) (b : Block) (types : List ℕ) → Sound s → Sound (withBlock s b types) → regionExists s (b .region) ≡ true → b .attributes ≡ [] → BlockAllowed s b types
+pub block-allowed : (s : Store) (b : Block) (types : List ℕ) → Sound s → Sound (withBlock s b types) → regionExists s (b .region) ≡ true
+    → b .attributes ≡ [] → BlockAllowed s b types
 unfolding argumentsOf ownerExists blockExists
 block-allowed s b types h u region bare =
     let N : ℕ = length (s .blocks) in
@@ -102,13 +104,15 @@ put-added a (b ∷ bs) e =
     (λ u. omega (arith, put-added a bs (rw (ne-eqb (b .key) (a .key) (λ x. omega arith)) at e)))
 
 -- the test allows one more where the key is new, if there was room for the list after it
-pub put-allowed : (a : Attribute) (bs : List Attribute) (m n : ℕ) → m + length (putAttribute a bs) ≤ n + length bs → (hasKey (a .key) bs || leb (m + 1) n) ≡ true
+pub put-allowed : (a : Attribute) (bs : List Attribute) (m n : ℕ) → m + length (putAttribute a bs) ≤ n + length bs
+    → (hasKey (a .key) bs || leb (m + 1) n) ≡ true
 put-allowed a bs m n l = go (decided (hasKey (a .key) bs))
   where
     go : (hasKey (a .key) bs ≡ true) ⊎ (hasKey (a .key) bs ≡ false) → (hasKey (a .key) bs || leb (m + 1) n) ≡ true
     go (inl e) = or-left _ _ e
     go (inr e) = or-right (hasKey (a .key) bs) _ (le-leb (m + 1) n (omega (arith, put-added a bs e)))
 
-pub keys-allowed : (a : Attribute) (bs : List Attribute) → attributesHold (putAttribute a bs) ≡ true → (hasKey (a .key) bs || leb (length bs + 1) maxOwnKeys) ≡ true
+pub keys-allowed : (a : Attribute) (bs : List Attribute) → attributesHold (putAttribute a bs) ≡ true
+    → (hasKey (a .key) bs || leb (length bs + 1) maxOwnKeys) ≡ true
 unfolding attributesHold
 keys-allowed a bs h = put-allowed a bs (length bs) maxOwnKeys (omega (arith, leb-true (length (putAttribute a bs)) maxOwnKeys (passed _ h .1 .0)))

@@ -2,7 +2,7 @@
 -- cause 12 never arises, and the other tests are the premises. Assumes nothing.
 use Prim.Native.Nat.{ℕ, zero, suc}
 use native.Mathlib.Omega.{arith}
-use mathlib.Core.Bool.{Bool, true}
+use mathlib.Core.Bool.{true}
 use mathlib.Core.List.{List, [], _∷_, List·Memᴰ, List·Memᴰ·head, List·Memᴰ·tail, List·Memᴰ·eq-of-singleton}
 use mathlib.Core.Logic.{_↔_}
 use mathlib.Core.Option.{Option, none, some}
@@ -19,8 +19,9 @@ use Rattle.rules.specs.Comparison.{unequal, oneLonger, tooDeep, Walk, on
 use Rattle.rules.specs.Hash.{hash}
 use Rattle.rules.specs.Answers.{eq, neq, refused, shallow, compareTests, comparisonOf, comparisonBy, comparison, hashIs, hashTests, hashedBy, hashed}
 use Rattle.rules.specs.Laws.{goesOn, equal}
-use Rattle.rules.proofs.Basics.Tests.{and-both, every-of, clash}
+use Rattle.rules.proofs.Basics.Tests.{and-both, every-of, clash, impossible}
 use Rattle.rules.proofs.Soundness.Children.{ops-in}
+use Rattle.rules.proofs.Soundness.Accepted.{all-passed}
 use Rattle.rules.proofs.Basics.Distinct.{mem-concatMap}
 use Rattle.rules.proofs.Walking.Levels.{Leaves, op-leaves, nested-leaves}
 use Rattle.rules.proofs.Walking.Deep.{compare-not-deep}
@@ -75,22 +76,12 @@ module _ (s : Store) (sd : sound s ≡ true) where
 
 -- ---- answers
 
--- every test of a call passes
-abbrev Passing : List (Bool × ℕ) → Type 0
-Passing [] = Unit {0}
-Passing (t ∷ ts) = (t .0 ≡ true) × Passing ts
-
-none-failed : (ts : List (Bool × ℕ)) → Passing ts → firstFailed ts ≡ none
-unfolding firstFailed
-none-failed [] p = refl
-none-failed (t ∷ ts) p = rw (p .0) (none-failed ts (p .1))
-
 module _ (s : Store) (sd : sound s ≡ true) (ig : Ignore) (f : Sort) where
   module _ (m : Mapping) (am : allowed s m ≡ true) (l r : ℕ) (el : exists s f l ≡ true) (er : exists s f r ≡ true) where
-    pub compare-accepted : firstFailed (compareTests true s m f l r) ≡ none
+    compare-accepted : firstFailed (compareTests true s m f l r) ≡ none
     unfolding compareTests
     compare-accepted =
-        none-failed _ (refl, (am, (and-both _ _ el er, (and-both _ _ (fragment-shallow s sd f l el) (fragment-shallow s sd f r er), tt))))
+        all-passed _ (refl, (am, (and-both _ _ el er, (and-both _ _ (fragment-shallow s sd f l el) (fragment-shallow s sd f r er), tt))))
 
     pub comparison-is : comparison true s m ig f l r ≡ comparisonOf (compare s ig f l r m) m
     unfolding comparison comparisonBy
@@ -101,15 +92,15 @@ module _ (s : Store) (sd : sound s ≡ true) (ig : Ignore) (f : Sort) where
     never-refused cause h = go (compare s ig f l r m) refl (rw comparison-is at h)
       where
         go : (w : Walk) → compare s ig f l r m ≡ w → comparisonOf w m .answer ≡ refused cause → ⊥
-        go (on st) e c = let x : _≡_ {A = ℕ} 0 1 = cc in omega arith
-        go (ended (unequal p) st) e c = let x : _≡_ {A = ℕ} 0 1 = cc in omega arith
-        go (ended (oneLonger p) st) e c = let x : _≡_ {A = ℕ} 0 1 = cc in omega arith
+        go (on st) e c = impossible cc
+        go (ended (unequal p) st) e c = impossible cc
+        go (ended (oneLonger p) st) e c = impossible cc
         go (ended tooDeep st) e c = compare-not-deep s sd ig f l r el m st e
 
   pub hashed-is : (n : ℕ) → exists s f n ≡ true → hashed true s ig f n ≡ hashIs (hash s ig f n)
   unfolding hashed hashedBy hashTests
   hashed-is n e =
-      let t : firstFailed (hashTests true s f n) ≡ none = none-failed _ (refl, (e, (fragment-shallow s sd f n e, tt))) in
+      let t : firstFailed (hashTests true s f n) ≡ none = all-passed _ (refl, (e, (fragment-shallow s sd f n e, tt))) in
       rw t
 
 -- ---- the empty mapping is allowed, and equality is the answer eq

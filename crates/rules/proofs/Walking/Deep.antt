@@ -4,59 +4,78 @@ use Prim.Native.Nat.{ℕ, zero, suc, _≤_, _<_}
 use native.Mathlib.Nat.{not-suc-le-zero}
 use native.Mathlib.Omega.{arith}
 use mathlib.Core.Bool.{true}
-use mathlib.Core.List.{[], _∷_}
+use mathlib.Core.List.{List, [], _∷_, List·Memᴰ}
 use mathlib.Core.Path.{_≡_, subst}
 use borrow.Author.Tests.{ltb-true}
-use Rattle.rules.specs.Store.{Store, parentOf, opExists, maxNesting, blocksOf, sound}
-use Rattle.rules.specs.Fragments.{Sort, op, block, region, exists, levels}
+use Rattle.rules.specs.Store.{Store, parentOf, opExists, maxNesting, opsOf, blocksOf, sound}
+use Rattle.rules.specs.Fragments.{Sort, op, block, region, exists, levels, Step}
 use Rattle.rules.specs.Shells.{Ignore}
 use Rattle.rules.specs.Mapping.{Mapping}
-use Rattle.rules.specs.Comparison.{State, Stop, unequal, oneLonger, tooDeep, Walk, ended, Reading, paper, pairOf, pairOps, checkOps, compareRegions, compareBy, start, compare}
+use Rattle.rules.specs.Comparison.{State, Pair, unequal, oneLonger, tooDeep, Walk, on, ended, _>>=_, Reading, paper, pairOf, pairOps, pairBlocks, checkOps, compareLists, compareRegions, compareBy, start, compare}
 use Rattle.rules.proofs.Walking.Levels.{Leaves, leaves-most, op-leaves, nested-leaves, block-leaves}
-use Rattle.rules.proofs.Walking.Walks.{Stops, stops-bind, stops-expect, stops-lists, stops-ops}
+use Rattle.rules.proofs.Walking.Walks.{Passes, Always, noSteps, always-then, always-expect, always-ops, always-lists}
 
-abbrev pub NotDeep : Stop → Type 0
-NotDeep (unequal p) = Unit {0}
-NotDeep (oneLonger p) = Unit {0}
-NotDeep tooDeep = ⊥
+-- the walk has not ended for want of a region to enter
+unfoldable NotDeep : Walk → Type 0
+NotDeep (on t) = Unit {0}
+NotDeep (ended (unequal p) t) = Unit {0}
+NotDeep (ended (oneLonger p) t) = Unit {0}
+NotDeep (ended tooDeep t) = ⊥
+
+abbrev Shallow : List Step → State → Walk → Type 0
+Shallow xs st w = NotDeep w
+
+passes : Passes Shallow
+unfolding NotDeep
+passes = record { stays = λ xs st. tt; named = λ xs st p. tt; longer = λ xs st p. tt; behind = λ xs ys st. behind }
+  where
+    behind : (w : Walk) (f : State → Walk) → NotDeep w → ((t : State) → NotDeep (f t)) → NotDeep (w >>= f)
+    behind (on t) f a b = b t
+    behind (ended why t) f a b = a
 
 module _ (s : Store) (sd : sound s ≡ true) (z : Reading) (ig : Ignore) where
+  pair-ops : (l r : ℕ) → Always Shallow [] (pairOps s ig l r)
+  unfolding NotDeep pairOps
+  pair-ops l r st = always-expect Shallow passes [] _ (pairOf op l r) st _ tt
+
+  pair-blocks : (l r : ℕ) → Always Shallow [] (pairBlocks s ig l r)
+  unfolding NotDeep pairBlocks
+  pair-blocks l r st = always-expect Shallow passes [] _ (pairOf block l r) st _ tt
+
+  lists-deep : (f : ℕ → ℕ → State → Walk) (p : Pair) (ls rs : List ℕ)
+      → ((b : ℕ) → List·Memᴰ b ls → (n : ℕ) → List·Memᴰ n (opsOf s b) → (r : ℕ) → Always Shallow [] (f n r)) → Always Shallow [] (compareLists z s ig f p ls rs)
+  lists-deep f = always-lists Shallow passes z s ig pair-ops pair-blocks f noSteps
+
   -- with one region more to enter than the operation leaves levels
-  ops-deep : (k j : ℕ) → j < k → (n : ℕ) → Leaves s maxNesting (parentOf s n) j → (r : ℕ) (st : State)
-      → Stops NotDeep (checkOps s (compareRegions k z s ig) n r st)
+  ops-deep : (k j : ℕ) → j < k → (n : ℕ) → Leaves s maxNesting (parentOf s n) j → (r : ℕ) → Always Shallow [] (checkOps s (compareRegions k z s ig) n r)
   unfolding compareRegions
-  ops-deep zero j l n h r st = absurd (not-suc-le-zero l)
-  ops-deep (suc k) j l n h r st =
-      stops-ops NotDeep (λ p. tt) (λ p. tt) z s (compareRegions (suc k) z s ig) n r
-      (λ x x∈ y t. stops-lists NotDeep (λ p. tt) (λ p. tt) z s ig (checkOps s (compareRegions k z s ig)) (pairOf region x y) (blocksOf s x) (blocksOf s y)
+  ops-deep zero j l n h r = absurd (not-suc-le-zero l)
+  ops-deep (suc k) j l n h r =
+      always-ops Shallow passes s (compareRegions (suc k) z s ig) noSteps n r
+      (λ x x∈ y. lists-deep (checkOps s (compareRegions k z s ig)) (pairOf region x y) (blocksOf s x) (blocksOf s y)
       (λ b b∈ m m∈. let w = nested-leaves s sd n j h x∈ b∈ m∈ in
       let e : j ≡ suc (w .0) = w .2 in
-      ops-deep k (w .0) (omega arith) m (w .1))
-      t)
-      st
+      ops-deep k (w .0) (omega arith) m (w .1)))
 
-  fragments-deep : (f : Sort) (l r : ℕ) → exists s f l ≡ true → (st : State) → Stops NotDeep (compareBy z s ig f l r st)
-  unfolding compareBy compareRegions exists opExists pairOps
-  fragments-deep op l r e st =
+  fragments-deep : (f : Sort) (l r : ℕ) → exists s f l ≡ true → Always Shallow [] (compareBy z s ig f l r)
+  unfolding compareBy compareRegions exists opExists
+  fragments-deep op l r e =
       let w = op-leaves s sd l (ltb-true _ _ e) in
       let b : w .0 ≤ maxNesting = leaves-most s maxNesting (parentOf s l) (w .0) (w .1) in
-      stops-bind NotDeep (pairOps s ig l r st) _ (stops-expect NotDeep (λ p. tt) (λ p. tt) z _ (pairOf op l r) _ _)
-      (ops-deep levels (w .0) (omega arith) l (w .1) r)
-  fragments-deep block l r e st =
-      stops-lists NotDeep (λ p. tt) (λ p. tt) z s ig (checkOps s (compareRegions levels z s ig)) (pairOf block l r) (l ∷ []) (r ∷ [])
+      always-then Shallow passes [] [] (pairOps s ig l r) _ (pair-ops l r) (ops-deep levels (w .0) (omega arith) l (w .1) r)
+  fragments-deep block l r e =
+      lists-deep (checkOps s (compareRegions levels z s ig)) (pairOf block l r) (l ∷ []) (r ∷ [])
       (λ b b∈ m m∈. let w = block-leaves s sd b m∈ in
       let i : w .0 < maxNesting = w .2 in
       ops-deep levels (w .0) (omega arith) m (w .1))
-      st
-  fragments-deep region l r e st =
-      stops-lists NotDeep (λ p. tt) (λ p. tt) z s ig (checkOps s (compareRegions maxNesting z s ig)) (pairOf region l r) (blocksOf s l) (blocksOf s r)
+  fragments-deep region l r e =
+      lists-deep (checkOps s (compareRegions maxNesting z s ig)) (pairOf region l r) (blocksOf s l) (blocksOf s r)
       (λ b b∈ m m∈. let w = block-leaves s sd b m∈ in
       ops-deep maxNesting (w .0) (w .2) m (w .1))
-      st
 
   pub walks-not-deep : (f : Sort) (l r : ℕ) → exists s f l ≡ true → (st t : State) → compareBy z s ig f l r st ≡ ended tooDeep t → ⊥
-  unfolding Stops
-  walks-not-deep f l r e st t h = subst (λ (w : Walk). Stops NotDeep w) h (fragments-deep f l r e st)
+  unfolding NotDeep
+  walks-not-deep f l r e st t h = subst NotDeep h (fragments-deep f l r e st)
 
 pub compare-not-deep : (s : Store) → sound s ≡ true → (ig : Ignore) (f : Sort) (l r : ℕ) → exists s f l ≡ true → (m : Mapping) (t : State)
     → compare s ig f l r m ≡ ended tooDeep t → ⊥

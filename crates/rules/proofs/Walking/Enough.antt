@@ -32,7 +32,8 @@ module _ (z : Reading) (s : Store) (ig : Ignore) where
     pub enough-one : compareRegions (suc k) z s ig l r st ≡ compareRegions k z s ig l r st
     enough-one = go (one-more k l r st)
       where
-        go : Agree TooDeep (compareRegions k z s ig l r st) (compareRegions (suc k) z s ig l r st) → compareRegions (suc k) z s ig l r st ≡ compareRegions k z s ig l r st
+        go : Agree TooDeep (compareRegions k z s ig l r st) (compareRegions (suc k) z s ig l r st)
+            → compareRegions (suc k) z s ig l r st ≡ compareRegions k z s ig l r st
         go (inl d) = absurd (not-deep (compareRegions k z s ig l r st) refl d)
         go (inr e) = sym e
 

@@ -21,7 +21,7 @@ list-same s full full′ bs same =
 
 module _ (s : Store) (sd : sound s ≡ true) where
   -- a full operation, with more regions to enter than it leaves levels
-  pub full-enough : (k l j : ℕ) → j < k → j < l → (n : ℕ) → Leaves s maxNesting (parentOf s n) j → fullOp s (regionSteps k s) n ≡ fullOp s (regionSteps l s) n
+  full-enough : (k l j : ℕ) → j < k → j < l → (n : ℕ) → Leaves s maxNesting (parentOf s n) j → fullOp s (regionSteps k s) n ≡ fullOp s (regionSteps l s) n
   unfolding fullOp regionSteps
   full-enough zero l j a b n h = absurd (not-suc-le-zero a)
   full-enough (suc k) zero j a b n h = absurd (not-suc-le-zero b)
@@ -34,18 +34,22 @@ module _ (s : Store) (sd : sound s ≡ true) where
       full-enough k l (w .0) (omega arith) (omega arith) m (w .1))))
 
   -- an operation that stands in a block
-  pub nested-enough : (k l : ℕ) → maxNesting ≤ k → maxNesting ≤ l → (b n : ℕ) → List·Memᴰ n (opsOf s b) → fullOp s (regionSteps k s) n ≡ fullOp s (regionSteps l s) n
+  nested-enough : (k l : ℕ) → maxNesting ≤ k → maxNesting ≤ l → (b n : ℕ) → List·Memᴰ n (opsOf s b)
+      → fullOp s (regionSteps k s) n ≡ fullOp s (regionSteps l s) n
   nested-enough k l a c b n n∈ =
       let w = block-leaves s sd b n∈ in
       let i : w .0 < maxNesting = w .2 in
       full-enough k l (w .0) (omega arith) (omega arith) n (w .1)
 
-  pub lists-enough : (k l : ℕ) → maxNesting ≤ k → maxNesting ≤ l → (bs : List ℕ) → listSteps s (fullOp s (regionSteps k s)) bs ≡ listSteps s (fullOp s (regionSteps l s)) bs
+  lists-enough : (k l : ℕ) → maxNesting ≤ k → maxNesting ≤ l → (bs : List ℕ)
+      → listSteps s (fullOp s (regionSteps k s)) bs ≡ listSteps s (fullOp s (regionSteps l s)) bs
   lists-enough k l a c bs = list-same s (fullOp s (regionSteps k s)) (fullOp s (regionSteps l s)) bs (λ b b∈ n n∈. nested-enough k l a c b n n∈)
 
-  pub steps-enough : (r : ℕ) → regionSteps (suc levels) s r ≡ regionSteps levels s r
+  pub steps-enough : (k l : ℕ) → levels ≤ k → levels ≤ l → (r : ℕ) → regionSteps k s r ≡ regionSteps l s r
   unfolding regionSteps
-  steps-enough r = lists-enough levels maxNesting (omega arith) (omega arith) (blocksOf s r)
+  steps-enough zero l a b r = absurd (omega arith)
+  steps-enough (suc k) zero a b r = absurd (omega arith)
+  steps-enough (suc k) (suc l) a b r = lists-enough k l (omega arith) (omega arith) (blocksOf s r)
 
   -- what stands in a region is gone through as where a walk begins
   pub region-steps : (r : ℕ) → regionSteps levels s r ≡ listSteps s (fullOp s (regionSteps levels s)) (blocksOf s r)

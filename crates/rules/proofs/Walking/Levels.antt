@@ -6,17 +6,12 @@ use mathlib.Core.Bool.{true}
 use mathlib.Core.List.{List·Memᴰ}
 use mathlib.Core.Option.{Option, none, some}
 use mathlib.Core.Path.{_≡_, refl, ap}
-use borrow.Author.Tests.{ltb-true}
 use lib.ListN.{length}
 use Rattle.rules.specs.Lists.{isSome}
-use Rattle.rules.specs.Store.{Store, opExists, parentOf, opAround, levelsLeft, maxNesting, nestingHolds, regionsOf, blocksOf, opsOf, sound}
-use Rattle.rules.proofs.Basics.Tests.{clash}
+use Rattle.rules.specs.Store.{Store, parentOf, opAround, levelsLeft, maxNesting, nestingHolds, regionsOf, blocksOf, opsOf, sound}
+use Rattle.rules.proofs.Basics.Tests.{clash, impossible}
 use Rattle.rules.proofs.Soundness.Sound.{facts}
 use Rattle.rules.proofs.Soundness.Children.{ops-in, blocks-in, regions-in}
-
-pub nesting-holds : (s : Store) → sound s ≡ true → (n : ℕ) → opExists s n ≡ true → nestingHolds s (parentOf s n) ≡ true
-unfolding opExists
-nesting-holds s h n e = facts s h .op n (ltb-true _ _ e) .nesting
 
 is-some : (q : Option ℕ) → isSome q ≡ true → (j : ℕ) × (q ≡ some j)
 unfolding isSome
@@ -38,7 +33,7 @@ module _ (s : Store) where
   pub leaves-most : (k : ℕ) (p : Option ℕ) (j : ℕ) → Leaves k p j → j ≤ k
   unfolding levelsLeft
   leaves-most zero none j h = let e : 0 ≡ j = cc in omega arith
-  leaves-most zero (some b) j h = let e : _≡_ {A = ℕ} 0 1 = cc in omega arith
+  leaves-most zero (some b) j h = impossible cc
   leaves-most (suc k) none j h = let e : suc k ≡ j = cc in omega arith
   leaves-most (suc k) (some b) j h = let l : j ≤ k = leaves-most k (parentOf s (opAround s b)) j h in omega arith
 

@@ -45,7 +45,8 @@ rust-in-domain s ig f l r m never = go (compareBy paper s ig f l r (start m)) re
     stop (oneLonger p) st e o = never p st e
     stop tooDeep st e o = o
 
-    go : (w : Walk) → compareBy paper s ig f l r (start m) ≡ w → Agree OneLonger w (compareBy rust s ig f l r (start m)) → compareBy rust s ig f l r (start m) ≡ compareBy paper s ig f l r (start m)
+    go : (w : Walk) → compareBy paper s ig f l r (start m) ≡ w → Agree OneLonger w (compareBy rust s ig f l r (start m))
+        → compareBy rust s ig f l r (start m) ≡ compareBy paper s ig f l r (start m)
     go (on st) e (inl o) = absurd o
     go (on st) e (inr h) = cc
     go (ended why st) e (inl o) = absurd (stop why st e o)

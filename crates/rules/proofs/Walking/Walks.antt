@@ -1,12 +1,13 @@
--- Two walks made of steps that agree agree, and a walk made of steps that stop only for certain reasons stops only for those: both
--- pass through every way in which a walk is put together. Assumes nothing.
+-- Two walks made of steps that agree agree; and what holds of steps, from where each begins to what it comes to, holds of a walk made of
+-- them, if it passes from one walk to the next. Both go through every way in which a walk is put together. Assumes nothing.
 use Prim.Native.Nat.{ℕ}
 use mathlib.Core.Bool.{Bool, true, false}
-use mathlib.Core.List.{List, [], _∷_, List·Memᴰ, List·Memᴰ·head, List·Memᴰ·tail}
+use mathlib.Core.List.{List, [], _∷_, _++_, map, List·Memᴰ, List·Memᴰ·head, List·Memᴰ·tail}
 use mathlib.Core.Logic.{_⊎_, inl, inr}
 use mathlib.Core.Path.{_≡_, refl, subst}
-use Rattle.rules.specs.Store.{Store, opsOf, regionsOf}
-use Rattle.rules.specs.Fragments.{op, block}
+use Rattle.rules.specs.Lists.{concatMap}
+use Rattle.rules.specs.Store.{Store, Owner, ofOp, ofBlock, opsOf, regionsOf}
+use Rattle.rules.specs.Fragments.{op, block, Step, shell, names, fullOp, listSteps}
 use Rattle.rules.specs.Shells.{Ignore}
 use Rattle.rules.specs.Comparison.{State, Pair, Stop, unequal, oneLonger, Walk, on, ended, _>>=_, Reading, oneMore, pairwise, eachPair, pairOf, expect, pairOps, pairBlocks, checkNames, checkOps, pass1, pass2, pass3, compareLists}
 
@@ -14,11 +15,6 @@ use Rattle.rules.specs.Comparison.{State, Pair, Stop, unequal, oneLonger
 abbrev pub EndedBy : (Stop → Type 0) → Walk → Type 0
 EndedBy P (on st) = ⊥
 EndedBy P (ended why st) = P why
-
--- if the walk has ended, then by such a stop
-unfoldable pub Stops : (Stop → Type 0) → Walk → Type 0
-Stops Q (on st) = Unit {0}
-Stops Q (ended why st) = Q why
 
 -- the first has ended by such a stop, or the two are the same
 abbrev pub Agree : (Stop → Type 0) → Walk → Walk → Type 0
@@ -35,7 +31,7 @@ module _ (P : Stop → Type 0) where
   agree-bind (ended why st) v f g (inl e) h = inl e
   agree-bind (ended why st) v f g (inr e) h = inr (subst (λ (u : Walk). ended why st ≡ (u >>= g)) e refl)
 
-  pub agree-each : (f g : ℕ → ℕ → State → Walk) → Agreeing P f g → (ls rs : List ℕ) (st : State)
+  agree-each : (f g : ℕ → ℕ → State → Walk) → Agreeing P f g → (ls rs : List ℕ) (st : State)
       → Agree P (eachPair f ls rs st) (eachPair g ls rs st)
   unfolding eachPair
   agree-each f g h [] rs st = inr refl
@@ -44,7 +40,7 @@ module _ (P : Stop → Type 0) where
 
   -- two readings that agree on a list which is one longer on the left
   module _ (z y : Reading) (one : (p : Pair) (st : State) → Agree P (oneMore z p st) (oneMore y p st)) where
-    pub agree-pairwise : (f g : ℕ → ℕ → State → Walk) → Agreeing P f g → (p : Pair) (ls rs : List ℕ) (st : State)
+    agree-pairwise : (f g : ℕ → ℕ → State → Walk) → Agreeing P f g → (p : Pair) (ls rs : List ℕ) (st : State)
         → Agree P (pairwise z f p ls rs st) (pairwise y g p ls rs st)
     unfolding pairwise
     agree-pairwise f g h p [] [] st = inr refl
@@ -66,56 +62,81 @@ module _ (P : Stop → Type 0) where
   unfolding checkOps
   agree-ops s f g h l r st = agree-bind (checkNames s l r st) _ _ _ (inr refl) (agree-each f g h (regionsOf s l) (regionsOf s r))
 
-module _ (Q : Stop → Type 0) where
-  pub stops-bind : (w : Walk) (f : State → Walk) → Stops Q w → ((st : State) → Stops Q (f st)) → Stops Q (w >>= f)
-  unfolding Stops
-  stops-bind (on st) f q h = h st
-  stops-bind (ended why st) f q h = q
+-- ---- of the steps on the left that a walk goes through, the state in which it begins, and what it comes to
 
-  pub stops-each : (f : ℕ → ℕ → State → Walk) (ls rs : List ℕ) → ((l : ℕ) → List·Memᴰ l ls → (r : ℕ) (st : State) → Stops Q (f l r st))
-      → (st : State) → Stops Q (eachPair f ls rs st)
-  unfolding Stops eachPair
-  stops-each f [] rs h st = tt
-  stops-each f (l ∷ ls) [] h st = tt
-  stops-each f (l ∷ ls) (r ∷ rs) h st =
-      stops-bind (f l r st) _ (h l (List·Memᴰ·head refl) r st) (stops-each f ls rs (λ m k. h m (List·Memᴰ·tail k)))
+-- it holds of a walk that goes on at once and of one that names a pair at once, and passes from a walk to one behind it
+pub record Passes (R : List Step → State → Walk → Type 0) : Type 0 where
+  pub stays : (xs : List Step) (st : State) → R xs st (on st)
+  pub named : (xs : List Step) (st : State) (p : Pair) → R xs st (ended (unequal p) st)
+  pub longer : (xs : List Step) (st : State) (p : Pair) → R xs st (ended (oneLonger p) st)
+  pub behind : (xs ys : List Step) (st : State) (w : Walk) (f : State → Walk) → R xs st w → ((t : State) → R ys t (f t)) → R (xs ++ ys) st (w >>= f)
 
-  -- stops that name a pair are among them
-  module _ (name : (p : Pair) → Q (unequal p)) (one : (p : Pair) → Q (oneLonger p)) (z : Reading) where
-    stops-one : (y : Reading) (p : Pair) (st : State) → Stops Q (oneMore y p st)
-    unfolding Stops oneMore
-    stops-one Reading.paper p st = one p
-    stops-one Reading.rust p st = tt
+-- in whatever state it begins
+abbrev pub Always : (List Step → State → Walk → Type 0) → List Step → (State → Walk) → Type 0
+Always R xs f = (st : State) → R xs st (f st)
 
-    pub stops-expect : (b : Bool) (p : Pair) (st t : State) → Stops Q (expect b p st t)
-    unfolding Stops expect
-    stops-expect true p st t = tt
-    stops-expect false p st t = name p
+-- for what does not depend on the steps
+abbrev pub noSteps : ℕ → List Step
+noSteps n = []
 
-    pub stops-pairwise : (f : ℕ → ℕ → State → Walk) → ((l r : ℕ) (st : State) → Stops Q (f l r st)) → (p : Pair) (ls rs : List ℕ) (st : State)
-        → Stops Q (pairwise z f p ls rs st)
-    unfolding Stops pairwise
-    stops-pairwise f h p [] [] st = tt
-    stops-pairwise f h p [] (r ∷ rs) st = name p
-    stops-pairwise f h p (l ∷ []) [] st = stops-one z p st
-    stops-pairwise f h p (l ∷ m ∷ ls) [] st = name p
-    stops-pairwise f h p (l ∷ ls) (r ∷ rs) st = stops-bind (f l r st) _ (h l r st) (stops-pairwise f h p ls rs)
+module _ (R : List Step → State → Walk → Type 0) (h : Passes R) where
+  pub always-then : (xs ys : List Step) (f g : State → Walk) → Always R xs f → Always R ys g → Always R (xs ++ ys) (λ st. f st >>= g)
+  always-then xs ys f g a b st = h .behind xs ys st (f st) g (a st) b
 
-    -- of the two lists, checks are made of what stands in the blocks of the left one
-    pub stops-lists : (s : Store) (ig : Ignore) (f : ℕ → ℕ → State → Walk) (p : Pair) (ls rs : List ℕ)
-        → ((b : ℕ) → List·Memᴰ b ls → (n : ℕ) → List·Memᴰ n (opsOf s b) → (r : ℕ) (st : State) → Stops Q (f n r st))
-        → (st : State) → Stops Q (compareLists z s ig f p ls rs st)
-    unfolding compareLists pass1 pass2 pass3 pairBlocks pairOps
-    stops-lists s ig f p ls rs h st =
-        stops-bind (pass1 z s ig p ls rs st >>= pass2 z s ig ls rs) (pass3 s f ls rs)
-        (stops-bind (pass1 z s ig p ls rs st) (pass2 z s ig ls rs)
-        (stops-pairwise (pairBlocks s ig) (λ l r t. stops-expect _ (pairOf block l r) _ _) p ls rs st)
-        (stops-each _ ls rs (λ l m r. stops-pairwise (pairOps s ig) (λ a b t. stops-expect _ (pairOf op a b) _ _) (pairOf block l r) (opsOf s l) (opsOf s r))))
-        (stops-each _ ls rs (λ l m r. stops-each f (opsOf s l) (opsOf s r) (h l m)))
+  pub always-expect : (xs : List Step) (b : Bool) (p : Pair) (st t : State) → R xs st (on t) → R xs st (expect b p st t)
+  unfolding expect
+  always-expect xs true p st t a = a
+  always-expect xs false p st t a = h .named xs st p
 
-    pub stops-ops : (s : Store) (f : ℕ → ℕ → State → Walk) (l r : ℕ)
-        → ((x : ℕ) → List·Memᴰ x (regionsOf s l) → (y : ℕ) (st : State) → Stops Q (f x y st))
-        → (st : State) → Stops Q (checkOps s f l r st)
-    unfolding checkOps checkNames
-    stops-ops s f l r h st =
-        stops-bind (checkNames s l r st) _ (stops-expect _ (pairOf op l r) _ _) (stops-each f (regionsOf s l) (regionsOf s r) h)
+  always-one : (xs : List Step) (z : Reading) (p : Pair) → Always R xs (oneMore z p)
+  unfolding oneMore
+  always-one xs Reading.paper p st = h .longer xs st p
+  always-one xs Reading.rust p st = h .stays xs st
+
+  -- pair by pair, each with a shell
+  pub always-pairwise : (z : Reading) (f : ℕ → ℕ → State → Walk) (w : ℕ → Owner) → ((l r : ℕ) → Always R (shell (w l) ∷ []) (f l r))
+      → (p : Pair) (ls rs : List ℕ) → Always R (map (λ (l : ℕ). shell (w l)) ls) (pairwise z f p ls rs)
+  unfolding pairwise
+  always-pairwise z f w a p [] [] st = h .stays _ st
+  always-pairwise z f w a p [] (r ∷ rs) st = h .named _ st p
+  always-pairwise z f w a p (l ∷ []) [] st = always-one _ z p st
+  always-pairwise z f w a p (l ∷ m ∷ ls) [] st = h .named _ st p
+  always-pairwise z f w a p (l ∷ ls) (r ∷ rs) st =
+      always-then (shell (w l) ∷ []) (map (λ (n : ℕ). shell (w n)) ls) (f l r) (pairwise z f p ls rs) (a l r) (always-pairwise z f w a p ls rs) st
+
+  -- pair by pair, each with steps
+  pub always-each : (f : ℕ → ℕ → State → Walk) (g : ℕ → List Step) (ls rs : List ℕ) → ((l : ℕ) → List·Memᴰ l ls → (r : ℕ) → Always R (g l) (f l r))
+      → Always R (concatMap g ls) (eachPair f ls rs)
+  unfolding eachPair concatMap
+  always-each f g [] rs a st = h .stays _ st
+  always-each f g (l ∷ ls) [] a st = h .stays _ st
+  always-each f g (l ∷ ls) (r ∷ rs) a st =
+      always-then (g l) (concatMap g ls) (f l r) (eachPair f ls rs) (a l (List·Memᴰ·head refl) r) (always-each f g ls rs (λ m k. a m (List·Memᴰ·tail k))) st
+
+  module _ (s : Store) (f : ℕ → ℕ → State → Walk) (g : ℕ → List Step) where
+    pub always-ops : (l r : ℕ) → ((x : ℕ) → List·Memᴰ x (regionsOf s l) → (y : ℕ) → Always R (g x) (f x y)) → Always R (fullOp s g l) (checkOps s f l r)
+    unfolding checkOps checkNames fullOp
+    always-ops l r a =
+        always-then (names l ∷ []) (concatMap g (regionsOf s l)) (checkNames s l r) _
+        (λ st. always-expect (names l ∷ []) _ (pairOf op l r) st st (h .stays _ st))
+        (always-each f g (regionsOf s l) (regionsOf s r) a)
+
+    pub always-pass3 : (ls rs : List ℕ) → ((b : ℕ) → List·Memᴰ b ls → (n : ℕ) → List·Memᴰ n (opsOf s b) → (r : ℕ) → Always R (g n) (f n r))
+        → Always R (concatMap (λ (b : ℕ). concatMap g (opsOf s b)) ls) (pass3 s f ls rs)
+    unfolding pass3
+    always-pass3 ls rs a = always-each _ _ ls rs (λ l m r. always-each f g (opsOf s l) (opsOf s r) (a l m))
+
+  -- where it holds of pairs
+  module _ (z : Reading) (s : Store) (ig : Ignore) (ops : (l r : ℕ) → Always R (shell (ofOp l) ∷ []) (pairOps s ig l r)) where
+    pub always-pass2 : (ls rs : List ℕ) → Always R (concatMap (λ (b : ℕ). map (λ (n : ℕ). shell (ofOp n)) (opsOf s b)) ls) (pass2 z s ig ls rs)
+    unfolding pass2
+    always-pass2 ls rs = always-each _ _ ls rs (λ l m r. always-pairwise z (pairOps s ig) ofOp ops (pairOf block l r) (opsOf s l) (opsOf s r))
+
+    pub always-lists : ((l r : ℕ) → Always R (shell (ofBlock l) ∷ []) (pairBlocks s ig l r)) → (f : ℕ → ℕ → State → Walk) (g : ℕ → List Step)
+        → (p : Pair) (ls rs : List ℕ) → ((b : ℕ) → List·Memᴰ b ls → (n : ℕ) → List·Memᴰ n (opsOf s b) → (r : ℕ) → Always R (g n) (f n r))
+        → Always R (listSteps s g ls) (compareLists z s ig f p ls rs)
+    unfolding compareLists pass1 listSteps
+    always-lists blocks f g p ls rs a =
+        always-then _ _ _ (pass3 s f ls rs)
+        (always-then _ _ (pass1 z s ig p ls rs) (pass2 z s ig ls rs) (always-pairwise z (pairBlocks s ig) ofBlock blocks p ls rs) (always-pass2 ls rs))
+        (always-pass3 s f g ls rs a)

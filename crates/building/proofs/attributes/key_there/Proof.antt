@@ -13,11 +13,6 @@ use Rattle.building.proofs.Setting.Owners.{reachable}
 use borrow.Author.Needs.{needs}
 use Rattle.building.proofs.attributes.key_there.Statement.{statement}
 use Rattle.building.proofs.attributes.key_there.Tie as tie
-use Rattle.building.proofs.attributes.key_there.Reads as reads
-use Rattle.building.proofs.attributes.key_there.Lts as lts
-use Rattle.layout.proofs.owners.first_slot.Reads as first-slot-reads
-use Rattle.layout.proofs.owners.key_count.Reads as key-count-reads
-use Rattle.layout.proofs.columns.at.Reads as at-reads
 
 first-slot-requires : tie.Need-first-slot-requires
 first-slot-requires c κs = search needs

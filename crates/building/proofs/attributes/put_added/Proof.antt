@@ -13,15 +13,6 @@ use Rattle.building.proofs.Setting.Owners.{reachable}
 use borrow.Author.Needs.{needs}
 use Rattle.building.proofs.attributes.put_added.Statement.{statement}
 use Rattle.building.proofs.attributes.put_added.Tie as tie
-use Rattle.building.proofs.attributes.put_added.Reads as reads
-use Rattle.building.proofs.attributes.put_added.Lts as lts
-use Rattle.layout.proofs.owners.count_column.Reads as count-column-reads
-use Rattle.layout.proofs.owners.first_slot.Reads as first-slot-reads
-use Rattle.layout.proofs.owners.key_count.Reads as key-count-reads
-use Rattle.layout.proofs.owners.owner_number.Reads as owner-number-reads
-use Rattle.layout.proofs.columns.insert.Reads as insert-reads
-use Rattle.layout.proofs.columns.number.Reads as number-reads
-use Rattle.layout.proofs.columns.put.Reads as put-reads
 
 key-count-requires : tie.Need-key-count-requires
 key-count-requires c κs =

@@ -6,9 +6,6 @@ use Rattle.building.specs.Raw.{replaced}
 use borrow.Author.Needs.{needs}
 use Rattle.building.proofs.attributes.put_replaced.Statement.{statement}
 use Rattle.building.proofs.attributes.put_replaced.Tie as tie
-use Rattle.building.proofs.attributes.put_replaced.Reads as reads
-use Rattle.building.proofs.attributes.put_replaced.Lts as lts
-use Rattle.layout.proofs.columns.put.Reads as put-reads
 
 put-requires : tie.Need-put-requires
 put-requires c κs = search needs

@@ -8,11 +8,6 @@ use Rattle.building.proofs.Setting.Owners.{reachable}
 use borrow.Author.Needs.{needs}
 use Rattle.building.proofs.attributes.slot_for.Statement.{statement}
 use Rattle.building.proofs.attributes.slot_for.Tie as tie
-use Rattle.building.proofs.attributes.slot_for.Reads as reads
-use Rattle.building.proofs.attributes.slot_for.Lts as lts
-use Rattle.layout.proofs.owners.first_slot.Reads as first-slot-reads
-use Rattle.layout.proofs.owners.key_count.Reads as key-count-reads
-use Rattle.building.proofs.attributes.slot_from.Reads as slot-from-reads
 
 first-slot-requires : tie.Need-first-slot-requires
 first-slot-requires c κs = search needs

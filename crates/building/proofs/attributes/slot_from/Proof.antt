@@ -6,9 +6,6 @@ use Rattle.building.proofs.Setting.Seeking.{Seeking, seek-starts, seek-
 use borrow.Author.Needs.{needs}
 use Rattle.building.proofs.attributes.slot_from.Statement.{statement}
 use Rattle.building.proofs.attributes.slot_from.Tie as tie
-use Rattle.building.proofs.attributes.slot_from.Reads as reads
-use Rattle.building.proofs.attributes.slot_from.Lts as lts
-use Rattle.layout.proofs.columns.at.Reads as at-reads
 
 abbrev Inv-loop : tie.InvT-loop
 Inv-loop store first count key i₀ i = Seeking (columns store) key first count i

@@ -8,7 +8,8 @@ use Rattle.layout.specs.Reading.{blockCount, storeOf, storeIn}
 use Rattle.layout.proofs.Laid.{Laid}
 use Rattle.building.specs.Types.{builtOf}
 use Rattle.layout.specs.Causes.{causeOf}
-use Rattle.building.proofs.Facts.{shaped, laid, blocks-counted}
+use Rattle.layout.proofs.Tabulate.{blocks-length}
+use Rattle.building.proofs.Facts.{shaped, laid}
 use Rattle.building.proofs.Causes.{fits-block}
 use Rattle.building.proofs.Doing.{did-refuse, did-work}
 use Rattle.building.proofs.Adding.NewBlock.{block-reads, block-laid}
@@ -69,7 +70,7 @@ returns-2 c =
     did-work b h (newBlock (a .region) (a .label) (a .location) (a .types .now)) _ (c .before .before .put-block .last .0) clear (c .before .before .put-block .kept .0)
     (ap storeOf e ∙ block-reads (columns b) (a .region) (a .label) (a .location) (a .types .now) (shaped b h) (f .room) (laid b h))
     (subst Laid (sym e) (block-laid (columns b) (a .region) (a .label) (a .location) (a .types .now) (shaped b h) (f .room) (laid b h) (f .named)))
-    (ap made (c .before .before .before .before .at .ensures ∙ sym (blocks-counted b h)))
+    (ap made (c .before .before .before .before .at .ensures ∙ sym (blocks-length (columns b))))
 
 pub new-block-spec : {M : Type 1} → statement M
 new-block-spec =

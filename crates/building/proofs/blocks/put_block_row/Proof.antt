@@ -1,10 +1,13 @@
--- `put_block_row` meets its contract: one word after the other. Assumes nothing.
+-- `put_block_row` meets its contract: the row is what the definition has, with the count of values that was read. Assumes nothing.
 use Prim.Native.Nat.{ℕ, _+_}
 use native.Mathlib.Omega.{arith}
-use mathlib.Core.Path.{ap, ap₂, _∙_}
-use Rattle.layout.specs.Columns.{Cols, write, blockLabel, blockLocation, blockArgumentFirst, blockArgumentEnd, blockOpFirst, blockOpEnd, blockAttributes}
+use mathlib.Core.List.{[], _∷_}
+use mathlib.Core.Path.{refl, ap, _∙_}
+use Rattle.rules.specs.Lists.{allBelow}
+use Rattle.layout.specs.Columns.{columns, blockRegion}
 use Rattle.layout.specs.Reading.{valueCount}
-use Rattle.building.specs.Raw.{opRange, blockWritten}
+use Rattle.building.specs.Raw.{withRow, blockWritten}
+use Rattle.building.proofs.Adding.RowWritten.{row-fits}
 use borrow.Author.Needs.{needs}
 use Rattle.building.proofs.blocks.put_block_row.Statement.{statement}
 use Rattle.building.proofs.blocks.put_block_row.Tie as tie
@@ -12,71 +15,39 @@ use Rattle.building.proofs.blocks.put_block_row.Tie as tie
 number-requires : tie.Need-number-requires
 number-requires c κs = search needs
 
-put-requires : tie.Need-put-requires
-put-requires c κs = search needs
-
-put-requires-2 : tie.Need-put-requires-2
-put-requires-2 c κs = search needs
-
-put-requires-3 : tie.Need-put-requires-3
-put-requires-3 c κs = search needs
-
-put-range-requires : tie.Need-put-range-requires
+add-end : tie.Need-add-end
 unfolding valueCount
-put-range-requires c κs = omega arith
+add-end c = omega arith
 
-put-requires-4 : tie.Need-put-requires-4
-put-requires-4 c κs = search needs
+cast-t12 : tie.Need-cast-t12
+unfolding valueCount
+cast-t12 c = omega arith
 
-put-requires-5 : tie.Need-put-requires-5
-put-requires-5 c κs = search needs
+cast-t13 : tie.Need-cast-t13
+unfolding valueCount
+cast-t13 c = omega arith
 
-put-requires-6 : tie.Need-put-requires-6
-put-requires-6 c κs =
-    let p = c .before .before .before .before .before .before .before .before .before .before .before .before .before .before .before .before .before .before .before .before .before .before .before .before .before .before .before .before .pre in
-    omega (arith, p .0, p .1 .0)
+slice-aggregate-put-row : tie.Need-slice-aggregate-put-row
+slice-aggregate-put-row c = search needs
+
+put-row-requires : tie.Need-put-row-requires
+unfolding allBelow
+put-row-requires c κs =
+    let s = c .before .before .before .before .before in
+    (omega (arith, s .pre .0), (omega arith, row-fits blockRegion 8 256 (s .args .m) refl (s .pre .1 .0)))
 
 same-length : tie.Need-same-length
 same-length c = search needs
 
 returns : tie.Need-returns
-unfolding blockWritten opRange valueCount
+unfolding blockWritten valueCount
 returns c =
-    let p₅ = c .before .before .before .before .before .before in
-    let p₄ = p₅ .before .before .before .before in
-    let r = p₄ .before .before .before .before in
-    let p₃ = r .before .before .before .before in
-    let p₂ = p₃ .before .before .before .before in
-    let p₁ = p₂ .before .before .before .before in
-    let n = p₁ .before .before in
-    let s = n .before .before .before in
-    let a = s .args in
-    c .before .before .put6 .ensures
-    ∙ ap (λ (X : Cols). write X blockAttributes (a .m) 0)
-    (p₅ .put5 .ensures
-    ∙ ap (λ (X : Cols). write X blockOpEnd (a .m) 0)
-    (p₄ .put4 .ensures
-    ∙ ap (λ (X : Cols). write X blockOpFirst (a .m) 0)
-    (r .put-range .ensures
-    ∙ ap₂ (λ (X : Cols) (v : ℕ). write (write X blockArgumentFirst (a .m) v) blockArgumentEnd (a .m) (v + a .arguments))
-    (p₃ .put3 .ensures
-    ∙ ap (λ (X : Cols). write X blockLocation (a .m) (a .location))
-    (p₂ .put2 .ensures
-    ∙ ap (λ (X : Cols). write X blockLabel (a .m) (a .label))
-    (p₁ .put .ensures)))
-    (n .number .ensures))))
+    let n = c .before .before .before .before .before in
+    let a = n .before .before .before .args in
+    c .before .before .put-row .ensures
+    ∙ ap (λ (v : ℕ). withRow (columns (a .store .now)) blockRegion (a .m) (a .region ∷ a .label ∷ a .location ∷ v ∷ (v + a .arguments) ∷ 0 ∷ 0 ∷ 0 ∷ [])) (n .number .ensures)
 
 pub put-block-row-spec : {M : Type 1} → statement M
 put-block-row-spec =
     tie.close
-    (tie.spec
-    number-requires
-    put-requires
-    put-requires-2
-    put-requires-3
-    put-range-requires
-    put-requires-4
-    put-requires-5
-    put-requires-6
-    same-length
-    returns)
+    (tie.spec number-requires add-end cast-t12 cast-t13 slice-aggregate-put-row put-row-requires same-length returns)

@@ -8,10 +8,6 @@ use Rattle.building.proofs.Answering.{turned-down, taken-up}
 use borrow.Author.Needs.{needs}
 use Rattle.building.proofs.calls.new_block.Statement.{statement}
 use Rattle.building.proofs.calls.new_block.Tie as tie
-use Rattle.building.proofs.calls.new_block.Reads as reads
-use Rattle.building.proofs.calls.new_block.Lts as lts
-use Rattle.building.proofs.blocks.new_block.Reads as new-block-reads
-use Rattle.layout.proofs.sound.is_sound.Reads as is-sound-reads
 
 is-sound-requires : tie.Need-is-sound-requires
 is-sound-requires c κs = search needs

@@ -9,10 +9,6 @@ use Rattle.building.proofs.Answering.{turned-down, taken-up}
 use borrow.Author.Needs.{needs}
 use Rattle.building.proofs.calls.set_attribute.Statement.{statement}
 use Rattle.building.proofs.calls.set_attribute.Tie as tie
-use Rattle.building.proofs.calls.set_attribute.Reads as reads
-use Rattle.building.proofs.calls.set_attribute.Lts as lts
-use Rattle.building.proofs.attributes.set_attribute.Reads as set-attribute-reads
-use Rattle.layout.proofs.sound.is_sound.Reads as is-sound-reads
 
 is-sound-requires : tie.Need-is-sound-requires
 is-sound-requires c κs = search needs

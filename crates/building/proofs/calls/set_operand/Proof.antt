@@ -8,10 +8,6 @@ use Rattle.building.proofs.Answering.{turned-down, taken-up}
 use borrow.Author.Needs.{needs}
 use Rattle.building.proofs.calls.set_operand.Statement.{statement}
 use Rattle.building.proofs.calls.set_operand.Tie as tie
-use Rattle.building.proofs.calls.set_operand.Reads as reads
-use Rattle.building.proofs.calls.set_operand.Lts as lts
-use Rattle.building.proofs.operands.set_operand.Reads as set-operand-reads
-use Rattle.layout.proofs.sound.is_sound.Reads as is-sound-reads
 
 is-sound-requires : tie.Need-is-sound-requires
 is-sound-requires c κs = search needs

@@ -1,94 +1,97 @@
--- `operand_cause` meets its contract: it makes the tests in their order, on the counts. Assumes nothing.
+-- `operand_cause` meets its contract: it makes the tests in their order. Assumes nothing.
+use Prim.Native.Nat.{_<_, _≤_}
 use native.Mathlib.Omega.{arith}
 use mathlib.Core.Path.{sym}
-use Rattle.layout.specs.Reading.{opCount, valueCount}
+use Rattle.layout.specs.Columns.{columns}
+use Rattle.layout.specs.Reading.{opCount}
 use Rattle.layout.specs.Causes.{causeOf}
+use Rattle.layout.proofs.Scans.{failed, held}
+use Rattle.layout.proofs.Tabulate.{op-in}
 use Rattle.building.proofs.Facts.{laid}
 use Rattle.building.proofs.Causes.{no-op, no-value, no-operand, operand-there}
 use borrow.Author.Needs.{needs}
 use Rattle.building.proofs.operands.operand_cause.Statement.{statement}
 use Rattle.building.proofs.operands.operand_cause.Tie as tie
 
-at-requires : tie.Need-at-requires
-at-requires c κs = search needs
+op-exists-requires : tie.Need-op-exists-requires
+op-exists-requires c κs = search needs
 
 returns : tie.Need-returns
-unfolding causeOf opCount
+unfolding causeOf
 returns c =
     let s = c .before .before .before in
     let a = s .args in
-    let b = a .store .now in
-    let h = s .pre in
-    sym (no-op b h (a .n) (a .i) (a .v) (omega arith))
+    sym (no-op (a .store .now) (s .pre) (a .n) (a .i) (a .v) (failed (c .before .op-exists .ensures) (c .if1 .taken)))
 
-at-requires-2 : tie.Need-at-requires-2
-at-requires-2 c κs = search needs
+value-exists-requires : tie.Need-value-exists-requires
+value-exists-requires c κs = search needs
 
 returns-2 : tie.Need-returns-2
-unfolding causeOf opCount valueCount
+unfolding causeOf
 returns-2 c =
-    let s = c .before .before .before .before .before in
+    let v = c .before in
+    let o = v .before .before in
+    let s = o .before .before in
     let a = s .args in
-    let b = a .store .now in
-    let h = s .pre in
-    sym (no-value b h (a .n) (a .i) (a .v) (omega arith) (omega arith))
+    sym (no-value (a .store .now) (s .pre) (a .n) (a .i) (a .v) (held (o .op-exists .ensures) (v .before .if1 .left)) (failed (v .value-exists .ensures) (c .if2 .taken)))
 
-at-requires-3 : tie.Need-at-requires-3
-unfolding opCount
-at-requires-3 c κs =
-    let s = c .before .before .before .before .before in
+at-requires : tie.Need-at-requires
+at-requires c κs =
+    let o = c .before .before .before in
+    let s = o .before .before in
     let a = s .args in
-    let b = a .store .now in
-    let h = s .pre in
-    (h .sized, (omega arith, omega (arith, laid b h .counts .ops)))
+    let C = columns (a .store .now) in
+    let l : a .n < opCount C = op-in C (a .n) (held (o .op-exists .ensures) (c .before .before .if1 .left)) in
+    let few : opCount C ≤ 512 = laid (a .store .now) (s .pre) .counts .ops in
+    (s .pre .sized, (omega arith, omega arith))
 
-at-requires-4 : tie.Need-at-requires-4
-unfolding opCount
-at-requires-4 c κs =
-    let s = c .before .before .before .before .before .before in
+at-requires-2 : tie.Need-at-requires-2
+at-requires-2 c κs =
+    let o = c .before .before .before .before in
+    let s = o .before .before in
     let a = s .args in
-    let b = a .store .now in
-    let h = s .pre in
-    (h .sized, (omega arith, omega (arith, laid b h .counts .ops)))
+    let C = columns (a .store .now) in
+    let l : a .n < opCount C = op-in C (a .n) (held (o .op-exists .ensures) (c .before .before .before .if1 .left)) in
+    let few : opCount C ≤ 512 = laid (a .store .now) (s .pre) .counts .ops in
+    (s .pre .sized, (omega arith, omega arith))
 
 sub-if3 : tie.Need-sub-if3
-unfolding opCount
 sub-if3 c =
-    let s = c .before .before .before .before .before .before .before in
+    let o = c .before .before .before .before .before in
+    let s = o .before .before in
     let a = s .args in
-    let b = a .store .now in
-    let h = s .pre in
-    let k = laid b h .op (a .n) (omega arith) .operands .range .rises in
+    let C = columns (a .store .now) in
+    let k = laid (a .store .now) (s .pre) .op (a .n) (op-in C (a .n) (held (o .op-exists .ensures) (c .before .before .before .before .if1 .left))) .operands .range .rises in
     omega arith
 
 returns-3 : tie.Need-returns-3
-unfolding causeOf opCount valueCount
+unfolding causeOf
 returns-3 c =
-    let s = c .before .before .before .before .before .before .before .before in
+    let v = c .before .before .before .before in
+    let o = v .before .before in
+    let s = o .before .before in
     let a = s .args in
-    let b = a .store .now in
-    let h = s .pre in
-    sym (no-operand b h (a .n) (a .i) (a .v) (omega arith) (omega arith) (omega arith))
+    sym (no-operand (a .store .now) (s .pre) (a .n) (a .i) (a .v) (held (o .op-exists .ensures) (v .before .if1 .left)) (held (v .value-exists .ensures) (c .before .before .before .if2 .left)) (omega arith))
 
 returns-4 : tie.Need-returns-4
-unfolding causeOf opCount valueCount
+unfolding causeOf
 returns-4 c =
-    let s = c .before .before .before .before .before .before .before .before in
+    let v = c .before .before .before .before in
+    let o = v .before .before in
+    let s = o .before .before in
     let a = s .args in
-    let b = a .store .now in
-    let h = s .pre in
-    sym (operand-there b h (a .n) (a .i) (a .v) (record { op = omega arith; value = omega arith; operand = omega arith }))
+    sym (operand-there (a .store .now) (s .pre) (a .n) (a .i) (a .v) (held (o .op-exists .ensures) (v .before .if1 .left)) (held (v .value-exists .ensures) (c .before .before .before .if2 .left)) (omega arith))
 
 pub operand-cause-spec : {M : Type 1} → statement M
 operand-cause-spec =
     tie.close
     (tie.spec
-    at-requires
+    op-exists-requires
     returns
-    at-requires-2
+    value-exists-requires
     returns-2
-    at-requires-3
-    at-requires-4
+    at-requires
+    at-requires-2
     sub-if3
     returns-3
     returns-4)

@@ -4,32 +4,25 @@ use Rattle.rules.specs.Building.{tests}
 use Rattle.layout.proofs.Scans.{failed, held}
 use Rattle.building.specs.Types.{parentOf}
 use Rattle.layout.specs.Causes.{causeOf}
-use Rattle.building.specs.Calls.{operationTests}
 use Rattle.building.proofs.Causes.{none-fail, fails, passes}
 use Rattle.building.proofs.Operating.{names-parent}
 use borrow.Author.Needs.{needs}
 use Rattle.building.proofs.operations.operation_cause.Statement.{statement}
 use Rattle.building.proofs.operations.operation_cause.Tie as tie
-use Rattle.building.proofs.operations.operation_cause.Reads as reads
-use Rattle.building.proofs.operations.operation_cause.Lts as lts
-use Rattle.building.proofs.tests.nesting_holds.Reads as nesting-holds-reads
-use Rattle.building.proofs.tests.operation_fits.Reads as operation-fits-reads
-use Rattle.building.proofs.tests.operation_names.Reads as operation-names-reads
-use Rattle.building.proofs.tests.operation_room.Reads as operation-room-reads
 
 operation-names-requires : tie.Need-operation-names-requires
 operation-names-requires c κs = search needs
 
 returns : tie.Need-returns
-unfolding operationTests tests causeOf
-returns c = sym (fails _ _ _ (failed (c .before .operation-names .ensures) (c .if1 .taken)))
+unfolding tests causeOf
+returns c = λ kind location. sym (fails _ _ _ (failed (c .before .operation-names .ensures) (c .if1 .taken)))
 
 operation-fits-requires : tie.Need-operation-fits-requires
 operation-fits-requires c κs = search needs
 
 returns-2 : tie.Need-returns-2
-unfolding operationTests tests causeOf
-returns-2 c = sym (passes _ _ _ (held (c .before .before .before .operation-names .ensures) (c .before .before .if1 .left)) (fails _ _ _ (failed (c .before .operation-fits .ensures) (c .if2 .taken))))
+unfolding tests causeOf
+returns-2 c = λ kind location. sym (passes _ _ _ (held (c .before .before .before .operation-names .ensures) (c .before .before .if1 .left)) (fails _ _ _ (failed (c .before .operation-fits .ensures) (c .if2 .taken))))
 
 nesting-holds-requires : tie.Need-nesting-holds-requires
 nesting-holds-requires c κs =
@@ -38,10 +31,15 @@ nesting-holds-requires c κs =
     (s .pre, names-parent (a .store .now) (s .pre) (parentOf (a .parent)) (a .operands .now) (a .successors .now) (held (c .before .before .before .operation-names .ensures) (c .before .before .if1 .left)))
 
 returns-3 : tie.Need-returns-3
-unfolding operationTests tests causeOf
+unfolding tests causeOf
 returns-3 c =
-    sym (passes _ _ _ (held (c .before .before .before .before .before .operation-names .ensures) (c .before .before .before .before .if1 .left))
-    (passes _ _ _ (held (c .before .before .before .operation-fits .ensures) (c .before .before .if2 .left)) (fails _ _ _ (failed (c .before .nesting-holds .ensures) (c .if3 .taken)))))
+    let in2 = c .before .before in
+    let in1 = in2 .before .before in
+    λ kind location.
+    sym
+    (passes _ _ _ (held (in1 .before .operation-names .ensures) (in1 .if1 .left))
+    (passes _ _ _ (held (in2 .before .operation-fits .ensures) (in2 .if2 .left))
+    (fails _ _ _ (failed (c .before .nesting-holds .ensures) (c .if3 .taken)))))
 
 operation-room-requires : tie.Need-operation-room-requires
 operation-room-requires c κs =
@@ -49,18 +47,31 @@ operation-room-requires c κs =
     (s .pre, held (c .before .before .before .operation-fits .ensures) (c .before .before .if2 .left))
 
 returns-4 : tie.Need-returns-4
-unfolding operationTests tests causeOf
+unfolding tests causeOf
 returns-4 c =
-    sym (passes _ _ _ (held (c .before .before .before .before .before .before .before .operation-names .ensures) (c .before .before .before .before .before .before .if1 .left))
-    (passes _ _ _ (held (c .before .before .before .before .before .operation-fits .ensures) (c .before .before .before .before .if2 .left))
-    (passes _ _ _ (held (c .before .before .before .nesting-holds .ensures) (c .before .before .if3 .left)) (fails _ _ _ (failed (c .before .operation-room .ensures) (c .if4 .taken))))))
+    let in3 = c .before .before in
+    let in2 = in3 .before .before in
+    let in1 = in2 .before .before in
+    λ kind location.
+    sym
+    (passes _ _ _ (held (in1 .before .operation-names .ensures) (in1 .if1 .left))
+    (passes _ _ _ (held (in2 .before .operation-fits .ensures) (in2 .if2 .left))
+    (passes _ _ _ (held (in3 .before .nesting-holds .ensures) (in3 .if3 .left))
+    (fails _ _ _ (failed (c .before .operation-room .ensures) (c .if4 .taken))))))
 
 returns-5 : tie.Need-returns-5
-unfolding operationTests tests causeOf
+unfolding tests causeOf
 returns-5 c =
-    sym (passes _ _ _ (held (c .before .before .before .before .before .before .before .operation-names .ensures) (c .before .before .before .before .before .before .if1 .left))
-    (passes _ _ _ (held (c .before .before .before .before .before .operation-fits .ensures) (c .before .before .before .before .if2 .left))
-    (passes _ _ _ (held (c .before .before .before .nesting-holds .ensures) (c .before .before .if3 .left)) (passes _ _ _ (held (c .before .operation-room .ensures) (c .if4 .left)) (none-fail)))))
+    let in3 = c .before .before in
+    let in2 = in3 .before .before in
+    let in1 = in2 .before .before in
+    λ kind location.
+    sym
+    (passes _ _ _ (held (in1 .before .operation-names .ensures) (in1 .if1 .left))
+    (passes _ _ _ (held (in2 .before .operation-fits .ensures) (in2 .if2 .left))
+    (passes _ _ _ (held (in3 .before .nesting-holds .ensures) (in3 .if3 .left))
+    (passes _ _ _ (held (c .before .operation-room .ensures) (c .if4 .left))
+    none-fail))))
 
 pub operation-cause-spec : {M : Type 1} → statement M
 operation-cause-spec =

@@ -7,8 +7,6 @@ use Rattle.building.specs.Raw.{parentBelow, parentCode}
 use borrow.Author.Needs.{needs}
 use Rattle.building.proofs.operations.parent_word.Statement.{statement}
 use Rattle.building.proofs.operations.parent_word.Tie as tie
-use Rattle.building.proofs.operations.parent_word.Reads as reads
-use Rattle.building.proofs.operations.parent_word.Lts as lts
 
 enum-told : tie.Need-enum-told
 enum-told c = search needs

@@ -8,9 +8,6 @@ use Rattle.building.specs.Raw.{parentBelow, opPlaced}
 use borrow.Author.Needs.{needs}
 use Rattle.building.proofs.operations.place_op.Statement.{statement}
 use Rattle.building.proofs.operations.place_op.Tie as tie
-use Rattle.building.proofs.operations.place_op.Reads as reads
-use Rattle.building.proofs.operations.place_op.Lts as lts
-use Rattle.building.proofs.writes.extend.Reads as extend-reads
 
 enum-told : tie.Need-enum-told
 enum-told c = search needs

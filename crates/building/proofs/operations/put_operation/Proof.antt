@@ -12,14 +12,6 @@ use Rattle.building.proofs.Adding.OperationWritten.{r₁, r₂, r₃, r
 use borrow.Author.Needs.{needs}
 use Rattle.building.proofs.operations.put_operation.Statement.{statement}
 use Rattle.building.proofs.operations.put_operation.Tie as tie
-use Rattle.building.proofs.operations.put_operation.Reads as reads
-use Rattle.building.proofs.operations.put_operation.Lts as lts
-use Rattle.building.proofs.operations.put_op.Reads as put-op-reads
-use Rattle.building.proofs.writes.put_part.Reads as put-part-reads
-use Rattle.building.proofs.writes.put_regions.Reads as put-regions-reads
-use Rattle.building.proofs.writes.put_values.Reads as put-values-reads
-use Rattle.layout.proofs.columns.number.Reads as number-reads
-use Rattle.layout.proofs.columns.put.Reads as put-reads
 
 number-requires : tie.Need-number-requires
 number-requires c κs = search needs
@@ -196,7 +188,6 @@ returns c =
     let ty = a .types .now in
     let os = a .operands .now in
     let ss = a .successors .now in
-    let room = s .pre .1 .1 in
     let en = n .number .ensures in
     let e0 = o .put-op .ensures in
     let e1 = r .put-regions .ensures ∙ ap₂ (λ (X : Cols) (k : ℕ). withRegions X k (a .regions)) e0 en in

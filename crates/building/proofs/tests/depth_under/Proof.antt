@@ -9,9 +9,6 @@ use Rattle.building.specs.Types.{parentOf}
 use borrow.Author.Needs.{needs}
 use Rattle.building.proofs.tests.depth_under.Statement.{statement}
 use Rattle.building.proofs.tests.depth_under.Tie as tie
-use Rattle.building.proofs.tests.depth_under.Reads as reads
-use Rattle.building.proofs.tests.depth_under.Lts as lts
-use Rattle.building.proofs.tests.depth_in.Reads as depth-in-reads
 
 enum-told : tie.Need-enum-told
 enum-told c = search needs

@@ -7,9 +7,6 @@ use Rattle.building.proofs.Facts.{nesting-by-depth}
 use borrow.Author.Needs.{needs}
 use Rattle.building.proofs.tests.nesting_holds.Statement.{statement}
 use Rattle.building.proofs.tests.nesting_holds.Tie as tie
-use Rattle.building.proofs.tests.nesting_holds.Reads as reads
-use Rattle.building.proofs.tests.nesting_holds.Lts as lts
-use Rattle.building.proofs.tests.depth_under.Reads as depth-under-reads
 
 depth-under-requires : tie.Need-depth-under-requires
 depth-under-requires c κs = search needs

@@ -2,23 +2,21 @@
 use mathlib.Core.Path.{refl, sym}
 use borrow.Author.Tests.{le-leb, lt-leb}
 use Rattle.rules.specs.Building.{operationFits}
-use Rattle.layout.proofs.Scans.{stop, next, last}
+use Rattle.layout.proofs.Scans.{fails, next, last}
 use Rattle.building.proofs.tests.operation_fits.Statement.{statement}
 use Rattle.building.proofs.tests.operation_fits.Tie as tie
-use Rattle.building.proofs.tests.operation_fits.Reads as reads
-use Rattle.building.proofs.tests.operation_fits.Lts as lts
 
 returns : tie.Need-returns
 unfolding operationFits
-returns c = sym (stop _ _ (lt-leb _ _ (c .if1 .taken)))
+returns c = sym (fails _ 0 (lt-leb _ _ (c .if1 .taken)))
 
 returns-2 : tie.Need-returns-2
 unfolding operationFits
-returns-2 c = sym (next _ _ (le-leb _ _ (c .before .if1 .left)) (stop _ _ (lt-leb _ _ (c .if2 .taken))))
+returns-2 c = sym (fails _ 1 (lt-leb _ _ (c .if2 .taken)))
 
 returns-3 : tie.Need-returns-3
 unfolding operationFits
-returns-3 c = sym (next _ _ (le-leb _ _ (c .before .before .if1 .left)) (next _ _ (le-leb _ _ (c .before .if2 .left)) (stop _ _ (lt-leb _ _ (c .if3 .taken)))))
+returns-3 c = sym (fails _ 2 (lt-leb _ _ (c .if3 .taken)))
 
 returns-4 : tie.Need-returns-4
 unfolding operationFits

@@ -1,147 +1,126 @@
--- `operation_room` meets its contract, test by test. Assumes nothing.
-use Prim.Native.Nat.{ℕ, _+_}
+-- `operation_room` meets its contract, test by test: each count is the store's. Assumes nothing.
+use Prim.Native.Nat.{ℕ, _+_, _<_, _≤_}
 use native.Mathlib.Omega.{arith}
-use mathlib.Core.Path.{sym, ap, _∙_}
+use mathlib.Core.Bool.{true, false}
+use mathlib.Core.Path.{_≡_, sym, ap, subst, _∙_}
 use borrow.Author.Tests.{le-leb, lt-leb}
 use lib.Dec.{leb}
 use lib.ListN.{length}
-use Rattle.rules.specs.Store.{operandTotal}
 use Rattle.rules.specs.Building.{operationRoom}
-use Rattle.layout.specs.Reading.{opCount, regionCount, valueCount, operandCount, successorCount, storeIn}
-use Rattle.layout.proofs.Scans.{stop, next, last}
-use Rattle.building.proofs.Facts.{fits-facts, counts, ops-counted, regions-counted, values-counted, operands-counted, successors-counted}
+use Rattle.layout.specs.Columns.{columns}
+use Rattle.layout.specs.Reading.{opCount, regionCount, valueCount, operandCount, successorCount}
+use Rattle.layout.proofs.Tabulate.{ops-length, regions-length, values-length}
+use Rattle.layout.proofs.Scans.{fails, next, last}
+use Rattle.building.proofs.Facts.{fits-facts, counts, operands-counted, successors-counted}
 use borrow.Author.Needs.{needs}
 use Rattle.building.proofs.tests.operation_room.Statement.{statement}
 use Rattle.building.proofs.tests.operation_room.Tie as tie
-use Rattle.building.proofs.tests.operation_room.Reads as reads
-use Rattle.building.proofs.tests.operation_room.Lts as lts
-use Rattle.layout.proofs.columns.number.Reads as number-reads
+
+-- a count that was read, with so many more
+module _ {n m : ℕ} (e : n ≡ m) (k most : ℕ) where
+  over : most < n + k → leb (m + k) most ≡ false
+  over l = lt-leb (m + k) most (subst (λ (x : ℕ). most < x + k) e l)
+
+  fitting : n + k ≤ most → leb (m + k) most ≡ true
+  fitting l = le-leb (m + k) most (subst (λ (x : ℕ). x + k ≤ most) e l)
 
 number-requires : tie.Need-number-requires
 number-requires c κs = search needs
 
 add-if1 : tie.Need-add-if1
-unfolding opCount regionCount valueCount operandCount successorCount
+unfolding opCount
 add-if1 c =
     let s = c .before .before .before .before .before in
     let a = s .args in
-    let b = a .store .now in
-    let k = counts b (s .pre .0) in
-    omega (arith, k .ops, c .number .ensures, fits-facts (a .regions) (a .types .now) (a .operands .now) (a .successors .now) (s .pre .1))
+    omega (arith, counts (a .store .now) (s .pre .0) .ops, c .number .ensures, fits-facts (a .regions) (a .types .now) (a .operands .now) (a .successors .now) (s .pre .1))
 
 returns : tie.Need-returns
-unfolding operationRoom opCount regionCount valueCount operandCount successorCount
+unfolding operationRoom opCount
 returns c =
     let s = c .before .before .before .before .before .before in
     let a = s .args in
-    let b = a .store .now in
-    let k = counts b (s .pre .0) in
-    let eops = c .before .number .ensures ∙ sym (ops-counted b (s .pre .0)) in
-    sym (stop _ _ (lt-leb (length (storeIn b .ops) + 1) 512 (omega arith)))
+    let C = columns (a .store .now) in
+    sym (fails _ 0 (over (c .before .number .ensures ∙ sym (ops-length C)) 1 512 (c .if1 .taken)))
 
 number-requires-2 : tie.Need-number-requires-2
 number-requires-2 c κs = search needs
 
 add-if2 : tie.Need-add-if2
-unfolding opCount regionCount valueCount operandCount successorCount
+unfolding regionCount
 add-if2 c =
     let s = c .before .before .before .before .before .before .before in
     let a = s .args in
-    let b = a .store .now in
-    let k = counts b (s .pre .0) in
-    omega (arith, k .regions, c .number2 .ensures, fits-facts (a .regions) (a .types .now) (a .operands .now) (a .successors .now) (s .pre .1))
+    omega (arith, counts (a .store .now) (s .pre .0) .regions, c .number2 .ensures, fits-facts (a .regions) (a .types .now) (a .operands .now) (a .successors .now) (s .pre .1))
 
 returns-2 : tie.Need-returns-2
-unfolding operationRoom opCount regionCount valueCount operandCount successorCount
+unfolding operationRoom regionCount
 returns-2 c =
     let s = c .before .before .before .before .before .before .before .before in
     let a = s .args in
-    let b = a .store .now in
-    let k = counts b (s .pre .0) in
-    let eops = c .before .before .before .number .ensures ∙ sym (ops-counted b (s .pre .0)) in
-    let eregions = c .before .number2 .ensures ∙ sym (regions-counted b (s .pre .0)) in
-    sym (next _ _ (le-leb (length (storeIn b .ops) + 1) 512 (omega arith)) (stop _ _ (lt-leb (length (storeIn b .regions) + a .regions) 256 (omega arith))))
+    let C = columns (a .store .now) in
+    sym (fails _ 1 (over (c .before .number2 .ensures ∙ sym (regions-length C)) (a .regions) 256 (c .if2 .taken)))
 
 number-requires-3 : tie.Need-number-requires-3
 number-requires-3 c κs = search needs
 
 add-if3 : tie.Need-add-if3
-unfolding opCount regionCount valueCount operandCount successorCount
+unfolding valueCount
 add-if3 c =
     let s = c .before .before .before .before .before .before .before .before .before in
     let a = s .args in
-    let b = a .store .now in
-    let k = counts b (s .pre .0) in
-    omega (arith, k .values, c .number3 .ensures, fits-facts (a .regions) (a .types .now) (a .operands .now) (a .successors .now) (s .pre .1))
+    omega (arith, counts (a .store .now) (s .pre .0) .values, c .number3 .ensures, fits-facts (a .regions) (a .types .now) (a .operands .now) (a .successors .now) (s .pre .1))
 
 returns-3 : tie.Need-returns-3
-unfolding operationRoom opCount regionCount valueCount operandCount successorCount
+unfolding operationRoom valueCount
 returns-3 c =
     let s = c .before .before .before .before .before .before .before .before .before .before in
     let a = s .args in
-    let b = a .store .now in
-    let k = counts b (s .pre .0) in
-    let eops = c .before .before .before .before .before .number .ensures ∙ sym (ops-counted b (s .pre .0)) in
-    let eregions = c .before .before .before .number2 .ensures ∙ sym (regions-counted b (s .pre .0)) in
-    let evalues = c .before .number3 .ensures ∙ sym (values-counted b (s .pre .0)) in
-    sym (next _ _ (le-leb (length (storeIn b .ops) + 1) 512 (omega arith))
-    (next _ _ (le-leb (length (storeIn b .regions) + a .regions) 256 (omega arith)) (stop _ _ (lt-leb (length (storeIn b .values) + length (a .types .now)) 2048 (omega arith)))))
+    let C = columns (a .store .now) in
+    sym (fails _ 2 (over (c .before .number3 .ensures ∙ sym (values-length C)) (length (a .types .now)) 2048 (c .if3 .taken)))
 
 number-requires-4 : tie.Need-number-requires-4
 number-requires-4 c κs = search needs
 
 add-if4 : tie.Need-add-if4
-unfolding opCount regionCount valueCount operandCount successorCount
+unfolding operandCount
 add-if4 c =
     let s = c .before .before .before .before .before .before .before .before .before .before .before in
     let a = s .args in
-    let b = a .store .now in
-    let k = counts b (s .pre .0) in
-    omega (arith, k .operands, c .number4 .ensures, fits-facts (a .regions) (a .types .now) (a .operands .now) (a .successors .now) (s .pre .1))
+    omega (arith, counts (a .store .now) (s .pre .0) .operands, c .number4 .ensures, fits-facts (a .regions) (a .types .now) (a .operands .now) (a .successors .now) (s .pre .1))
 
 returns-4 : tie.Need-returns-4
-unfolding operationRoom opCount regionCount valueCount operandCount successorCount
+unfolding operationRoom operandCount
 returns-4 c =
     let s = c .before .before .before .before .before .before .before .before .before .before .before .before in
     let a = s .args in
-    let b = a .store .now in
-    let k = counts b (s .pre .0) in
-    let eops = c .before .before .before .before .before .before .before .number .ensures ∙ sym (ops-counted b (s .pre .0)) in
-    let eregions = c .before .before .before .before .before .number2 .ensures ∙ sym (regions-counted b (s .pre .0)) in
-    let evalues = c .before .before .before .number3 .ensures ∙ sym (values-counted b (s .pre .0)) in
-    let eoperands = c .before .number4 .ensures ∙ sym (operands-counted b (s .pre .0)) in
-    sym (next _ _ (le-leb (length (storeIn b .ops) + 1) 512 (omega arith))
-    (next _ _ (le-leb (length (storeIn b .regions) + a .regions) 256 (omega arith))
-    (next _ _ (le-leb (length (storeIn b .values) + length (a .types .now)) 2048 (omega arith)) (stop _ _ (lt-leb (operandTotal (storeIn b) + length (a .operands .now)) 2048 (omega arith))))))
+    sym (fails _ 3 (over (c .before .number4 .ensures ∙ sym (operands-counted (a .store .now) (s .pre .0))) (length (a .operands .now)) 2048 (c .if4 .taken)))
 
 number-requires-5 : tie.Need-number-requires-5
 number-requires-5 c κs = search needs
 
 add-result : tie.Need-add-result
-unfolding opCount regionCount valueCount operandCount successorCount
+unfolding successorCount
 add-result c =
     let s = c .before .before .before .before .before .before .before .before .before .before .before .before .before in
     let a = s .args in
-    let b = a .store .now in
-    let k = counts b (s .pre .0) in
-    omega (arith, k .successors, c .number5 .ensures, fits-facts (a .regions) (a .types .now) (a .operands .now) (a .successors .now) (s .pre .1))
+    omega (arith, counts (a .store .now) (s .pre .0) .successors, c .number5 .ensures, fits-facts (a .regions) (a .types .now) (a .operands .now) (a .successors .now) (s .pre .1))
 
 returns-5 : tie.Need-returns-5
 unfolding operationRoom opCount regionCount valueCount operandCount successorCount
 returns-5 c =
-    let s = c .before .before .before .before .before .before .before .before .before .before .before .before .before in
+    let in4 = c .before in
+    let in3 = in4 .before .before in
+    let in2 = in3 .before .before in
+    let in1 = in2 .before .before in
+    let s = in1 .before .before .before .before .before .before in
     let a = s .args in
-    let b = a .store .now in
-    let k = counts b (s .pre .0) in
-    let eops = c .before .before .before .before .before .before .before .before .number .ensures ∙ sym (ops-counted b (s .pre .0)) in
-    let eregions = c .before .before .before .before .before .before .number2 .ensures ∙ sym (regions-counted b (s .pre .0)) in
-    let evalues = c .before .before .before .before .number3 .ensures ∙ sym (values-counted b (s .pre .0)) in
-    let eoperands = c .before .before .number4 .ensures ∙ sym (operands-counted b (s .pre .0)) in
-    let esuccessors = c .number5 .ensures ∙ sym (successors-counted b (s .pre .0)) in
-    sym (next _ _ (le-leb (length (storeIn b .ops) + 1) 512 (omega arith))
-    (next _ _ (le-leb (length (storeIn b .regions) + a .regions) 256 (omega arith))
-    (next _ _ (le-leb (length (storeIn b .values) + length (a .types .now)) 2048 (omega arith))
-    (next _ _ (le-leb (operandTotal (storeIn b) + length (a .operands .now)) 2048 (omega arith)) (last _ (ap (λ (x : ℕ). leb (x + length (a .successors .now)) 512) (sym esuccessors)))))))
+    let C = columns (a .store .now) in
+    sym
+    (next _ _ (fitting (in1 .before .number .ensures ∙ sym (ops-length C)) 1 512 (in1 .if1 .left))
+    (next _ _ (fitting (in2 .before .number2 .ensures ∙ sym (regions-length C)) (a .regions) 256 (in2 .if2 .left))
+    (next _ _ (fitting (in3 .before .number3 .ensures ∙ sym (values-length C)) (length (a .types .now)) 2048 (in3 .if3 .left))
+    (next _ _ (fitting (in4 .before .number4 .ensures ∙ sym (operands-counted (a .store .now) (s .pre .0))) (length (a .operands .now)) 2048 (in4 .if4 .left))
+    (last _ (ap (λ (x : ℕ). leb (x + length (a .successors .now)) 512) (sym (c .number5 .ensures ∙ sym (successors-counted (a .store .now) (s .pre .0))))))))))
 
 pub operation-room-spec : {M : Type 1} → statement M
 operation-room-spec =

@@ -3,8 +3,6 @@ use Rattle.building.specs.Raw.{begun}
 use borrow.Author.Tests.{le-leb, lt-leb}
 use Rattle.building.proofs.writes.begin.Statement.{statement}
 use Rattle.building.proofs.writes.begin.Tie as tie
-use Rattle.building.proofs.writes.begin.Reads as reads
-use Rattle.building.proofs.writes.begin.Lts as lts
 
 returns : tie.Need-returns
 unfolding begun

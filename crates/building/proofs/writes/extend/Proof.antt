@@ -6,11 +6,6 @@ use Rattle.building.specs.Raw.{extended, begun}
 use borrow.Author.Needs.{needs}
 use Rattle.building.proofs.writes.extend.Statement.{statement}
 use Rattle.building.proofs.writes.extend.Tie as tie
-use Rattle.building.proofs.writes.extend.Reads as reads
-use Rattle.building.proofs.writes.extend.Lts as lts
-use Rattle.building.proofs.writes.begin.Reads as begin-reads
-use Rattle.layout.proofs.columns.at.Reads as at-reads
-use Rattle.layout.proofs.columns.put.Reads as put-reads
 
 at-requires : tie.Need-at-requires
 at-requires c κs = search needs

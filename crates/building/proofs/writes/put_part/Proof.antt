@@ -7,11 +7,6 @@ use Rattle.building.specs.Raw.{withPart}
 use borrow.Author.Needs.{needs}
 use Rattle.building.proofs.writes.put_part.Statement.{statement}
 use Rattle.building.proofs.writes.put_part.Tie as tie
-use Rattle.building.proofs.writes.put_part.Reads as reads
-use Rattle.building.proofs.writes.put_part.Lts as lts
-use Rattle.layout.proofs.columns.number.Reads as number-reads
-use Rattle.layout.proofs.columns.put.Reads as put-reads
-use Rattle.layout.proofs.columns.put_all.Reads as put-all-reads
 
 number-requires : tie.Need-number-requires
 number-requires c κs = search needs

@@ -9,11 +9,6 @@ use Rattle.building.specs.Raw.{withRegions}
 use borrow.Author.Needs.{needs}
 use Rattle.building.proofs.writes.put_regions.Statement.{statement}
 use Rattle.building.proofs.writes.put_regions.Tie as tie
-use Rattle.building.proofs.writes.put_regions.Reads as reads
-use Rattle.building.proofs.writes.put_regions.Lts as lts
-use Rattle.layout.proofs.columns.number.Reads as number-reads
-use Rattle.layout.proofs.columns.put.Reads as put-reads
-use Rattle.layout.proofs.columns.put_same.Reads as put-same-reads
 
 number-requires : tie.Need-number-requires
 number-requires c κs = search needs

@@ -9,12 +9,6 @@ use Rattle.building.specs.Raw.{withValuesBy}
 use borrow.Author.Needs.{needs}
 use Rattle.building.proofs.writes.put_values.Statement.{statement}
 use Rattle.building.proofs.writes.put_values.Tie as tie
-use Rattle.building.proofs.writes.put_values.Reads as reads
-use Rattle.building.proofs.writes.put_values.Lts as lts
-use Rattle.layout.proofs.columns.number.Reads as number-reads
-use Rattle.layout.proofs.columns.put.Reads as put-reads
-use Rattle.layout.proofs.columns.put_all.Reads as put-all-reads
-use Rattle.layout.proofs.columns.put_same.Reads as put-same-reads
 
 number-requires : tie.Need-number-requires
 number-requires c κs = search needs

@@ -10,9 +10,6 @@ use Rattle.layout.specs.Reading.{attributeAt}
 use Rattle.layout.proofs.Scans.{stop, next, last}
 use Rattle.equivalence.proofs.attributes.attribute_eq.Statement.{statement}
 use Rattle.equivalence.proofs.attributes.attribute_eq.Tie as tie
-use Rattle.equivalence.proofs.attributes.attribute_eq.Reads as reads
-use Rattle.equivalence.proofs.attributes.attribute_eq.Lts as lts
-use Rattle.layout.proofs.columns.at.Reads as at-reads
 
 at-requires : tie.Need-at-requires
 at-requires c κs =

@@ -8,10 +8,6 @@ use Rattle.fragments.specs.Ignoring.{ignoreOf}
 use Rattle.equivalence.proofs.Kept.{ended-right, heads-differ, Walking, walk-begins, walk-goes-on, left-ended}
 use Rattle.equivalence.proofs.attributes.attributes_eq.Statement.{statement}
 use Rattle.equivalence.proofs.attributes.attributes_eq.Tie as tie
-use Rattle.equivalence.proofs.attributes.attributes_eq.Reads as reads
-use Rattle.equivalence.proofs.attributes.attributes_eq.Lts as lts
-use Rattle.equivalence.proofs.attributes.attribute_eq.Reads as attribute-eq-reads
-use Rattle.fragments.proofs.ignoring.next_kept.Reads as next-kept-reads
 
 abbrev Inv-loop : tie.InvT-loop
 Inv-loop store ignore l lend r rend i₀ j₀ i j = Walking (columns store) (ignoreOf ignore) l lend r rend i j
@@ -22,17 +18,11 @@ abbrev μ-loop : tie.MeasureT-loop
 next-kept-requires : tie.Need-next-kept-requires Inv-loop μ-loop
 next-kept-requires c κs =
     let s = c .before in
-    let a = s .args in
-    let C = columns (a .store .now) in
-    let g = ignoreOf (a .ignore) in
     (s .pre .0, (s .pre .1 .0, (s .pre .1 .1 .0, s .pre .1 .1 .1 .0)))
 
 next-kept-requires-2 : tie.Need-next-kept-requires-2 Inv-loop μ-loop
 next-kept-requires-2 c κs =
     let s = c .before .before in
-    let a = s .args in
-    let C = columns (a .store .now) in
-    let g = ignoreOf (a .ignore) in
     (s .pre .0, (s .pre .1 .1 .1 .1 .0, (s .pre .1 .1 .1 .1 .1 .0, s .pre .1 .1 .1 .1 .1 .1)))
 
 loop-holds : tie.Need-loop-holds Inv-loop μ-loop
@@ -58,11 +48,6 @@ returns c =
 attribute-eq-requires : tie.Need-attribute-eq-requires Inv-loop μ-loop
 attribute-eq-requires c κs =
     let s = c .before .before .before .before .before .before in
-    let a = s .args in
-    let C = columns (a .store .now) in
-    let g = ignoreOf (a .ignore) in
-    let i = c .before .before .loop .i in
-    let j = c .before .before .loop .j in
     let w = c .before .before .loop .inv in
     let h = c .before .loop-test .taken in
     (s .pre .0, (omega (arith, s .pre .1 .0), omega (arith, s .pre .1 .1 .1 .1 .0, c .if1 .left)))
@@ -83,22 +68,12 @@ returns-2 c =
 add-next-kept : tie.Need-add-next-kept Inv-loop μ-loop
 add-next-kept c =
     let s = c .before .before .before .before .before .before .before .before in
-    let a = s .args in
-    let C = columns (a .store .now) in
-    let g = ignoreOf (a .ignore) in
-    let i = c .before .before .before .before .loop .i in
-    let j = c .before .before .before .before .loop .j in
     let w = c .before .before .before .before .loop .inv in
     omega (arith, s .pre .1 .0, s .pre .1 .1 .1 .1 .0, w .left .1, w .right .1)
 
 next-kept-requires-3 : tie.Need-next-kept-requires-3 Inv-loop μ-loop
 next-kept-requires-3 c κs =
     let s = c .before .before .before .before .before .before .before .before in
-    let a = s .args in
-    let C = columns (a .store .now) in
-    let g = ignoreOf (a .ignore) in
-    let i = c .before .before .before .before .loop .i in
-    let j = c .before .before .before .before .loop .j in
     let w = c .before .before .before .before .loop .inv in
     let h = c .before .before .before .loop-test .taken in
     (s .pre .0, (s .pre .1 .0, (omega arith, λ k b e. s .pre .1 .1 .1 .0 k (omega (arith, w .left .0, b)) e)))
@@ -106,22 +81,12 @@ next-kept-requires-3 c κs =
 add-next-kept-2 : tie.Need-add-next-kept-2 Inv-loop μ-loop
 add-next-kept-2 c =
     let s = c .before .before .before .before .before .before .before .before .before in
-    let a = s .args in
-    let C = columns (a .store .now) in
-    let g = ignoreOf (a .ignore) in
-    let i = c .before .before .before .before .before .loop .i in
-    let j = c .before .before .before .before .before .loop .j in
     let w = c .before .before .before .before .before .loop .inv in
     omega (arith, s .pre .1 .0, s .pre .1 .1 .1 .1 .0, w .left .1, w .right .1)
 
 next-kept-requires-4 : tie.Need-next-kept-requires-4 Inv-loop μ-loop
 next-kept-requires-4 c κs =
     let s = c .before .before .before .before .before .before .before .before .before in
-    let a = s .args in
-    let C = columns (a .store .now) in
-    let g = ignoreOf (a .ignore) in
-    let i = c .before .before .before .before .before .loop .i in
-    let j = c .before .before .before .before .before .loop .j in
     let w = c .before .before .before .before .before .loop .inv in
     let h = c .before .before .before .if1 .left in
     (s .pre .0, (s .pre .1 .1 .1 .1 .0, (omega arith, λ k b e. s .pre .1 .1 .1 .1 .1 .1 k (omega (arith, w .right .0, b)) e)))
@@ -129,11 +94,6 @@ next-kept-requires-4 c κs =
 loop-less : tie.Need-loop-less Inv-loop μ-loop
 loop-less c =
     let s = c .before .before .before .before .before .before .before .before .before .before in
-    let a = s .args in
-    let C = columns (a .store .now) in
-    let g = ignoreOf (a .ignore) in
-    let i = c .before .before .before .before .before .before .loop .i in
-    let j = c .before .before .before .before .before .before .loop .j in
     let w = c .before .before .before .before .before .before .loop .inv in
     let h = c .before .before .before .before .before .loop-test .taken in
     omega (arith, c .before .next-kept3 .ensures .from, c .before .next-kept3 .ensures .upTo)

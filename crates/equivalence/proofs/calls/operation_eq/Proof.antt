@@ -1,64 +1,18 @@
--- `operation_eq` meets its contract: causes 1 and 8 come first. Assumes nothing.
-use Rattle.rules.specs.Fragments.{op}
-use Rattle.layout.proofs.Empty.{sound-facts}
-use Rattle.layout.proofs.Scans.{failed, held}
-use Rattle.fragments.specs.Ignoring.{ignoreOf}
-use Rattle.equivalence.proofs.Answering.{unsound, unallowed}
+-- `operation_eq` meets its contract: it is `lent_eq` at its sort. Assumes nothing.
+use Rattle.fragments.specs.Sorts.{sortOf}
 use borrow.Author.Needs.{needs}
 use Rattle.equivalence.proofs.calls.operation_eq.Statement.{statement}
 use Rattle.equivalence.proofs.calls.operation_eq.Tie as tie
-use Rattle.equivalence.proofs.calls.operation_eq.Reads as reads
-use Rattle.equivalence.proofs.calls.operation_eq.Lts as lts
-use Rattle.equivalence.proofs.comparison.operation_eq.Reads as operation-eq-reads
-use Rattle.equivalence.proofs.mapping.is_allowed.Reads as is-allowed-reads
-use Rattle.layout.proofs.sound.is_sound.Reads as is-sound-reads
 
-is-sound-requires : tie.Need-is-sound-requires
-is-sound-requires c κs = search needs
-
-returns : tie.Need-returns
-returns c =
-    let s = c .before .before .before .before in
-    let a = s .args in
-    unsound (a .store .now) (a .mapping .now) (ignoreOf (a .ignore)) op (a .lhs) (a .rhs) (failed (c .before .is-sound .ensures) (c .if1 .taken))
-
-is-allowed-requires : tie.Need-is-allowed-requires
-is-allowed-requires c κs =
-    let s = c .before .before .before .before .before in
-    let a = s .args in
-    let h = sound-facts (a .store .now) (held (c .before .before .is-sound .ensures) (c .before .if1 .left)) in
-    record { sized = h .sized; laid = h .laid }
+lent-eq-requires : tie.Need-lent-eq-requires
+lent-eq-requires c κs = search needs
 
 same-length : tie.Need-same-length
 same-length c = search needs
 
-returns-2 : tie.Need-returns-2
-returns-2 c =
-    let s = c .before .before .before .before .before .before .before in
-    let a = s .args in
-    unallowed (a .store .now) (a .mapping .now) (ignoreOf (a .ignore)) op (a .lhs) (a .rhs) (held (c .before .before .before .before .is-sound .ensures) (c .before .before .before .if1 .left)) (failed (c .before .is-allowed .ensures) (c .if2 .taken))
-
-operation-eq-requires : tie.Need-operation-eq-requires
-operation-eq-requires c κs =
-    let s = c .before .before .before .before .before .before .before .before in
-    let a = s .args in
-    (sound-facts (a .store .now) (held (c .before .before .before .before .before .is-sound .ensures) (c .before .before .before .before .if1 .left)), held (c .before .before .is-allowed .ensures) (c .before .if2 .left))
-
-same-length-2 : tie.Need-same-length-2
-same-length-2 c = c .before .before .operation-eq .kept .1 .0
-
-returns-3 : tie.Need-returns-3
-returns-3 c = c .before .before .operation-eq .ensures
+returns : tie.Need-returns
+unfolding sortOf
+returns c = c .before .before .lent-eq .ensures
 
 pub operation-eq-spec : {M : Type 1} → statement M
-operation-eq-spec =
-    tie.close
-    (tie.spec
-    is-sound-requires
-    returns
-    is-allowed-requires
-    same-length
-    returns-2
-    operation-eq-requires
-    same-length-2
-    returns-3)
+operation-eq-spec = tie.close (tie.spec lent-eq-requires same-length returns)

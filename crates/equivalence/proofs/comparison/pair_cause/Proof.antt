@@ -5,13 +5,8 @@ use Rattle.layout.specs.Causes.{causeOf}
 use Rattle.layout.proofs.Scans.{failed, held}
 use Rattle.fragments.specs.Sorts.{sortOf}
 use Rattle.equivalence.proofs.Answering.{left-missing, right-missing, left-deep, right-deep, both-shallow}
-use borrow.Author.Needs.{needs}
 use Rattle.equivalence.proofs.comparison.pair_cause.Statement.{statement}
 use Rattle.equivalence.proofs.comparison.pair_cause.Tie as tie
-use Rattle.equivalence.proofs.comparison.pair_cause.Reads as reads
-use Rattle.equivalence.proofs.comparison.pair_cause.Lts as lts
-use Rattle.fragments.proofs.sorts.exists.Reads as exists-reads
-use Rattle.fragments.proofs.sorts.is_shallow.Reads as is-shallow-reads
 
 exists-requires : tie.Need-exists-requires
 exists-requires c κs = c .before .pre .sized
@@ -41,9 +36,6 @@ returns-2 c =
 is-shallow-requires : tie.Need-is-shallow-requires
 is-shallow-requires c κs =
     let s = c .before .before .before .before .before in
-    let a = s .args in
-    let S = storeIn (a .store .now) in
-    let f = sortOf (a .sort) in
     let el = held (c .before .before .before .exists .ensures) (c .before .before .if1 .left) in
     (s .pre, el)
 
@@ -61,9 +53,6 @@ returns-3 c =
 is-shallow-requires-2 : tie.Need-is-shallow-requires-2
 is-shallow-requires-2 c κs =
     let s = c .before .before .before .before .before .before .before in
-    let a = s .args in
-    let S = storeIn (a .store .now) in
-    let f = sortOf (a .sort) in
     let er = held (c .before .before .before .exists2 .ensures) (c .before .before .if2 .left) in
     (s .pre, er)
 

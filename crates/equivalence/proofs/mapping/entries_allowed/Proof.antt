@@ -9,9 +9,6 @@ use Rattle.equivalence.proofs.Entries.{Whole, table-pass, table-fail}
 use borrow.Author.Needs.{needs}
 use Rattle.equivalence.proofs.mapping.entries_allowed.Statement.{statement}
 use Rattle.equivalence.proofs.mapping.entries_allowed.Tie as tie
-use Rattle.equivalence.proofs.mapping.entries_allowed.Reads as reads
-use Rattle.equivalence.proofs.mapping.entries_allowed.Lts as lts
-use Rattle.equivalence.proofs.mapping.entry_allowed.Reads as entry-allowed-reads
 
 abbrev Inv-loop : tie.InvT-loop
 Inv-loop count entries i₀ i = (i ≤ length entries) × Before (Whole count entries) i

@@ -4,8 +4,6 @@ use borrow.Author.Tests.{eq-eqb, ne-eqb, lt-ltb, le-ltb}
 use Rattle.equivalence.specs.Lent.{entryAllowed}
 use Rattle.equivalence.proofs.mapping.entry_allowed.Statement.{statement}
 use Rattle.equivalence.proofs.mapping.entry_allowed.Tie as tie
-use Rattle.equivalence.proofs.mapping.entry_allowed.Reads as reads
-use Rattle.equivalence.proofs.mapping.entry_allowed.Lts as lts
 
 returns : tie.Need-returns
 unfolding entryAllowed

@@ -11,10 +11,6 @@ use Rattle.equivalence.proofs.Entries.{wrong-length, allowed-is}
 use borrow.Author.Needs.{needs}
 use Rattle.equivalence.proofs.mapping.is_allowed.Statement.{statement}
 use Rattle.equivalence.proofs.mapping.is_allowed.Tie as tie
-use Rattle.equivalence.proofs.mapping.is_allowed.Reads as reads
-use Rattle.equivalence.proofs.mapping.is_allowed.Lts as lts
-use Rattle.equivalence.proofs.mapping.entries_allowed.Reads as entries-allowed-reads
-use Rattle.layout.proofs.columns.at.Reads as at-reads
 
 returns : tie.Need-returns
 returns c = sym (wrong-length _ _ (c .if1 .taken))

@@ -3,8 +3,6 @@ use Rattle.equivalence.proofs.Entering.{block-entered}
 use borrow.Author.Needs.{needs}
 use Rattle.equivalence.proofs.mapping.map_block.Statement.{statement}
 use Rattle.equivalence.proofs.mapping.map_block.Tie as tie
-use Rattle.equivalence.proofs.mapping.map_block.Reads as reads
-use Rattle.equivalence.proofs.mapping.map_block.Lts as lts
 
 add-mapping : tie.Need-add-mapping
 add-mapping c = search needs

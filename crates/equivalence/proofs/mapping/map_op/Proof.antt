@@ -3,8 +3,6 @@ use Rattle.equivalence.proofs.Entering.{op-entered}
 use borrow.Author.Needs.{needs}
 use Rattle.equivalence.proofs.mapping.map_op.Statement.{statement}
 use Rattle.equivalence.proofs.mapping.map_op.Tie as tie
-use Rattle.equivalence.proofs.mapping.map_op.Reads as reads
-use Rattle.equivalence.proofs.mapping.map_op.Lts as lts
 
 add-mapping : tie.Need-add-mapping
 add-mapping c = search needs

@@ -5,13 +5,11 @@ use native.Mathlib.Omega.{arith}
 use mathlib.Core.Path.{_≡_, refl, sym, ap, _∙_}
 use lib.ListN.{length, length-set}
 use Rattle.layout.specs.Reading.{following}
-use Rattle.equivalence.specs.Lent.{mappingLength, mappingOf, withValues}
+use Rattle.equivalence.specs.Lent.{mappingOf, withValues}
 use Rattle.equivalence.proofs.Entering.{value-next, values-over}
 use borrow.Author.Needs.{needs}
 use Rattle.equivalence.proofs.mapping.map_values.Statement.{statement}
 use Rattle.equivalence.proofs.mapping.map_values.Tie as tie
-use Rattle.equivalence.proofs.mapping.map_values.Reads as reads
-use Rattle.equivalence.proofs.mapping.map_values.Lts as lts
 
 abbrev Inv-loop : tie.InvT-loop
 Inv-loop mapping₀ l r count image₀ v₀ mapping image v =

@@ -7,9 +7,6 @@ use Rattle.equivalence.proofs.Pairs.{block-image}
 use borrow.Author.Needs.{needs}
 use Rattle.equivalence.proofs.names.block_agrees.Statement.{statement}
 use Rattle.equivalence.proofs.names.block_agrees.Tie as tie
-use Rattle.equivalence.proofs.names.block_agrees.Reads as reads
-use Rattle.equivalence.proofs.names.block_agrees.Lts as lts
-use Rattle.equivalence.proofs.names.image_at.Reads as image-at-reads
 
 add-image-at : tie.Need-add-image-at
 add-image-at c = search needs

@@ -5,8 +5,6 @@ use Rattle.rules.specs.Mapping.{orSelf}
 use borrow.Author.Needs.{needs}
 use Rattle.equivalence.proofs.names.image_at.Statement.{statement}
 use Rattle.equivalence.proofs.names.image_at.Tie as tie
-use Rattle.equivalence.proofs.names.image_at.Reads as reads
-use Rattle.equivalence.proofs.names.image_at.Lts as lts
 
 mul-image : tie.Need-mul-image
 mul-image c = search needs

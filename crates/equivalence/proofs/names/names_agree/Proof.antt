@@ -1,17 +1,13 @@
 -- `names_agree` meets its contract: operands, then successors. Assumes nothing.
 use mathlib.Core.Bool.{Bool, _&&_}
 use mathlib.Core.Path.{sym, ap, _∙_}
-use Rattle.rules.specs.Comparison.{operandsAgree, successorsAgree}
+use Rattle.rules.specs.Comparison.{successorsAgree}
 use Rattle.layout.specs.Reading.{storeIn}
 use Rattle.layout.proofs.Scans.{failed, held}
 use Rattle.equivalence.specs.Lent.{mappingOf}
 use borrow.Author.Needs.{needs}
 use Rattle.equivalence.proofs.names.names_agree.Statement.{statement}
 use Rattle.equivalence.proofs.names.names_agree.Tie as tie
-use Rattle.equivalence.proofs.names.names_agree.Reads as reads
-use Rattle.equivalence.proofs.names.names_agree.Lts as lts
-use Rattle.equivalence.proofs.names.op_operands_agree.Reads as op-operands-agree-reads
-use Rattle.equivalence.proofs.names.op_successors_agree.Reads as op-successors-agree-reads
 
 op-operands-agree-requires : tie.Need-op-operands-agree-requires
 op-operands-agree-requires c κs = search needs

@@ -10,24 +10,17 @@ use Rattle.layout.specs.Columns.{columns}
 use Rattle.layout.specs.Reading.{valueCount, storeIn}
 use Rattle.equivalence.specs.Lent.{mappingOf, sameOperand}
 use Rattle.equivalence.proofs.Named.{operands-below}
-use borrow.Author.Needs.{needs}
 use Rattle.equivalence.proofs.names.op_operands_agree.Statement.{statement}
 use Rattle.equivalence.proofs.names.op_operands_agree.Tie as tie
-use Rattle.equivalence.proofs.names.op_operands_agree.Reads as reads
-use Rattle.equivalence.proofs.names.op_operands_agree.Lts as lts
-use Rattle.equivalence.proofs.names.operands_agree.Reads as operands-agree-reads
-use Rattle.layout.proofs.parts.operands_of.Reads as operands-of-reads
 
 operands-of-requires : tie.Need-operands-of-requires
 operands-of-requires c κs =
     let s = c .before .before in
-    let a = s .args in
     (record { sized = s .pre .0 .sound .sized; laid = s .pre .0 .sound .laid }, s .pre .1 .0)
 
 operands-of-requires-2 : tie.Need-operands-of-requires-2
 operands-of-requires-2 c κs =
     let s = c .before .before .before in
-    let a = s .args in
     (record { sized = s .pre .0 .sound .sized; laid = s .pre .0 .sound .laid }, s .pre .1 .1)
 
 operands-agree-requires : tie.Need-operands-agree-requires

@@ -8,24 +8,17 @@ use Rattle.rules.specs.Lists.{all, allPairs}
 use Rattle.rules.specs.Comparison.{successorsAgree}
 use Rattle.equivalence.specs.Lent.{mappingOf, sameSuccessor}
 use Rattle.equivalence.proofs.Named.{successors-below}
-use borrow.Author.Needs.{needs}
 use Rattle.equivalence.proofs.names.op_successors_agree.Statement.{statement}
 use Rattle.equivalence.proofs.names.op_successors_agree.Tie as tie
-use Rattle.equivalence.proofs.names.op_successors_agree.Reads as reads
-use Rattle.equivalence.proofs.names.op_successors_agree.Lts as lts
-use Rattle.equivalence.proofs.names.successors_agree.Reads as successors-agree-reads
-use Rattle.layout.proofs.parts.successors_of.Reads as successors-of-reads
 
 successors-of-requires : tie.Need-successors-of-requires
 successors-of-requires c κs =
     let s = c .before .before in
-    let a = s .args in
     (record { sized = s .pre .0 .sound .sized; laid = s .pre .0 .sound .laid }, s .pre .1 .0)
 
 successors-of-requires-2 : tie.Need-successors-of-requires-2
 successors-of-requires-2 c κs =
     let s = c .before .before .before in
-    let a = s .args in
     (record { sized = s .pre .0 .sound .sized; laid = s .pre .0 .sound .laid }, s .pre .1 .1)
 
 successors-agree-requires : tie.Need-successors-agree-requires

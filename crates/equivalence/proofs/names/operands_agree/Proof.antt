@@ -11,10 +11,6 @@ use Rattle.equivalence.proofs.Pairs.{pairs-pass, pairs-fail, below-at}
 use borrow.Author.Needs.{needs}
 use Rattle.equivalence.proofs.names.operands_agree.Statement.{statement}
 use Rattle.equivalence.proofs.names.operands_agree.Tie as tie
-use Rattle.equivalence.proofs.names.operands_agree.Reads as reads
-use Rattle.equivalence.proofs.names.operands_agree.Lts as lts
-use Rattle.equivalence.proofs.names.shorter.Reads as shorter-reads
-use Rattle.equivalence.proofs.names.value_agrees.Reads as value-agrees-reads
 
 abbrev Inv-loop : tie.InvT-loop
 Inv-loop store mapping l r n i₀ i = (i ≤ n) × Before (AtBoth (sameOperand (storeOf (columns store)) (mappingOf mapping)) l r) i
@@ -34,8 +30,6 @@ mul-value-agrees c = search needs
 shared-slice-read-value-agrees : tie.Need-shared-slice-read-value-agrees Inv-loop μ-loop
 shared-slice-read-value-agrees c =
     let s = c .before .before .before .before .before .before .before .before in
-    let a = s .args in
-    let i = c .before .before .loop .i in
     let en = c .before .before .before .shorter .ensures in
     let h = c .before .loop-test .taken in
     omega arith
@@ -46,8 +40,6 @@ mul-value-agrees-2 c = search needs
 shared-slice-read-value-agrees-2 : tie.Need-shared-slice-read-value-agrees-2 Inv-loop μ-loop
 shared-slice-read-value-agrees-2 c =
     let s = c .before .before .before .before .before .before .before .before .before in
-    let a = s .args in
-    let i = c .before .before .before .loop .i in
     let en = c .before .before .before .before .shorter .ensures in
     let h = c .before .before .loop-test .taken in
     omega arith

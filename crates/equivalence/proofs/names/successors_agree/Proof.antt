@@ -9,10 +9,6 @@ use Rattle.equivalence.proofs.Pairs.{pairs-pass, pairs-fail, below-at}
 use borrow.Author.Needs.{needs}
 use Rattle.equivalence.proofs.names.successors_agree.Statement.{statement}
 use Rattle.equivalence.proofs.names.successors_agree.Tie as tie
-use Rattle.equivalence.proofs.names.successors_agree.Reads as reads
-use Rattle.equivalence.proofs.names.successors_agree.Lts as lts
-use Rattle.equivalence.proofs.names.block_agrees.Reads as block-agrees-reads
-use Rattle.equivalence.proofs.names.shorter.Reads as shorter-reads
 
 abbrev Inv-loop : tie.InvT-loop
 Inv-loop mapping l r n i₀ i = (i ≤ n) × Before (AtBoth (sameSuccessor (mappingOf mapping)) l r) i
@@ -32,8 +28,6 @@ mul-block-agrees c = search needs
 shared-slice-read-block-agrees : tie.Need-shared-slice-read-block-agrees Inv-loop μ-loop
 shared-slice-read-block-agrees c =
     let s = c .before .before .before .before .before .before .before in
-    let a = s .args in
-    let i = c .before .before .loop .i in
     let en = c .before .before .before .shorter .ensures in
     let h = c .before .loop-test .taken in
     omega arith
@@ -44,8 +38,6 @@ mul-block-agrees-2 c = search needs
 shared-slice-read-block-agrees-2 : tie.Need-shared-slice-read-block-agrees-2 Inv-loop μ-loop
 shared-slice-read-block-agrees-2 c =
     let s = c .before .before .before .before .before .before .before .before in
-    let a = s .args in
-    let i = c .before .before .before .loop .i in
     let en = c .before .before .before .before .shorter .ensures in
     let h = c .before .before .loop-test .taken in
     omega arith

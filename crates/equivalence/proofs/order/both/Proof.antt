@@ -4,8 +4,6 @@ use Rattle.equivalence.specs.Order.{bothOf}
 use borrow.Author.Needs.{needs}
 use Rattle.equivalence.proofs.order.both.Statement.{statement}
 use Rattle.equivalence.proofs.order.both.Tie as tie
-use Rattle.equivalence.proofs.order.both.Reads as reads
-use Rattle.equivalence.proofs.order.both.Lts as lts
 
 enum-known-l : tie.Need-enum-known-l
 enum-known-l c = search needs

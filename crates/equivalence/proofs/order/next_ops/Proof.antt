@@ -4,10 +4,6 @@ use Rattle.equivalence.specs.Order.{bothOf, nextOf}
 use borrow.Author.Needs.{needs}
 use Rattle.equivalence.proofs.order.next_ops.Statement.{statement}
 use Rattle.equivalence.proofs.order.next_ops.Tie as tie
-use Rattle.equivalence.proofs.order.next_ops.Reads as reads
-use Rattle.equivalence.proofs.order.next_ops.Lts as lts
-use Rattle.equivalence.proofs.order.both.Reads as both-reads
-use Rattle.layout.proofs.children.next_op.Reads as next-op-reads
 
 next-op-requires : tie.Need-next-op-requires
 next-op-requires c κs =

@@ -6,8 +6,6 @@ use Rattle.equivalence.specs.Walked.{neqOf, Bounded}
 use borrow.Author.Needs.{needs}
 use Rattle.equivalence.proofs.passes.lengths_neq.Statement.{statement}
 use Rattle.equivalence.proofs.passes.lengths_neq.Tie as tie
-use Rattle.equivalence.proofs.passes.lengths_neq.Reads as reads
-use Rattle.equivalence.proofs.passes.lengths_neq.Lts as lts
 
 enum-known-lists : tie.Need-enum-known-lists
 enum-known-lists c = search needs

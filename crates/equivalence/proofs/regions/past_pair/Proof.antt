@@ -4,8 +4,6 @@ use Rattle.equivalence.specs.Order.{past}
 use borrow.Author.Needs.{needs}
 use Rattle.equivalence.proofs.regions.past_pair.Statement.{statement}
 use Rattle.equivalence.proofs.regions.past_pair.Tie as tie
-use Rattle.equivalence.proofs.regions.past_pair.Reads as reads
-use Rattle.equivalence.proofs.regions.past_pair.Lts as lts
 
 add-t2 : tie.Need-add-t2
 add-t2 c = search needs

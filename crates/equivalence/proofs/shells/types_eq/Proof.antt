@@ -1,58 +1,34 @@
--- `types_eq` meets its contract: the two parts of the column of types. Assumes nothing.
+-- `types_eq` meets its contract: the types of a row's values stand side by side. Assumes nothing.
+use native.Mathlib.Omega.{arith}
 use mathlib.Core.Path.{ap₂, _∙_}
 use lib.Dec.{eqb}
 use Rattle.rules.specs.Lists.{sameList}
-use Rattle.layout.specs.Columns.{columns, valueType}
-use Rattle.layout.specs.Reading.{part}
-use Rattle.equivalence.specs.Rows.{typesOf}
 use borrow.Author.Needs.{needs}
 use Rattle.equivalence.proofs.shells.types_eq.Statement.{statement}
 use Rattle.equivalence.proofs.shells.types_eq.Tie as tie
-use Rattle.equivalence.proofs.shells.types_eq.Reads as reads
-use Rattle.equivalence.proofs.shells.types_eq.Lts as lts
-use Rattle.layout.proofs.lists.words_eq.Reads as words-eq-reads
-use Rattle.layout.proofs.columns.number.Reads as number-reads
-use Rattle.layout.proofs.columns.words.Reads as words-reads
 
-number-requires : tie.Need-number-requires
-number-requires c κs = search needs
-
-number-requires-2 : tie.Need-number-requires-2
-number-requires-2 c κs = search needs
-
-number-requires-3 : tie.Need-number-requires-3
-number-requires-3 c κs = search needs
-
-number-requires-4 : tie.Need-number-requires-4
-number-requires-4 c κs = search needs
+add-words : tie.Need-add-words
+add-words c = omega (arith, c .before .before .pre .1 .0 .values)
 
 words-requires : tie.Need-words-requires
-words-requires c κs = search needs
+words-requires c κs =
+    let p = c .before .before .pre in
+    (p .0, (omega arith, (omega arith, omega (arith, p .1 .0 .values))))
+
+add-words-2 : tie.Need-add-words-2
+add-words-2 c = omega (arith, c .before .before .before .before .pre .1 .1 .values)
 
 words-requires-2 : tie.Need-words-requires-2
-words-requires-2 c κs = search needs
+words-requires-2 c κs =
+    let p = c .before .before .before .before .pre in
+    (p .0, (omega arith, (omega arith, omega (arith, p .1 .1 .values))))
 
 words-eq-requires : tie.Need-words-eq-requires
 words-eq-requires c κs = search needs
 
 returns : tie.Need-returns
-unfolding typesOf
-returns c =
-    let s = c .before .before .before .before .before .before .before .before in
-    let C = columns (s .args .store .now) in
-    let el = c .before .before .words .ensures ∙ ap₂ (part (C valueType)) (c .before .before .before .before .before .before .number .ensures) (c .before .before .before .before .before .number2 .ensures) in
-    let er = c .before .words2 .ensures ∙ ap₂ (part (C valueType)) (c .before .before .before .before .number3 .ensures) (c .before .before .before .number4 .ensures) in
-    c .words-eq .ensures ∙ ap₂ (sameList eqb) el er
+returns c = c .words-eq .ensures ∙ ap₂ (sameList eqb) (c .before .before .before .words .ensures) (c .before .words2 .ensures)
 
 pub types-eq-spec : {M : Type 1} → statement M
 types-eq-spec =
-    tie.close
-    (tie.spec
-    number-requires
-    number-requires-2
-    number-requires-3
-    number-requires-4
-    words-requires
-    words-requires-2
-    words-eq-requires
-    returns)
+    tie.close (tie.spec add-words words-requires add-words-2 words-requires-2 words-eq-requires returns)

@@ -3,8 +3,6 @@ use Rattle.fragments.specs.Ignoring.{bitSet}
 use borrow.Author.Needs.{needs}
 use Rattle.fragments.proofs.ignoring.bit_set.Statement.{statement}
 use Rattle.fragments.proofs.ignoring.bit_set.Tie as tie
-use Rattle.fragments.proofs.ignoring.bit_set.Reads as reads
-use Rattle.fragments.proofs.ignoring.bit_set.Lts as lts
 
 shr-result : tie.Need-shr-result
 shr-result c = search needs

@@ -10,9 +10,6 @@ use Rattle.fragments.proofs.Kept.{kept-none, kept-skip}
 use borrow.Author.Needs.{needs}
 use Rattle.fragments.proofs.ignoring.next_kept.Statement.{statement}
 use Rattle.fragments.proofs.ignoring.next_kept.Tie as tie
-use Rattle.fragments.proofs.ignoring.next_kept.Reads as reads
-use Rattle.fragments.proofs.ignoring.next_kept.Lts as lts
-use Rattle.fragments.proofs.ignoring.slot_ignored.Reads as slot-ignored-reads
 
 abbrev Inv-loop : tie.InvT-loop
 Inv-loop store ignore from end i₀ i = (from ≤ i) × ((i ≤ end) × (keptFrom (columns store) (ignoreOf ignore) from end ≡ keptFrom (columns store) (ignoreOf ignore) i end))
@@ -26,9 +23,6 @@ loop-holds c = (omega arith, (omega (arith, c .before .pre .1 .1 .0), refl))
 slot-ignored-requires : tie.Need-slot-ignored-requires Inv-loop μ-loop
 slot-ignored-requires c κs =
     let s = c .before .before .before in
-    let a = s .args in
-    let C = columns (a .store .now) in
-    let g = ignoreOf (a .ignore) in
     let i = c .before .loop .i in
     let v = c .before .loop .inv in
     let h = c .loop-test .taken in
@@ -36,11 +30,6 @@ slot-ignored-requires c κs =
 
 returns : tie.Need-returns Inv-loop μ-loop
 returns c =
-    let s = c .before .before .before .before .before in
-    let a = s .args in
-    let C = columns (a .store .now) in
-    let g = ignoreOf (a .ignore) in
-    let i = c .before .before .before .loop .i in
     let v = c .before .before .before .loop .inv in
     record { from = v .0; upTo = v .1 .0; same = v .1 .1; kept = λ l. failed (c .before .slot-ignored .ensures) (c .if1 .taken) }
 

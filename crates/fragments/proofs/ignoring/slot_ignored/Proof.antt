@@ -8,10 +8,6 @@ use Rattle.fragments.specs.Ignoring.{ignoreOf, bitSet}
 use borrow.Author.Needs.{needs}
 use Rattle.fragments.proofs.ignoring.slot_ignored.Statement.{statement}
 use Rattle.fragments.proofs.ignoring.slot_ignored.Tie as tie
-use Rattle.fragments.proofs.ignoring.slot_ignored.Reads as reads
-use Rattle.fragments.proofs.ignoring.slot_ignored.Lts as lts
-use Rattle.fragments.proofs.ignoring.bit_set.Reads as bit-set-reads
-use Rattle.layout.proofs.columns.at.Reads as at-reads
 
 at-requires : tie.Need-at-requires
 at-requires c κs = search needs

@@ -1,14 +1,9 @@
 -- `exists` meets its contract, sort by sort. Assumes nothing.
-use mathlib.Core.Path.{refl}
+use Rattle.rules.specs.Fragments.{exists}
 use Rattle.fragments.specs.Sorts.{sortOf}
 use borrow.Author.Needs.{needs}
 use Rattle.fragments.proofs.sorts.exists.Statement.{statement}
 use Rattle.fragments.proofs.sorts.exists.Tie as tie
-use Rattle.fragments.proofs.sorts.exists.Reads as reads
-use Rattle.fragments.proofs.sorts.exists.Lts as lts
-use Rattle.fragments.proofs.existing.block_exists.Reads as block-exists-reads
-use Rattle.fragments.proofs.existing.op_exists.Reads as op-exists-reads
-use Rattle.fragments.proofs.existing.region_exists.Reads as region-exists-reads
 
 enum-told : tie.Need-enum-told
 enum-told c = search needs
@@ -29,15 +24,15 @@ region-exists-requires : tie.Need-region-exists-requires
 region-exists-requires c κs = search needs
 
 returns : tie.Need-returns
-unfolding sortOf
+unfolding sortOf exists
 returns c = rw (c .before .enum-told .given .1) (c .op-exists .ensures)
 
 returns-2 : tie.Need-returns-2
-unfolding sortOf
+unfolding sortOf exists
 returns-2 c = rw (c .before .enum-told2 .given .1) (c .block-exists .ensures)
 
 returns-3 : tie.Need-returns-3
-unfolding sortOf
+unfolding sortOf exists
 returns-3 c = rw (c .before .enum-told3 .given .1) (c .region-exists .ensures)
 
 pub exists-spec : {M : Type 1} → statement M

@@ -1,13 +1,10 @@
 -- `is_shallow` meets its contract: a size is told exactly where there is one. Assumes nothing.
-use mathlib.Core.Path.{_≡_, sym, _∙_}
+use mathlib.Core.Path.{sym, _∙_}
 use Rattle.rules.specs.Answers.{shallow}
 use Rattle.fragments.proofs.Told.{size-some, size-none}
 use borrow.Author.Needs.{needs}
 use Rattle.fragments.proofs.sorts.is_shallow.Statement.{statement}
 use Rattle.fragments.proofs.sorts.is_shallow.Tie as tie
-use Rattle.fragments.proofs.sorts.is_shallow.Reads as reads
-use Rattle.fragments.proofs.sorts.is_shallow.Lts as lts
-use Rattle.fragments.proofs.sorts.size.Reads as size-reads
 
 size-requires : tie.Need-size-requires
 size-requires c κs = search needs

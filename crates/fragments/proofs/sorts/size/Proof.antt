@@ -1,55 +1,47 @@
 -- `size` meets its contract, sort by sort. Assumes nothing.
-use Prim.Native.Nat.{ℕ, _<_}
 use mathlib.Core.Bool.{true}
 use mathlib.Core.Path.{_≡_, subst}
-use borrow.Author.Tests.{ltb-true}
-use Rattle.rules.specs.Store.{opExists, blockExists, regionExists}
-use Rattle.rules.specs.Fragments.{exists}
+use Rattle.rules.specs.Fragments.{op, block, region, exists}
 use Rattle.layout.specs.Columns.{columns}
 use Rattle.layout.specs.Reading.{storeOf}
-use Rattle.layout.proofs.Tabulate.{ops-length, blocks-length, regions-length}
 use Rattle.fragments.specs.Sorts.{sortOf}
+use Rattle.fragments.proofs.There.{there}
 use borrow.Author.Needs.{needs}
 use Rattle.fragments.proofs.sorts.size.Statement.{statement}
 use Rattle.fragments.proofs.sorts.size.Tie as tie
-use Rattle.fragments.proofs.sorts.size.Reads as reads
-use Rattle.fragments.proofs.sorts.size.Lts as lts
-use Rattle.fragments.proofs.sizes.basic_block_size.Reads as basic-block-size-reads
-use Rattle.fragments.proofs.sizes.operation_size.Reads as operation-size-reads
-use Rattle.fragments.proofs.sizes.region_size.Reads as region-size-reads
 
 enum-told : tie.Need-enum-told
 enum-told c = search needs
 
 operation-size-requires : tie.Need-operation-size-requires
-unfolding sortOf exists opExists
+unfolding sortOf
 operation-size-requires c κs =
     let s = c .before .before .before in
     let C = columns (s .args .store .now) in
     let e = subst (λ x. exists (storeOf C) (sortOf x) (s .args .n) ≡ true) (c .enum-told .given .1) (s .pre .1) in
-    (s .pre .0, subst (λ (k : ℕ). s .args .n < k) (ops-length C) (ltb-true _ _ e))
+    (s .pre .0, there C op (s .args .n) e)
 
 enum-told-2 : tie.Need-enum-told-2
 enum-told-2 c = search needs
 
 basic-block-size-requires : tie.Need-basic-block-size-requires
-unfolding sortOf exists blockExists
+unfolding sortOf
 basic-block-size-requires c κs =
     let s = c .before .before .before in
     let C = columns (s .args .store .now) in
     let e = subst (λ x. exists (storeOf C) (sortOf x) (s .args .n) ≡ true) (c .enum-told2 .given .1) (s .pre .1) in
-    (s .pre .0, subst (λ (k : ℕ). s .args .n < k) (blocks-length C) (ltb-true _ _ e))
+    (s .pre .0, there C block (s .args .n) e)
 
 enum-told-3 : tie.Need-enum-told-3
 enum-told-3 c = search needs
 
 region-size-requires : tie.Need-region-size-requires
-unfolding sortOf exists regionExists
+unfolding sortOf
 region-size-requires c κs =
     let s = c .before .before .before in
     let C = columns (s .args .store .now) in
     let e = subst (λ x. exists (storeOf C) (sortOf x) (s .args .n) ≡ true) (c .enum-told3 .given .1) (s .pre .1) in
-    (s .pre .0, subst (λ (k : ℕ). s .args .n < k) (regions-length C) (ltb-true _ _ e))
+    (s .pre .0, there C region (s .args .n) e)
 
 returns : tie.Need-returns
 unfolding sortOf

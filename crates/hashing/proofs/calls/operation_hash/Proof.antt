@@ -1,27 +1,15 @@
--- `operation_hash` meets its contract: cause 1 comes first. Assumes nothing.
-use Rattle.rules.specs.Fragments.{op}
-use Rattle.layout.proofs.Empty.{sound-facts}
-use Rattle.layout.proofs.Scans.{failed, held}
-use Rattle.fragments.specs.Ignoring.{ignoreOf}
-use Rattle.hashing.proofs.Answering.{unsound}
+-- `operation_hash` meets its contract: it is `lent_hash` at its sort. Assumes nothing.
+use Rattle.fragments.specs.Sorts.{sortOf}
 use borrow.Author.Needs.{needs}
 use Rattle.hashing.proofs.calls.operation_hash.Statement.{statement}
 use Rattle.hashing.proofs.calls.operation_hash.Tie as tie
 
-is-sound-requires : tie.Need-is-sound-requires
-is-sound-requires c κs = search needs
+lent-hash-requires : tie.Need-lent-hash-requires
+lent-hash-requires c κs = search needs
 
 returns : tie.Need-returns
-returns c =
-    let a = c .before .before .before .args in
-    unsound (a .store .now) (ignoreOf (a .ignore)) op (a .n) (failed (c .before .is-sound .ensures) (c .if1 .taken))
-
-operation-hash-requires : tie.Need-operation-hash-requires
-operation-hash-requires c κs = sound-facts (c .before .before .before .args .store .now) (held (c .before .is-sound .ensures) (c .if1 .left))
-
-returns-2 : tie.Need-returns-2
-returns-2 c = c .operation-hash .ensures
+unfolding sortOf
+returns c = c .lent-hash .ensures
 
 pub operation-hash-spec : {M : Type 1} → statement M
-operation-hash-spec =
-    tie.close (tie.spec is-sound-requires returns operation-hash-requires returns-2)
+operation-hash-spec = tie.close (tie.spec lent-hash-requires returns)

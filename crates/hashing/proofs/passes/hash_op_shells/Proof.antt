@@ -1,21 +1,22 @@
 -- `hash_op_shells` meets its contract: what is fed so far, and the shells in the blocks that are left, are the whole. Assumes nothing.
-use Prim.Native.Nat.{_+_, _-_, _<_, _≤_}
+use Prim.Native.Nat.{ℕ, _+_, _-_, _<_, _≤_}
 use native.Mathlib.Omega.{arith}
 use mathlib.Core.List.{List}
 use mathlib.Core.Path.{_≡_, refl, sym, ap, subst, _∙_}
 use lib.ListN.{length}
 use Rattle.rules.specs.Lists.{concatMap}
+use Rattle.rules.specs.Store.{Store}
 use Rattle.rules.specs.Fragments.{Step}
-use Rattle.layout.specs.Columns.{columns}
+use Rattle.layout.specs.Columns.{Cols, columns}
 use Rattle.layout.specs.Reading.{blockCount, storeIn}
 use Rattle.layout.specs.Children.{onFrom}
 use Rattle.layout.proofs.Laid.{laid-facts}
-use Rattle.layout.proofs.Seeking.{from-zero, none-next}
+use Rattle.layout.proofs.Seeking.{Next, from-zero, none-next}
 use Rattle.fragments.specs.Ignoring.{ignoreOf}
+use Rattle.fragments.specs.Order.{listed}
+use Rattle.fragments.proofs.Ordered.{next-listed, block-in}
 use Rattle.hashing.specs.Walked.{opShells}
-use Rattle.hashing.specs.Order.{listed}
 use Rattle.hashing.proofs.Parting.{Partly, none-fed, all-fed, part-room, part-fed, concat-left}
-use Rattle.hashing.proofs.Ordered.{next-listed, block-in}
 use borrow.Author.Needs.{needs}
 use Rattle.hashing.proofs.passes.hash_op_shells.Statement.{statement}
 use Rattle.hashing.proofs.passes.hash_op_shells.Tie as tie
@@ -28,17 +29,51 @@ Inv-loop store numbers₀ blocks ignore fed₀ from₀ numbers fed from =
 abbrev μ-loop : tie.MeasureT-loop
 μ-loop store numbers₀ blocks ignore fed₀ from₀ numbers fed from = 256 - from
 
+-- the list that is gone through, and its steps
+module _ (s : tie.Start Inv-loop μ-loop) where
+  abbrev cols : Cols
+  cols = columns (s .args .store .now)
+
+  abbrev store : Store
+  store = storeIn (s .args .store .now)
+
+  abbrev list : List ℕ
+  list = listed store (s .args .blocks)
+
+  abbrev stepsOf : List ℕ → List Step
+  stepsOf xs = concatMap (opShells store) xs
+
+-- in the loop, with the next one found
+abbrev Found : Type 0
+Found = tie.After-known-told Inv-loop μ-loop
+
+module _ (c : Found) where
+  abbrev begun : tie.Start Inv-loop μ-loop
+  begun = c .before .before .before .before .before .before .before
+
+  abbrev n : ℕ
+  n = c .before .b .given .0 .0
+
+  found : Next (list begun) (c .before .before .before .before .loop .from) n
+  found = next-listed (store begun) (begun .args .blocks) (c .before .before .before .before .loop .from) n _ (c .before .before .before .next-in .ensures) (c .before .b .given .1)
+
+  here : n < blockCount (cols begun)
+  here = block-in (cols begun) (begun .args .blocks) n (begun .pre .1 .0) (found .child)
+
+  few : blockCount (cols begun) ≤ 256
+  few = laid-facts (cols begun) (begun .pre .0 .sound .laid) .counts .blocks
+
 loop-holds : tie.Need-loop-holds Inv-loop μ-loop
 unfolding concatMap
 loop-holds c =
     let s = c .before .before in
-    let S = storeIn (s .args .store .now) in
-    (refl, subst (λ (l : List Step). Partly S (ignoreOf (s .args .ignore)) (concatMap (opShells S) (listed S (s .args .blocks))) l (s .args .numbers .now) (s .args .numbers .now) (s .args .st) (s .args .st)) (ap (concatMap (opShells S)) (sym (from-zero (listed S (s .args .blocks))))) none-fed)
+    let a = s .args in
+    (refl, subst (λ (l : List Step). Partly (store s) (ignoreOf (a .ignore)) (stepsOf s (list s)) l (a .numbers .now) (a .numbers .now) (a .st) (a .st)) (ap (stepsOf s) (sym (from-zero (list s)))) none-fed)
 
 next-in-requires : tie.Need-next-in-requires Inv-loop μ-loop
 next-in-requires c κs =
-    let s = c .before .before .before in
-    (s .pre .0 .sound, s .pre .1 .0)
+    let p = c .before .before .before .pre in
+    (p .0 .sound, p .1 .0)
 
 enum-known-b : tie.Need-enum-known-b Inv-loop μ-loop
 enum-known-b c = search needs
@@ -53,59 +88,32 @@ returns : tie.Need-returns Inv-loop μ-loop
 unfolding concatMap
 returns c =
     let s = c .before .before .before .before .before .before in
-    let S = storeIn (s .args .store .now) in
     let m = c .before .before .before .loop in
-    all-fed (m .inv .1) (ap (concatMap (opShells S)) (none-next (m .from) (listed S (s .args .blocks)) _ (c .before .before .next-in .ensures) (c .enum-told .given .1)))
+    all-fed (m .inv .1) (ap (stepsOf s) (none-next (m .from) (list s) _ (c .before .before .next-in .ensures) (c .enum-told .given .1)))
 
 hash-op-shells-in-requires : tie.Need-hash-op-shells-in-requires Inv-loop μ-loop
 unfolding concatMap
 hash-op-shells-in-requires c κs =
     let s = c .before .before .before .before .before .before .before .before in
-    let q = s .pre in
-    let C = columns (s .args .store .now) in
-    let S = storeIn (s .args .store .now) in
+    let p = s .pre in
+    let f = c .before in
     let m = c .before .before .before .before .before .loop in
-    let k = c .before .before .b .given .0 .0 in
-    let n = next-listed S (s .args .blocks) (m .from) k _ (c .before .before .before .before .next-in .ensures) (c .before .before .b .given .1) in
-    let l : k < blockCount C = block-in C (s .args .blocks) k (q .1 .0) (n .child) in
-    (record { sound = q .0 .sound; long = m .inv .0 ∙ q .0 .long }, (l, part-room (m .inv .1) (opShells S k) (concatMap (opShells S) (onFrom (k + 1) (listed S (s .args .blocks)))) (concat-left n (opShells S)) (q .1 .1)))
+    (record { sound = p .0 .sound; long = m .inv .0 ∙ p .0 .long }, (here f, part-room (m .inv .1) (opShells (store s) (n f)) (stepsOf s (onFrom (n f + 1) (list s))) (concat-left (found f) (opShells (store s))) (p .1 .1)))
 
 add-from : tie.Need-add-from Inv-loop μ-loop
-add-from c =
-    let s = c .before .before .before .before .before .before .before .before .before .before .before in
-    let q = s .pre in
-    let C = columns (s .args .store .now) in
-    let S = storeIn (s .args .store .now) in
-    let m = c .before .before .before .before .before .before .before .before .loop in
-    let k = c .before .before .before .before .before .b .given .0 .0 in
-    let n = next-listed S (s .args .blocks) (m .from) k _ (c .before .before .before .before .before .before .before .next-in .ensures) (c .before .before .before .before .before .b .given .1) in
-    let l : k < blockCount C = block-in C (s .args .blocks) k (q .1 .0) (n .child) in
-    let few : blockCount C ≤ 256 = laid-facts C (q .0 .sound .laid) .counts .blocks in
-    record { fits = omega arith }
+add-from c = record { fits = omega (arith, here (c .before .before .before .before), few (c .before .before .before .before)) }
 
 loop-less : tie.Need-loop-less Inv-loop μ-loop
-loop-less c =
-    let s = c .before .before .before .before .before .before .before .before .before .before .before in
-    let q = s .pre in
-    let C = columns (s .args .store .now) in
-    let S = storeIn (s .args .store .now) in
-    let m = c .before .before .before .before .before .before .before .before .loop in
-    let k = c .before .before .before .before .before .b .given .0 .0 in
-    let n = next-listed S (s .args .blocks) (m .from) k _ (c .before .before .before .before .before .before .before .next-in .ensures) (c .before .before .before .before .before .b .given .1) in
-    let l : k < blockCount C = block-in C (s .args .blocks) k (q .1 .0) (n .child) in
-    let few : blockCount C ≤ 256 = laid-facts C (q .0 .sound .laid) .counts .blocks in
-    let from : m .from ≤ k = n .later in
-    omega arith
+loop-less c = omega (arith, here (c .before .before .before .before), few (c .before .before .before .before), found (c .before .before .before .before) .later)
 
 loop-again : tie.Need-loop-again Inv-loop μ-loop
 unfolding concatMap
 loop-again c =
     let s = c .before .before .before .before .before .before .before .before .before .before .before in
-    let S = storeIn (s .args .store .now) in
+    let f = c .before .before .before .before in
     let m = c .before .before .before .before .before .before .before .before .loop in
-    let k = c .before .before .before .before .before .b .given .0 .0 in
-    let n = next-listed S (s .args .blocks) (m .from) k _ (c .before .before .before .before .before .before .before .next-in .ensures) (c .before .before .before .before .before .b .given .1) in
-    (c .before .before .hash-op-shells-in .kept .1 .0 ∙ m .inv .0, part-fed (m .inv .1) (opShells S k) (concatMap (opShells S) (onFrom (k + 1) (listed S (s .args .blocks)))) (concat-left n (opShells S)) (c .before .before .hash-op-shells-in .ensures))
+    let fed = c .before .before .hash-op-shells-in in
+    (fed .kept .1 .0 ∙ m .inv .0, part-fed (m .inv .1) (opShells (store s) (n f)) (stepsOf s (onFrom (n f + 1) (list s))) (concat-left (found f) (opShells (store s))) (fed .ensures))
 
 pub hash-op-shells-spec : {M : Type 1} → statement M
 hash-op-shells-spec =

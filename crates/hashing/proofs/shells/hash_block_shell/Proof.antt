@@ -10,7 +10,8 @@ use Rattle.layout.proofs.Laid.{laid-facts}
 use Rattle.fragments.specs.Ignoring.{ignoreOf}
 use Rattle.hashing.specs.Words.{NumbersValues}
 use Rattle.hashing.proofs.Stepping.{fed-block}
-use Rattle.hashing.proofs.Reading.{row-count, row-room, block-room}
+use Rattle.fragments.proofs.ByRows.{row-count}
+use Rattle.hashing.proofs.Reading.{row-room, block-room}
 use Rattle.hashing.proofs.shells.hash_block_shell.Statement.{statement}
 use Rattle.hashing.proofs.shells.hash_block_shell.Tie as tie
 

@@ -11,7 +11,8 @@ use Rattle.fragments.specs.Ignoring.{ignoreOf}
 use Rattle.hashing.specs.Words.{NumbersValues}
 use Rattle.hashing.proofs.Stepping.{fed-op}
 use Rattle.hashing.proofs.Bytes.{fed-after}
-use Rattle.hashing.proofs.Reading.{row-count, row-room}
+use Rattle.fragments.proofs.ByRows.{row-count}
+use Rattle.hashing.proofs.Reading.{row-room}
 use Rattle.hashing.proofs.shells.hash_op_shell.Statement.{statement}
 use Rattle.hashing.proofs.shells.hash_op_shell.Tie as tie
 

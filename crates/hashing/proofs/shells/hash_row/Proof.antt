@@ -5,7 +5,7 @@ use Rattle.rules.specs.Lists.{concatMap}
 use Rattle.rules.specs.Hash.{fnvFrom, leaf}
 use Rattle.layout.specs.Columns.{columns}
 use Rattle.fragments.specs.Ignoring.{ignoreOf}
-use Rattle.hashing.specs.Rows.{rowShell}
+use Rattle.fragments.specs.Rows.{rowShell}
 use Rattle.hashing.proofs.Bytes.{shell-fed}
 use borrow.Author.Needs.{needs}
 use Rattle.hashing.proofs.shells.hash_row.Statement.{statement}

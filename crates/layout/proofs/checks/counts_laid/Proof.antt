@@ -7,7 +7,7 @@ use Rattle.layout.specs.Columns.{columns, at, opOperandEnd, opSuccessorE
 use Rattle.layout.specs.Reading.{opCount, operandCount, successorCount, attributeCount}
 use Rattle.layout.specs.Soundness.{endBefore, countsLaid}
 use Rattle.layout.proofs.Laid.{counts-facts}
-use Rattle.layout.proofs.Scans.{stop, next, last}
+use Rattle.layout.proofs.Scans.{fails, next, last}
 use borrow.Author.Needs.{needs}
 use Rattle.layout.proofs.checks.counts_laid.Statement.{statement}
 use Rattle.layout.proofs.checks.counts_laid.Tie as tie
@@ -30,7 +30,7 @@ unfolding countsLaid opCount operandCount successorCount attributeCount
 returns c =
     let C = columns (c .before .before .before .before .before .args .store .now) in
     let operands = c .before .before .end-before .ensures ∙ ap (endBefore C opOperandEnd) (c .before .before .before .number .ensures) in
-    sym (stop _ _ (ne-eqb (endBefore C opOperandEnd (at C 0 0)) (at C 0 4) (λ e. c .if1 .taken (operands ∙ e ∙ sym (c .before .number2 .ensures)))))
+    sym (fails _ 0 (ne-eqb (endBefore C opOperandEnd (at C 0 0)) (at C 0 4) (λ e. c .if1 .taken (operands ∙ e ∙ sym (c .before .number2 .ensures)))))
 
 end-before-requires-2 : tie.Need-end-before-requires-2
 unfolding opCount
@@ -46,10 +46,8 @@ returns-2 : tie.Need-returns-2
 unfolding countsLaid opCount operandCount successorCount attributeCount
 returns-2 c =
     let C = columns (c .before .before .before .before .before .before .before .before .args .store .now) in
-    let operands = c .before .before .before .before .before .end-before .ensures ∙ ap (endBefore C opOperandEnd) (c .before .before .before .before .before .before .number .ensures) in
     let successors = c .before .before .end-before2 .ensures ∙ ap (endBefore C opSuccessorEnd) (c .before .before .before .before .before .before .number .ensures) in
-    sym (next _ _ (eq-eqb (endBefore C opOperandEnd (at C 0 0)) (at C 0 4) (sym operands ∙ c .before .before .before .if1 .left ∙ c .before .before .before .before .number2 .ensures))
-    (stop _ _ (ne-eqb (endBefore C opSuccessorEnd (at C 0 0)) (at C 0 5) (λ e. c .if2 .taken (successors ∙ e ∙ sym (c .before .number3 .ensures))))))
+    sym (fails _ 1 (ne-eqb (endBefore C opSuccessorEnd (at C 0 0)) (at C 0 5) (λ e. c .if2 .taken (successors ∙ e ∙ sym (c .before .number3 .ensures)))))
 
 attribute-sum-requires : tie.Need-attribute-sum-requires
 attribute-sum-requires c κs = search needs

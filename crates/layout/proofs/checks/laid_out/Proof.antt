@@ -1,7 +1,9 @@
 -- `laid_out` meets its contract, test by test, each asked for where those before it passed. Assumes nothing.
+use native.Mathlib.Omega.{arith}
 use mathlib.Core.Path.{sym}
-use Rattle.layout.specs.Soundness.{laidOut}
-use Rattle.layout.proofs.Scans.{stop, next, last, failed, held}
+use Rattle.layout.specs.Reading.{opCount, blockCount, regionCount, valueCount}
+use Rattle.layout.specs.Soundness.{laidOut, rowLaid}
+use Rattle.layout.proofs.Scans.{fails, next, last, failed, held}
 use borrow.Author.Needs.{needs}
 use Rattle.layout.proofs.checks.laid_out.Statement.{statement}
 use Rattle.layout.proofs.checks.laid_out.Tie as tie
@@ -11,69 +13,69 @@ counts-hold-requires c κs = search needs
 
 returns : tie.Need-returns
 unfolding laidOut
-returns c = sym (stop _ _ (failed (c .before .counts-hold .ensures) (c .if1 .taken)))
+returns c = sym (fails _ 0 (failed (c .before .counts-hold .ensures) (c .if1 .taken)))
 
-ops-laid-requires : tie.Need-ops-laid-requires
-ops-laid-requires c κs = record { sized = c .before .before .before .pre; counted = held (c .before .counts-hold .ensures) (c .if1 .left) }
+rows-laid-requires : tie.Need-rows-laid-requires
+rows-laid-requires c κs =
+    let first = c in
+    (record { sized = first .before .before .before .pre; counted = held (first .before .counts-hold .ensures) (first .if1 .left) }, omega arith)
 
 returns-2 : tie.Need-returns-2
-unfolding laidOut
-returns-2 c = sym (next _ _ (held (c .before .before .before .counts-hold .ensures) (c .before .before .if1 .left)) (stop _ _ (failed (c .before .ops-laid .ensures) (c .if2 .taken))))
+unfolding laidOut rowLaid opCount
+returns-2 c = sym (fails _ 1 (failed (c .before .rows-laid .ensures) (c .if2 .taken)))
 
-blocks-laid-requires : tie.Need-blocks-laid-requires
-blocks-laid-requires c κs = record { sized = c .before .before .before .before .before .pre; counted = held (c .before .before .before .counts-hold .ensures) (c .before .before .if1 .left) }
+rows-laid-requires-2 : tie.Need-rows-laid-requires-2
+rows-laid-requires-2 c κs =
+    let first = c .before .before in
+    (record { sized = first .before .before .before .pre; counted = held (first .before .counts-hold .ensures) (first .if1 .left) }, omega arith)
 
 returns-3 : tie.Need-returns-3
-unfolding laidOut
-returns-3 c =
-    sym (next _ _ (held (c .before .before .before .before .before .counts-hold .ensures) (c .before .before .before .before .if1 .left))
-    (next _ _ (held (c .before .before .before .ops-laid .ensures) (c .before .before .if2 .left)) (stop _ _ (failed (c .before .blocks-laid .ensures) (c .if3 .taken)))))
+unfolding laidOut rowLaid blockCount
+returns-3 c = sym (fails _ 2 (failed (c .before .rows-laid2 .ensures) (c .if3 .taken)))
 
-regions-laid-requires : tie.Need-regions-laid-requires
-regions-laid-requires c κs = record { sized = c .before .before .before .before .before .before .before .pre; counted = held (c .before .before .before .before .before .counts-hold .ensures) (c .before .before .before .before .if1 .left) }
+rows-laid-requires-3 : tie.Need-rows-laid-requires-3
+rows-laid-requires-3 c κs =
+    let first = c .before .before .before .before in
+    (record { sized = first .before .before .before .pre; counted = held (first .before .counts-hold .ensures) (first .if1 .left) }, omega arith)
 
 returns-4 : tie.Need-returns-4
-unfolding laidOut
-returns-4 c =
-    sym (next _ _ (held (c .before .before .before .before .before .before .before .counts-hold .ensures) (c .before .before .before .before .before .before .if1 .left))
-    (next _ _ (held (c .before .before .before .before .before .ops-laid .ensures) (c .before .before .before .before .if2 .left))
-    (next _ _ (held (c .before .before .before .blocks-laid .ensures) (c .before .before .if3 .left)) (stop _ _ (failed (c .before .regions-laid .ensures) (c .if4 .taken))))))
+unfolding laidOut rowLaid regionCount
+returns-4 c = sym (fails _ 3 (failed (c .before .rows-laid3 .ensures) (c .if4 .taken)))
 
-values-laid-requires : tie.Need-values-laid-requires
-values-laid-requires c κs =
-    record {
-      sized = c .before .before .before .before .before .before .before .before .before .pre;
-      counted = held (c .before .before .before .before .before .before .before .counts-hold .ensures) (c .before .before .before .before .before .before .if1 .left);
-    }
+rows-laid-requires-4 : tie.Need-rows-laid-requires-4
+rows-laid-requires-4 c κs =
+    let first = c .before .before .before .before .before .before in
+    (record { sized = first .before .before .before .pre; counted = held (first .before .counts-hold .ensures) (first .if1 .left) }, omega arith)
 
 returns-5 : tie.Need-returns-5
-unfolding laidOut
-returns-5 c =
-    sym (next _ _ (held (c .before .before .before .before .before .before .before .before .before .counts-hold .ensures) (c .before .before .before .before .before .before .before .before .if1 .left))
-    (next _ _ (held (c .before .before .before .before .before .before .before .ops-laid .ensures) (c .before .before .before .before .before .before .if2 .left))
-    (next _ _ (held (c .before .before .before .before .before .blocks-laid .ensures) (c .before .before .before .before .if3 .left))
-    (next _ _ (held (c .before .before .before .regions-laid .ensures) (c .before .before .if4 .left)) (stop _ _ (failed (c .before .values-laid .ensures) (c .if5 .taken)))))))
+unfolding laidOut rowLaid valueCount
+returns-5 c = sym (fails _ 4 (failed (c .before .rows-laid4 .ensures) (c .if5 .taken)))
 
 counts-laid-requires : tie.Need-counts-laid-requires
-counts-laid-requires c κs = (
-  record {
-    sized = c .before .before .before .before .before .before .before .before .before .before .before .pre;
-    counted = held (c .before .before .before .before .before .before .before .before .before .counts-hold .ensures) (c .before .before .before .before .before .before .before .before .if1 .left);
-  },
-  (
-    held (c .before .before .before .before .before .before .before .ops-laid .ensures) (c .before .before .before .before .before .before .if2 .left),
-    held (c .before .before .before .before .before .blocks-laid .ensures) (c .before .before .before .before .if3 .left),
-  ),
-)
+unfolding rowLaid opCount blockCount
+counts-laid-requires c κs =
+    let in3 = c .before .before .before .before in
+    let in2 = in3 .before .before in
+    let in1 = in2 .before .before in (
+      record { sized = in1 .before .before .before .pre; counted = held (in1 .before .counts-hold .ensures) (in1 .if1 .left) },
+      (held (in2 .before .rows-laid .ensures) (in2 .if2 .left), held (in3 .before .rows-laid2 .ensures) (in3 .if3 .left)),
+    )
 
 returns-6 : tie.Need-returns-6
-unfolding laidOut
+unfolding laidOut rowLaid opCount blockCount regionCount valueCount
 returns-6 c =
-    sym (next _ _ (held (c .before .before .before .before .before .before .before .before .before .before .counts-hold .ensures) (c .before .before .before .before .before .before .before .before .before .if1 .left))
-    (next _ _ (held (c .before .before .before .before .before .before .before .before .ops-laid .ensures) (c .before .before .before .before .before .before .before .if2 .left))
-    (next _ _ (held (c .before .before .before .before .before .before .blocks-laid .ensures) (c .before .before .before .before .before .if3 .left))
-    (next _ _ (held (c .before .before .before .before .regions-laid .ensures) (c .before .before .before .if4 .left))
-    (next _ _ (held (c .before .before .values-laid .ensures) (c .before .if5 .left)) (last _ (sym (c .counts-laid .ensures))))))))
+    let in5 = c .before in
+    let in4 = in5 .before .before in
+    let in3 = in4 .before .before in
+    let in2 = in3 .before .before in
+    let in1 = in2 .before .before in
+    sym
+    (next _ _ (held (in1 .before .counts-hold .ensures) (in1 .if1 .left))
+    (next _ _ (held (in2 .before .rows-laid .ensures) (in2 .if2 .left))
+    (next _ _ (held (in3 .before .rows-laid2 .ensures) (in3 .if3 .left))
+    (next _ _ (held (in4 .before .rows-laid3 .ensures) (in4 .if4 .left))
+    (next _ _ (held (in5 .before .rows-laid4 .ensures) (in5 .if5 .left))
+    (last _ (sym (c .counts-laid .ensures))))))))
 
 pub laid-out-spec : {M : Type 1} → statement M
 laid-out-spec =
@@ -81,13 +83,13 @@ laid-out-spec =
     (tie.spec
     counts-hold-requires
     returns
-    ops-laid-requires
+    rows-laid-requires
     returns-2
-    blocks-laid-requires
+    rows-laid-requires-2
     returns-3
-    regions-laid-requires
+    rows-laid-requires-3
     returns-4
-    values-laid-requires
+    rows-laid-requires-4
     returns-5
     counts-laid-requires
     returns-6)

@@ -1,19 +1,14 @@
--- `next_block` meets its contract: no child stands before the range, so to search from its begin on is to search from `from` on. Assumes nothing.
-use Prim.Native.Nat.{ℕ, _-_}
+-- `next_block` meets its contract: no child stands before the range, so to search from the later of its begin and `from` is to search from `from` on. Assumes nothing.
+use Prim.Native.Nat.{ℕ, max, _-_}
 use native.Mathlib.Omega.{arith}
-use mathlib.Core.Path.{_≡_, sym, ap, ap₂, _∙_}
-use Rattle.layout.specs.Columns.{columns, at, regionBlockFirst, regionBlockEnd, blockRegion}
+use mathlib.Core.Path.{sym, ap, ap₂, _∙_}
+use Rattle.layout.specs.Columns.{columns, blockRegion}
 use Rattle.layout.specs.Children.{firstWord, foundFrom}
 use Rattle.layout.proofs.Laid.{laid-facts}
-use Rattle.layout.proofs.Finds.{block-from, block-first}
+use Rattle.layout.proofs.Finds.{block-next}
+use borrow.Author.Needs.{needs}
 use Rattle.layout.proofs.children.next_block.Statement.{statement}
 use Rattle.layout.proofs.children.next_block.Tie as tie
-
-cast-w : tie.Need-cast-w
-cast-w c =
-    let s = c .before in
-    let h = laid-facts (columns (s .args .store .now)) (s .pre .0 .laid) in
-    omega (arith, h .counts .regions)
 
 number-requires : tie.Need-number-requires
 number-requires c κs =
@@ -21,42 +16,35 @@ number-requires c κs =
     let h = laid-facts (columns (s .args .store .now)) (s .pre .0 .laid) in
     (s .pre .0 .sized, (omega arith, omega (arith, h .counts .regions)))
 
+larger-requires : tie.Need-larger-requires
+larger-requires c κs = search needs
+
 number-requires-2 : tie.Need-number-requires-2
 number-requires-2 c κs =
-    let s = c .before .before in
+    let s = c .before .before .before in
     let h = laid-facts (columns (s .args .store .now)) (s .pre .0 .laid) in
     (s .pre .0 .sized, (omega arith, omega (arith, h .counts .regions)))
+
+cast-first-at : tie.Need-cast-first-at
+cast-first-at c =
+    let s = c .before .before .before .before in
+    let h = laid-facts (columns (s .args .store .now)) (s .pre .0 .laid) in
+    omega (arith, h .counts .regions)
 
 first-at-requires : tie.Need-first-at-requires
 first-at-requires c κs =
     let s = c .before .before .before .before in
     let h = laid-facts (columns (s .args .store .now)) (s .pre .0 .laid) in
-    (s .pre .0 .sized, (omega arith, omega (arith, h .counts, c .before .number2 .ensures, h .region (s .args .region) (s .pre .1))))
+    (s .pre .0 .sized, (omega arith, omega (arith, h .counts, c .number2 .ensures, h .region (s .args .region) (s .pre .1))))
 
 returns : tie.Need-returns
 returns c =
     let s = c .before .before .before .before .before in
     let C = columns (s .args .store .now) in
-    let h = laid-facts C (s .pre .0 .laid) in
-    let first : c .before .before .before .number .result ≡ at C regionBlockFirst (s .args .region) = c .before .before .before .number .ensures in
-    let end : c .before .before .number2 .result ≡ at C regionBlockEnd (s .args .region) = c .before .before .number2 .ensures in
+    let start = c .before .before .larger .ensures ∙ ap (max (s .args .from)) (c .before .before .before .number .ensures) in
     c .first-at .ensures
-    ∙ ap foundFrom (ap₂ (λ (a e : ℕ). firstWord C blockRegion (s .args .region) a (e - a)) first end ∙ sym (block-first C h (s .args .region) (s .pre .1) (s .args .from) (omega arith)))
-
-first-at-requires-2 : tie.Need-first-at-requires-2
-first-at-requires-2 c κs =
-    let s = c .before .before .before .before in
-    let h = laid-facts (columns (s .args .store .now)) (s .pre .0 .laid) in
-    (s .pre .0 .sized, (omega arith, omega (arith, h .counts, c .before .number2 .ensures, h .region (s .args .region) (s .pre .1))))
-
-returns-2 : tie.Need-returns-2
-returns-2 c =
-    let s = c .before .before .before .before .before in
-    let C = columns (s .args .store .now) in
-    let h = laid-facts C (s .pre .0 .laid) in
-    let end : c .before .before .number2 .result ≡ at C regionBlockEnd (s .args .region) = c .before .before .number2 .ensures in
-    c .first-at2 .ensures
-    ∙ ap foundFrom (ap (λ (e : ℕ). firstWord C blockRegion (s .args .region) (s .args .from) (e - s .args .from)) end ∙ sym (block-from C h (s .args .region) (s .pre .1) (s .args .from)))
+    ∙ ap foundFrom (ap₂ (λ (a e : ℕ). firstWord C blockRegion (s .args .region) a (e - a)) start (c .before .number2 .ensures) ∙ sym (block-next C (laid-facts C (s .pre .0 .laid)) (s .args .region) (s .pre .1) (s .args .from)))
 
 pub next-block-spec : {M : Type 1} → statement M
-next-block-spec = tie.close (tie.spec cast-w number-requires number-requires-2 first-at-requires returns first-at-requires-2 returns-2)
+next-block-spec =
+    tie.close (tie.spec number-requires larger-requires number-requires-2 cast-first-at first-at-requires returns)

@@ -2,11 +2,8 @@
 use mathlib.Core.Path.{refl}
 use borrow.Author.Tests.{le-leb, lt-leb}
 use Rattle.layout.specs.Children.{firstFrom, foundFrom}
-use borrow.Author.Needs.{needs}
 use Rattle.layout.proofs.children.one_from.Statement.{statement}
 use Rattle.layout.proofs.children.one_from.Tie as tie
-use Rattle.layout.proofs.children.one_from.Reads as reads
-use Rattle.layout.proofs.children.one_from.Lts as lts
 
 returns : tie.Need-returns
 unfolding firstFrom foundFrom

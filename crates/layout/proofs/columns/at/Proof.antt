@@ -7,9 +7,6 @@ use lib.ListN.{getD}
 use Rattle.layout.proofs.Buffer.{base-fits, at-columns}
 use Rattle.layout.proofs.columns.at.Statement.{statement}
 use Rattle.layout.proofs.columns.at.Tie as tie
-use Rattle.layout.proofs.columns.at.Reads as reads
-use Rattle.layout.proofs.columns.at.Lts as lts
-use Rattle.layout.proofs.columns.base.Reads as base-reads
 
 base-requires : tie.Need-base-requires
 base-requires c κs = search needs

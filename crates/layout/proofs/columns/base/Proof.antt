@@ -12,8 +12,6 @@ use Rattle.layout.specs.Columns.{base}
 use borrow.Author.Needs.{needs}
 use Rattle.layout.proofs.columns.base.Statement.{statement}
 use Rattle.layout.proofs.columns.base.Tie as tie
-use Rattle.layout.proofs.columns.base.Reads as reads
-use Rattle.layout.proofs.columns.base.Lts as lts
 
 bases : List ℕ
 bases = 0 ∷ 8 ∷ 520 ∷ 1032 ∷ 1544 ∷ 2056 ∷ 2568 ∷ 3080 ∷ 3592 ∷ 4104 ∷ 4616 ∷ 5128 ∷ 5640 ∷ 6152 ∷ 6664 ∷ 6920 ∷ 7176 ∷ 7432 ∷ 7688 ∷ 7944 ∷ 8200 ∷ 8456 ∷ 8712 ∷ 8968 ∷ 9224 ∷ 9480 ∷ 11528 ∷ 13576 ∷ 15624 ∷ 16136 ∷ 22280 ∷ 28424 ∷ []

@@ -11,10 +11,6 @@ use Rattle.layout.proofs.Scans.{part-length}
 use Rattle.layout.proofs.Buffer.{base-fits, columns-run, columns-shaped, part-columns}
 use Rattle.layout.proofs.columns.insert.Statement.{statement}
 use Rattle.layout.proofs.columns.insert.Tie as tie
-use Rattle.layout.proofs.columns.insert.Reads as reads
-use Rattle.layout.proofs.columns.insert.Lts as lts
-use Rattle.layout.proofs.columns.base.Reads as base-reads
-use Rattle.layout.proofs.lists.insert_at.Reads as insert-at-reads
 
 base-requires : tie.Need-base-requires
 base-requires c κs = search needs

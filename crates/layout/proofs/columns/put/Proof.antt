@@ -8,9 +8,6 @@ use Rattle.layout.specs.Columns.{columns}
 use Rattle.layout.proofs.Buffer.{base-fits, columns-set}
 use Rattle.layout.proofs.columns.put.Statement.{statement}
 use Rattle.layout.proofs.columns.put.Tie as tie
-use Rattle.layout.proofs.columns.put.Reads as reads
-use Rattle.layout.proofs.columns.put.Lts as lts
-use Rattle.layout.proofs.columns.base.Reads as base-reads
 
 base-requires : tie.Need-base-requires
 base-requires c κs = search needs

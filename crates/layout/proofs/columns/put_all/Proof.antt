@@ -7,10 +7,6 @@ use Rattle.layout.specs.Columns.{columns, pasted}
 use Rattle.layout.proofs.Buffer.{base-fits, columns-run}
 use Rattle.layout.proofs.columns.put_all.Statement.{statement}
 use Rattle.layout.proofs.columns.put_all.Tie as tie
-use Rattle.layout.proofs.columns.put_all.Reads as reads
-use Rattle.layout.proofs.columns.put_all.Lts as lts
-use Rattle.layout.proofs.columns.base.Reads as base-reads
-use Rattle.layout.proofs.lists.copy_at.Reads as copy-at-reads
 
 base-requires : tie.Need-base-requires
 base-requires c κs = search needs

@@ -8,10 +8,6 @@ use Rattle.layout.specs.Columns.{size, columns, pasted}
 use Rattle.layout.proofs.Buffer.{base-fits, columns-run}
 use Rattle.layout.proofs.columns.put_same.Statement.{statement}
 use Rattle.layout.proofs.columns.put_same.Tie as tie
-use Rattle.layout.proofs.columns.put_same.Reads as reads
-use Rattle.layout.proofs.columns.put_same.Lts as lts
-use Rattle.layout.proofs.columns.base.Reads as base-reads
-use Rattle.layout.proofs.lists.fill_at.Reads as fill-at-reads
 
 base-requires : tie.Need-base-requires
 base-requires c κs = search needs

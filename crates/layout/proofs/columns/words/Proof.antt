@@ -7,9 +7,6 @@ use lib.ListN.{take, drop}
 use Rattle.layout.proofs.Buffer.{base-fits, part-columns}
 use Rattle.layout.proofs.columns.words.Statement.{statement}
 use Rattle.layout.proofs.columns.words.Tie as tie
-use Rattle.layout.proofs.columns.words.Reads as reads
-use Rattle.layout.proofs.columns.words.Lts as lts
-use Rattle.layout.proofs.columns.base.Reads as base-reads
 
 base-requires : tie.Need-base-requires
 base-requires c κs = search needs

@@ -9,8 +9,6 @@ use lib.ListN.{length}
 use Rattle.layout.proofs.Scans.{Before, At, before-zero, before-next, all-fails, all-before}
 use Rattle.layout.proofs.lists.all_are.Statement.{statement}
 use Rattle.layout.proofs.lists.all_are.Tie as tie
-use Rattle.layout.proofs.lists.all_are.Reads as reads
-use Rattle.layout.proofs.lists.all_are.Lts as lts
 
 abbrev Inv-loop : tie.InvT-loop
 Inv-loop list w i₀ i = (i ≤ length list) × Before (At (λ (x : ℕ). eqb x w) list) i

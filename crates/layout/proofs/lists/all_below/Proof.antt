@@ -9,8 +9,6 @@ use lib.ListN.{length}
 use Rattle.layout.proofs.Scans.{Before, At, before-zero, before-next, all-fails, all-before}
 use Rattle.layout.proofs.lists.all_below.Statement.{statement}
 use Rattle.layout.proofs.lists.all_below.Tie as tie
-use Rattle.layout.proofs.lists.all_below.Reads as reads
-use Rattle.layout.proofs.lists.all_below.Lts as lts
 
 abbrev Inv-loop : tie.InvT-loop
 Inv-loop list n i₀ i = (i ≤ length list) × Before (At (λ (x : ℕ). ltb x n) list) i

@@ -8,8 +8,6 @@ use lib.Seq.{paste, paste-zero}
 use Rattle.layout.proofs.Copies.{copy-turn, copy-length, copy-done}
 use Rattle.layout.proofs.lists.copy_at.Statement.{statement}
 use Rattle.layout.proofs.lists.copy_at.Tie as tie
-use Rattle.layout.proofs.lists.copy_at.Reads as reads
-use Rattle.layout.proofs.lists.copy_at.Lts as lts
 
 abbrev Inv-loop : tie.InvT-loop
 Inv-loop to₀ from list j₀ to j = (to ≡ paste to₀ from list j) × (j ≤ length list)

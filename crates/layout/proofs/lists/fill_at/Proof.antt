@@ -8,8 +8,6 @@ use lib.Seq.{paste, paste-zero}
 use Rattle.layout.proofs.Copies.{fill-turn, fill-length, fill-done}
 use Rattle.layout.proofs.lists.fill_at.Statement.{statement}
 use Rattle.layout.proofs.lists.fill_at.Tie as tie
-use Rattle.layout.proofs.lists.fill_at.Reads as reads
-use Rattle.layout.proofs.lists.fill_at.Lts as lts
 
 abbrev Inv-loop : tie.InvT-loop
 Inv-loop to₀ from count v j₀ to j = (to ≡ paste to₀ from (replicate count v) j) × (j ≤ count)

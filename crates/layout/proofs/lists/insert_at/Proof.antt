@@ -5,8 +5,6 @@ use borrow.Author.Needs.{needs}
 use Rattle.layout.proofs.Copies.{Inserting, insert-starts, insert-turn, insert-kept, insert-done}
 use Rattle.layout.proofs.lists.insert_at.Statement.{statement}
 use Rattle.layout.proofs.lists.insert_at.Tie as tie
-use Rattle.layout.proofs.lists.insert_at.Reads as reads
-use Rattle.layout.proofs.lists.insert_at.Lts as lts
 
 abbrev Inv-loop : tie.InvT-loop
 Inv-loop to₀ from count v carried₀ j₀ to carried j = Inserting to₀ from count v to carried j

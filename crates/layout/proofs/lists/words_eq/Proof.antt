@@ -9,8 +9,6 @@ use Rattle.layout.proofs.Scans.{Before, AtBoth, before-zero, before-nex
 use borrow.Author.Needs.{needs}
 use Rattle.layout.proofs.lists.words_eq.Statement.{statement}
 use Rattle.layout.proofs.lists.words_eq.Tie as tie
-use Rattle.layout.proofs.lists.words_eq.Reads as reads
-use Rattle.layout.proofs.lists.words_eq.Lts as lts
 
 abbrev Inv-loop : tie.InvT-loop
 Inv-loop l r i₀ i = (i ≤ length l) × Before (AtBoth eqb l r) i

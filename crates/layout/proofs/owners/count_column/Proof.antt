@@ -5,8 +5,6 @@ use Rattle.layout.specs.Owners.{ownerOf, countColumn}
 use borrow.Author.Needs.{needs}
 use Rattle.layout.proofs.owners.count_column.Statement.{statement}
 use Rattle.layout.proofs.owners.count_column.Tie as tie
-use Rattle.layout.proofs.owners.count_column.Reads as reads
-use Rattle.layout.proofs.owners.count_column.Lts as lts
 
 enum-told : tie.Need-enum-told
 enum-told c = search needs

@@ -6,8 +6,6 @@ use Rattle.layout.specs.Owners.{ownerOf}
 use borrow.Author.Needs.{needs}
 use Rattle.layout.proofs.owners.first_slot.Statement.{statement}
 use Rattle.layout.proofs.owners.first_slot.Tie as tie
-use Rattle.layout.proofs.owners.first_slot.Reads as reads
-use Rattle.layout.proofs.owners.first_slot.Lts as lts
 
 enum-known-owner : tie.Need-enum-known-owner
 enum-known-owner c = search needs

@@ -7,11 +7,6 @@ use Rattle.layout.proofs.OwnerKeys.{owner-in, owner-reached, count-reac
 use borrow.Author.Needs.{needs}
 use Rattle.layout.proofs.owners.key_count.Statement.{statement}
 use Rattle.layout.proofs.owners.key_count.Tie as tie
-use Rattle.layout.proofs.owners.key_count.Reads as reads
-use Rattle.layout.proofs.owners.key_count.Lts as lts
-use Rattle.layout.proofs.owners.count_column.Reads as count-column-reads
-use Rattle.layout.proofs.owners.owner_number.Reads as owner-number-reads
-use Rattle.layout.proofs.columns.number.Reads as number-reads
 
 count-column-requires : tie.Need-count-column-requires
 count-column-requires c κs = search needs

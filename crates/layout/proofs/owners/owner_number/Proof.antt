@@ -5,8 +5,6 @@ use Rattle.layout.specs.Owners.{ownerOf, ownerNumber}
 use borrow.Author.Needs.{needs}
 use Rattle.layout.proofs.owners.owner_number.Statement.{statement}
 use Rattle.layout.proofs.owners.owner_number.Tie as tie
-use Rattle.layout.proofs.owners.owner_number.Reads as reads
-use Rattle.layout.proofs.owners.owner_number.Lts as lts
 
 enum-known-owner : tie.Need-enum-known-owner
 enum-known-owner c = search needs

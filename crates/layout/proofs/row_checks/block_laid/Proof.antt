@@ -1,17 +1,27 @@
 -- `block_laid` meets its contract, test by test. Assumes nothing.
 use Prim.Native.Nat.{ℕ, _+_, _*_}
 use native.Mathlib.Omega.{arith}
-use mathlib.Core.Path.{sym, ap, _∙_}
+use mathlib.Core.Path.{_≡_, sym, ap, _∙_}
 use borrow.Author.Tests.{lt-ltb, le-ltb, le-leb, lt-leb}
 use lib.Dec.{leb}
-use Rattle.layout.specs.Columns.{columns, at, regionBlockFirst, regionBlockEnd, blockRegion, blockArgumentFirst, blockArgumentEnd, blockOpEnd, valueOwner}
+use Rattle.layout.specs.Columns.{Cols, columns, at, regionBlockFirst, regionBlockEnd, blockRegion, blockArgumentFirst, blockArgumentEnd, blockOpEnd, valueOwner}
 use Rattle.layout.specs.Reading.{opCount, regionCount, valueCount, ownerCode}
 use Rattle.layout.specs.Soundness.{blockLaid, ownedWithin, within}
 use Rattle.layout.proofs.Laid.{counts-facts}
-use Rattle.layout.proofs.Scans.{stop, next, stop-two, next-two, last, failed, held}
+use Rattle.layout.proofs.Scans.{fails, next, last, failed, held}
 use borrow.Author.Needs.{needs}
 use Rattle.layout.proofs.row_checks.block_laid.Statement.{statement}
 use Rattle.layout.proofs.row_checks.block_laid.Tie as tie
+
+-- the tests by the words that were read are those of the row
+module _ (C : Cols) (m : ℕ) where
+  in-place : {r : ℕ} → r ≡ at C blockRegion m
+      → within (at C regionBlockFirst r) (at C regionBlockEnd r) m ≡ within (at C regionBlockFirst (at C blockRegion m)) (at C regionBlockEnd (at C blockRegion m)) m
+  in-place e = ap (λ (r : ℕ). within (at C regionBlockFirst r) (at C regionBlockEnd r) m) e
+
+  own-arguments : {t n : ℕ} → t ≡ n
+      → ownedWithin C valueOwner (at C blockArgumentFirst m) (at C blockArgumentEnd m) t (2 * m + 1) ≡ ownedWithin C valueOwner (at C blockArgumentFirst m) (at C blockArgumentEnd m) n (2 * m + 1)
+  own-arguments e = ap (λ (t : ℕ). ownedWithin C valueOwner (at C blockArgumentFirst m) (at C blockArgumentEnd m) t (2 * m + 1)) e
 
 number-requires : tie.Need-number-requires
 number-requires c κs = search needs
@@ -20,11 +30,11 @@ number-requires-2 : tie.Need-number-requires-2
 number-requires-2 c κs = search needs
 
 returns : tie.Need-returns
-unfolding blockLaid ownedWithin ownerCode opCount regionCount valueCount
+unfolding blockLaid regionCount
 returns c =
     let a = c .before .before .before .before .args in
     let C = columns (a .store .now) in
-    sym (stop _ _ (le-ltb (at C blockRegion (a .m)) (at C 0 2) (omega arith)))
+    sym (fails _ 0 (le-ltb (at C blockRegion (a .m)) (at C 0 2) (omega arith)))
 
 holds-requires : tie.Need-holds-requires
 unfolding regionCount
@@ -34,12 +44,11 @@ holds-requires c κs =
     omega (arith, k .regions)
 
 returns-2 : tie.Need-returns-2
-unfolding blockLaid ownedWithin ownerCode opCount regionCount valueCount
+unfolding blockLaid
 returns-2 c =
-    let a = c .before .before .before .before .before .before .args in
-    let C = columns (a .store .now) in
-    sym (next _ _ (lt-ltb (at C blockRegion (a .m)) (at C 0 2) (omega arith))
-    (stop _ _ (failed (c .before .holds .ensures ∙ ap (λ (x : ℕ). within (at C regionBlockFirst x) (at C regionBlockEnd x) (a .m)) (c .before .before .before .before .number .ensures)) (c .if2 .taken))))
+    let r = c .before .before .before .before in
+    let a = r .before .before .args in
+    sym (fails _ 1 (failed (c .before .holds .ensures ∙ in-place (columns (a .store .now)) (a .m) (r .number .ensures)) (c .if2 .taken)))
 
 number-requires-3 : tie.Need-number-requires-3
 number-requires-3 c κs = search needs
@@ -61,17 +70,10 @@ owns-requires c κs =
     omega (arith, k .values)
 
 returns-3 : tie.Need-returns-3
-unfolding blockLaid ownedWithin ownerCode opCount regionCount valueCount
+unfolding blockLaid ownerCode valueCount
 returns-3 c =
     let a = c .before .before .before .before .before .before .before .before .before .args in
-    let C = columns (a .store .now) in
-    let place = held (c .before .before .before .before .holds .ensures
-    ∙ ap (λ (x : ℕ). within (at C regionBlockFirst x) (at C regionBlockEnd x) (a .m)) (c .before .before .before .before .before .before .before .number .ensures))
-    (c .before .before .before .if2 .left) in
-    sym (next _ _ (lt-ltb (at C blockRegion (a .m)) (at C 0 2) (omega arith))
-    (next _ _ place
-    (stop-two _ _ _ (failed
-    (c .before .owns .ensures ∙ ap (λ (t : ℕ). ownedWithin C valueOwner (at C blockArgumentFirst (a .m)) (at C blockArgumentEnd (a .m)) t (2 * a .m + 1)) (c .before .before .number3 .ensures)) (c .if3 .taken)))))
+    sym (fails _ 2 (failed (c .before .owns .ensures ∙ own-arguments (columns (a .store .now)) (a .m) (c .before .before .number3 .ensures)) (c .if3 .taken)))
 
 number-requires-4 : tie.Need-number-requires-4
 number-requires-4 c κs = search needs
@@ -80,34 +82,29 @@ number-requires-5 : tie.Need-number-requires-5
 number-requires-5 c κs = search needs
 
 returns-4 : tie.Need-returns-4
-unfolding blockLaid ownedWithin ownerCode opCount regionCount valueCount
+unfolding blockLaid opCount
 returns-4 c =
     let a = c .before .before .before .before .before .before .before .before .before .before .before .before .args in
     let C = columns (a .store .now) in
-    let place = held (c .before .before .before .before .before .before .before .holds .ensures
-    ∙ ap (λ (x : ℕ). within (at C regionBlockFirst x) (at C regionBlockEnd x) (a .m)) (c .before .before .before .before .before .before .before .before .before .before .number .ensures))
-    (c .before .before .before .before .before .before .if2 .left) in
-    let arguments = held (c .before .before .before .before .owns .ensures
-    ∙ ap (λ (t : ℕ). ownedWithin C valueOwner (at C blockArgumentFirst (a .m)) (at C blockArgumentEnd (a .m)) t (2 * a .m + 1)) (c .before .before .before .before .before .number3 .ensures))
-    (c .before .before .before .if3 .left) in
-    sym (next _ _ (lt-ltb (at C blockRegion (a .m)) (at C 0 2) (omega arith)) (next _ _ place (next-two _ _ _ arguments (stop _ _ (lt-leb (at C blockOpEnd (a .m)) (at C 0 0) (omega arith))))))
+    sym (fails _ 3 (lt-leb (at C blockOpEnd (a .m)) (at C 0 0) (omega arith)))
 
 number-requires-6 : tie.Need-number-requires-6
 number-requires-6 c κs = search needs
 
 returns-5 : tie.Need-returns-5
-unfolding blockLaid ownedWithin ownerCode opCount regionCount valueCount
+unfolding blockLaid ownerCode opCount regionCount valueCount
 returns-5 c =
-    let a = c .before .before .before .before .before .before .before .before .before .before .before .before .before .args in
+    let in3 = c .before .before .before .before in
+    let in2 = in3 .before .before .before in
+    let r = in2 .before .before .before .before in
+    let a = r .before .before .args in
     let C = columns (a .store .now) in
-    let place = held (c .before .before .before .before .before .before .before .before .holds .ensures
-    ∙ ap (λ (x : ℕ). within (at C regionBlockFirst x) (at C regionBlockEnd x) (a .m)) (c .before .before .before .before .before .before .before .before .before .before .before .number .ensures))
-    (c .before .before .before .before .before .before .before .if2 .left) in
-    let arguments = held (c .before .before .before .before .before .owns .ensures
-    ∙ ap (λ (t : ℕ). ownedWithin C valueOwner (at C blockArgumentFirst (a .m)) (at C blockArgumentEnd (a .m)) t (2 * a .m + 1)) (c .before .before .before .before .before .before .number3 .ensures))
-    (c .before .before .before .before .if3 .left) in
-    sym (next _ _ (lt-ltb (at C blockRegion (a .m)) (at C 0 2) (omega arith))
-    (next _ _ place (next-two _ _ _ arguments (next _ _ (le-leb (at C blockOpEnd (a .m)) (at C 0 0) (omega arith)) (last _ (ap (λ (x : ℕ). leb x 8) (sym (c .number6 .ensures))))))))
+    sym
+    (next _ _ (lt-ltb (at C blockRegion (a .m)) (at C 0 2) (omega arith))
+    (next _ _ (held (in2 .before .holds .ensures ∙ in-place C (a .m) (r .number .ensures)) (in2 .if2 .left))
+    (next _ _ (held (in3 .before .owns .ensures ∙ own-arguments C (a .m) (in3 .before .before .number3 .ensures)) (in3 .if3 .left))
+    (next _ _ (le-leb (at C blockOpEnd (a .m)) (at C 0 0) (omega arith))
+    (last _ (ap (λ (x : ℕ). leb x 8) (sym (c .number6 .ensures))))))))
 
 pub block-laid-spec : {M : Type 1} → statement M
 block-laid-spec =

@@ -8,7 +8,7 @@ use Rattle.layout.specs.Columns.{columns, at, opRegionFirst, opRegionEnd
 use Rattle.layout.specs.Reading.{opCount, blockCount}
 use Rattle.layout.specs.Soundness.{regionLaid, within}
 use Rattle.layout.proofs.Laid.{counts-facts}
-use Rattle.layout.proofs.Scans.{stop, next, last, failed, held}
+use Rattle.layout.proofs.Scans.{fails, next, last, failed, held}
 use borrow.Author.Needs.{needs}
 use Rattle.layout.proofs.row_checks.region_laid.Statement.{statement}
 use Rattle.layout.proofs.row_checks.region_laid.Tie as tie
@@ -24,7 +24,7 @@ unfolding regionLaid opCount blockCount
 returns c =
     let a = c .before .before .before .before .args in
     let C = columns (a .store .now) in
-    sym (stop _ _ (le-ltb (at C regionOp (a .g)) (at C 0 0) (omega arith)))
+    sym (fails _ 0 (le-ltb (at C regionOp (a .g)) (at C 0 0) (omega arith)))
 
 holds-requires : tie.Need-holds-requires
 unfolding opCount
@@ -38,8 +38,7 @@ unfolding regionLaid opCount blockCount
 returns-2 c =
     let a = c .before .before .before .before .before .before .args in
     let C = columns (a .store .now) in
-    sym (next _ _ (lt-ltb (at C regionOp (a .g)) (at C 0 0) (omega arith))
-    (stop _ _ (failed (c .before .holds .ensures ∙ ap (λ (x : ℕ). within (at C opRegionFirst x) (at C opRegionEnd x) (a .g)) (c .before .before .before .before .number .ensures)) (c .if2 .taken))))
+    sym (fails _ 1 (failed (c .before .holds .ensures ∙ ap (λ (x : ℕ). within (at C opRegionFirst x) (at C opRegionEnd x) (a .g)) (c .before .before .before .before .number .ensures)) (c .if2 .taken)))
 
 number-requires-3 : tie.Need-number-requires-3
 number-requires-3 c κs = search needs

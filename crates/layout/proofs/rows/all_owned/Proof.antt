@@ -9,10 +9,6 @@ use Rattle.layout.proofs.Scans.{owned-part}
 use borrow.Author.Needs.{needs}
 use Rattle.layout.proofs.rows.all_owned.Statement.{statement}
 use Rattle.layout.proofs.rows.all_owned.Tie as tie
-use Rattle.layout.proofs.rows.all_owned.Reads as reads
-use Rattle.layout.proofs.rows.all_owned.Lts as lts
-use Rattle.layout.proofs.columns.words.Reads as words-reads
-use Rattle.layout.proofs.lists.all_are.Reads as all-are-reads
 
 words-requires : tie.Need-words-requires
 words-requires c κs = search needs

@@ -5,9 +5,6 @@ use Rattle.layout.specs.Columns.{columns}
 use Rattle.layout.proofs.Scans.{first-end, later-end}
 use Rattle.layout.proofs.rows.end_before.Statement.{statement}
 use Rattle.layout.proofs.rows.end_before.Tie as tie
-use Rattle.layout.proofs.rows.end_before.Reads as reads
-use Rattle.layout.proofs.rows.end_before.Lts as lts
-use Rattle.layout.proofs.columns.number.Reads as number-reads
 
 returns : tie.Need-returns
 returns c = let a = c .before .before .args in first-end (columns (a .store .now)) (a .column) (a .n) (c .if1 .taken)

@@ -7,11 +7,6 @@ use Rattle.layout.specs.Soundness.{ranged, tiled, endBefore}
 use borrow.Author.Needs.{needs}
 use Rattle.layout.proofs.rows.is_tiled.Statement.{statement}
 use Rattle.layout.proofs.rows.is_tiled.Tie as tie
-use Rattle.layout.proofs.rows.is_tiled.Reads as reads
-use Rattle.layout.proofs.rows.is_tiled.Lts as lts
-use Rattle.layout.proofs.columns.number.Reads as number-reads
-use Rattle.layout.proofs.rows.end_before.Reads as end-before-reads
-use Rattle.layout.proofs.rows.ranged.Reads as ranged-reads
 
 number-requires : tie.Need-number-requires
 number-requires c κs = search needs

@@ -3,8 +3,6 @@ use borrow.Author.Tests.{le-leb, lt-leb}
 use Rattle.layout.specs.Soundness.{ranged}
 use Rattle.layout.proofs.rows.ranged.Statement.{statement}
 use Rattle.layout.proofs.rows.ranged.Tie as tie
-use Rattle.layout.proofs.rows.ranged.Reads as reads
-use Rattle.layout.proofs.rows.ranged.Lts as lts
 
 returns : tie.Need-returns
 unfolding ranged

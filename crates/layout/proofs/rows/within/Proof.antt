@@ -3,8 +3,6 @@ use borrow.Author.Tests.{le-leb, lt-leb}
 use Rattle.layout.specs.Soundness.{within}
 use Rattle.layout.proofs.rows.within.Statement.{statement}
 use Rattle.layout.proofs.rows.within.Tie as tie
-use Rattle.layout.proofs.rows.within.Reads as reads
-use Rattle.layout.proofs.rows.within.Lts as lts
 
 returns : tie.Need-returns
 unfolding within

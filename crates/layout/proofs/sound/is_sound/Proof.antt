@@ -8,10 +8,6 @@ use Rattle.layout.proofs.Scans.{stop, next, last, failed, held}
 use borrow.Author.Needs.{needs}
 use Rattle.layout.proofs.sound.is_sound.Statement.{statement}
 use Rattle.layout.proofs.sound.is_sound.Tie as tie
-use Rattle.layout.proofs.sound.is_sound.Reads as reads
-use Rattle.layout.proofs.sound.is_sound.Lts as lts
-use Rattle.layout.proofs.checks.laid_out.Reads as laid-out-reads
-use Rattle.layout.proofs.ruled.is_ruled.Reads as is-ruled-reads
 
 returns : tie.Need-returns
 unfolding soundBuffer

@@ -1,9 +1,9 @@
 -- `attribute_line` meets its contract: its line is an owner, three numbers, and nothing more. Assumes nothing.
-use mathlib.Core.Path.{sym, ap, _∙_}
 use Rattle.lines.specs.Reading.{fieldsLeft}
 use Rattle.lines.specs.Parsing.{threeOf, ownerRead, attributeLineOf}
 use Rattle.building.specs.Types.{attributeOf}
 use Rattle.layout.proofs.Scans.{failed, held}
+use Rattle.lines.proofs.Answers.{told}
 use Rattle.lines.proofs.Meaning.{unread, more-left, all-read, attribute-ownerless, attribute-bad, attribute-read}
 use borrow.Author.Needs.{needs}
 use Rattle.lines.proofs.parsing.attribute_line.Statement.{statement}
@@ -22,7 +22,7 @@ returns : tie.Need-returns
 unfolding ownerRead attributeLineOf
 returns c =
     let line = c .before .before .before .before .args .line .now in
-    unread (attribute-ownerless (fieldsLeft line (c .before .before .before .before .args .at)) (sym (c .before .before .read-owner .ensures) ∙ ap (ownerRead line) (c .enum-told .given .1)))
+    unread (attribute-ownerless (fieldsLeft line (c .before .before .before .before .args .at)) (told (ownerRead line) (c .before .before .read-owner .ensures) (c .enum-told .given .1)))
 
 read-three-requires : tie.Need-read-three-requires
 read-three-requires c κs = search needs
@@ -37,8 +37,8 @@ returns-2 : tie.Need-returns-2
 unfolding threeOf ownerRead attributeLineOf
 returns-2 c =
     let line = c .before .before .before .before .before .before .before .before .args .line .now in
-    let o = sym (c .before .before .before .before .before .before .read-owner .ensures) ∙ ap (ownerRead line) (c .before .before .before .before .owner .given .1) in
-    unread (attribute-bad (fieldsLeft line (c .before .before .before .before .before .before .before .before .args .at)) o (sym (c .before .before .read-three .ensures) ∙ ap (threeOf line) (c .enum-told2 .given .1)))
+    let o = told (ownerRead line) (c .before .before .before .before .before .before .read-owner .ensures) (c .before .before .before .before .owner .given .1) in
+    unread (attribute-bad (fieldsLeft line (c .before .before .before .before .before .before .before .before .args .at)) o (told (threeOf line) (c .before .before .read-three .ensures) (c .enum-told2 .given .1)))
 
 ended-at-requires : tie.Need-ended-at-requires
 ended-at-requires c κs = search needs
@@ -47,16 +47,16 @@ returns-3 : tie.Need-returns-3
 unfolding threeOf ownerRead attributeLineOf
 returns-3 c =
     let line = c .before .before .before .before .before .before .before .before .before .before .before .args .line .now in
-    let o = sym (c .before .before .before .before .before .before .before .before .before .read-owner .ensures) ∙ ap (ownerRead line) (c .before .before .before .before .before .before .before .owner .given .1) in
-    let t = sym (c .before .before .before .before .before .read-three .ensures) ∙ ap (threeOf line) (c .before .before .before .key .given .1) in
+    let o = told (ownerRead line) (c .before .before .before .before .before .before .before .before .before .read-owner .ensures) (c .before .before .before .before .before .before .before .owner .given .1) in
+    let t = told (threeOf line) (c .before .before .before .before .before .read-three .ensures) (c .before .before .before .key .given .1) in
     more-left _ (attribute-read (fieldsLeft line (c .before .before .before .before .before .before .before .before .before .before .before .args .at)) o t) (failed (c .before .ended-at .ensures) (c .if1 .taken))
 
 returns-4 : tie.Need-returns-4
 unfolding threeOf ownerRead attributeLineOf attributeOf
 returns-4 c =
     let line = c .before .before .before .before .before .before .before .before .before .before .before .args .line .now in
-    let o = sym (c .before .before .before .before .before .before .before .before .before .read-owner .ensures) ∙ ap (ownerRead line) (c .before .before .before .before .before .before .before .owner .given .1) in
-    let t = sym (c .before .before .before .before .before .read-three .ensures) ∙ ap (threeOf line) (c .before .before .before .key .given .1) in
+    let o = told (ownerRead line) (c .before .before .before .before .before .before .before .before .before .read-owner .ensures) (c .before .before .before .before .before .before .before .owner .given .1) in
+    let t = told (threeOf line) (c .before .before .before .before .before .read-three .ensures) (c .before .before .before .key .given .1) in
     all-read _ (attribute-read (fieldsLeft line (c .before .before .before .before .before .before .before .before .before .before .before .args .at)) o t) (held (c .before .ended-at .ensures) (c .if1 .left))
 
 pub attribute-line-spec : {M : Type 1} → statement M

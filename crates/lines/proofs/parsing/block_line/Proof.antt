@@ -1,9 +1,8 @@
 -- `block_line` meets its contract: its line is three numbers, a list, and nothing more. Assumes nothing.
-use mathlib.Core.Path.{sym, ap, _∙_}
 use Rattle.lines.specs.Reading.{fieldsLeft}
 use Rattle.lines.specs.Parsing.{threeOf, blockLineOf, BlockFits}
 use Rattle.layout.proofs.Scans.{failed, held}
-use Rattle.lines.proofs.Answers.{read-items, items-fit, items-nothing}
+use Rattle.lines.proofs.Answers.{told, read-items, items-fit, items-nothing}
 use Rattle.lines.proofs.Meaning.{unread, more-left, all-read, block-bad, block-untyped, block-read}
 use borrow.Author.Needs.{needs}
 use Rattle.lines.proofs.parsing.block_line.Statement.{statement}
@@ -22,7 +21,7 @@ returns : tie.Need-returns
 unfolding threeOf blockLineOf BlockFits
 returns c =
     let line = c .before .before .before .before .before .args .line .now in
-    record { same = unread (block-bad (fieldsLeft line (c .before .before .before .before .before .args .at)) (sym (c .before .before .read-three .ensures) ∙ ap (threeOf line) (c .enum-told .given .1))); fit = tt }
+    record { same = unread (block-bad (fieldsLeft line (c .before .before .before .before .before .args .at)) (told (threeOf line) (c .before .before .read-three .ensures) (c .enum-told .given .1))); fit = tt }
 
 items-at-requires : tie.Need-items-at-requires
 items-at-requires c κs = search needs
@@ -40,7 +39,7 @@ returns-2 : tie.Need-returns-2
 unfolding threeOf blockLineOf BlockFits
 returns-2 c =
     let line = c .before .before .before .before .before .before .before .before .before .before .before .before .args .line .now in
-    let t = sym (c .before .before .before .before .before .before .before .before .before .read-three .ensures) ∙ ap (threeOf line) (c .before .before .before .before .before .before .before .region .given .1) in
+    let t = told (threeOf line) (c .before .before .before .before .before .before .before .before .before .read-three .ensures) (c .before .before .before .before .before .before .before .region .given .1) in
     record { same = unread (block-untyped (fieldsLeft line (c .before .before .before .before .before .before .before .before .before .before .before .before .args .at)) t (items-nothing (c .before .before .before .before .items-at .ensures) (c .enum-told2 .given .1))); fit = tt }
 
 ended-at-requires : tie.Need-ended-at-requires
@@ -53,7 +52,7 @@ returns-3 : tie.Need-returns-3
 unfolding threeOf blockLineOf BlockFits
 returns-3 c =
     let line = c .before .before .before .before .before .before .before .before .before .before .before .before .before .before .before .args .line .now in
-    let t = sym (c .before .before .before .before .before .before .before .before .before .before .before .before .read-three .ensures) ∙ ap (threeOf line) (c .before .before .before .before .before .before .before .before .before .before .region .given .1) in
+    let t = told (threeOf line) (c .before .before .before .before .before .before .before .before .before .before .before .before .read-three .ensures) (c .before .before .before .before .before .before .before .before .before .before .region .given .1) in
     let i = read-items (c .before .before .before .before .before .before .before .items-at .ensures) _ _ (c .before .before .before .count .given .1) in
     record { same = more-left _ (block-read (fieldsLeft line (c .before .before .before .before .before .before .before .before .before .before .before .before .before .before .before .args .at)) t i) (failed (c .before .ended-at .ensures) (c .if1 .taken)); fit = tt }
 
@@ -64,7 +63,7 @@ returns-4 : tie.Need-returns-4
 unfolding threeOf blockLineOf BlockFits
 returns-4 c =
     let line = c .before .before .before .before .before .before .before .before .before .before .before .before .before .before .before .args .line .now in
-    let t = sym (c .before .before .before .before .before .before .before .before .before .before .before .before .read-three .ensures) ∙ ap (threeOf line) (c .before .before .before .before .before .before .before .before .before .before .region .given .1) in
+    let t = told (threeOf line) (c .before .before .before .before .before .before .before .before .before .before .before .before .read-three .ensures) (c .before .before .before .before .before .before .before .before .before .before .region .given .1) in
     let i = read-items (c .before .before .before .before .before .before .before .items-at .ensures) _ _ (c .before .before .before .count .given .1) in
     record { same = all-read _ (block-read (fieldsLeft line (c .before .before .before .before .before .before .before .before .before .before .before .before .before .before .before .args .at)) t i) (held (c .before .ended-at .ensures) (c .if1 .left)); fit = items-fit (c .before .before .before .before .before .before .before .items-at .ensures) _ _ (c .before .before .before .count .given .1) }
 

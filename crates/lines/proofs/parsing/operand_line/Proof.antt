@@ -1,8 +1,8 @@
 -- `operand_line` meets its contract: its line is three numbers and nothing more. Assumes nothing.
-use mathlib.Core.Path.{sym, ap, _∙_}
 use Rattle.lines.specs.Reading.{fieldsLeft}
 use Rattle.lines.specs.Parsing.{threeOf, operandLineOf}
 use Rattle.layout.proofs.Scans.{failed, held}
+use Rattle.lines.proofs.Answers.{told}
 use Rattle.lines.proofs.Meaning.{unread, more-left, all-read, operand-bad, operand-read}
 use borrow.Author.Needs.{needs}
 use Rattle.lines.proofs.parsing.operand_line.Statement.{statement}
@@ -21,7 +21,7 @@ returns : tie.Need-returns
 unfolding threeOf operandLineOf
 returns c =
     let line = c .before .before .before .before .args .line .now in
-    unread (operand-bad (fieldsLeft line (c .before .before .before .before .args .at)) (sym (c .before .before .read-three .ensures) ∙ ap (threeOf line) (c .enum-told .given .1)))
+    unread (operand-bad (fieldsLeft line (c .before .before .before .before .args .at)) (told (threeOf line) (c .before .before .read-three .ensures) (c .enum-told .given .1)))
 
 ended-at-requires : tie.Need-ended-at-requires
 ended-at-requires c κs = search needs
@@ -30,14 +30,14 @@ returns-2 : tie.Need-returns-2
 unfolding threeOf operandLineOf
 returns-2 c =
     let line = c .before .before .before .before .before .before .before .args .line .now in
-    let t = sym (c .before .before .before .before .before .read-three .ensures) ∙ ap (threeOf line) (c .before .before .before .n .given .1) in
+    let t = told (threeOf line) (c .before .before .before .before .before .read-three .ensures) (c .before .before .before .n .given .1) in
     more-left _ (operand-read (fieldsLeft line (c .before .before .before .before .before .before .before .args .at)) t) (failed (c .before .ended-at .ensures) (c .if1 .taken))
 
 returns-3 : tie.Need-returns-3
 unfolding threeOf operandLineOf
 returns-3 c =
     let line = c .before .before .before .before .before .before .before .args .line .now in
-    let t = sym (c .before .before .before .before .before .read-three .ensures) ∙ ap (threeOf line) (c .before .before .before .n .given .1) in
+    let t = told (threeOf line) (c .before .before .before .before .before .read-three .ensures) (c .before .before .before .n .given .1) in
     all-read _ (operand-read (fieldsLeft line (c .before .before .before .before .before .before .before .args .at)) t) (held (c .before .ended-at .ensures) (c .if1 .left))
 
 pub operand-line-spec : {M : Type 1} → statement M

@@ -1,8 +1,8 @@
 -- `read_head` meets its contract: it reads one field after the other. Assumes nothing.
-use mathlib.Core.Path.{refl, sym, ap, _∙_}
+use mathlib.Core.Path.{refl, sym}
 use Rattle.lines.specs.Reading.{parentRead}
 use Rattle.lines.specs.Parsing.{operationHead, headOf}
-use Rattle.lines.proofs.Answers.{read-number, read-nothing}
+use Rattle.lines.proofs.Answers.{told, read-number, read-nothing}
 use Rattle.lines.proofs.Meaning.{stops, goes}
 use borrow.Author.Needs.{needs}
 use Rattle.lines.proofs.parsing.read_head.Statement.{statement}
@@ -35,7 +35,7 @@ unfolding parentRead headOf operationHead
 returns-2 c =
     let line = c .before .before .before .before .before .before .before .before .args .line .now in
     let k = read-number (c .before .before .before .before .before .before .number-at .ensures) _ _ (c .before .before .before .before .kind .given .1) in
-    sym (goes _ k (stops _ (sym (c .before .before .parent-at .ensures) ∙ ap (parentRead line) (c .enum-told2 .given .1))))
+    sym (goes _ k (stops _ (told (parentRead line) (c .before .before .parent-at .ensures) (c .enum-told2 .given .1))))
 
 number-at-requires-2 : tie.Need-number-at-requires-2
 number-at-requires-2 c κs = search needs
@@ -51,7 +51,7 @@ unfolding parentRead headOf operationHead
 returns-3 c =
     let line = c .before .before .before .before .before .before .before .before .before .before .before .before .args .line .now in
     let k = read-number (c .before .before .before .before .before .before .before .before .before .before .number-at .ensures) _ _ (c .before .before .before .before .before .before .before .before .kind .given .1) in
-    let p = sym (c .before .before .before .before .before .before .parent-at .ensures) ∙ ap (parentRead line) (c .before .before .before .before .parent .given .1) in
+    let p = told (parentRead line) (c .before .before .before .before .before .before .parent-at .ensures) (c .before .before .before .before .parent .given .1) in
     sym (goes _ k (goes _ p (stops _ (read-nothing (c .before .before .number-at2 .ensures) (c .enum-told3 .given .1)))))
 
 number-at-requires-3 : tie.Need-number-at-requires-3
@@ -68,7 +68,7 @@ unfolding parentRead headOf operationHead
 returns-4 c =
     let line = c .before .before .before .before .before .before .before .before .before .before .before .before .before .before .before .before .args .line .now in
     let k = read-number (c .before .before .before .before .before .before .before .before .before .before .before .before .before .before .number-at .ensures) _ _ (c .before .before .before .before .before .before .before .before .before .before .before .before .kind .given .1) in
-    let p = sym (c .before .before .before .before .before .before .before .before .before .before .parent-at .ensures) ∙ ap (parentRead line) (c .before .before .before .before .before .before .before .before .parent .given .1) in
+    let p = told (parentRead line) (c .before .before .before .before .before .before .before .before .before .before .parent-at .ensures) (c .before .before .before .before .before .before .before .before .parent .given .1) in
     let l = read-number (c .before .before .before .before .before .before .number-at2 .ensures) _ _ (c .before .before .before .before .location .given .1) in
     sym (goes _ k (goes _ p (goes _ l (stops _ (read-nothing (c .before .before .number-at3 .ensures) (c .enum-told4 .given .1))))))
 
@@ -77,7 +77,7 @@ unfolding parentRead headOf operationHead
 returns-5 c =
     let line = c .before .before .before .before .before .before .before .before .before .before .before .before .before .before .before .before .before .args .line .now in
     let k = read-number (c .before .before .before .before .before .before .before .before .before .before .before .before .before .before .before .number-at .ensures) _ _ (c .before .before .before .before .before .before .before .before .before .before .before .before .before .kind .given .1) in
-    let p = sym (c .before .before .before .before .before .before .before .before .before .before .before .parent-at .ensures) ∙ ap (parentRead line) (c .before .before .before .before .before .before .before .before .before .parent .given .1) in
+    let p = told (parentRead line) (c .before .before .before .before .before .before .before .before .before .before .before .parent-at .ensures) (c .before .before .before .before .before .before .before .before .before .parent .given .1) in
     let l = read-number (c .before .before .before .before .before .before .before .number-at2 .ensures) _ _ (c .before .before .before .before .before .location .given .1) in
     let r = read-number (c .before .before .before .number-at3 .ensures) _ _ (c .before .regions .given .1) in
     sym (goes _ k (goes _ p (goes _ l (goes _ r refl))))

@@ -1,9 +1,13 @@
 -- `read_sort` meets its contract, letter by letter. Assumes nothing.
-use mathlib.Core.Path.{sym, ap, _∙_}
+use mathlib.Core.Path.{sym}
+use Rattle.rules.specs.Lists.{sameList}
+use Rattle.rules.specs.Bytes.{isText}
+use Rattle.rules.specs.Lines.{field, oneOf, sort}
 use Rattle.lines.specs.Reading.{fieldsLeft, wordOf}
 use Rattle.lines.specs.Parsing.{sortRead}
 use Rattle.fragments.specs.Sorts.{sortOf}
-use Rattle.lines.proofs.Meaning.{no-sort, sort-op, sort-block, sort-region, other-sort}
+use Rattle.lines.proofs.Answers.{told, by-byte}
+use Rattle.lines.proofs.Meaning.{no-sort, other-sort}
 use borrow.Author.Needs.{needs}
 use Rattle.lines.proofs.parsing.read_sort.Statement.{statement}
 use Rattle.lines.proofs.parsing.read_sort.Tie as tie
@@ -21,34 +25,34 @@ returns : tie.Need-returns
 unfolding wordOf sortRead
 returns c =
     let line = c .before .before .before .before .args .line .now in
-    no-sort (fieldsLeft line (c .before .before .before .before .args .at)) (sym (c .before .before .word-at .ensures) ∙ ap (wordOf line) (c .enum-told .given .1))
+    no-sort (fieldsLeft line (c .before .before .before .before .args .at)) (told (wordOf line) (c .before .before .word-at .ensures) (c .enum-told .given .1))
 
 returns-2 : tie.Need-returns-2
-unfolding wordOf sortRead sortOf
+unfolding wordOf sortRead sortOf sort field oneOf isText sameList
 returns-2 c =
     let line = c .before .before .before .before .before .before .args .line .now in
-    let w = sym (c .before .before .before .before .word-at .ensures) ∙ ap (wordOf line) (c .before .before .letter .given .1) in
-    sort-op (fieldsLeft line (c .before .before .before .before .before .before .args .at)) (fieldsLeft line (c .before .before .letter .given .0 .1 .0)) (c .before .before .letter .given .0 .0) w (c .match2 .keys1)
+    let w = told (wordOf line) (c .before .before .before .before .word-at .ensures) (c .before .before .letter .given .1) in
+    sym (by-byte sort (fieldsLeft line (c .before .before .before .before .before .before .args .at)) (fieldsLeft line (c .before .before .letter .given .0 .1 .0)) (c .before .before .letter .given .0 .0) w 111 (c .match2 .keys1))
 
 returns-3 : tie.Need-returns-3
-unfolding wordOf sortRead sortOf
+unfolding wordOf sortRead sortOf sort field oneOf isText sameList
 returns-3 c =
     let line = c .before .before .before .before .before .before .args .line .now in
-    let w = sym (c .before .before .before .before .word-at .ensures) ∙ ap (wordOf line) (c .before .before .letter .given .1) in
-    sort-block (fieldsLeft line (c .before .before .before .before .before .before .args .at)) (fieldsLeft line (c .before .before .letter .given .0 .1 .0)) (c .before .before .letter .given .0 .0) w (c .match2 .keys2)
+    let w = told (wordOf line) (c .before .before .before .before .word-at .ensures) (c .before .before .letter .given .1) in
+    sym (by-byte sort (fieldsLeft line (c .before .before .before .before .before .before .args .at)) (fieldsLeft line (c .before .before .letter .given .0 .1 .0)) (c .before .before .letter .given .0 .0) w 98 (c .match2 .keys2))
 
 returns-4 : tie.Need-returns-4
-unfolding wordOf sortRead sortOf
+unfolding wordOf sortRead sortOf sort field oneOf isText sameList
 returns-4 c =
     let line = c .before .before .before .before .before .before .args .line .now in
-    let w = sym (c .before .before .before .before .word-at .ensures) ∙ ap (wordOf line) (c .before .before .letter .given .1) in
-    sort-region (fieldsLeft line (c .before .before .before .before .before .before .args .at)) (fieldsLeft line (c .before .before .letter .given .0 .1 .0)) (c .before .before .letter .given .0 .0) w (c .match2 .keys3)
+    let w = told (wordOf line) (c .before .before .before .before .word-at .ensures) (c .before .before .letter .given .1) in
+    sym (by-byte sort (fieldsLeft line (c .before .before .before .before .before .before .args .at)) (fieldsLeft line (c .before .before .letter .given .0 .1 .0)) (c .before .before .letter .given .0 .0) w 114 (c .match2 .keys3))
 
 returns-5 : tie.Need-returns-5
 unfolding wordOf sortRead
 returns-5 c =
     let line = c .before .before .before .before .before .before .args .line .now in
-    let w = sym (c .before .before .before .before .word-at .ensures) ∙ ap (wordOf line) (c .before .before .letter .given .1) in
+    let w = told (wordOf line) (c .before .before .before .before .word-at .ensures) (c .before .before .letter .given .1) in
     other-sort (fieldsLeft line (c .before .before .before .before .before .before .args .at)) (fieldsLeft line (c .before .before .letter .given .0 .1 .0)) (c .before .before .letter .given .0 .0) w (c .match2 .rest .0 .0 .1) (c .match2 .rest .0 .1) (c .match2 .rest .1)
 
 pub read-sort-spec : {M : Type 1} → statement M

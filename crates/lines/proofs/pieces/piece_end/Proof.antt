@@ -1,6 +1,5 @@
 -- `piece_end` meets its contract: the bytes that were passed are not the one at which a piece ends, and so belong to one. Assumes nothing.
 use Prim.Native.Nat.{_-_}
-use native.Mathlib.Omega.{arith}
 use lib.ListN.{length}
 use Rattle.lines.proofs.Cutting.{Passing, passing-starts, passing-turn, ends-here, ends-with-all}
 use borrow.Author.Needs.{needs}

@@ -4,8 +4,6 @@ use Rattle.lines.proofs.Lines.{of-nothing, of-some, at-most-all}
 use borrow.Author.Needs.{needs}
 use Rattle.lines.proofs.printing.per_cent.Statement.{statement}
 use Rattle.lines.proofs.printing.per_cent.Tie as tie
-use Rattle.lines.proofs.printing.per_cent.Reads as reads
-use Rattle.lines.proofs.printing.per_cent.Lts as lts
 
 returns : tie.Need-returns
 returns c = of-nothing (c .before .args .part) (c .before .args .whole) (c .if1 .taken)

@@ -5,10 +5,6 @@ use Rattle.lines.proofs.Lines.{equal-line}
 use borrow.Author.Needs.{needs}
 use Rattle.lines.proofs.printing.put_equal.Statement.{statement}
 use Rattle.lines.proofs.printing.put_equal.Tie as tie
-use Rattle.lines.proofs.printing.put_equal.Reads as reads
-use Rattle.lines.proofs.printing.put_equal.Lts as lts
-use Rattle.lines.proofs.printing.put_last.Reads as put-last-reads
-use Rattle.lines.proofs.writing.put_text.Reads as put-text-reads
 
 slice-aggregate-put-text : tie.Need-slice-aggregate-put-text
 slice-aggregate-put-text c = search needs

@@ -4,10 +4,6 @@ use Rattle.lines.proofs.Joined.{then}
 use borrow.Author.Needs.{needs}
 use Rattle.lines.proofs.printing.put_field.Statement.{statement}
 use Rattle.lines.proofs.printing.put_field.Tie as tie
-use Rattle.lines.proofs.printing.put_field.Reads as reads
-use Rattle.lines.proofs.printing.put_field.Lts as lts
-use Rattle.lines.proofs.writing.put_byte.Reads as put-byte-reads
-use Rattle.lines.proofs.writing.put_decimal.Reads as put-decimal-reads
 
 put-decimal-requires : tie.Need-put-decimal-requires
 put-decimal-requires c κs = search needs

@@ -5,10 +5,6 @@ use Rattle.lines.proofs.Lines.{hashes-line}
 use borrow.Author.Needs.{needs}
 use Rattle.lines.proofs.printing.put_hashes.Statement.{statement}
 use Rattle.lines.proofs.printing.put_hashes.Tie as tie
-use Rattle.lines.proofs.printing.put_hashes.Reads as reads
-use Rattle.lines.proofs.printing.put_hashes.Lts as lts
-use Rattle.lines.proofs.writing.put_byte.Reads as put-byte-reads
-use Rattle.lines.proofs.writing.put_hexadecimal.Reads as put-hexadecimal-reads
 
 put-hexadecimal-requires : tie.Need-put-hexadecimal-requires
 put-hexadecimal-requires c κs = search needs

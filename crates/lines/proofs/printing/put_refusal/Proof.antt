@@ -5,11 +5,6 @@ use Rattle.lines.proofs.Lines.{refusal-line}
 use borrow.Author.Needs.{needs}
 use Rattle.lines.proofs.printing.put_refusal.Statement.{statement}
 use Rattle.lines.proofs.printing.put_refusal.Tie as tie
-use Rattle.lines.proofs.printing.put_refusal.Reads as reads
-use Rattle.lines.proofs.printing.put_refusal.Lts as lts
-use Rattle.lines.proofs.printing.put_field.Reads as put-field-reads
-use Rattle.lines.proofs.printing.put_last.Reads as put-last-reads
-use Rattle.lines.proofs.writing.put_text.Reads as put-text-reads
 
 slice-aggregate-put-text : tie.Need-slice-aggregate-put-text
 slice-aggregate-put-text c = search needs

@@ -5,11 +5,6 @@ use Rattle.lines.proofs.Lines.{share-line}
 use borrow.Author.Needs.{needs}
 use Rattle.lines.proofs.printing.put_share.Statement.{statement}
 use Rattle.lines.proofs.printing.put_share.Tie as tie
-use Rattle.lines.proofs.printing.put_share.Reads as reads
-use Rattle.lines.proofs.printing.put_share.Lts as lts
-use Rattle.lines.proofs.printing.per_cent.Reads as per-cent-reads
-use Rattle.lines.proofs.printing.put_last.Reads as put-last-reads
-use Rattle.lines.proofs.writing.put_text.Reads as put-text-reads
 
 per-cent-requires : tie.Need-per-cent-requires
 per-cent-requires c κs = search needs

@@ -6,9 +6,6 @@ use Rattle.fragments.specs.Sorts.{sortOf}
 use borrow.Author.Needs.{needs}
 use Rattle.lines.proofs.printing.put_sort.Statement.{statement}
 use Rattle.lines.proofs.printing.put_sort.Tie as tie
-use Rattle.lines.proofs.printing.put_sort.Reads as reads
-use Rattle.lines.proofs.printing.put_sort.Lts as lts
-use Rattle.lines.proofs.writing.put_text.Reads as put-text-reads
 
 enum-told : tie.Need-enum-told
 enum-told c = search needs

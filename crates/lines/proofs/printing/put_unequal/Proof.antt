@@ -6,11 +6,6 @@ use Rattle.lines.proofs.Lines.{unequal-line}
 use borrow.Author.Needs.{needs}
 use Rattle.lines.proofs.printing.put_unequal.Statement.{statement}
 use Rattle.lines.proofs.printing.put_unequal.Tie as tie
-use Rattle.lines.proofs.printing.put_unequal.Reads as reads
-use Rattle.lines.proofs.printing.put_unequal.Lts as lts
-use Rattle.lines.proofs.printing.put_field.Reads as put-field-reads
-use Rattle.lines.proofs.printing.put_last.Reads as put-last-reads
-use Rattle.lines.proofs.printing.put_sort.Reads as put-sort-reads
 
 put-sort-requires : tie.Need-put-sort-requires
 put-sort-requires c κs = search needs

@@ -1,6 +1,5 @@
 -- `at_end` meets its contract: within a line there is always a field, and past its end none. Assumes nothing.
 use Rattle.lines.proofs.Fields.{end-test}
-use borrow.Author.Needs.{needs}
 use Rattle.lines.proofs.reading.at_end.Statement.{statement}
 use Rattle.lines.proofs.reading.at_end.Tie as tie
 

@@ -30,15 +30,12 @@ returns c =
     let s = c .before .before .before .before .before in
     let line = s .args .line .now in
     let at = s .args .at in
-    let list₀ = s .args .list .now in
-    let room : length line ≤ length list₀ = s .pre in
     record { same = items-none (fieldsLeft line at) (read-nothing (c .before .before .read-number .ensures) (c .enum-told .given .1)); fit = tt }
 
 loop-holds : tie.Need-loop-holds Inv-loop μ-loop
 loop-holds c =
     let s = c .before .before .before .before .before .before in
     let line = s .args .line .now in
-    let at = s .args .at in
     let list₀ = s .args .list .now in
     let room : length line ≤ length list₀ = s .pre in
     let count = c .before .count .given .0 .0 in
@@ -83,12 +80,10 @@ slice-write-list : tie.Need-slice-write-list Inv-loop μ-loop
 slice-write-list c =
     let s = c .before .before .before .before .before .before .before .before .before .before .before .before in
     let line = s .args .line .now in
-    let at = s .args .at in
     let list₀ = s .args .list .now in
     let room : length line ≤ length list₀ = s .pre in
     let count = c .before .before .before .before .before .before .before .count .given .0 .0 in
     let first = c .before .before .before .before .before .before .before .count .given .0 .1 .0 in
-    let q = read-number (c .before .before .before .before .before .before .before .before .before .read-number .ensures) count first (c .before .before .before .before .before .before .before .count .given .1) in
     let m = c .before .before .before .before .before .loop in
     let x = c .before .x .given .0 .0 in
     let next = c .before .x .given .0 .1 .0 in
@@ -102,7 +97,6 @@ loop-less : tie.Need-loop-less Inv-loop μ-loop
 loop-less c =
     let s = c .before .before .before .before .before .before .before .before .before .before .before .before in
     let line = s .args .line .now in
-    let at = s .args .at in
     let list₀ = s .args .list .now in
     let room : length line ≤ length list₀ = s .pre in
     let count = c .before .before .before .before .before .before .before .count .given .0 .0 in
@@ -119,12 +113,10 @@ loop-again : tie.Need-loop-again Inv-loop μ-loop
 loop-again c =
     let s = c .before .before .before .before .before .before .before .before .before .before .before .before in
     let line = s .args .line .now in
-    let at = s .args .at in
     let list₀ = s .args .list .now in
     let room : length line ≤ length list₀ = s .pre in
     let count = c .before .before .before .before .before .before .before .count .given .0 .0 in
     let first = c .before .before .before .before .before .before .before .count .given .0 .1 .0 in
-    let q = read-number (c .before .before .before .before .before .before .before .before .before .read-number .ensures) count first (c .before .before .before .before .before .before .before .count .given .1) in
     let m = c .before .before .before .before .before .loop in
     let x = c .before .x .given .0 .0 in
     let next = c .before .x .given .0 .1 .0 in

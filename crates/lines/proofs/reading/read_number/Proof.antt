@@ -38,7 +38,6 @@ cast-t9 c =
     let line = s .args .line .now in
     let at = s .args .at in
     let e = c .before .before .before .before .field-end .result in
-    let f : FieldEnd line at e = c .before .before .before .before .field-end .ensures in
     let n = c .before .n .given .0 .0 in
     let q : numberBelow (2 ^ 32) (part line at e) ≡ some n = sym (c .before .before .before .number-to .ensures) ∙ ap numberOf (c .before .n .given .1) in
     record { fits = number-below (2 ^ 32) (part line at e) n q }

@@ -1,5 +1,4 @@
 -- `read_word` meets its contract: the field has one byte, or it has not. Assumes nothing.
-use mathlib.Core.Path.{_≡_, _∙_}
 use Rattle.lines.proofs.Answers.{no-field, field-bad, field-good, one-byte, not-one-byte}
 use Rattle.lines.specs.Reading.{oneByte, wordOf}
 use borrow.Author.Needs.{needs}

@@ -9,8 +9,6 @@ use Rattle.layout.proofs.Scans.{Before, AtBoth, before-zero, before-next, same-
 use borrow.Author.Needs.{needs}
 use Rattle.lines.proofs.texts.same_bytes.Statement.{statement}
 use Rattle.lines.proofs.texts.same_bytes.Tie as tie
-use Rattle.lines.proofs.texts.same_bytes.Reads as reads
-use Rattle.lines.proofs.texts.same_bytes.Lts as lts
 
 abbrev Inv-loop : tie.InvT-loop
 Inv-loop a b i₀ i = (i ≤ length a) × Before (AtBoth eqb a b) i

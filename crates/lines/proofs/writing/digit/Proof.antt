@@ -8,8 +8,6 @@ use native.Mathlib.Omega.{arith}
 use borrow.Author.Needs.{needs}
 use Rattle.lines.proofs.writing.digit.Statement.{statement}
 use Rattle.lines.proofs.writing.digit.Tie as tie
-use Rattle.lines.proofs.writing.digit.Reads as reads
-use Rattle.lines.proofs.writing.digit.Lts as lts
 
 add-result : tie.Need-add-result
 add-result c = search needs

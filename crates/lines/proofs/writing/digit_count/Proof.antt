@@ -5,8 +5,6 @@ use Rattle.lines.proofs.Digits.{Counting, counting-starts, counting-tur
 use borrow.Author.Needs.{needs}
 use Rattle.lines.proofs.writing.digit_count.Statement.{statement}
 use Rattle.lines.proofs.writing.digit_count.Tie as tie
-use Rattle.lines.proofs.writing.digit_count.Reads as reads
-use Rattle.lines.proofs.writing.digit_count.Lts as lts
 
 abbrev Inv-loop : tie.InvT-loop
 Inv-loop n rest₀ count₀ rest count = Counting n rest count

@@ -3,8 +3,6 @@ use Rattle.lines.proofs.Joined.{put-one}
 use borrow.Author.Needs.{needs}
 use Rattle.lines.proofs.writing.put_byte.Statement.{statement}
 use Rattle.lines.proofs.writing.put_byte.Tie as tie
-use Rattle.lines.proofs.writing.put_byte.Reads as reads
-use Rattle.lines.proofs.writing.put_byte.Lts as lts
 
 slice-write-out : tie.Need-slice-write-out
 slice-write-out c = search needs

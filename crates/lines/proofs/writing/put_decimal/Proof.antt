@@ -4,10 +4,6 @@ use Rattle.lines.proofs.Digits.{counted-digits, at-most-ten}
 use borrow.Author.Needs.{needs}
 use Rattle.lines.proofs.writing.put_decimal.Statement.{statement}
 use Rattle.lines.proofs.writing.put_decimal.Tie as tie
-use Rattle.lines.proofs.writing.put_decimal.Reads as reads
-use Rattle.lines.proofs.writing.put_decimal.Lts as lts
-use Rattle.lines.proofs.writing.digit_count.Reads as digit-count-reads
-use Rattle.lines.proofs.writing.put_digits.Reads as put-digits-reads
 
 digit-count-requires : tie.Need-digit-count-requires
 digit-count-requires c κs = search needs

@@ -5,9 +5,6 @@ use Rattle.lines.proofs.Digits.{Filling, filling-starts, filling-length
 use borrow.Author.Needs.{needs}
 use Rattle.lines.proofs.writing.put_digits.Statement.{statement}
 use Rattle.lines.proofs.writing.put_digits.Tie as tie
-use Rattle.lines.proofs.writing.put_digits.Reads as reads
-use Rattle.lines.proofs.writing.put_digits.Lts as lts
-use Rattle.lines.proofs.writing.digit.Reads as digit-reads
 
 abbrev Inv-loop : tie.InvT-loop
 Inv-loop out₀ at base count n rest₀ left₀ out rest left = Filling out₀ at base count n out rest left

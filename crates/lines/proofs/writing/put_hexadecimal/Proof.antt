@@ -3,9 +3,6 @@ use Rattle.rules.specs.Bytes.{hexadecimal}
 use borrow.Author.Needs.{needs}
 use Rattle.lines.proofs.writing.put_hexadecimal.Statement.{statement}
 use Rattle.lines.proofs.writing.put_hexadecimal.Tie as tie
-use Rattle.lines.proofs.writing.put_hexadecimal.Reads as reads
-use Rattle.lines.proofs.writing.put_hexadecimal.Lts as lts
-use Rattle.lines.proofs.writing.put_digits.Reads as put-digits-reads
 
 put-digits-requires : tie.Need-put-digits-requires
 put-digits-requires c κs = search needs

@@ -8,8 +8,6 @@ use Rattle.layout.proofs.Copies.{copy-turn, copy-length, copy-done}
 use borrow.Author.Needs.{needs}
 use Rattle.lines.proofs.writing.put_text.Statement.{statement}
 use Rattle.lines.proofs.writing.put_text.Tie as tie
-use Rattle.lines.proofs.writing.put_text.Reads as reads
-use Rattle.lines.proofs.writing.put_text.Lts as lts
 
 abbrev Inv-loop : tie.InvT-loop
 Inv-loop out₀ at text j₀ out j = (out ≡ paste out₀ at text j) × (j ≤ length text)

@@ -21,7 +21,6 @@ returns : tie.Need-returns
 unfolding queryLineOf lineDoes
 returns c =
     let a = c .before .before .before .before .before .before .before .args in
-    let line = a .line .now in
     let store = a .store .now in
     let out = a .out .now in
     let now = a .progress in
@@ -49,9 +48,7 @@ returns-2 : tie.Need-returns-2
 unfolding queryLineOf programOf
 returns-2 c =
     let a = c .before .before .before .before .before .before .before .before .before .before .before .before .before .before .before .before .before .args in
-    let line = a .line .now in
     let store = a .store .now in
-    let out = a .out .now in
     let now = a .progress in
     (same-outcome (ap₂ (λ p l. lineDoes p (progressOf store now) l) (ap programOf (c .before .before .before .before .before .before .before .enum-told2 .given .1)) (sym (c .before .before .before .before .before .before .before .before .before .before .before .before .query-line .ensures) ∙ ap queryLineOf (c .before .before .before .before .before .before .before .before .before .before .query .given .1))) (c .before .before .before .before .twins-does .ensures .0), c .before .before .before .before .twins-does .ensures .1)
 
@@ -62,9 +59,7 @@ returns-3 : tie.Need-returns-3
 unfolding queryLineOf programOf
 returns-3 c =
     let a = c .before .before .before .before .before .before .before .before .before .before .before .before .before .before .args in
-    let line = a .line .now in
     let store = a .store .now in
-    let out = a .out .now in
     let now = a .progress in
     (same-outcome (ap₂ (λ p l. lineDoes p (progressOf store now) l) (ap programOf (c .before .before .before .before .enum-told3 .given .1)) (sym (c .before .before .before .before .before .before .before .before .before .query-line .ensures) ∙ ap queryLineOf (c .before .before .before .before .before .before .before .query .given .1))) (c .before .before .sums-does .ensures), c .before .before .before .before .before .before .before .before .before .before .before .before .before .before .pre .1 .0)
 

@@ -2,7 +2,8 @@
 use Rattle.rules.specs.Listings.{sumsProgram}
 use Rattle.equivalence.specs.Lent.{emptyWords}
 use Rattle.listing.specs.Progress.{programOf}
-use Rattle.listing.proofs.Whole.{wrong-store, no-room, answered, no-entries, unmapped}
+use Rattle.listing.proofs.Emptied.{empty-length}
+use Rattle.listing.proofs.Whole.{wrong-store, no-room, answered, unmapped}
 use borrow.Author.Needs.{needs}
 use Rattle.listing.proofs.calls.sums.Statement.{statement}
 use Rattle.listing.proofs.calls.sums.Tie as tie
@@ -21,7 +22,7 @@ returns-2 c =
     let listing = a .listing .now in
     let store = a .store .now in
     let out = a .out .now in
-    no-room sumsProgram listing store emptyWords out (c .before .if1 .left) no-entries (c .if2 .taken)
+    no-room sumsProgram listing store emptyWords out (c .before .if1 .left) empty-length (c .if2 .taken)
 
 slice-aggregate-listed : tie.Need-slice-aggregate-listed
 slice-aggregate-listed c = search needs
@@ -42,7 +43,7 @@ returns-3 c =
     let listing = a .listing .now in
     let store = a .store .now in
     let out = a .out .now in
-    answered sumsProgram listing store emptyWords out (c .before .before .before .before .before .before .before .before .before .before .if1 .left) no-entries _ _ (c .before .before .before .before .before .before .before .before .before .if2 .left) (unmapped sumsProgram listing store out _ _ _ _ (c .before .before .before .before .before .listed .ensures))
+    answered sumsProgram listing store emptyWords out (c .before .before .before .before .before .before .before .before .before .before .if1 .left) empty-length _ _ (c .before .before .before .before .before .before .before .before .before .if2 .left) (unmapped sumsProgram listing store out _ _ _ _ (c .before .before .before .before .before .listed .ensures))
 
 pub sums-spec : {M : Type 1} → statement M
 sums-spec =

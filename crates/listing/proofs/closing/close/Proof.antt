@@ -1,7 +1,7 @@
 -- `close` meets its contract, program by program. Assumes nothing.
 use Rattle.listing.specs.Progress.{tallyOf}
 use Rattle.listing.specs.Stepping.{closes}
-use Rattle.listing.proofs.Written.{nothing}
+use Rattle.lines.proofs.Joined.{nothing}
 use borrow.Author.Needs.{needs}
 use Rattle.listing.proofs.closing.close.Statement.{statement}
 use Rattle.listing.proofs.closing.close.Tie as tie

@@ -1,30 +1,30 @@
 -- `compare` meets its contract: the comparison begins with no entries, and those that it made are written over. Assumes nothing.
 use Rattle.layout.specs.Reading.{storeIn}
-use Rattle.listing.proofs.Verdicts.{entries-allowed, room, compares}
+use Rattle.listing.proofs.Verdicts.{entries-allowed, as-many, compares}
 use borrow.Author.Needs.{needs}
 use Rattle.listing.proofs.comparing.compare.Statement.{statement}
 use Rattle.listing.proofs.comparing.compare.Tie as tie
 
 fragments-eq-requires : tie.Need-fragments-eq-requires
 fragments-eq-requires c κs =
-    let s = c .before .before .before in
+    let s = c .before .before .before .before in
     (s .pre .0, entries-allowed (storeIn (s .args .store .now)) (s .args .mapping .now) (s .pre .1))
 
-fill-at-requires : tie.Need-fill-at-requires
-fill-at-requires c κs =
-    let s = c .before .before .before .before .before .before .before in
+empty-mapping-requires : tie.Need-empty-mapping-requires
+empty-mapping-requires c κs =
+    let s = c .before .before .before .before .before .before .before .before in
     let told = c .before .before .before .fragments-eq in
-    room (s .args .mapping .now) (told .last .1 .0) (s .pre .1) (told .kept .1 .0)
+    as-many (s .args .mapping .now) (told .last .1 .0) (s .pre .1) (told .kept .1 .0)
 
 same-length : tie.Need-same-length
 same-length c = search needs
 
 returns : tie.Need-returns
 returns c =
-    let s = c .before .before .before .before .before .before .before .before .before .before in
+    let s = c .before .before .before .before .before .before .before .before .before .before .before in
     let a = s .args in
     let told = c .before .before .before .before .before .before .fragments-eq in
-    compares (a .store .now) (a .mapping .now) (told .last .1 .0) _ (a .query) (told .result) (s .pre .0) (s .pre .1) (told .ensures) (told .kept .1 .0) (c .before .before .fill-at .ensures)
+    compares (a .store .now) (a .mapping .now) (told .last .1 .0) _ (a .query) (told .result) (s .pre .0) (s .pre .1) (told .ensures) (c .before .before .empty-mapping .ensures)
 
 pub compare-spec : {M : Type 1} → statement M
-compare-spec = tie.close (tie.spec fragments-eq-requires fill-at-requires same-length returns)
+compare-spec = tie.close (tie.spec fragments-eq-requires empty-mapping-requires same-length returns)

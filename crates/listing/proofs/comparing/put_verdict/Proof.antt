@@ -3,8 +3,7 @@ use native.Mathlib.Omega.{arith}
 use Rattle.fragments.specs.Sorts.{sortOf}
 use Rattle.equivalence.specs.Walked.{answerOf}
 use Rattle.listing.specs.Asking.{verdictLine}
-use Rattle.lines.proofs.Joined.{within}
-use Rattle.listing.proofs.Written.{nothing}
+use Rattle.lines.proofs.Joined.{within, nothing}
 use borrow.Author.Needs.{needs}
 use Rattle.listing.proofs.comparing.put_verdict.Statement.{statement}
 use Rattle.listing.proofs.comparing.put_verdict.Tie as tie

@@ -1,6 +1,6 @@
 -- `line_does` meets its contract: it tests the length, then the letter, and then does what the letter says. Assumes nothing.
-use mathlib.Core.Path.{sym, ap, _∙_}
 use Rattle.lines.specs.Reading.{fieldsLeft, wordOf}
+use Rattle.lines.proofs.Answers.{told}
 use Rattle.listing.specs.Progress.{programOf, progressOf}
 use Rattle.listing.proofs.Steps.{too-long, unlettered, asks, builds, line-stopped, line-asked, line-refused, line-built}
 use borrow.Author.Needs.{needs}
@@ -33,7 +33,7 @@ returns-2 c =
     let store = a .store .now in
     let out = a .out .now in
     let now = a .progress in
-    (line-stopped (a .program) line store out now (c .before .before .before .before .before .before .before .before .pre .0) 10 (unlettered (programOf (a .program)) (progressOf store now) line (c .before .before .before .if1 .left) (sym (c .before .before .word-at .ensures) ∙ ap (wordOf line) (c .enum-told .given .1))), c .before .before .before .before .before .before .before .before .pre .1 .0)
+    (line-stopped (a .program) line store out now (c .before .before .before .before .before .before .before .before .pre .0) 10 (unlettered (programOf (a .program)) (progressOf store now) line (c .before .before .before .if1 .left) (told (wordOf line) (c .before .before .word-at .ensures) (c .enum-told .given .1))), c .before .before .before .before .before .before .before .before .pre .1 .0)
 
 query-does-requires : tie.Need-query-does-requires
 query-does-requires c κs = search needs
@@ -57,7 +57,7 @@ returns-3 c =
     let now = a .progress in
     let letter = c .before .before .before .before .before .before .before .before .before .before .letter .given .0 .0 in
     let gs = fieldsLeft line (c .before .before .before .before .before .before .before .before .before .before .letter .given .0 .1 .0) in
-    let read = sym (c .before .before .before .before .before .before .before .before .before .before .before .before .word-at .ensures) ∙ ap (wordOf line) (c .before .before .before .before .before .before .before .before .before .before .letter .given .1) in
+    let read = told (wordOf line) (c .before .before .before .before .before .before .before .before .before .before .before .before .word-at .ensures) (c .before .before .before .before .before .before .before .before .before .before .letter .given .1) in
     (line-asked (a .program) line store out now (c .before .before .before .before .before .before .before .before .before .before .before .before .before .before .before .before .before .before .pre .0) _ _ _ (asks (programOf (a .program)) (progressOf store now) line (c .before .before .before .before .before .before .before .before .before .before .before .before .before .if1 .left) letter gs read (c .before .before .before .before .before .before .before .before .if2 .taken)) (c .before .before .before .before .query-does .ensures .0), c .before .before .before .before .query-does .ensures .1)
 
 building-does-requires : tie.Need-building-does-requires
@@ -82,7 +82,7 @@ returns-4 c =
     let now = a .progress in
     let letter = c .before .before .before .before .before .before .before .before .before .letter .given .0 .0 in
     let gs = fieldsLeft line (c .before .before .before .before .before .before .before .before .before .letter .given .0 .1 .0) in
-    let read = sym (c .before .before .before .before .before .before .before .before .before .before .before .word-at .ensures) ∙ ap (wordOf line) (c .before .before .before .before .before .before .before .before .before .letter .given .1) in
+    let read = told (wordOf line) (c .before .before .before .before .before .before .before .before .before .before .before .word-at .ensures) (c .before .before .before .before .before .before .before .before .before .letter .given .1) in
     (line-refused (a .program) line store out now (c .before .before .before .before .before .before .before .before .before .before .before .before .before .before .before .before .before .pre .0) _ _ _ (builds (programOf (a .program)) (progressOf store now) line (c .before .before .before .before .before .before .before .before .before .before .before .before .if1 .left) letter gs read (c .before .before .before .before .before .before .before .if2 .left)) (c .before .before .before .before .before .building-does .ensures) _ (c .before .cause .given .1), c .before .before .before .before .before .before .before .before .before .before .before .before .before .before .before .before .before .pre .1 .0)
 
 same-length-5 : tie.Need-same-length-5
@@ -98,7 +98,7 @@ returns-5 c =
     let now = a .progress in
     let letter = c .before .before .before .before .before .before .before .before .letter .given .0 .0 in
     let gs = fieldsLeft line (c .before .before .before .before .before .before .before .before .letter .given .0 .1 .0) in
-    let read = sym (c .before .before .before .before .before .before .before .before .before .before .word-at .ensures) ∙ ap (wordOf line) (c .before .before .before .before .before .before .before .before .letter .given .1) in
+    let read = told (wordOf line) (c .before .before .before .before .before .before .before .before .before .before .word-at .ensures) (c .before .before .before .before .before .before .before .before .letter .given .1) in
     (line-built (a .program) line store out now (c .before .before .before .before .before .before .before .before .before .before .before .before .before .before .before .before .pre .0) _ _ _ (builds (programOf (a .program)) (progressOf store now) line (c .before .before .before .before .before .before .before .before .before .before .before .if1 .left) letter gs read (c .before .before .before .before .before .before .if2 .left)) (c .before .before .before .before .building-does .ensures) (c .before .before .before .before .before .before .before .before .before .before .before .before .before .before .before .before .pre .1 .1 .1) (c .enum-told2 .given .1), c .before .before .before .before .before .before .before .before .before .before .before .before .before .before .before .before .pre .1 .0)
 
 pub line-does-spec : {M : Type 1} → statement M

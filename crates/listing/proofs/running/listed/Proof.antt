@@ -1,8 +1,6 @@
 -- `listed` meets its contract: a refused first line is all that is printed; behind any other the lines run on an empty store. Assumes nothing.
 use native.Mathlib.Omega.{arith}
-use mathlib.Core.Path.{_∙_}
-use Rattle.listing.proofs.Verdicts.{filled}
-use Rattle.listing.proofs.Whole.{emptied, first-refused, all-ran}
+use Rattle.listing.proofs.Whole.{first-refused, all-ran}
 use borrow.Author.Needs.{needs}
 use Rattle.listing.proofs.running.listed.Statement.{statement}
 use Rattle.listing.proofs.running.listed.Tie as tie
@@ -31,22 +29,17 @@ returns c =
 enum-told : tie.Need-enum-told
 enum-told c = search needs
 
-fill-at-requires : tie.Need-fill-at-requires
-fill-at-requires c κs = search needs
+empty-store-requires : tie.Need-empty-store-requires
+empty-store-requires c κs = search needs
 
-fill-at-requires-2 : tie.Need-fill-at-requires-2
-fill-at-requires-2 c κs = search needs
+empty-mapping-requires : tie.Need-empty-mapping-requires
+empty-mapping-requires c κs = search needs
 
 run-requires : tie.Need-run-requires
 run-requires c κs =
-    let a = c .before .before .before .before .before .before .before .before .before .before .before .before .before .before .before .before .before .before .args in
-    let listing = a .listing .now in
-    let store = a .store .now in
-    let mapping = a .mapping .now in
-    let out = a .out .now in
     let h = c .before .before .before .before .before .before .before .before .before .before .before .before .before .before .before .before .before .before .pre in
     let b = c .before .before .before .before .before .before .before .before .before .before .before .before .before .header-cause .ensures .begun (c .before .before .before .before .before .before .before .before .before .before .before .enum-told .given .1) in
-    (c .before .before .before .before .before .before .before .before .before .fill-at .ensures ∙ emptied store (h .0), (c .before .before .before .before .before .fill-at2 .ensures ∙ filled mapping (h .1 .0), (omega arith, (b .long, (b .short, h .1 .1)))))
+    (c .before .before .before .before .before .before .before .before .before .empty-store .ensures .0, (c .before .before .before .before .before .before .before .before .before .empty-store .ensures .1, (c .before .before .before .before .before .empty-mapping .ensures, (omega arith, (b .long, (b .short, h .1 .1))))))
 
 same-length-2 : tie.Need-same-length-2
 same-length-2 c = search needs
@@ -76,8 +69,8 @@ listed-spec =
     same-length
     returns
     enum-told
-    fill-at-requires
-    fill-at-requires-2
+    empty-store-requires
+    empty-mapping-requires
     run-requires
     same-length-2
     same-length-3

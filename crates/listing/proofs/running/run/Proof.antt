@@ -1,9 +1,9 @@
 -- `run` meets its contract: what is printed so far, followed by what the rules print from here on, is all. Assumes nothing.
 use Prim.Native.Nat.{_-_}
 use Rattle.layout.specs.Reading.{part}
-use Rattle.listing.proofs.Runs.{Running, running-starts, running-turn, counts, has-room, as-known, ran-out, ran-unended, ran-stopped}
+use Rattle.listing.proofs.Runs.{Running, running-starts, running-turn, counts, has-room, few-lines, as-known, ran-out, ran-unended, ran-stopped}
 use native.Mathlib.Omega.{arith}
-use mathlib.Core.Path.{_≡_, refl, sym, subst, _∙_}
+use mathlib.Core.Path.{_≡_, refl, _∙_}
 use lib.ListN.{length}
 use borrow.Author.Needs.{needs}
 use Rattle.listing.proofs.running.run.Statement.{statement}
@@ -21,7 +21,7 @@ loop-holds : tie.Need-loop-holds Inv-loop μ-loop
 loop-holds c =
     let a = c .before .before .before .before .args in
     let h = c .before .before .before .before .pre in (
-      subst (λ s. Running (a .program) (a .listing .now) (a .from) (a .out .now) s (a .mapping .now) (a .out .now) (record { at = 0; equal = 0; all = 0 }) 2 (a .from)) (sym (h .0)) (running-starts (a .program) (a .listing .now) (a .from) (a .out .now) (h .1 .1 .1 .1 .1) (h .1 .1 .1 .1 .0) (a .mapping .now) (h .1 .0) (h .1 .1 .0) (h .1 .1 .1 .0)),
+      running-starts (a .program) (a .listing .now) (a .from) (a .out .now) (h .1 .1 .1 .1 .1 .1) (h .1 .1 .1 .1 .1 .0) (a .store .now) (a .mapping .now) (h .0) (h .1 .0) (h .1 .1 .0) (h .1 .1 .1 .0) (h .1 .1 .1 .1 .0),
       refl,
       refl,
       refl,
@@ -52,7 +52,7 @@ returns c =
     let w = c .before .before .before .before .before .before .before .loop in
     let i = w .inv .0 in
     let h = c .before .before .before .before .before .before .before .before .before .before .before .before .pre in
-    ran-unended p listing from out (h .1 .1 .1 .1 .1) (h .1 .1 .1 .1 .0) (w .store) (w .mapping) (w .out) (w .progress) (w .number) (w .start) i _ (c .before .before .before .before .before .piece-end .ensures) (c .before .before .before .before .before .before .loop-test .taken) _ _ (c .before .before .before .before .if1 .taken) (c .before .before .put-refusal .ensures)
+    ran-unended p listing from out (h .1 .1 .1 .1 .1 .1) (h .1 .1 .1 .1 .1 .0) (w .store) (w .mapping) (w .out) (w .progress) (w .number) (w .start) i _ (c .before .before .before .before .before .piece-end .ensures) (c .before .before .before .before .before .before .loop-test .taken) _ _ (c .before .before .before .before .if1 .taken) (c .before .before .put-refusal .ensures)
 
 sub-line-does : tie.Need-sub-line-does Inv-loop μ-loop
 sub-line-does c = search needs
@@ -73,9 +73,9 @@ line-does-requires c κs =
     let w = c .before .before .before .before .before .before .before .loop in
     let i = w .inv .0 in
     let h = c .before .before .before .before .before .before .before .before .before .before .before .before .pre in
-    let r = has-room p listing from out (h .1 .1 .1 .1 .1) (h .1 .1 .1 .1 .0) (w .store) (w .mapping) (w .out) (w .progress) (w .number) (w .start) i in
+    let r = has-room p listing from out (h .1 .1 .1 .1 .1 .1) (h .1 .1 .1 .1 .1 .0) (w .store) (w .mapping) (w .out) (w .progress) (w .number) (w .start) i in
     let e = w .inv .3 in
-    (i .sound, (i .empty, (omega arith, counts p listing from out (h .1 .1 .1 .1 .1) (h .1 .1 .1 .1 .0) (w .store) (w .mapping) (w .out) (w .progress) (w .number) (w .start) i)))
+    (i .sound, (i .empty, (omega arith, counts p listing from out (h .1 .1 .1 .1 .1 .1) (h .1 .1 .1 .1 .1 .0) (w .store) (w .mapping) (w .out) (w .progress) (w .number) (w .start) i)))
 
 enum-known-step : tie.Need-enum-known-step Inv-loop μ-loop
 enum-known-step c = search needs
@@ -103,7 +103,7 @@ returns-2 c =
     let w = c .before .before .before .before .before .before .before .before .before .before .before .before .before .before .before .before .before .before .before .before .before .loop in
     let i = w .inv .0 in
     let h = c .before .before .before .before .before .before .before .before .before .before .before .before .before .before .before .before .before .before .before .before .before .before .before .before .before .before .pre in
-    ran-stopped p listing from out (h .1 .1 .1 .1 .1) (h .1 .1 .1 .1 .0) (w .store) (w .mapping) (w .out) (w .progress) (w .number) (w .start) i _ (c .before .before .before .before .before .before .before .before .before .before .before .before .before .before .before .before .before .before .before .piece-end .ensures) (c .before .before .before .before .before .before .before .before .before .before .before .before .before .before .before .before .before .before .before .before .loop-test .taken) (c .before .before .before .before .before .before .before .before .before .before .before .before .before .before .before .before .before .before .if1 .left) _ _ _ (as-known (c .before .before .before .before .before .step .given .1) (c .before .before .before .before .before .before .before .before .before .before .before .before .before .line-does .ensures .0)) _ _ _ (c .before .before .before .before .before .before .before .before .before .before .before .before .before .line-does .ensures .1) (c .before .before .put-refusal2 .ensures)
+    ran-stopped p listing from out (h .1 .1 .1 .1 .1 .1) (h .1 .1 .1 .1 .1 .0) (w .store) (w .mapping) (w .out) (w .progress) (w .number) (w .start) i _ (c .before .before .before .before .before .before .before .before .before .before .before .before .before .before .before .before .before .before .before .piece-end .ensures) (c .before .before .before .before .before .before .before .before .before .before .before .before .before .before .before .before .before .before .before .before .loop-test .taken) (c .before .before .before .before .before .before .before .before .before .before .before .before .before .before .before .before .before .before .if1 .left) _ _ _ (as-known (c .before .before .before .before .before .step .given .1) (c .before .before .before .before .before .before .before .before .before .before .before .before .before .line-does .ensures .0)) _ _ _ (c .before .before .before .before .before .before .before .before .before .before .before .before .before .line-does .ensures .1) (c .before .before .put-refusal2 .ensures)
 
 enum-known-step-2 : tie.Need-enum-known-step-2 Inv-loop μ-loop
 enum-known-step-2 c = search needs
@@ -112,7 +112,11 @@ add-start : tie.Need-add-start Inv-loop μ-loop
 add-start c = search needs
 
 add-number : tie.Need-add-number Inv-loop μ-loop
-add-number c = search needs
+add-number c =
+    let a = c .before .before .before .before .before .before .before .before .before .before .before .before .before .before .before .before .before .before .before .before .before .before .args in
+    let w = c .before .before .before .before .before .before .before .before .before .before .before .before .before .before .before .before .before .loop in
+    let h = c .before .before .before .before .before .before .before .before .before .before .before .before .before .before .before .before .before .before .before .before .before .before .pre in
+    omega (arith, few-lines (a .program) (a .listing .now) (a .from) (a .out .now) (h .1 .1 .1 .1 .1 .1) (h .1 .1 .1 .1 .1 .0) (w .store) (w .mapping) (w .out) (w .progress) (w .number) (w .start) (w .inv .0))
 
 loop-less : tie.Need-loop-less Inv-loop μ-loop
 loop-less c = search needs
@@ -128,7 +132,7 @@ loop-again c =
     let w = c .before .before .before .before .before .before .before .before .before .before .before .before .before .before .before .before .before .loop in
     let i = w .inv .0 in
     let h = c .before .before .before .before .before .before .before .before .before .before .before .before .before .before .before .before .before .before .before .before .before .before .pre in (
-      running-turn p listing from out (h .1 .1 .1 .1 .1) (h .1 .1 .1 .1 .0) (w .store) (w .mapping) (w .out) (w .progress) (w .number) (w .start) i _ (c .before .before .before .before .before .before .before .before .before .before .before .before .before .before .before .piece-end .ensures) (c .before .before .before .before .before .before .before .before .before .before .before .before .before .before .before .before .loop-test .taken) (c .before .before .before .before .before .before .before .before .before .before .before .before .before .before .if1 .left) _ _ _ (as-known (c .before .step2 .given .1) (c .before .before .before .before .before .before .before .before .before .line-does .ensures .0)) _ (c .before .before .before .before .before .before .before .before .before .line-does .ensures .1),
+      running-turn p listing from out (h .1 .1 .1 .1 .1 .1) (h .1 .1 .1 .1 .1 .0) (w .store) (w .mapping) (w .out) (w .progress) (w .number) (w .start) i _ (c .before .before .before .before .before .before .before .before .before .before .before .before .before .before .before .piece-end .ensures) (c .before .before .before .before .before .before .before .before .before .before .before .before .before .before .before .before .loop-test .taken) (c .before .before .before .before .before .before .before .before .before .before .before .before .before .before .if1 .left) _ _ _ (as-known (c .before .step2 .given .1) (c .before .before .before .before .before .before .before .before .before .line-does .ensures .0)) _ (c .before .before .before .before .before .before .before .before .before .line-does .ensures .1),
       c .before .before .before .before .before .before .before .before .before .line-does .kept .1 .0 ∙ w .inv .1,
       c .before .before .before .before .before .before .before .before .before .line-does .kept .1 .1 .0 ∙ w .inv .2,
       c .before .before .before .before .before .before .before .before .before .line-does .kept .1 .1 .1 .0 ∙ w .inv .3,
@@ -156,7 +160,7 @@ returns-3 c =
     let w = c .before .before .before .before .before .loop in
     let i = w .inv .0 in
     let h = c .before .before .before .before .before .before .before .before .before .before .pre in
-    ran-out p listing from out (h .1 .1 .1 .1 .1) (h .1 .1 .1 .1 .0) (w .store) (w .mapping) (w .out) (w .progress) (w .number) (w .start) i _ _ (c .before .before .before .before .loop-test .left) (c .before .before .close .ensures)
+    ran-out p listing from out (h .1 .1 .1 .1 .1 .1) (h .1 .1 .1 .1 .1 .0) (w .store) (w .mapping) (w .out) (w .progress) (w .number) (w .start) i _ _ (c .before .before .before .before .loop-test .left) (c .before .before .close .ensures)
 
 pub run-spec : {M : Type 1} → statement M
 run-spec =

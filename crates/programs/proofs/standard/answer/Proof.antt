@@ -1,18 +1,19 @@
 -- `answer` is safe: what is printed lies in the bytes that are written. Assumes nothing.
 use Prim.Native.Nat.{_≤_}
+use native.Mathlib.Nat.{le-of-eq}
 use mathlib.Core.Path.{sym}
 use lib.ListN.{length}
 use lib.Seq.{length-take-le}
 use borrow.Author.Needs.{needs}
-use Rattle.programs.proofs.Printing.{printed-within}
+use Rattle.programs.proofs.Printing.{roomy, printed-within}
 use Rattle.programs.proofs.standard.answer.Statement.{statement}
 use Rattle.programs.proofs.standard.answer.Tie as tie
 
 slice-aggregate-printed : tie.Need-slice-aggregate-printed
-slice-aggregate-printed c = search needs
+slice-aggregate-printed c = sym roomy
 
 printed-requires : tie.Need-printed-requires
-printed-requires c κs = search needs
+printed-requires c κs = le-of-eq (sym roomy)
 
 written : (c : tie.After-out2) → c .before .printed .result ≤ length (c .before .printed .last .1 .1 .0)
 written c = printed-within _ _ _ (c .before .printed .ensures) (c .before .printed .kept .1 .1 .0)

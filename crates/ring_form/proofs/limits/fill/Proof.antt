@@ -3,10 +3,6 @@ use Prim.Native.Nat.{_-_, _≤_}
 use borrow.Author.Needs.{needs}
 use Rattle.ring_form.proofs.limits.fill.Statement.{statement}
 use Rattle.ring_form.proofs.limits.fill.Tie as tie
-use Rattle.ring_form.proofs.limits.fill.Reads as reads
-use Rattle.ring_form.proofs.limits.fill.Lts as lts
-use Rattle.ring_form.proofs.limits.taken.Reads as taken-reads
-use Rattle.ring_form.proofs.steps.take.Reads as take-reads
 
 abbrev Inv-loop : tie.InvT-loop
 Inv-loop store₀ step from end i₀ store i = from ≤ i

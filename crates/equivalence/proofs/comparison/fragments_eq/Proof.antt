@@ -1,0 +1,62 @@
+-- `fragments_eq` meets its contract: what a test refuses is refused, and anything else is walked. Assumes nothing.
+use mathlib.Core.Path.{sym, ap, _∙_}
+use Rattle.layout.specs.Reading.{storeIn}
+use Rattle.layout.specs.Causes.{causeOf}
+use Rattle.layout.proofs.Empty.{sound-of}
+use Rattle.fragments.specs.Ignoring.{ignoreOf}
+use Rattle.fragments.specs.Sorts.{sortOf}
+use Rattle.equivalence.proofs.Answering.{pair-exists, refused-pair, walked, allowed-long}
+use borrow.Author.Needs.{needs}
+use Rattle.equivalence.proofs.comparison.fragments_eq.Statement.{statement}
+use Rattle.equivalence.proofs.comparison.fragments_eq.Tie as tie
+
+pair-cause-requires : tie.Need-pair-cause-requires
+pair-cause-requires c κs = c .before .before .pre .0
+
+enum-known-cause : tie.Need-enum-known-cause
+enum-known-cause c = search needs
+
+returns : tie.Need-returns
+unfolding causeOf
+returns c =
+    let s = c .before .before .before .before .before .before in
+    let a = s .args in
+    let b = a .store .now in
+    refused-pair b (a .mapping .now) (ignoreOf (a .ignore)) (sortOf (a .sort)) (a .lhs) (a .rhs) (sound-of b (s .pre .0)) (s .pre .1) _ (sym (c .before .before .before .pair-cause .ensures) ∙ ap causeOf (c .before .cause .given .1))
+
+enum-told : tie.Need-enum-told
+enum-told c = search needs
+
+walk-eq-requires : tie.Need-walk-eq-requires
+unfolding causeOf
+walk-eq-requires c κs =
+    let s = c .before .before .before .before .before .before in
+    let a = s .args in
+    let S = storeIn (a .store .now) in
+    let ex = pair-exists S (sortOf (a .sort)) (a .lhs) (a .rhs) (sym (c .before .before .before .pair-cause .ensures) ∙ ap causeOf (c .before .enum-told .given .1)) in
+    (record { sound = s .pre .0; long = allowed-long S (a .mapping .now) (s .pre .1) }, (ex .0, ex .1))
+
+same-length : tie.Need-same-length
+same-length c = c .before .before .walk-eq .kept .1 .0
+
+returns-2 : tie.Need-returns-2
+unfolding causeOf
+returns-2 c =
+    let s = c .before .before .before .before .before .before .before .before .before in
+    let a = s .args in
+    let b = a .store .now in
+    let none = sym (c .before .before .before .before .before .before .pair-cause .ensures) ∙ ap causeOf (c .before .before .before .before .enum-told .given .1) in
+    let r = c .before .before .walk-eq in
+    walked b (a .mapping .now) (ignoreOf (a .ignore)) (sortOf (a .sort)) (a .lhs) (a .rhs) (sound-of b (s .pre .0)) (s .pre .1) (s .pre .0) (r .result) (r .last .1 .0) none (r .ensures)
+
+pub fragments-eq-spec : {M : Type 1} → statement M
+fragments-eq-spec =
+    tie.close
+    (tie.spec
+    pair-cause-requires
+    enum-known-cause
+    returns
+    enum-told
+    walk-eq-requires
+    same-length
+    returns-2)

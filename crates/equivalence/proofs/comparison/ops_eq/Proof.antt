@@ -1,0 +1,70 @@
+-- `ops_eq` meets its contract: the walk over two operations pairs them, and then checks them. Assumes nothing.
+use native.Mathlib.Omega.{arith}
+use mathlib.Core.Path.{sym, subst, _∙_}
+use Rattle.rules.specs.Comparison.{Walk, pairOps}
+use Rattle.layout.specs.Reading.{storeIn}
+use Rattle.fragments.specs.Ignoring.{ignoreOf}
+use Rattle.equivalence.specs.Walked.{lent, Told, Few, opWalk}
+use Rattle.equivalence.proofs.Telling.{told-ended, told-bind}
+use Rattle.equivalence.proofs.Answering.{op-walk}
+use borrow.Author.Needs.{needs}
+use Rattle.equivalence.proofs.comparison.ops_eq.Statement.{statement}
+use Rattle.equivalence.proofs.comparison.ops_eq.Tie as tie
+
+op-eq-map-requires : tie.Need-op-eq-map-requires
+op-eq-map-requires c κs =
+    let p = c .before .before .before .pre in
+    (p .0, (p .1 .0, (p .1 .1 .0, omega arith)))
+
+enum-known-mapped : tie.Need-enum-known-mapped
+enum-known-mapped c = search needs
+
+same-length : tie.Need-same-length
+same-length c = c .before .before .before .op-eq-map .kept .1 .0
+
+returns : tie.Need-returns
+returns c =
+    let a = c .before .before .before .before .before .before .before .args in
+    let S = storeIn (a .store .now) in
+    let ig = ignoreOf (a .ignore) in
+    let st = lent (a .mapping .now) 0 in
+    let m = c .before .before .before .op-eq-map in
+    subst (λ (w : Walk). Told w (m .result) (m .last .1 .0)) (sym (op-walk S ig (a .lhs) (a .rhs) st)) (told-ended (pairOps S ig (a .lhs) (a .rhs) st) (opWalk S ig (a .lhs) (a .rhs)) (m .result) (m .last .1 .0) (c .match .keys2) (m .ensures))
+
+op-eq-mapped-requires : tie.Need-op-eq-mapped-requires
+op-eq-mapped-requires c κs =
+    let s = c .before .before .before .before .before .before .before .before .before .before in
+    let a = s .args in
+    let p = s .pre in
+    let S = storeIn (a .store .now) in
+    let ig = ignoreOf (a .ignore) in
+    let st = lent (a .mapping .now) 0 in
+    let m = c .before .before .before .before .before .before .op-eq-map in
+    let next = op-walk S ig (a .lhs) (a .rhs) st ∙ told-bind (pairOps S ig (a .lhs) (a .rhs) st) (opWalk S ig (a .lhs) (a .rhs)) (m .last .1 .0) (c .before .before .mapped .given .1) (m .ensures) in
+    (record { sound = p .0 .sound; long = m .kept .1 .0 ∙ p .0 .long }, (p .1 .0, (p .1 .1 .0, subst (λ (w : Walk). Few w) next (p .1 .1 .1))))
+
+same-length-2 : tie.Need-same-length-2
+same-length-2 c = c .before .before .op-eq-mapped .kept .1 .0 ∙ c .before .before .before .before .before .before .before .before .before .op-eq-map .kept .1 .0
+
+returns-2 : tie.Need-returns-2
+returns-2 c =
+    let a = c .before .before .before .before .before .before .before .before .before .before .before .before .before .args in
+    let S = storeIn (a .store .now) in
+    let ig = ignoreOf (a .ignore) in
+    let st = lent (a .mapping .now) 0 in
+    let m = c .before .before .before .before .before .before .before .before .before .op-eq-map in
+    let next = op-walk S ig (a .lhs) (a .rhs) st ∙ told-bind (pairOps S ig (a .lhs) (a .rhs) st) (opWalk S ig (a .lhs) (a .rhs)) (m .last .1 .0) (c .before .before .before .before .before .mapped .given .1) (m .ensures) in
+    let r = c .before .before .op-eq-mapped in
+    subst (λ (w : Walk). Told w (r .result) (r .last .1 .0)) (sym next) (r .ensures)
+
+pub ops-eq-spec : {M : Type 1} → statement M
+ops-eq-spec =
+    tie.close
+    (tie.spec
+    op-eq-map-requires
+    enum-known-mapped
+    same-length
+    returns
+    op-eq-mapped-requires
+    same-length-2
+    returns-2)

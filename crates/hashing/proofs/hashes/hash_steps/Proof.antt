@@ -1,0 +1,100 @@
+-- `hash_steps` meets its contract, sort by sort. Assumes nothing.
+use mathlib.Core.Bool.{true}
+use mathlib.Core.Path.{_≡_, subst}
+use Rattle.rules.specs.Fragments.{op, block, region, exists, steps}
+use Rattle.layout.specs.Columns.{columns}
+use Rattle.layout.specs.Reading.{storeIn}
+use Rattle.fragments.specs.Sorts.{sortOf}
+use Rattle.fragments.specs.Order.{Existing}
+use Rattle.fragments.proofs.There.{there}
+use Rattle.hashing.specs.Walked.{Room}
+use Rattle.hashing.proofs.Answering.{block-steps, region-steps, steps-room, steps-fed}
+use borrow.Author.Needs.{needs}
+use Rattle.hashing.proofs.hashes.hash_steps.Statement.{statement}
+use Rattle.hashing.proofs.hashes.hash_steps.Tie as tie
+
+enum-told : tie.Need-enum-told
+enum-told c = search needs
+
+hash-op-requires : tie.Need-hash-op-requires
+unfolding sortOf
+hash-op-requires c κs =
+    let s = c .before .before .before .before .before in
+    let b = s .args .store .now in
+    let n = s .args .n in
+    let sort = c .before .enum-told .given .1 in
+    let e = subst (λ x. exists (storeIn b) (sortOf x) n ≡ true) sort (s .pre .1 .0) in
+    let room = subst (λ x. Room (storeIn b) (steps (storeIn b) (sortOf x) n) (s .args .st)) sort (s .pre .1 .1) in
+    (s .pre .0, (there (columns b) op n e, room))
+
+enum-told-2 : tie.Need-enum-told-2
+enum-told-2 c = search needs
+
+hash-blocks-full-requires : tie.Need-hash-blocks-full-requires
+unfolding sortOf Existing
+hash-blocks-full-requires c κs =
+    let s = c .before .before .before .before .before in
+    let b = s .args .store .now in
+    let n = s .args .n in
+    let sort = c .before .enum-told2 .given .1 in
+    let e = subst (λ x. exists (storeIn b) (sortOf x) n ≡ true) sort (s .pre .1 .0) in
+    let room = subst (λ x. Room (storeIn b) (steps (storeIn b) (sortOf x) n) (s .args .st)) sort (s .pre .1 .1) in
+    (s .pre .0, (there (columns b) block n e, steps-room (storeIn b) block n _ (block-steps (storeIn b) n) room))
+
+enum-told-3 : tie.Need-enum-told-3
+enum-told-3 c = search needs
+
+hash-blocks-full-requires-2 : tie.Need-hash-blocks-full-requires-2
+unfolding sortOf Existing
+hash-blocks-full-requires-2 c κs =
+    let s = c .before .before .before .before .before in
+    let b = s .args .store .now in
+    let n = s .args .n in
+    let sort = c .before .enum-told3 .given .1 in
+    let e = subst (λ x. exists (storeIn b) (sortOf x) n ≡ true) sort (s .pre .1 .0) in
+    let room = subst (λ x. Room (storeIn b) (steps (storeIn b) (sortOf x) n) (s .args .st)) sort (s .pre .1 .1) in
+    (s .pre .0, (there (columns b) region n e, steps-room (storeIn b) region n _ (region-steps (storeIn b) (s .pre .0 .sound .ruled) n) room))
+
+same-length : tie.Need-same-length
+same-length c = search needs
+
+returns : tie.Need-returns
+unfolding sortOf
+returns c = rw (c .before .before .before .before .enum-told .given .1) (c .before .before .hash-op .ensures)
+
+same-length-2 : tie.Need-same-length-2
+same-length-2 c = search needs
+
+returns-2 : tie.Need-returns-2
+unfolding sortOf
+returns-2 c =
+    let s = c .before .before .before .before .before .before .before .before in
+    let S = storeIn (s .args .store .now) in
+    rw (c .before .before .before .before .enum-told2 .given .1) (steps-fed S block (s .args .n) _ (block-steps S (s .args .n)) (c .before .before .hash-blocks-full .ensures))
+
+same-length-3 : tie.Need-same-length-3
+same-length-3 c = search needs
+
+returns-3 : tie.Need-returns-3
+unfolding sortOf
+returns-3 c =
+    let s = c .before .before .before .before .before .before .before .before in
+    let S = storeIn (s .args .store .now) in
+    rw (c .before .before .before .before .enum-told3 .given .1) (steps-fed S region (s .args .n) _ (region-steps S (s .pre .0 .sound .ruled) (s .args .n)) (c .before .before .hash-blocks-full2 .ensures))
+
+pub hash-steps-spec : {M : Type 1} → statement M
+hash-steps-spec =
+    tie.close
+    (tie.spec
+    enum-told
+    hash-op-requires
+    enum-told-2
+    hash-blocks-full-requires
+    enum-told-3
+    hash-blocks-full-requires-2
+    same-length
+    returns
+    same-length-2
+    returns-2
+    same-length-3
+    returns-3)
