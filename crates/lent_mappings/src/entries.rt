@@ -11,8 +11,7 @@ use layout::lists::words_eq;
 
 pub type Mapping = [u32; LENGTH];
 
-// Nothing is ignored.
-pub fn all() -> Ignore {
+pub fn ignore_nothing() -> Ignore {
     Ignore {
         locations: false,
         bits: 0,
@@ -28,7 +27,7 @@ fn fields(store: &Store, value: u32, result: u32, twins: bool) -> bool {
     let mut after = mapping;
     after[2] = 3;
     after[OP_ENTRIES + 1] = 2;
-    let answer = operation_eq(store, &mut mapping, 1, 2, all());
+    let answer = operation_eq(store, &mut mapping, 1, 2, ignore_nothing());
     if !words_eq(&mapping, &after) {
         return false;
     }
@@ -59,5 +58,11 @@ pub fn stay(store: &Store) -> bool {
     let mut mapping: Mapping = [NONE; LENGTH];
     mapping[0] = 1;
     let lent = mapping;
-    unequal(operation_eq(store, &mut mapping, 0, 1, all()), 0, 1, 0) && words_eq(&mapping, &lent)
+    unequal(
+        operation_eq(store, &mut mapping, 0, 1, ignore_nothing()),
+        0,
+        1,
+        0,
+    )
+        && words_eq(&mapping, &lent)
 }

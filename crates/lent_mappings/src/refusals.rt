@@ -2,7 +2,7 @@
 use crate::answers::equal;
 use crate::answers::refused;
 use crate::entries::Mapping;
-use crate::entries::all;
+use crate::entries::ignore_nothing;
 use crate::form::Store;
 use equivalence::calls::basic_block_eq;
 use equivalence::calls::operation_eq;
@@ -19,9 +19,9 @@ use layout::lists::words_eq;
 // The comparison of the fragment by this number with itself.
 fn compare(store: &[u32], mapping: &mut [u32], sort: Sort, n: u32) -> EqResult {
     match sort {
-        Sort::Op => operation_eq(store, mapping, n, n, all()),
-        Sort::Region => region_eq(store, mapping, n, n, all()),
-        Sort::Block => basic_block_eq(store, mapping, n, n, all()),
+        Sort::Op => operation_eq(store, mapping, n, n, ignore_nothing()),
+        Sort::Region => region_eq(store, mapping, n, n, ignore_nothing()),
+        Sort::Block => basic_block_eq(store, mapping, n, n, ignore_nothing()),
     }
 }
 
@@ -107,7 +107,7 @@ pub fn allowed(store: &Store) -> bool {
     mapping[3] = 3;
     mapping[BLOCK_ENTRIES] = 0;
     mapping[OP_ENTRIES + 2] = 2;
-    equal(operation_eq(store, &mut mapping, 1, 1, all()), 1)
+    equal(operation_eq(store, &mut mapping, 1, 1, ignore_nothing()), 1)
 }
 
 // A store that is not sound comes before the mapping, and the mapping before a fragment that is not there.
