@@ -2,8 +2,8 @@
 use crate::mapping::map_block;
 use crate::mapping::map_op;
 use crate::mapping::map_values;
-use crate::shells::block_shells_eq;
 use crate::shells::op_shells_eq;
+use crate::shells::rows_eq;
 use crate::types::EqResult;
 use fragments::ignoring::Ignore;
 use fragments::rows::block_row;
@@ -30,11 +30,11 @@ pub fn op_eq_map(
     requires { ⌜ paired ≤ most ⌝ }
     ensures { λ q. ⌜ Told (pairOps (storeIn (now (store .entry))) (ignoreOf ignore) lhs rhs (lent (now (mapping .entry)) paired)) q (now (mapping .exit)) ⌝ }
 {
-    if !op_shells_eq(store, ignore, lhs, rhs) {
-        return EqResult::FirstNEQOps(lhs as u32, rhs as u32, paired);
-    }
     let l = op_row(store, lhs);
     let r = op_row(store, rhs);
+    if !op_shells_eq(store, ignore, lhs, rhs, l, r) {
+        return EqResult::FirstNEQOps(lhs as u32, rhs as u32, paired);
+    }
     map_op(mapping, lhs, rhs as u32);
     map_values(mapping, l.value, r.value as u32, l.values);
     EqResult::Eq(paired + 1)
@@ -55,11 +55,11 @@ pub fn block_eq_map(
     requires { ⌜ paired ≤ most ⌝ }
     ensures { λ q. ⌜ Told (pairBlocks (storeIn (now (store .entry))) (ignoreOf ignore) lhs rhs (lent (now (mapping .entry)) paired)) q (now (mapping .exit)) ⌝ }
 {
-    if !block_shells_eq(store, ignore, lhs, rhs) {
-        return EqResult::FirstNEQBlocks(lhs as u32, rhs as u32, paired);
-    }
     let l = block_row(store, lhs);
     let r = block_row(store, rhs);
+    if !rows_eq(store, ignore, l, r) {
+        return EqResult::FirstNEQBlocks(lhs as u32, rhs as u32, paired);
+    }
     map_block(mapping, lhs, rhs as u32);
     map_values(mapping, l.value, r.value as u32, l.values);
     EqResult::Eq(paired + 1)

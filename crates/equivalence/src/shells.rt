@@ -2,9 +2,7 @@
 // `block_eq_map`.
 use crate::attributes::attributes_eq;
 use fragments::ignoring::Ignore;
-use fragments::rows::block_row;
 use fragments::rows::op_head;
-use fragments::rows::op_row;
 use fragments::types::Head;
 use fragments::types::Row;
 use layout::columns::VALUE_TYPE;
@@ -15,13 +13,13 @@ ghost use Prim.Native.Nat.{_+_, _<_};
 ghost use lib.Dec.{eqb};
 ghost use lib.ListN.{length};
 ghost use Rattle.rules.specs.Lists.{sameList};
-ghost use Rattle.rules.specs.Store.{ofOp, ofBlock};
+ghost use Rattle.rules.specs.Store.{ofOp};
 ghost use Rattle.rules.specs.Shells.{unignoredLocation, sameLocation, sameShells};
 ghost use Rattle.layout.specs.Columns.{bufferLength, columns, valueType};
-ghost use Rattle.layout.specs.Reading.{opCount, blockCount, part, storeIn};
+ghost use Rattle.layout.specs.Reading.{opCount, part, storeIn};
 ghost use Rattle.layout.specs.Soundness.{IsSound};
 ghost use Rattle.fragments.specs.Ignoring.{ignoreOf};
-ghost use Rattle.fragments.specs.Rows.{Fits};
+ghost use Rattle.fragments.specs.Rows.{Fits, RowOf};
 ghost use Rattle.equivalence.specs.Rows.{sameHeads, sameRows};
 
 // Kinds, and numbers of regions, successors and operands.
@@ -63,8 +61,9 @@ fn types_eq(store: &[u32], l: Row, r: Row) -> bool
     )
 }
 
-// What operations and blocks have in common: numbers of values, locations, attributes, and the types of the values.
-fn rows_eq(store: &[u32], ignore: Ignore, l: Row, r: Row) -> bool
+// What operations and blocks have in common, and all that is compared of two blocks: numbers of values, locations, attributes, and the
+// types of the values.
+pub fn rows_eq(store: &[u32], ignore: Ignore, l: Row, r: Row) -> bool
     requires { ⌜ length (now store) ≡ bufferLength ⌝ }
     requires { ⌜ Fits (columns (now store)) l ⌝ }
     requires { ⌜ Fits (columns (now store)) r ⌝ }
@@ -84,25 +83,17 @@ fn rows_eq(store: &[u32], ignore: Ignore, l: Row, r: Row) -> bool
     types_eq(store, l, r)
 }
 
-// Two operations are alike by themselves.
-pub fn op_shells_eq(store: &[u32], ignore: Ignore, l: usize, r: usize) -> bool
+// Two operations are alike by themselves; `l` and `r` are their rows.
+pub fn op_shells_eq(store: &[u32], ignore: Ignore, lhs: usize, rhs: usize, l: Row, r: Row) -> bool
     requires { ⌜ IsSound (now store) ⌝ }
-    requires { ⌜ l < opCount (columns (now store)) ⌝ }
-    requires { ⌜ r < opCount (columns (now store)) ⌝ }
-    ensures { λ q. ⌜ q ≡ sameShells (storeIn (now (store .entry))) (ignoreOf ignore) (ofOp l) (ofOp r) ⌝ }
+    requires { ⌜ lhs < opCount (columns (now store)) ⌝ }
+    requires { ⌜ rhs < opCount (columns (now store)) ⌝ }
+    requires { ⌜ RowOf (columns (now store)) (ofOp lhs) l ⌝ }
+    requires { ⌜ RowOf (columns (now store)) (ofOp rhs) r ⌝ }
+    ensures { λ q. ⌜ q ≡ sameShells (storeIn (now (store .entry))) (ignoreOf ignore) (ofOp lhs) (ofOp rhs) ⌝ }
 {
-    if !heads_eq(op_head(store, l), op_head(store, r)) {
+    if !heads_eq(op_head(store, lhs), op_head(store, rhs)) {
         return false;
     }
-    rows_eq(store, ignore, op_row(store, l), op_row(store, r))
-}
-
-// Two blocks are alike by themselves.
-pub fn block_shells_eq(store: &[u32], ignore: Ignore, l: usize, r: usize) -> bool
-    requires { ⌜ IsSound (now store) ⌝ }
-    requires { ⌜ l < blockCount (columns (now store)) ⌝ }
-    requires { ⌜ r < blockCount (columns (now store)) ⌝ }
-    ensures { λ q. ⌜ q ≡ sameShells (storeIn (now (store .entry))) (ignoreOf ignore) (ofBlock l) (ofBlock r) ⌝ }
-{
-    rows_eq(store, ignore, block_row(store, l), block_row(store, r))
+    rows_eq(store, ignore, l, r)
 }

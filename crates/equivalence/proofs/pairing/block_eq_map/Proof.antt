@@ -1,14 +1,17 @@
 -- `block_eq_map` meets its contract: where the shells differ nothing is entered, and else the block and its values are. Assumes nothing.
 use Prim.Native.Nat.{_<_}
 use native.Mathlib.Omega.{arith}
-use mathlib.Core.Path.{ap, _∙_}
+use mathlib.Core.Bool.{true}
+use mathlib.Core.Path.{_≡_, ap, _∙_}
 use Rattle.rules.specs.Store.{ofBlock}
+use Rattle.rules.specs.Shells.{sameShells}
 use Rattle.layout.specs.Columns.{Cols, columns}
 use Rattle.layout.specs.Reading.{storeIn, following}
 use Rattle.layout.proofs.Laid.{laid-facts}
 use Rattle.layout.proofs.Scans.{failed, held}
 use Rattle.fragments.specs.Ignoring.{ignoreOf}
 use Rattle.equivalence.specs.Lent.{withValues}
+use Rattle.equivalence.proofs.Alike.{block-shells}
 use Rattle.equivalence.proofs.Paired.{Side, block-side, blocks-unlike, blocks-alike}
 use borrow.Author.Needs.{needs}
 use Rattle.equivalence.proofs.pairing.block_eq_map.Statement.{statement}
@@ -24,38 +27,35 @@ module _ (s : tie.Start) where
   r-small : s .args .rhs < 256
   r-small = omega (arith, laid-facts cols (s .pre .0 .sound .laid) .counts .blocks, s .pre .1 .1 .0)
 
--- with both rows read: their values are ranges, as many
-sides : (c : tie.After-block-row2) → Side (cols (c .before .before .before .before .before .before)) (ofBlock (c .before .before .before .before .before .before .args .lhs)) (ofBlock (c .before .before .before .before .before .before .args .rhs)) (c .before .block-row .result) (c .block-row2 .result)
-sides c =
-    let s = c .before .before .before .before .before .before in
-    let a = s .args in
-    block-side (a .store .now) (ignoreOf (a .ignore)) (a .lhs) (a .rhs) (c .before .block-row .ensures) (c .block-row2 .ensures) (held (c .before .before .before .block-shells-eq .ensures) (c .before .before .if1 .left))
+-- the shells are compared by the rows
+alike : (c : tie.Else1) → sameShells (storeIn (c .before .before .before .before .before .before .args .store .now)) (ignoreOf (c .before .before .before .before .before .before .args .ignore)) (ofBlock (c .before .before .before .before .before .before .args .lhs)) (ofBlock (c .before .before .before .before .before .before .args .rhs)) ≡ true
+alike c = block-shells (ignoreOf (c .before .before .before .before .before .before .args .ignore)) (c .before .before .before .block-row .ensures) (c .before .before .block-row2 .ensures) ∙ held (c .before .rows-eq .ensures) (c .if1 .left)
 
-block-shells-eq-requires : tie.Need-block-shells-eq-requires
-block-shells-eq-requires c κs =
-    let p = c .before .before .pre in
-    (p .0 .sound, (p .1 .0, p .1 .1 .0))
+-- where they are alike, the rows' values are ranges, as many
+sides : (c : tie.Else1) → Side (cols (c .before .before .before .before .before .before)) (ofBlock (c .before .before .before .before .before .before .args .lhs)) (ofBlock (c .before .before .before .before .before .before .args .rhs)) (c .before .before .before .block-row .result) (c .before .before .block-row2 .result)
+sides c =
+    let a = c .before .before .before .before .before .before .args in
+    block-side (a .store .now) (ignoreOf (a .ignore)) (a .lhs) (a .rhs) (c .before .before .before .block-row .ensures) (c .before .before .block-row2 .ensures) (alike c)
+
+block-row-requires : tie.Need-block-row-requires
+block-row-requires c κs = (c .before .before .pre .0 .sound, c .before .before .pre .1 .0)
+
+block-row-requires-2 : tie.Need-block-row-requires-2
+block-row-requires-2 c κs = (c .before .before .before .pre .0 .sound, c .before .before .before .pre .1 .1 .0)
+
+rows-eq-requires : tie.Need-rows-eq-requires
+rows-eq-requires c κs = (c .before .before .before .before .pre .0 .sound .sized, (c .before .block-row .ensures .fits, c .block-row2 .ensures .fits))
 
 cast-t11 : tie.Need-cast-t11
-cast-t11 c = record { fits = omega (arith, l-small (c .before .before .before .before)) }
+cast-t11 c = record { fits = omega (arith, l-small (c .before .before .before .before .before .before)) }
 
 cast-t12 : tie.Need-cast-t12
-cast-t12 c = record { fits = omega (arith, r-small (c .before .before .before .before)) }
+cast-t12 c = record { fits = omega (arith, r-small (c .before .before .before .before .before .before)) }
 
 returns : tie.Need-returns
 returns c =
-    let a = c .before .before .before .before .args in
-    blocks-unlike (storeIn (a .store .now)) (ignoreOf (a .ignore)) (a .lhs) (a .rhs) (a .mapping .now) (a .paired) (failed (c .before .block-shells-eq .ensures) (c .if1 .taken))
-
-block-row-requires : tie.Need-block-row-requires
-block-row-requires c κs =
-    let p = c .before .before .before .before .pre in
-    (p .0 .sound, p .1 .0)
-
-block-row-requires-2 : tie.Need-block-row-requires-2
-block-row-requires-2 c κs =
-    let p = c .before .before .before .before .before .pre in
-    (p .0 .sound, p .1 .1 .0)
+    let a = c .before .before .before .before .before .before .args in
+    blocks-unlike (storeIn (a .store .now)) (ignoreOf (a .ignore)) (a .lhs) (a .rhs) (a .mapping .now) (a .paired) (block-shells (ignoreOf (a .ignore)) (c .before .before .before .block-row .ensures) (c .before .before .block-row2 .ensures) ∙ failed (c .before .rows-eq .ensures) (c .if1 .taken))
 
 cast-map-block : tie.Need-cast-map-block
 cast-map-block c = record { fits = omega (arith, r-small (c .before .before .before .before .before .before .before)) }
@@ -83,22 +83,21 @@ returns-2 : tie.Need-returns-2
 returns-2 c =
     let a = c .before .before .before .before .before .before .before .before .before .before .before .before .before .before .before .args in
     let k = c .before .before .before .before .before .before .before .before .before in
-    let l = k .before .block-row .result in
-    let r = k .block-row2 .result in
-    let alike = held (k .before .before .before .block-shells-eq .ensures) (k .before .before .if1 .left) in
-    blocks-alike (storeIn (a .store .now)) (ignoreOf (a .ignore)) (a .lhs) (a .rhs) (a .mapping .now) (a .paired) (c .before .before .map-values .last .0) (following (l .value) (l .values)) (following (r .value) (l .values)) alike (sides k .left) (sides k .right)
+    let l = k .before .before .before .block-row .result in
+    let r = k .before .before .block-row2 .result in
+    blocks-alike (storeIn (a .store .now)) (ignoreOf (a .ignore)) (a .lhs) (a .rhs) (a .mapping .now) (a .paired) (c .before .before .map-values .last .0) (following (l .value) (l .values)) (following (r .value) (l .values)) (alike k) (sides k .left) (sides k .right)
     (c .before .before .map-values .ensures ∙ ap (λ m. withValues m (following (l .value) (l .values)) (following (r .value) (l .values))) (c .before .before .before .before .before .before .before .map-block .ensures))
 
 pub block-eq-map-spec : {M : Type 1} → statement M
 block-eq-map-spec =
     tie.close
     (tie.spec
-    block-shells-eq-requires
+    block-row-requires
+    block-row-requires-2
+    rows-eq-requires
     cast-t11
     cast-t12
     returns
-    block-row-requires
-    block-row-requires-2
     cast-map-block
     map-block-requires
     cast-map-values

@@ -24,38 +24,34 @@ module _ (s : tie.Start) where
   r-small : s .args .rhs < 512
   r-small = omega (arith, laid-facts cols (s .pre .0 .sound .laid) .counts .ops, s .pre .1 .1 .0)
 
--- with both rows read: their values are ranges, as many
-sides : (c : tie.After-op-row2) → Side (cols (c .before .before .before .before .before .before)) (ofOp (c .before .before .before .before .before .before .args .lhs)) (ofOp (c .before .before .before .before .before .before .args .rhs)) (c .before .op-row .result) (c .op-row2 .result)
+-- where the shells are alike, the rows' values are ranges, as many
+sides : (c : tie.Else1) → Side (cols (c .before .before .before .before .before .before)) (ofOp (c .before .before .before .before .before .before .args .lhs)) (ofOp (c .before .before .before .before .before .before .args .rhs)) (c .before .before .before .op-row .result) (c .before .before .op-row2 .result)
 sides c =
     let s = c .before .before .before .before .before .before in
     let a = s .args in
-    op-side (a .store .now) (ignoreOf (a .ignore)) (a .lhs) (a .rhs) (s .pre .0 .sound) (s .pre .1 .0) (s .pre .1 .1 .0) (c .before .op-row .ensures) (c .op-row2 .ensures) (held (c .before .before .before .op-shells-eq .ensures) (c .before .before .if1 .left))
+    op-side (a .store .now) (ignoreOf (a .ignore)) (a .lhs) (a .rhs) (s .pre .0 .sound) (s .pre .1 .0) (s .pre .1 .1 .0) (c .before .before .before .op-row .ensures) (c .before .before .op-row2 .ensures) (held (c .before .op-shells-eq .ensures) (c .if1 .left))
+
+op-row-requires : tie.Need-op-row-requires
+op-row-requires c κs = (c .before .before .pre .0 .sound, c .before .before .pre .1 .0)
+
+op-row-requires-2 : tie.Need-op-row-requires-2
+op-row-requires-2 c κs = (c .before .before .before .pre .0 .sound, c .before .before .before .pre .1 .1 .0)
 
 op-shells-eq-requires : tie.Need-op-shells-eq-requires
 op-shells-eq-requires c κs =
-    let p = c .before .before .pre in
-    (p .0 .sound, (p .1 .0, p .1 .1 .0))
+    let p = c .before .before .before .before .pre in
+    (p .0 .sound, (p .1 .0, (p .1 .1 .0, (c .before .op-row .ensures, c .op-row2 .ensures))))
 
 cast-t11 : tie.Need-cast-t11
-cast-t11 c = record { fits = omega (arith, l-small (c .before .before .before .before)) }
+cast-t11 c = record { fits = omega (arith, l-small (c .before .before .before .before .before .before)) }
 
 cast-t12 : tie.Need-cast-t12
-cast-t12 c = record { fits = omega (arith, r-small (c .before .before .before .before)) }
+cast-t12 c = record { fits = omega (arith, r-small (c .before .before .before .before .before .before)) }
 
 returns : tie.Need-returns
 returns c =
-    let a = c .before .before .before .before .args in
+    let a = c .before .before .before .before .before .before .args in
     ops-unlike (storeIn (a .store .now)) (ignoreOf (a .ignore)) (a .lhs) (a .rhs) (a .mapping .now) (a .paired) (failed (c .before .op-shells-eq .ensures) (c .if1 .taken))
-
-op-row-requires : tie.Need-op-row-requires
-op-row-requires c κs =
-    let p = c .before .before .before .before .pre in
-    (p .0 .sound, p .1 .0)
-
-op-row-requires-2 : tie.Need-op-row-requires-2
-op-row-requires-2 c κs =
-    let p = c .before .before .before .before .before .pre in
-    (p .0 .sound, p .1 .1 .0)
 
 cast-map-op : tie.Need-cast-map-op
 cast-map-op c = record { fits = omega (arith, r-small (c .before .before .before .before .before .before .before)) }
@@ -83,9 +79,9 @@ returns-2 : tie.Need-returns-2
 returns-2 c =
     let a = c .before .before .before .before .before .before .before .before .before .before .before .before .before .before .before .args in
     let k = c .before .before .before .before .before .before .before .before .before in
-    let l = k .before .op-row .result in
-    let r = k .op-row2 .result in
-    let alike = held (k .before .before .before .op-shells-eq .ensures) (k .before .before .if1 .left) in
+    let l = k .before .before .before .op-row .result in
+    let r = k .before .before .op-row2 .result in
+    let alike = held (k .before .op-shells-eq .ensures) (k .if1 .left) in
     ops-alike (storeIn (a .store .now)) (ignoreOf (a .ignore)) (a .lhs) (a .rhs) (a .mapping .now) (a .paired) (c .before .before .map-values .last .0) (following (l .value) (l .values)) (following (r .value) (l .values)) alike (sides k .left) (sides k .right)
     (c .before .before .map-values .ensures ∙ ap (λ m. withValues m (following (l .value) (l .values)) (following (r .value) (l .values))) (c .before .before .before .before .before .before .before .map-op .ensures))
 
@@ -93,12 +89,12 @@ pub op-eq-map-spec : {M : Type 1} → statement M
 op-eq-map-spec =
     tie.close
     (tie.spec
+    op-row-requires
+    op-row-requires-2
     op-shells-eq-requires
     cast-t11
     cast-t12
     returns
-    op-row-requires
-    op-row-requires-2
     cast-map-op
     map-op-requires
     cast-map-values
