@@ -10,7 +10,7 @@ use crate::types::Lists;
 use crate::types::NextOps;
 use crate::types::Place;
 use fragments::ignoring::Ignore;
-use fragments::rows::op_head;
+use fragments::rows::op_regions;
 use layout::columns::OP_REGION_FIRST;
 use layout::columns::number;
 ghost use Prim.Native.Nat.{_<_, min};
@@ -31,12 +31,12 @@ fn region_pairs(store: &[u32], lhs: usize, rhs: usize) -> usize
     requires { ⌜ rhs < opCount (columns (now store)) ⌝ }
     ensures { λ n. ⌜ n ≡ min (length (regionsOf (storeIn (now (store .entry))) lhs)) (length (regionsOf (storeIn (now (store .entry))) rhs)) ⌝ }
 {
-    let l = op_head(store, lhs);
-    let r = op_head(store, rhs);
-    if l.regions < r.regions {
-        return l.regions;
+    let l = op_regions(store, lhs);
+    let r = op_regions(store, rhs);
+    if l < r {
+        return l;
     }
-    r.regions
+    r
 }
 
 // The place past a pair of operations.

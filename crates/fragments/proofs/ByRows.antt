@@ -5,7 +5,7 @@ use native.Mathlib.Omega.{arith}
 use mathlib.Core.List.{List, map}
 use mathlib.Core.Path.{_≡_, sym, ap, subst, _∙_}
 use lib.ListN.{length}
-use Rattle.rules.specs.Store.{Op, Block, Owner, ofOp, ofBlock, typeOf, valuesOf, maxValues, maxOps, maxBlocks, maxOwnKeys}
+use Rattle.rules.specs.Store.{Op, Block, Owner, ofOp, ofBlock, typeOf, valuesOf, maxValues, maxOps, maxBlocks, maxOwnKeys, regionsOf}
 use Rattle.rules.specs.Shells.{Ignore, unignored, unignoredLocation, shellOf}
 use Rattle.layout.specs.Columns.{Cols, at, columns, opKind, opRegionFirst, opRegionEnd, opSuccessorFirst, opSuccessorEnd, opOperandFirst, opOperandEnd, opLocation, opResultFirst, opResultEnd, opAttributes, blockLocation, blockArgumentFirst, blockArgumentEnd, blockAttributes, valueType}
 use Rattle.layout.specs.Reading.{opCount, blockCount, valueCount, slotsOf, part, attributesFrom, opOf, blockOf, storeOf, following}
@@ -132,12 +132,17 @@ module _ (b : List ℕ) (s : IsSound b) where
         operands = sym (ap (λ (x : Op). length (x .operands)) e ∙ operands-length C shaped laid n l);
       }
 
+  pub op-regions : (n : ℕ) → n < opCount C → {r : ℕ} → r ≡ at C opRegionEnd n - at C opRegionFirst n → r ≡ length (regionsOf (storeOf C) n)
+  unfolding opHead
+  op-regions n l r = r ∙ head-whole n l .regions
+
   pub op-head : (n : ℕ) → n < opCount C → {kind regions successors operands : ℕ}
-      → kind ≡ at C opKind n → regions ≡ at C opRegionEnd n - at C opRegionFirst n → successors ≡ at C opSuccessorEnd n - at C opSuccessorFirst n → operands ≡ at C opOperandEnd n - at C opOperandFirst n
+      → kind ≡ at C opKind n → regions ≡ length (regionsOf (storeOf C) n) → successors ≡ at C opSuccessorEnd n - at C opSuccessorFirst n → operands ≡ at C opOperandEnd n - at C opOperandFirst n
       → HeadOf (storeOf C) n (record { kind = kind; regions = regions; successors = successors; operands = operands })
   unfolding opHead
   op-head n l k r u o =
-      subst (HeadOf (storeOf C) n) (λ i. record { kind = sym k i; regions = sym r i; successors = sym u i; operands = sym o i }) (head-whole n l)
+      let w = head-whole n l in
+      record { kind = k ∙ w .kind; regions = r; successors = u ∙ w .successors; operands = o ∙ w .operands }
 
 -- a row has as many values as its owner
 pub row-count : {C : Cols} {w : Owner} {r : Row} → RowOf C w r → r .values ≡ length (valuesOf (storeOf C) w)

@@ -22,7 +22,7 @@ use layout::owners::key_count;
 ghost use mathlib.Core.Path.{_≡_};
 ghost use Prim.Native.Nat.{_-_, _<_, _≤_};
 ghost use lib.ListN.{length};
-ghost use Rattle.rules.specs.Store.{ofOp, ofBlock};
+ghost use Rattle.rules.specs.Store.{ofOp, ofBlock, regionsOf};
 ghost use Rattle.layout.specs.Columns.{bufferLength, size, columns};
 ghost use Rattle.layout.specs.Reading.{opCount, blockCount, storeIn};
 ghost use Rattle.layout.specs.Soundness.{IsSound};
@@ -73,6 +73,15 @@ pub fn block_row(store: &[u32], n: usize) -> Row
     }
 }
 
+// How many regions an operation has.
+pub fn op_regions(store: &[u32], n: usize) -> usize
+    requires { ⌜ IsSound (now store) ⌝ }
+    requires { ⌜ n < opCount (columns (now store)) ⌝ }
+    ensures { λ r. ⌜ r ≡ length (regionsOf (storeIn (now (store .entry))) n) ⌝ }
+{
+    span(store, OP_REGION_FIRST, OP_REGION_END, n)
+}
+
 // What an operation has beside its row.
 pub fn op_head(store: &[u32], n: usize) -> Head
     requires { ⌜ IsSound (now store) ⌝ }
@@ -81,7 +90,7 @@ pub fn op_head(store: &[u32], n: usize) -> Head
 {
     Head {
         kind: at(store, OP_KIND, n),
-        regions: span(store, OP_REGION_FIRST, OP_REGION_END, n),
+        regions: op_regions(store, n),
         successors: span(store, OP_SUCCESSOR_FIRST, OP_SUCCESSOR_END, n),
         operands: span(store, OP_OPERAND_FIRST, OP_OPERAND_END, n),
     }

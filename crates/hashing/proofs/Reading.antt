@@ -3,17 +3,17 @@
 use Prim.Native.Nat.{ℕ, _+_, _<_, _≤_}
 use native.Mathlib.Omega.{arith}
 use mathlib.Core.List.{[], _∷_, _++_, append-nil}
-use mathlib.Core.Path.{_≡_, ap, _∙_}
+use mathlib.Core.Path.{_≡_, sym, ap, _∙_}
 use lib.ListN.{length}
 use Rattle.rules.specs.Lists.{concatMap}
-use Rattle.rules.specs.Store.{Store, Owner, ofOp, ofBlock, valuesOf, maxValues, maxBlocks}
+use Rattle.rules.specs.Store.{Store, Op, Owner, ofOp, ofBlock, regionsOf, valuesOf, maxValues, maxBlocks}
 use Rattle.rules.specs.Fragments.{shell, stepDefines, blockOwner}
 use Rattle.rules.specs.Hash.{fnvFrom, leaf, count, headBytes}
-use Rattle.layout.specs.Columns.{Cols}
-use Rattle.layout.specs.Reading.{storeOf}
-use Rattle.fragments.specs.Rows.{RowOf, HeadOf}
+use Rattle.layout.specs.Columns.{Cols, at, opKind}
+use Rattle.layout.specs.Reading.{opCount, opOf, storeOf}
+use Rattle.layout.proofs.Tabulate.{op-read}
+use Rattle.fragments.specs.Rows.{RowOf}
 use Rattle.fragments.specs.declared.types.Row.{Row}
-use Rattle.fragments.specs.declared.types.Head.{Head}
 use Rattle.fragments.proofs.ByRows.{row-count}
 use Rattle.hashing.specs.Walked.{valuesIn, blocksIn, Room}
 use Rattle.hashing.specs.declared.types.Hashing.{Hashing}
@@ -26,6 +26,9 @@ pub block-room : {s : Store} {n : ℕ} {st : Hashing} → Room s (shell (ofBlock
 unfolding blocksIn concatMap stepDefines blockOwner
 block-room m = omega (arith, m .blocks)
 
-pub head-fed : (s : Store) (n : ℕ) (h : Head) → HeadOf s n h → (word : ℕ) {r : ℕ} → r ≡ fnvFrom word (leaf (h .kind) ++ count (h .regions)) → r ≡ fnvFrom word (headBytes s (ofOp n))
-unfolding headBytes
-head-fed s n h e word q = q ∙ (λ i. fnvFrom word (leaf (e .kind i) ++ count (e .regions i)))
+pub head-fed : (C : Cols) (n : ℕ) → n < opCount C → (word : ℕ) {kind regions r : ℕ} → kind ≡ at C opKind n → regions ≡ length (regionsOf (storeOf C) n)
+    → r ≡ fnvFrom word (leaf kind ++ count regions) → r ≡ fnvFrom word (headBytes (storeOf C) (ofOp n))
+unfolding headBytes opOf
+head-fed C n l word k e q =
+    let kind = k ∙ sym (ap (λ (x : Op). x .kind) (op-read C n l)) in
+    q ∙ (λ i. fnvFrom word (leaf (kind i) ++ count (e i)))

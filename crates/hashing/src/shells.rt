@@ -7,10 +7,12 @@ use crate::state::with_leaf;
 use crate::types::Hashing;
 use fragments::ignoring::Ignore;
 use fragments::rows::block_row;
-use fragments::rows::op_head;
+use fragments::rows::op_regions;
 use fragments::rows::op_row;
 use fragments::types::Row;
+use layout::columns::OP_KIND;
 use layout::columns::VALUE_TYPE;
+use layout::columns::at;
 use layout::columns::words;
 ghost use mathlib.Core.List.{[], _∷_};
 ghost use mathlib.Core.Path.{_≡_};
@@ -70,8 +72,8 @@ fn hash_head(store: &[u32], n: usize, word: u64) -> u64
     requires { ⌜ n < opCount (columns (now store)) ⌝ }
     ensures { λ r. ⌜ r ≡ fnvFrom word (headBytes (storeIn (now (store .entry))) (ofOp n)) ⌝ }
 {
-    let head = op_head(store, n);
-    with_head(word, head.kind, head.regions as u64)
+    let kind = at(store, OP_KIND, n);
+    with_head(word, kind, op_regions(store, n) as u64)
 }
 
 // Hash components of an operation that do not use or contain other things, and define its results.

@@ -1,20 +1,27 @@
 -- `hash_head` meets its contract: kind and number of regions are read off the operation's row. Assumes nothing.
-use Rattle.layout.specs.Reading.{storeIn}
+use native.Mathlib.Omega.{arith}
+use Rattle.layout.specs.Columns.{columns}
+use Rattle.layout.proofs.Laid.{laid-facts}
 use Rattle.hashing.proofs.Reading.{head-fed}
 use borrow.Author.Needs.{needs}
 use Rattle.hashing.proofs.shells.hash_head.Statement.{statement}
 use Rattle.hashing.proofs.shells.hash_head.Tie as tie
 
-op-head-requires : tie.Need-op-head-requires
-op-head-requires c κs = search needs
+at-requires : tie.Need-at-requires
+at-requires c κs =
+    let s = c .before in
+    (s .pre .0 .sized, (omega arith, omega (arith, laid-facts (columns (s .args .store .now)) (s .pre .0 .laid) .counts .ops, s .pre .1)))
+
+op-regions-requires : tie.Need-op-regions-requires
+op-regions-requires c κs = search needs
 
 with-head-requires : tie.Need-with-head-requires
 with-head-requires c κs = search needs
 
 returns : tie.Need-returns
 returns c =
-    let s = c .before .before .before in
-    head-fed (storeIn (s .args .store .now)) (s .args .n) (c .before .op-head .result) (c .before .op-head .ensures) (s .args .word) (c .with-head .ensures)
+    let s = c .before .before .before .before in
+    head-fed (columns (s .args .store .now)) (s .args .n) (s .pre .1) (s .args .word) (c .before .before .at .ensures) (c .before .op-regions .ensures) (c .with-head .ensures)
 
 pub hash-head-spec : {M : Type 1} → statement M
-hash-head-spec = tie.close (tie.spec op-head-requires with-head-requires returns)
+hash-head-spec = tie.close (tie.spec at-requires op-regions-requires with-head-requires returns)
