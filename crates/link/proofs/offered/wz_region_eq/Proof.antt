@@ -1,0 +1,22 @@
+-- `wz_region_eq` meets its contract: the answer's numbers stand for it. Assumes nothing.
+use Rattle.fragments.specs.Ignoring.{ignoreOf}
+use Rattle.link.specs.Codes.{ignoring}
+use borrow.Author.Needs.{needs}
+use Rattle.link.proofs.offered.wz_region_eq.Statement.{statement}
+use Rattle.link.proofs.offered.wz_region_eq.Tie as tie
+
+region-eq-requires : tie.Need-region-eq-requires
+region-eq-requires c κs = search needs
+
+of-verdict-requires : tie.Need-of-verdict-requires
+of-verdict-requires c κs = search needs
+
+same-length : tie.Need-same-length
+same-length c = search needs
+
+returns : tie.Need-returns
+unfolding ignoring ignoreOf
+returns c = rw (c .of-verdict .ensures) (c .before .before .before .region-eq .ensures)
+
+pub wz-region-eq-spec : {M : Type 1} → statement M
+wz-region-eq-spec = tie.close (tie.spec region-eq-requires of-verdict-requires same-length returns)

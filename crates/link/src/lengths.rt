@@ -1,0 +1,29 @@
+// How long the lent buffers are.
+ghost use mathlib.Core.Path.{_≡_};
+ghost use Rattle.rules.specs.Listings.{maxOutput};
+ghost use Rattle.layout.specs.Columns.{bufferLength};
+ghost use Rattle.equivalence.specs.Lent.{mappingLength};
+
+// The words of a store; all 0 is an empty one.
+#[no_mangle]
+pub extern "C" fn wz_store_words() -> usize
+    ensures { λ r. ⌜ r ≡ bufferLength ⌝ }
+{
+    listing::calls::STORE
+}
+
+// The words of a mapping; all 4294967295 is an empty one.
+#[no_mangle]
+pub extern "C" fn wz_mapping_words() -> usize
+    ensures { λ r. ⌜ r ≡ mappingLength ⌝ }
+{
+    listing::calls::MAPPING
+}
+
+// The bytes that `wz_twins` and `wz_sums` want for what they print.
+#[no_mangle]
+pub extern "C" fn wz_output_bytes() -> usize
+    ensures { λ r. ⌜ r ≡ maxOutput ⌝ }
+{
+    listing::calls::ROOM
+}

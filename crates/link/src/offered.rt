@@ -1,0 +1,165 @@
+// The offered calls, on any words.
+use crate::answers::Outcome;
+use crate::answers::Sum;
+use crate::answers::Verdict;
+use crate::answers::of_built;
+use crate::answers::of_hash;
+use crate::answers::of_verdict;
+use crate::answers::owner;
+use crate::answers::parent;
+use building::types::Attribute;
+use fragments::ignoring::Ignore;
+ghost use mathlib.Core.Path.{_≡_};
+ghost use Rattle.rules.specs.Building.{newOperation, newBlock, setAttribute, setOperand};
+ghost use Rattle.rules.specs.Fragments.{op};
+ghost use Rattle.layout.specs.Soundness.{soundBuffer};
+ghost use Rattle.building.specs.Calls as building;
+ghost use Rattle.equivalence.specs.Calls as comparing;
+ghost use Rattle.hashing.specs.Calls as hashing;
+ghost use Rattle.link.specs.Codes.{verdictMeans, sumMeans, outcomeMeans, ignoring, parentFrom, ownerFrom, attributeFrom};
+
+#[no_mangle]
+pub extern "C" fn wz_is_sound(store: &[u32]) -> bool
+    ensures { λ r. ⌜ r ≡ soundBuffer (now (store .entry)) ⌝ }
+{
+    layout::sound::is_sound(store)
+}
+
+#[no_mangle]
+pub extern "C" fn wz_new_operation(
+    store: &mut [u32],
+    kind: u32,
+    placed: bool,
+    block: u32,
+    location: u32,
+    regions: u32,
+    types: &[u32],
+    operands: &[u32],
+    successors: &[u32],
+) -> Outcome
+    ensures { λ r. ⌜ building.Answered (now (store .entry)) (now (store .exit)) (newOperation kind (parentFrom placed block) location regions (now (types .entry)) (now (operands .entry)) (now (successors .entry))) (outcomeMeans r) ⌝ }
+{
+    of_built(building::calls::new_operation(
+        store,
+        kind,
+        parent(placed, block),
+        location,
+        regions,
+        types,
+        operands,
+        successors,
+    ))
+}
+
+#[no_mangle]
+pub extern "C" fn wz_new_block(
+    store: &mut [u32],
+    region: u32,
+    label: u32,
+    location: u32,
+    types: &[u32],
+) -> Outcome
+    ensures { λ r. ⌜ building.Answered (now (store .entry)) (now (store .exit)) (newBlock region label location (now (types .entry))) (outcomeMeans r) ⌝ }
+{
+    of_built(building::calls::new_block(store, region, label, location, types))
+}
+
+#[no_mangle]
+pub extern "C" fn wz_set_attribute(
+    store: &mut [u32],
+    blocks: bool,
+    n: u32,
+    key: u32,
+    kind: u32,
+    content: u32,
+) -> Outcome
+    ensures { λ r. ⌜ building.Answered (now (store .entry)) (now (store .exit)) (setAttribute (ownerFrom blocks n) (attributeFrom key kind content)) (outcomeMeans r) ⌝ }
+{
+    of_built(building::calls::set_attribute(
+        store,
+        owner(blocks, n),
+        Attribute { key, kind, content },
+    ))
+}
+
+#[no_mangle]
+pub extern "C" fn wz_set_operand(store: &mut [u32], n: u32, i: u32, v: u32) -> Outcome
+    ensures { λ r. ⌜ building.Answered (now (store .entry)) (now (store .exit)) (setOperand n i v) (outcomeMeans r) ⌝ }
+{
+    of_built(building::calls::set_operand(store, n, i, v))
+}
+
+#[no_mangle]
+pub extern "C" fn wz_operation_eq(
+    store: &[u32],
+    mapping: &mut [u32],
+    lhs: u32,
+    rhs: u32,
+    locations: bool,
+    bits: u64,
+) -> Verdict
+    ensures { λ r. ⌜ comparing.Answered (now (store .entry)) (now (mapping .entry)) (now (mapping .exit)) (ignoring locations bits) op lhs rhs (verdictMeans r) ⌝ }
+{
+    of_verdict(equivalence::calls::operation_eq(
+        store,
+        mapping,
+        lhs,
+        rhs,
+        Ignore { locations, bits },
+    ))
+}
+
+#[no_mangle]
+pub extern "C" fn wz_operation_hash(store: &[u32], n: u32, locations: bool, bits: u64) -> Sum
+    ensures { λ r. ⌜ hashing.Answered (now (store .entry)) (ignoring locations bits) op n (sumMeans r) ⌝ }
+{
+    of_hash(hashing::calls::operation_hash(store, n, Ignore { locations, bits }))
+}
+
+#[no_mangle]
+pub extern "C" fn wz_basic_block_eq(
+    store: &[u32],
+    mapping: &mut [u32],
+    lhs: u32,
+    rhs: u32,
+    locations: bool,
+    bits: u64,
+) -> Verdict
+    ensures { λ r. ⌜ comparing.Answered (now (store .entry)) (now (mapping .entry)) (now (mapping .exit)) (ignoring locations bits) Rattle.rules.specs.Fragments.block lhs rhs (verdictMeans r) ⌝ }
+{
+    of_verdict(equivalence::calls::basic_block_eq(
+        store,
+        mapping,
+        lhs,
+        rhs,
+        Ignore { locations, bits },
+    ))
+}
+
+#[no_mangle]
+pub extern "C" fn wz_basic_block_hash(store: &[u32], n: u32, locations: bool, bits: u64) -> Sum
+    ensures { λ r. ⌜ hashing.Answered (now (store .entry)) (ignoring locations bits) Rattle.rules.specs.Fragments.block n (sumMeans r) ⌝ }
+{
+    of_hash(hashing::calls::basic_block_hash(store, n, Ignore { locations, bits }))
+}
+
+#[no_mangle]
+pub extern "C" fn wz_region_eq(
+    store: &[u32],
+    mapping: &mut [u32],
+    lhs: u32,
+    rhs: u32,
+    locations: bool,
+    bits: u64,
+) -> Verdict
+    ensures { λ r. ⌜ comparing.Answered (now (store .entry)) (now (mapping .entry)) (now (mapping .exit)) (ignoring locations bits) Rattle.rules.specs.Fragments.region lhs rhs (verdictMeans r) ⌝ }
+{
+    of_verdict(equivalence::calls::region_eq(store, mapping, lhs, rhs, Ignore { locations, bits }))
+}
+
+#[no_mangle]
+pub extern "C" fn wz_region_hash(store: &[u32], n: u32, locations: bool, bits: u64) -> Sum
+    ensures { λ r. ⌜ hashing.Answered (now (store .entry)) (ignoring locations bits) Rattle.rules.specs.Fragments.region n (sumMeans r) ⌝ }
+{
+    of_hash(hashing::calls::region_hash(store, n, Ignore { locations, bits }))
+}

@@ -1,0 +1,154 @@
+/* Warzhigo for C: structural equality, mapping and hash of IR operations, blocks and regions, proved.
+ *
+ * Link target/staticlib/liblink.a, which `rt staticlib link` writes. The functions allocate nothing, keep no pointer and end; they use
+ * nothing but memcpy and memset.
+ *
+ * A lent buffer is a pointer and its length, in words of 32 bits or in bytes. A store has wz_store_words() words and is empty when all are
+ * 0; a mapping has wz_mapping_words() words and is empty when all are 4294967295. What the words mean is docs/STORE.md's; what each cause
+ * of a refusal is, the Rust crate's `Refused`. A refused call has changed nothing.
+ *
+ * wz_...        anything may be lent: the call tests it, and refuses by 1 or 8.
+ * wz_known_...  the store must be sound and the mapping allowed beside it, as wz_is_sound and wz_known_is_allowed tell; anything else is
+ *               undefined behaviour. A store stays sound under every call, a mapping allowed while its store only grows.
+ */
+#ifndef WARZHIGO_H
+#define WARZHIGO_H
+
+#include <stdbool.h>
+#include <stddef.h>
+#include <stdint.h>
+
+#ifdef __cplusplus
+extern "C" {
+#endif
+
+/* What a comparison answers. 0: equal; 1: these operations are the first unequal ones; 2: these blocks; 3: these regions; 4: refused, and
+ * `left` is the cause. `paired` is the number of operations and blocks entered into the mapping. */
+typedef struct {
+    uint32_t code;
+    uint32_t left;
+    uint32_t right;
+    uint32_t paired;
+} wz_verdict;
+
+/* What a hash answers. 0: `word` is the hash; 1: refused by `cause`. */
+typedef struct {
+    uint64_t word;
+    uint32_t code;
+    uint32_t cause;
+} wz_sum;
+
+/* What a building call answers. 0: `number` is the new one's; 1: accepted; 2: refused, and `number` is the cause. */
+typedef struct {
+    uint32_t code;
+    uint32_t number;
+} wz_outcome;
+
+/* What wz_twins and wz_sums answer. 0: so many bytes were printed; 1: refused by `cause`; 2: the output has too little room. */
+typedef struct {
+    size_t bytes;
+    uint32_t code;
+    uint32_t cause;
+} wz_output;
+
+/* The words of a store. */
+size_t wz_store_words(void);
+
+/* The words of a mapping. */
+size_t wz_mapping_words(void);
+
+/* The bytes that wz_twins and wz_sums want for what they print. */
+size_t wz_output_bytes(void);
+
+/* Is it a sound store? */
+bool wz_is_sound(const uint32_t *store, size_t words);
+
+/* Is the mapping allowed beside this store? */
+bool wz_known_is_allowed(const uint32_t *store, size_t words, const uint32_t *mapping, size_t entries);
+
+/* A new operation, at the end of `block` if it is `placed` in one, with so many regions, with results of these types, operands (values) and
+ * successors (blocks). */
+wz_outcome wz_new_operation(uint32_t *store, size_t words, uint32_t kind, bool placed, uint32_t block, uint32_t location,
+                            uint32_t regions, const uint32_t *types, size_t type_count, const uint32_t *operands,
+                            size_t operand_count, const uint32_t *successors, size_t successor_count);
+
+/* The same, on a store known to be sound. */
+wz_outcome wz_known_new_operation(uint32_t *store, size_t words, uint32_t kind, bool placed, uint32_t block, uint32_t location,
+                                  uint32_t regions, const uint32_t *types, size_t type_count, const uint32_t *operands,
+                                  size_t operand_count, const uint32_t *successors, size_t successor_count);
+
+/* A new block, at the end of `region`, with arguments of these types; label 0 is none. */
+wz_outcome wz_new_block(uint32_t *store, size_t words, uint32_t region, uint32_t label, uint32_t location, const uint32_t *types,
+                        size_t type_count);
+
+/* The same, on a store known to be sound. */
+wz_outcome wz_known_new_block(uint32_t *store, size_t words, uint32_t region, uint32_t label, uint32_t location,
+                              const uint32_t *types, size_t type_count);
+
+/* Sets an attribute of operation n, or of block n where `blocks` is true; a key that is there is replaced. */
+wz_outcome wz_set_attribute(uint32_t *store, size_t words, bool blocks, uint32_t n, uint32_t key, uint32_t kind, uint32_t content);
+
+/* The same, on a store known to be sound. */
+wz_outcome wz_known_set_attribute(uint32_t *store, size_t words, bool blocks, uint32_t n, uint32_t key, uint32_t kind, uint32_t content);
+
+/* Sets operand i of operation n to value v. */
+wz_outcome wz_set_operand(uint32_t *store, size_t words, uint32_t n, uint32_t i, uint32_t v);
+
+/* The same, on a store known to be sound. */
+wz_outcome wz_known_set_operand(uint32_t *store, size_t words, uint32_t n, uint32_t i, uint32_t v);
+
+/* Compares operations lhs and rhs, each with all inside it; locations are ignored where `locations` is true, and attributes whose kind's bit
+ * is set in `bits`. What corresponds is entered into the mapping; entries made before a difference stay. */
+wz_verdict wz_operation_eq(const uint32_t *store, size_t words, uint32_t *mapping, size_t entries, uint32_t lhs, uint32_t rhs,
+                           bool locations, uint64_t bits);
+
+/* The same, with a store known to be sound and a mapping known to be allowed. */
+wz_verdict wz_known_operation_eq(const uint32_t *store, size_t words, uint32_t *mapping, size_t entries, uint32_t lhs, uint32_t rhs,
+                                 bool locations, uint64_t bits);
+
+/* Compares blocks lhs and rhs likewise. */
+wz_verdict wz_basic_block_eq(const uint32_t *store, size_t words, uint32_t *mapping, size_t entries, uint32_t lhs, uint32_t rhs,
+                             bool locations, uint64_t bits);
+
+/* The same, with a store known to be sound and a mapping known to be allowed. */
+wz_verdict wz_known_basic_block_eq(const uint32_t *store, size_t words, uint32_t *mapping, size_t entries, uint32_t lhs, uint32_t rhs,
+                                   bool locations, uint64_t bits);
+
+/* Compares regions lhs and rhs likewise. */
+wz_verdict wz_region_eq(const uint32_t *store, size_t words, uint32_t *mapping, size_t entries, uint32_t lhs, uint32_t rhs,
+                        bool locations, uint64_t bits);
+
+/* The same, with a store known to be sound and a mapping known to be allowed. */
+wz_verdict wz_known_region_eq(const uint32_t *store, size_t words, uint32_t *mapping, size_t entries, uint32_t lhs, uint32_t rhs,
+                              bool locations, uint64_t bits);
+
+/* The hash of operation n with all inside it. */
+wz_sum wz_operation_hash(const uint32_t *store, size_t words, uint32_t n, bool locations, uint64_t bits);
+
+/* The same, on a store known to be sound. */
+wz_sum wz_known_operation_hash(const uint32_t *store, size_t words, uint32_t n, bool locations, uint64_t bits);
+
+/* The hash of block n with all inside it. */
+wz_sum wz_basic_block_hash(const uint32_t *store, size_t words, uint32_t n, bool locations, uint64_t bits);
+
+/* The same, on a store known to be sound. */
+wz_sum wz_known_basic_block_hash(const uint32_t *store, size_t words, uint32_t n, bool locations, uint64_t bits);
+
+/* The hash of region n with all inside it. */
+wz_sum wz_region_hash(const uint32_t *store, size_t words, uint32_t n, bool locations, uint64_t bits);
+
+/* The same, on a store known to be sound. */
+wz_sum wz_known_region_hash(const uint32_t *store, size_t words, uint32_t n, bool locations, uint64_t bits);
+
+/* What the program `twins` prints for a listing. Store and mapping may hold anything; afterwards the store is what the lines have built. */
+wz_output wz_twins(const uint8_t *listing, size_t length, uint32_t *store, size_t words, uint32_t *mapping, size_t entries,
+                   uint8_t *out, size_t room);
+
+/* What the program `sums` prints for a listing; likewise. */
+wz_output wz_sums(const uint8_t *listing, size_t length, uint32_t *store, size_t words, uint8_t *out, size_t room);
+
+#ifdef __cplusplus
+}
+#endif
+
+#endif

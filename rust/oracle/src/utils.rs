@@ -1,0 +1,3 @@
+//! pliron's utils/, of which the tables are used.
+
+pub mod table;

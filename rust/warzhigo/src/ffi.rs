@@ -1,0 +1,81 @@
+//! The C functions of `liblink.a`, as `crates/link` exports them and `include/warzhigo.h` declares them, and all unsafe code of this
+//! crate: [`lent`] has those that anything may be lent to, [`known`] those that ask for a sound store and an allowed mapping.
+//!
+//! A slice crosses as its pointer and its length, an answer as a struct of numbers.
+
+pub(crate) mod known;
+pub(crate) mod lent;
+
+/// What a comparison answers. Code 0 is equal, 1 names operations, 2 blocks, 3 regions; 4 is a refusal, and its cause is `left`.
+#[repr(C)]
+#[derive(Clone, Copy)]
+pub(crate) struct Verdict {
+    pub(crate) code: u32,
+    pub(crate) left: u32,
+    pub(crate) right: u32,
+    pub(crate) paired: u32,
+}
+
+/// What a hash answers. Code 0 is a hash, `word`; 1 is a refusal, and its cause is `cause`.
+#[repr(C)]
+#[derive(Clone, Copy)]
+pub(crate) struct Sum {
+    pub(crate) word: u64,
+    pub(crate) code: u32,
+    pub(crate) cause: u32,
+}
+
+/// What a building call answers. Code 0 is a new number, `number`; 1 is accepted; 2 is a refusal, and its cause is `number`.
+#[repr(C)]
+#[derive(Clone, Copy)]
+pub(crate) struct Outcome {
+    pub(crate) code: u32,
+    pub(crate) number: u32,
+}
+
+/// What `twins` and `sums` answer. Code 0 is printed, so many `bytes`; 1 is a refusal, and its cause is `cause`; 2 is too little room.
+#[repr(C)]
+#[derive(Clone, Copy)]
+pub(crate) struct Output {
+    pub(crate) bytes: usize,
+    pub(crate) code: u32,
+    pub(crate) cause: u32,
+}
+
+#[rustfmt::skip] // one function to a line, or two: the test `names` reads them
+unsafe extern "C" {
+    fn wz_store_words() -> usize;
+    fn wz_mapping_words() -> usize;
+    fn wz_output_bytes() -> usize;
+
+    fn wz_is_sound(store: *const u32, words: usize) -> bool;
+    fn wz_known_is_allowed(store: *const u32, words: usize, mapping: *const u32, entries: usize) -> bool;
+
+    fn wz_new_operation(store: *mut u32, words: usize, kind: u32, placed: bool, block: u32, location: u32, regions: u32, types: *const u32, type_count: usize,
+        operands: *const u32, operand_count: usize, successors: *const u32, successor_count: usize) -> Outcome;
+    fn wz_known_new_operation(store: *mut u32, words: usize, kind: u32, placed: bool, block: u32, location: u32, regions: u32, types: *const u32, type_count: usize,
+        operands: *const u32, operand_count: usize, successors: *const u32, successor_count: usize) -> Outcome;
+    fn wz_new_block(store: *mut u32, words: usize, region: u32, label: u32, location: u32, types: *const u32, type_count: usize) -> Outcome;
+    fn wz_known_new_block(store: *mut u32, words: usize, region: u32, label: u32, location: u32, types: *const u32, type_count: usize) -> Outcome;
+    fn wz_set_attribute(store: *mut u32, words: usize, blocks: bool, n: u32, key: u32, kind: u32, content: u32) -> Outcome;
+    fn wz_known_set_attribute(store: *mut u32, words: usize, blocks: bool, n: u32, key: u32, kind: u32, content: u32) -> Outcome;
+    fn wz_set_operand(store: *mut u32, words: usize, n: u32, i: u32, v: u32) -> Outcome;
+    fn wz_known_set_operand(store: *mut u32, words: usize, n: u32, i: u32, v: u32) -> Outcome;
+
+    fn wz_operation_eq(store: *const u32, words: usize, mapping: *mut u32, entries: usize, lhs: u32, rhs: u32, locations: bool, bits: u64) -> Verdict;
+    fn wz_known_operation_eq(store: *const u32, words: usize, mapping: *mut u32, entries: usize, lhs: u32, rhs: u32, locations: bool, bits: u64) -> Verdict;
+    fn wz_basic_block_eq(store: *const u32, words: usize, mapping: *mut u32, entries: usize, lhs: u32, rhs: u32, locations: bool, bits: u64) -> Verdict;
+    fn wz_known_basic_block_eq(store: *const u32, words: usize, mapping: *mut u32, entries: usize, lhs: u32, rhs: u32, locations: bool, bits: u64) -> Verdict;
+    fn wz_region_eq(store: *const u32, words: usize, mapping: *mut u32, entries: usize, lhs: u32, rhs: u32, locations: bool, bits: u64) -> Verdict;
+    fn wz_known_region_eq(store: *const u32, words: usize, mapping: *mut u32, entries: usize, lhs: u32, rhs: u32, locations: bool, bits: u64) -> Verdict;
+
+    fn wz_operation_hash(store: *const u32, words: usize, n: u32, locations: bool, bits: u64) -> Sum;
+    fn wz_known_operation_hash(store: *const u32, words: usize, n: u32, locations: bool, bits: u64) -> Sum;
+    fn wz_basic_block_hash(store: *const u32, words: usize, n: u32, locations: bool, bits: u64) -> Sum;
+    fn wz_known_basic_block_hash(store: *const u32, words: usize, n: u32, locations: bool, bits: u64) -> Sum;
+    fn wz_region_hash(store: *const u32, words: usize, n: u32, locations: bool, bits: u64) -> Sum;
+    fn wz_known_region_hash(store: *const u32, words: usize, n: u32, locations: bool, bits: u64) -> Sum;
+
+    fn wz_twins(listing: *const u8, length: usize, store: *mut u32, words: usize, mapping: *mut u32, entries: usize, out: *mut u8, room: usize) -> Output;
+    fn wz_sums(listing: *const u8, length: usize, store: *mut u32, words: usize, out: *mut u8, room: usize) -> Output;
+}

@@ -1,0 +1,193 @@
+//! The calls that don't test what they are lent, behind two types that hold what those calls ask for, from the time they are made:
+//! [`SoundWords`] are sound, and [`AllowedWords`] are a mapping that is allowed beside the store that they belong to.
+
+use alloc::boxed::Box;
+use alloc::vec;
+
+use super::*;
+use crate::equivalence::{Ignore, Sort};
+use crate::ids::{Identity, Mapped};
+use crate::refused::Refused;
+use crate::store::{Attribute, NewOperation, Owner};
+
+/// The entry of a number without an image.
+pub(crate) const NONE: u32 = u32::MAX;
+
+/// The words of a sound store, and which store it is. They are made empty or tested once; after that only building calls write to them,
+/// and a building call is proved to leave a sound store sound.
+pub(crate) struct SoundWords {
+    words: Box<[u32]>,
+    identity: Identity,
+}
+
+// SAFETY, of every call on known words below: `words` of `SoundWords` are sound, and where a mapping is lent, `is_for` has said that it is
+// allowed beside them: that is all that these calls ask for. Pointers and lengths are as in `lent`.
+
+impl SoundWords {
+    /// The empty store.
+    pub(crate) fn empty() -> SoundWords {
+        let words = vec![0; lent::store_words()].into_boxed_slice();
+        SoundWords { words, identity: Identity::new() }
+    }
+
+    /// These words, if they are sound; else they are refused by 1.
+    pub(crate) fn tested(words: Box<[u32]>) -> Result<SoundWords, Refused> {
+        match lent::is_sound(&words) {
+            true => Ok(SoundWords { words, identity: Identity::new() }),
+            false => Err(Refused::NOT_SOUND),
+        }
+    }
+
+    /// The same words as a store of its own.
+    pub(crate) fn copied(&self) -> SoundWords {
+        SoundWords { words: self.words.clone(), identity: Identity::new() }
+    }
+
+    pub(crate) fn into_words(self) -> Box<[u32]> {
+        self.words
+    }
+
+    pub(crate) fn words(&self) -> &[u32] {
+        &self.words
+    }
+
+    pub(crate) fn identity(&self) -> Identity {
+        self.identity
+    }
+
+    #[inline]
+    pub(crate) fn new_operation(&mut self, new: &NewOperation<'_, u32, u32>) -> Outcome {
+        // SAFETY: as above.
+        unsafe {
+            wz_known_new_operation(
+                self.words.as_mut_ptr(),
+                self.words.len(),
+                new.kind,
+                new.parent.is_some(),
+                new.parent.unwrap_or(0),
+                new.location,
+                new.regions,
+                new.result_types.as_ptr(),
+                new.result_types.len(),
+                new.operands.as_ptr(),
+                new.operands.len(),
+                new.successors.as_ptr(),
+                new.successors.len(),
+            )
+        }
+    }
+
+    #[inline]
+    pub(crate) fn new_block(&mut self, region: u32, label: u32, location: u32, types: &[u32]) -> Outcome {
+        let (store, words) = (self.words.as_mut_ptr(), self.words.len());
+        // SAFETY: as above.
+        unsafe { wz_known_new_block(store, words, region, label, location, types.as_ptr(), types.len()) }
+    }
+
+    #[inline]
+    pub(crate) fn set_attribute(&mut self, owner: Owner<u32, u32>, attribute: Attribute) -> Outcome {
+        let (blocks, n) = owner.code();
+        let Attribute { key, kind, content } = attribute;
+        // SAFETY: as above.
+        unsafe { wz_known_set_attribute(self.words.as_mut_ptr(), self.words.len(), blocks, n, key, kind, content) }
+    }
+
+    #[inline]
+    pub(crate) fn set_operand(&mut self, op: u32, index: u32, value: u32) -> Outcome {
+        // SAFETY: as above.
+        unsafe { wz_known_set_operand(self.words.as_mut_ptr(), self.words.len(), op, index, value) }
+    }
+
+    /// Refused by 8 where the mapping has entries of another store.
+    #[inline]
+    pub(crate) fn compare(&self, sort: Sort, mapping: &mut AllowedWords, pair: (u32, u32), ignore: &Ignore) -> Result<Verdict, Refused> {
+        if !mapping.is_for(self.identity) {
+            return Err(Refused::MAPPING);
+        }
+        let call = match sort {
+            Sort::Op => wz_known_operation_eq,
+            Sort::Block => wz_known_basic_block_eq,
+            Sort::Region => wz_known_region_eq,
+        };
+        let (store, words) = (self.words.as_ptr(), self.words.len());
+        let (map, entries) = (mapping.words.as_mut_ptr(), mapping.words.len());
+        // SAFETY: as above.
+        Ok(unsafe { call(store, words, map, entries, pair.0, pair.1, ignore.locations, ignore.bits) })
+    }
+
+    #[inline]
+    pub(crate) fn hash(&self, sort: Sort, n: u32, ignore: &Ignore) -> Sum {
+        let call = match sort {
+            Sort::Op => wz_known_operation_hash,
+            Sort::Block => wz_known_basic_block_hash,
+            Sort::Region => wz_known_region_hash,
+        };
+        // SAFETY: as above.
+        unsafe { call(self.words.as_ptr(), self.words.len(), n, ignore.locations, ignore.bits) }
+    }
+}
+
+/// The words of a mapping, and the store that its entries are of. Every entry is allowed beside that store: it was entered from two ids of
+/// that store, or by a comparison in it, or tested once; and a store's numbers don't go away.
+pub(crate) struct AllowedWords {
+    words: Box<[u32]>,
+    of: Option<Identity>,
+}
+
+impl AllowedWords {
+    /// The empty mapping, of no store yet.
+    pub(crate) fn empty() -> AllowedWords {
+        AllowedWords { words: vec![NONE; lent::mapping_words()].into_boxed_slice(), of: None }
+    }
+
+    /// These words, if they are allowed beside the store; else they are refused by 8.
+    pub(crate) fn tested(words: Box<[u32]>, store: &SoundWords) -> Result<AllowedWords, Refused> {
+        let (lent, count) = (store.words.as_ptr(), store.words.len());
+        // SAFETY: as for the calls on known words above; the mapping may be any words.
+        match unsafe { wz_known_is_allowed(lent, count, words.as_ptr(), words.len()) } {
+            true => Ok(AllowedWords { words, of: Some(store.identity) }),
+            false => Err(Refused::MAPPING),
+        }
+    }
+
+    pub(crate) fn copied(&self) -> AllowedWords {
+        AllowedWords { words: self.words.clone(), of: self.of }
+    }
+
+    pub(crate) fn words(&self) -> &[u32] {
+        &self.words
+    }
+
+    /// The store that the entries are of; where there is none, the mapping has no entries.
+    pub(crate) fn of(&self) -> Option<Identity> {
+        self.of
+    }
+
+    /// Is it allowed beside that store? Where it belongs to another, it has to be empty, and belongs to that store from now on.
+    #[inline]
+    pub(crate) fn is_for(&mut self, store: Identity) -> bool {
+        if self.of == Some(store) {
+            return true;
+        }
+        let empty = self.of.is_none() || self.words.iter().all(|image| *image == NONE);
+        if empty {
+            self.of = Some(store);
+        }
+        empty
+    }
+
+    /// Enters the image `to` of `from`; refused by 8 where they are not of one store, or not of the mapping's.
+    pub(crate) fn enter<I: Mapped>(&mut self, from: I, to: I) -> Result<(), Refused> {
+        if from.identity() != to.identity() || !self.is_for(from.identity()) {
+            return Err(Refused::MAPPING);
+        }
+        self.words[I::ENTRIES + from.number() as usize] = to.number();
+        Ok(())
+    }
+
+    /// Takes entries out.
+    #[inline]
+    pub(crate) fn remove(&mut self, entries: core::ops::Range<usize>) {
+        self.words[entries].fill(NONE);
+    }
+}

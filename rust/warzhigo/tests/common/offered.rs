@@ -1,0 +1,44 @@
+//! Every offered call on the same words.
+
+use warzhigo::lent::{self, Owner};
+use warzhigo::{Attribute, Ignore, Refused, Store};
+
+use super::call::{Call, New};
+use super::question::{Question, Sort, hash_lent};
+
+pub const SORTS: [Sort; 3] = [Sort::Op, Sort::Block, Sort::Region];
+
+/// One of each building call, with numbers that most stores have.
+pub fn building_calls() -> [Call; 5] {
+    let attribute = Attribute { key: 1, kind: 2, content: 3 };
+    [
+        Call::Operation(New::default()),
+        Call::Block { region: 0, label: 0, location: 0, argument_types: vec![1] },
+        Call::Attribute(Owner::Op(0), attribute),
+        Call::Attribute(Owner::Block(0), attribute),
+        Call::Operand { op: 0, index: 0, value: 0 },
+    ]
+}
+
+/// Asserts that words are no sound store by any call, and that none of the calls changes a word.
+pub fn all_refuse(store: &[u32], mapping: &[u32], context: &str) {
+    assert!(!lent::is_sound(store), "{context}: sound by `is_sound`");
+    assert_eq!(Store::from_words(store).err().map(Refused::number), Some(1), "{context}: `from_words`");
+    let mut words = store.to_vec();
+    for call in building_calls() {
+        assert_eq!(call.lent(&mut words), Err(1), "{context}: {call:?}");
+        assert!(words == store, "{context}: the refused {call:?} has changed words");
+    }
+    for sort in SORTS {
+        assert_eq!(hash_lent(store, sort, 0, &Ignore::NOTHING).map_err(Refused::number), Err(1), "{context}: hash of {sort:?}");
+        comparison_refused(store, mapping, sort, 1, context);
+    }
+}
+
+/// Asserts that the comparison of number 0 with itself is refused by this cause, and leaves the mapping as it was.
+pub fn comparison_refused(store: &[u32], mapping: &[u32], sort: Sort, cause: u32, context: &str) {
+    let question = Question { sort, lhs: 0, rhs: 0, ignore: Ignore::NOTHING };
+    let mut entries = mapping.to_vec();
+    assert_eq!(question.lent(store, &mut entries).map_err(Refused::number), Err(cause), "{context}: {question:?}");
+    assert!(entries == mapping, "{context}: the refused {question:?} has changed the mapping");
+}

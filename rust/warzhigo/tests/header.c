@@ -1,0 +1,45 @@
+/* The header from C: two operations built, compared and hashed, and a listing's question answered. Gives the number of the first thing that
+ * isn't as it should be, or 0. */
+#include "warzhigo.h"
+
+#include <stdlib.h>
+#include <string.h>
+
+int main(void) {
+    uint32_t *store = calloc(wz_store_words(), sizeof *store);
+    uint32_t *mapping = malloc(wz_mapping_words() * sizeof *mapping);
+    memset(mapping, 0xff, wz_mapping_words() * sizeof *mapping);
+    if (!wz_is_sound(store, wz_store_words())) return 1;
+
+    const uint32_t type = 5;
+    wz_outcome l = wz_new_operation(store, wz_store_words(), 8, false, 0, 1, 0, &type, 1, NULL, 0, NULL, 0);
+    wz_outcome r = wz_known_new_operation(store, wz_store_words(), 8, false, 0, 2, 0, &type, 1, NULL, 0, NULL, 0);
+    if (l.code != 0 || l.number != 0 || r.code != 0 || r.number != 1) return 2;
+    wz_outcome placed = wz_new_operation(store, wz_store_words(), 8, true, 0, 1, 0, &type, 1, NULL, 0, NULL, 0);
+    if (placed.code != 2 || placed.number != 2) return 3;
+
+    wz_verdict equal = wz_operation_eq(store, wz_store_words(), mapping, wz_mapping_words(), 0, 1, true, 0);
+    if (equal.code != 0 || equal.paired != 1 || mapping[0] != 1) return 4;
+    wz_verdict unequal = wz_known_operation_eq(store, wz_store_words(), mapping, wz_mapping_words(), 0, 1, false, 0);
+    if (unequal.code != 1 || unequal.left != 0 || unequal.right != 1 || unequal.paired != 0) return 5;
+    wz_verdict refused = wz_operation_eq(store, wz_store_words(), mapping, 1, 0, 1, false, 0);
+    if (refused.code != 4 || refused.left != 8) return 6;
+
+    wz_sum left = wz_operation_hash(store, wz_store_words(), 0, true, 0);
+    wz_sum right = wz_known_operation_hash(store, wz_store_words(), 1, true, 0);
+    if (left.code != 0 || right.code != 0 || left.word != right.word) return 7;
+    if (wz_operation_hash(store, wz_store_words(), 2, true, 0).cause != 2) return 8;
+
+    const char *listing = "opstore,1\no,7,-,5,0,0,0,0\nq,o,0,0,0,0\n";
+    const char *printed = "eq,-,-,1\nshare,100\n";
+    uint8_t *out = malloc(wz_output_bytes());
+    wz_output answer = wz_twins((const uint8_t *)listing, strlen(listing), store, wz_store_words(), mapping, wz_mapping_words(), out,
+                                wz_output_bytes());
+    if (answer.code != 0 || answer.bytes != strlen(printed) || memcmp(out, printed, answer.bytes) != 0) return 9;
+    if (wz_sums((const uint8_t *)listing, strlen(listing), store, wz_store_words(), out, 1).code != 2) return 10;
+
+    free(store);
+    free(mapping);
+    free(out);
+    return 0;
+}

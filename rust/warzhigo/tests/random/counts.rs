@@ -1,0 +1,89 @@
+//! What was run, and whether it is enough.
+
+use oracle::Verdict;
+
+use crate::common::question::Question;
+use crate::common::walk::{Entries, Found, Longer, compared};
+use crate::trial::Trial;
+
+/// What was run.
+#[derive(Default, Debug)]
+pub struct Counts {
+    pub stores: u64,
+    pub calls: u64,
+    /// Refused calls, by their cause.
+    pub refused: [u64; 8],
+    pub comparisons: u64,
+    /// Comparisons of a fragment with itself, and those of two that are equal.
+    pub with_itself: u64,
+    pub equal: u64,
+    pub operations_named: u64,
+    pub blocks_named: u64,
+    pub regions_named: u64,
+    /// Comparisons whose walk met a left list that is one longer.
+    pub outside_domain: u64,
+    /// Comparisons that began with entered images, those into a mapping that an earlier one was lent, and those of them all that are
+    /// equal by such entries only.
+    pub lent_entries: u64,
+    pub earlier_entries: u64,
+    pub equal_by_entries: u64,
+    pub hashes: u64,
+    pub reflexive: u64,
+    pub premise_and_equal: u64,
+    pub equal_without_premise: u64,
+    pub deepest_nesting: u32,
+    pub largest_paired: u32,
+}
+
+impl Counts {
+    /// Counts a comparison and its answer.
+    pub fn compared(&mut self, question: &Question, ours: Found) {
+        self.comparisons += 1;
+        self.largest_paired = self.largest_paired.max(ours.paired);
+        match ours.verdict {
+            Verdict::Eq if question.lhs == question.rhs => self.with_itself += 1,
+            Verdict::Eq => self.equal += 1,
+            Verdict::FirstNEQOps(..) => self.operations_named += 1,
+            Verdict::FirstNEQBlocks(..) => self.blocks_named += 1,
+            Verdict::FirstNEQRegions(..) => self.regions_named += 1,
+        }
+    }
+
+    /// Counts an equal comparison that is unequal from an empty mapping.
+    pub fn by_entries(&mut self, trial: &Trial, question: &Question, ours: Found, before: &Entries) {
+        if ours.verdict == Verdict::Eq && !before.is_empty() {
+            let (alone, _) = compared(&trial.picture, &mut Entries::default(), question, Longer::Rules);
+            self.equal_by_entries += (alone.verdict != Verdict::Eq) as u64;
+        }
+    }
+
+    /// That each thing was met often enough to mean something.
+    pub fn often_enough(&self) {
+        let all = self.comparisons;
+        let at_least = [
+            ("calls refused by 2", self.refused[2], self.calls / 100),
+            ("calls refused by 3", self.refused[3], self.stores / 100),
+            ("calls refused by 4", self.refused[4], self.calls / 500),
+            ("calls refused by 5", self.refused[5], self.stores / 100),
+            ("calls refused by 6", self.refused[6], self.calls / 1000),
+            ("calls refused by 7", self.refused[7], self.calls / 1000),
+            ("comparisons", all, self.stores * 5),
+            ("equal", self.equal, all / 5),
+            ("operations named", self.operations_named, all / 10),
+            ("blocks named", self.blocks_named, all / 50),
+            ("regions named", self.regions_named, all / 100),
+            ("outside the domain", self.outside_domain, all / 100),
+            ("lent entries", self.lent_entries, all / 10),
+            ("earlier entries", self.earlier_entries, all / 10),
+            ("equal by entries", self.equal_by_entries, all / 200),
+            ("hashes", self.hashes, self.stores * 5),
+            ("premise and equal", self.premise_and_equal, self.stores),
+            ("equal without premise", self.equal_without_premise, self.stores / 200),
+            ("deepest nesting", self.deepest_nesting as u64, 32),
+            ("largest paired", self.largest_paired as u64, 64),
+        ];
+        for (what, count, least) in at_least {
+            assert!(count >= least, "{what}: {count}, which is below {least}");
+        }
+    }
+}

@@ -1,0 +1,47 @@
+//! How a refusal presents itself. Causes 9, 10 and 11 are only printed, and 12 is never met: no call gives them as a value.
+
+use warzhigo::{Attribute, Ignore, Mapping, NewOperation, Refused, Store, operation_eq};
+
+use crate::common::call::{Call, New};
+use crate::stores::{deep, filled, small};
+
+/// One refusal by each cause from 1 to 8.
+fn refusals() -> [Option<Refused>; 8] {
+    let (mut store, deepest) = deep();
+    let (op, parent, foreign) = (store.op_id(0).unwrap(), store.block_id(deepest), small().op_id(0).unwrap());
+    let typed = store.new_operation(&NewOperation { result_types: &[1], ..Default::default() }).unwrap();
+    let value = store.operation(typed).unwrap().results().next().unwrap();
+    let mut mapping = Mapping::new();
+    mapping.map_op(foreign, foreign).unwrap();
+    let mut full = Store::new();
+    filled(&mut full, 512, Call::Operation(New::default()));
+    [
+        Store::from_words([]).err(),
+        store.operation(foreign).err(),
+        full.new_operation(&NewOperation::default()).err(),
+        store.new_operation(&NewOperation { regions: 9, ..Default::default() }).err(),
+        store.new_operation(&NewOperation { parent, ..Default::default() }).err(),
+        store.set_attribute(op, Attribute { key: 0, kind: 64, content: 0 }).err(),
+        store.set_operand(op, 0, value).err(),
+        operation_eq(&store, &mut mapping, op, op, &Ignore::NOTHING).err(),
+    ]
+}
+
+#[test]
+fn refusals_have_a_number_and_a_meaning() {
+    for (refused, number) in refusals().into_iter().zip(1..) {
+        let refused = refused.expect("a refused call");
+        assert_eq!(refused.number(), number);
+        assert!(!refused.meaning().is_empty(), "{number}");
+        assert!(refused.to_string().contains(&number.to_string()), "{refused}");
+        assert!(refused.to_string().contains(refused.meaning()), "{refused}");
+    }
+}
+
+#[test]
+fn meanings_differ() {
+    let mut meanings: Vec<&str> = refusals().into_iter().flatten().map(Refused::meaning).collect();
+    meanings.sort();
+    meanings.dedup();
+    assert_eq!(meanings.len(), 8);
+}

@@ -1,0 +1,41 @@
+//! Where several causes hold at once.
+
+use warzhigo::lent::Owner;
+use warzhigo::{Ignore, Refused};
+
+use crate::common::call::{Call, New};
+use crate::common::offered::comparison_refused;
+use crate::common::question::{Question, Sort, no_entries};
+use crate::stores::{ask, attribute, block, deep, filled, full_of_attributes, operation, results, small};
+
+/// 1, 8, 6, 2, 7, 4, 5, 3: of two causes that hold at once, the earlier is given.
+#[test]
+fn order_of_causes() {
+    let unsound = &small().into_words()[1..];
+    comparison_refused(unsound, &[], Sort::Op, 1, "1 before 8");
+    assert_eq!(attribute(Owner::Op(9), 1, 64).lent(&mut unsound.to_vec()), Err(1), "1 before 6");
+    let mut too_short = no_entries()[1..].to_vec();
+    let missing = Question { sort: Sort::Op, lhs: 9, rhs: 9, ignore: Ignore::NOTHING };
+    assert_eq!(missing.lent(small().words(), &mut too_short).map_err(Refused::number), Err(8), "8 before 2");
+    assert_eq!(ask(&mut small(), attribute(Owner::Op(9), 1, 64)), Err(6), "6 before 2");
+    assert_eq!(ask(&mut small(), Call::Operand { op: 1, index: 9, value: 9 }), Err(2), "2 before 7");
+    assert_eq!(operation(&mut small(), New { operands: vec![9], ..results(17) }), Err(2), "2 before 4");
+    assert_eq!(ask(&mut small(), block(9, 17)), Err(2), "2 before 4");
+}
+
+#[test]
+fn order_of_causes_of_full_stores() {
+    let (mut store, deepest) = deep();
+    let inside = New { parent: Some(deepest), ..New::default() };
+    assert_eq!(operation(&mut store, New { regions: 9, ..inside.clone() }), Err(4), "4 before 5");
+    assert_eq!(operation(&mut store, New { successors: vec![99], ..inside.clone() }), Err(2), "2 before 5");
+    filled(&mut store, 512 - 33, Call::Operation(New::default()));
+    assert_eq!(operation(&mut store, inside), Err(5), "5 before 3");
+    assert_eq!(operation(&mut store, New { parent: Some(99), ..New::default() }), Err(2), "2 before 3");
+    assert_eq!(operation(&mut store, results(17)), Err(4), "4 before 3");
+    assert_eq!(operation(&mut store, New::default()), Err(3));
+    let mut store = full_of_attributes();
+    assert_eq!(ask(&mut store, attribute(Owner::Op(2), 8, 64)), Err(6), "6 before 4");
+    assert_eq!(ask(&mut store, attribute(Owner::Op(2), 8, 63)), Err(4), "4 before 3");
+    assert_eq!(ask(&mut store, attribute(Owner::Op(999), 8, 63)), Err(2), "2 before 3");
+}
