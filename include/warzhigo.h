@@ -4,8 +4,8 @@
  * nothing but memcpy and memset.
  *
  * A lent buffer is a pointer and its length, in words of 32 bits or in bytes. A store has wz_store_words() words and is empty when all are
- * 0; a mapping has wz_mapping_words() words and is empty when all are 4294967295. What the words mean is docs/STORE.md's; what each cause
- * of a refusal is, the Rust crate's `Refused`. A refused call has changed nothing.
+ * 0; a mapping has wz_mapping_words() words and is empty when all are 4294967295. What the words mean is in docs/STORE.md, what each cause
+ * of a refusal is, in docs/CAUSES.md. A refused call has changed nothing.
  *
  * wz_...        anything may be lent: the call tests it, and refuses by 1 or 8.
  * wz_known_...  the store must be sound and the mapping allowed beside it, as wz_is_sound and wz_known_is_allowed tell; anything else is

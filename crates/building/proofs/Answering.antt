@@ -13,7 +13,7 @@ use Rattle.layout.specs.Soundness.{soundBuffer}
 use Rattle.layout.proofs.Empty.{sound-of, zeros-read, zeros-sound}
 use Rattle.building.specs.declared.types.Built.{Built}
 use Rattle.building.specs.Types.{builtOf}
-use Rattle.building.specs.Calls.{Did, Answered, Made, AfterCalls}
+use Rattle.building.specs.Calls.{Did, Answered, Made, IsEmpty, AfterCalls}
 
 module _ (b : List ℕ) (c : Call) (r : Built) where
   chosen : (t : Bool) → soundBuffer b ≡ t → cond (soundBuffer b) (answer (storeIn b) c) (refused 1) ≡ cond t (answer (storeIn b) c) (refused 1)
@@ -25,7 +25,7 @@ module _ (b : List ℕ) (c : Call) (r : Built) where
         answered = q ∙ sym (chosen false h);
         reads = λ s. clash s h;
         sound = λ s. s;
-        kept = λ k z. refl;
+        unchanged = λ k z. refl;
       }
 
   pub taken-up : (exit : List ℕ) → soundBuffer b ≡ true → Did b exit c r → Answered b exit c r
@@ -34,7 +34,7 @@ module _ (b : List ℕ) (c : Call) (r : Built) where
         answered = did .answered ∙ sym (chosen true h);
         reads = λ s. did .reads;
         sound = λ s. sound-of exit (did .sound);
-        kept = did .kept;
+        unchanged = did .unchanged;
       }
 
 after-made : (calls : List Call) (entry exit : List ℕ) → soundBuffer entry ≡ true → Made entry calls exit → (storeIn exit ≡ after (storeIn entry) calls) × (soundBuffer exit ≡ true)
@@ -46,6 +46,9 @@ after-made (c ∷ cs) entry exit h (mid, r, a, more) =
 
 pub after-calls : AfterCalls
 unfolding AfterCalls
-after-calls calls exit made =
-    let p = after-made calls emptyBuffer exit (sound-of emptyBuffer zeros-sound) made in
-    (p .0 ∙ ap (λ (s : Store). after s calls) zeros-read, p .1)
+after-calls entry e calls exit made =
+    let p = after-made calls entry exit (e .sound) made in
+    (p .0 ∙ ap (λ (s : Store). after s calls) (e .reads), p .1)
+
+pub zeros-empty : IsEmpty emptyBuffer
+zeros-empty = record { sound = sound-of emptyBuffer zeros-sound; reads = zeros-read }

@@ -34,7 +34,7 @@ module _ (b : List ℕ) (h : IsSound b) (c : Call) (r : Built) where
         answered = q ∙ sym (ap (λ (o : Option ℕ). answerBy o (storeIn b) c) e);
         reads = sym (ap (λ (o : Option ℕ). storeBy o (storeIn b) c) e);
         sound = h;
-        kept = λ k z. refl;
+        unchanged = λ k z. refl;
       }
 
   pub did-work : (exit : List ℕ) → firstFailed (tests (storeIn b) c) ≡ none → length exit ≡ length b
@@ -51,5 +51,5 @@ module _ (b : List ℕ) (h : IsSound b) (c : Call) (r : Built) where
               laid = laid-of (columns exit) laid;
               ruled = subst (λ (s : Store). sound s ≡ true) (made ∙ sym reads) (built-sound (storeOf (columns b)) c (h .ruled));
             };
-        kept = λ k z. absurd (never (storeOf (columns b)) c k (sym q ∙ z));
+        unchanged = λ k z. absurd (never (storeOf (columns b)) c k (sym q ∙ z));
       }

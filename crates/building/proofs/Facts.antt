@@ -44,13 +44,13 @@ module _ (b : List ℕ) (h : IsSound b) where
 
 -- ---- what is around a block of a sound buffer
 
-pub record InBlock (C : Cols) (m : ℕ) : Type 0 where
+pub record AroundBlock (C : Cols) (m : ℕ) : Type 0 where
   pub block : m < blockCount C
   pub region : at C blockRegion m < regionCount C
   pub op : around C m < opCount C
   pub depth : at C opDepth (around C m) ≤ maxNesting
 
-pub in-block : (b : List ℕ) (h : IsSound b) (m : ℕ) → blockExists (storeIn b) m ≡ true → InBlock (columns b) m
+pub in-block : (b : List ℕ) (h : IsSound b) (m : ℕ) → blockExists (storeIn b) m ≡ true → AroundBlock (columns b) m
 in-block b h m e =
     let C = columns b in
     let l : m < blockCount C = block-in C m e in

@@ -6,3 +6,4 @@ pub mod Doing
 pub mod Causes
 pub mod Operating
 pub mod Answering
+pub mod Always

@@ -2,7 +2,7 @@
 pub mod Changed
 pub mod Patched
 pub mod SetOperand
-pub mod Place
+pub mod KeySlot
 pub mod Inserted
 pub mod Written
 pub mod Replaced

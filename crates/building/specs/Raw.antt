@@ -6,11 +6,11 @@ use mathlib.Core.List.{List, [], _∷_}
 use lib.Dec.{eqb, leb, ltb}
 use lib.ListN.{length, replicate}
 use Rattle.rules.specs.Store.{Attribute, Owner, ofOp, ofBlock, maxOps, maxRegions, maxValues, maxOperands, maxSuccessors}
-use Rattle.layout.specs.Columns.{Cols, at, write, pour, counts, opKind, opDepth, opOperandFirst, regionOp, regionBlockFirst, regionBlockEnd, blockRegion, blockOpFirst, blockOpEnd, valueType, valueOwner, operandWords, successorWords, slotKey, slotKind, slotContent}
-use Rattle.layout.specs.Reading.{opCount, blockCount, regionCount, valueCount, operandCount, successorCount, attributeCount, around, ownerCode, slotsOf, part}
+use Rattle.layout.specs.Columns.{Cols, at, write, writeRange, counts, opKind, opDepth, opOperandFirst, regionOp, regionBlockFirst, regionBlockEnd, blockRegion, blockOpFirst, blockOpEnd, valueType, valueOwner, operandWords, successorWords, slotKey, slotKind, slotContent}
+use Rattle.layout.specs.Reading.{opCount, blockCount, regionCount, valueCount, operandCount, successorCount, attributeCount, around, ownerCode, slotsOf, slice}
 use Rattle.layout.specs.Owners.{countColumn, ownerNumber, keyCount}
-use Rattle.building.specs.declared.attributes.Place.{Place}
-use Rattle.building.specs.declared.attributes.Place.the-variants as Places
+use Rattle.building.specs.declared.attributes.AttributePlace.{AttributePlace}
+use Rattle.building.specs.declared.attributes.AttributePlace.the-variants as Places
 
 -- row n: its words, one to a column, from column k on
 unfoldable pub withRow : Cols → ℕ → ℕ → List ℕ → Cols
@@ -19,10 +19,10 @@ withRow C k n (v ∷ vs) = withRow (write C k n v) (suc k) n vs
 
 -- ---- new values, of an operation or of a block
 
--- by the owner's code
+-- with the owner as a word
 unfoldable pub withValuesBy : Cols → ℕ → List ℕ → Cols
 withValuesBy C code types =
-    write (pour (pour C valueType (valueCount C) types) valueOwner (valueCount C) (replicate (length types) code))
+    write (writeRange (writeRange C valueType (valueCount C) types) valueOwner (valueCount C) (replicate (length types) code))
     counts 3 (valueCount C + length types)
 
 unfoldable pub withValues : Cols → Owner → List ℕ → Cols
@@ -69,12 +69,12 @@ opPlaced C (some b) n = extended C blockOpFirst blockOpEnd b n
 unfoldable pub withRegions : Cols → ℕ → ℕ → Cols
 withRegions C n regions =
     write
-    (pour (pour (pour C regionOp (regionCount C) (replicate regions n)) regionBlockFirst (regionCount C) (replicate regions 0)) regionBlockEnd (regionCount C) (replicate regions 0))
+    (writeRange (writeRange (writeRange C regionOp (regionCount C) (replicate regions n)) regionBlockFirst (regionCount C) (replicate regions 0)) regionBlockEnd (regionCount C) (replicate regions 0))
     counts 2 (regionCount C + regions)
 
--- a part of a shared list, at its end; the count of the list is word c
-unfoldable pub withPart : Cols → ℕ → ℕ → List ℕ → Cols
-withPart C k c xs = write (pour C k (at C counts c) xs) counts c (at C counts c + length xs)
+-- a list appended to a shared list, whose length is word c of the counts
+unfoldable pub withSlice : Cols → ℕ → ℕ → List ℕ → Cols
+withSlice C k c xs = write (writeRange C k (at C counts c) xs) counts c (at C counts c + length xs)
 
 -- the words of a new operation's row, from its kind on
 unfoldable pub opRow : Cols → ℕ → ℕ → ℕ → ℕ → ℕ → ℕ → ℕ → ℕ → List ℕ
@@ -99,8 +99,8 @@ opWritten C kind parent location regions results operands successors =
 unfoldable pub withOperation : Cols → ℕ → Option ℕ → ℕ → ℕ → List ℕ → List ℕ → List ℕ → Cols
 withOperation C kind parent location regions types operands successors =
     write
-    (withPart
-    (withPart
+    (withSlice
+    (withSlice
     (withValues
     (withRegions (opWritten C kind parent location regions (length types) (length operands) (length successors)) (opCount C) regions)
     (ofOp (opCount C)) types)
@@ -137,14 +137,14 @@ slotFor C w key = seek C key (slotsOf w) (keyCount C w)
 unfoldable pub keyThere : Cols → Owner → ℕ → Bool
 keyThere C w key = ltb (slotFor C w key) (slotsOf w + keyCount C w) && eqb (at C slotKey (slotFor C w key)) key
 
--- where the call puts it, once its tests are made: the cause of the first that failed, or the key's slot
-unfoldable pub placeFor : Cols → Owner → Attribute → Option ℕ → Place
+-- what becomes of the attribute, once the call's tests are made: refused for the cause of the first that failed, or put at the key's slot
+unfoldable pub placeFor : Cols → Owner → Attribute → Option ℕ → AttributePlace
 placeFor C w a (some cause) = Places.Refused cause
 placeFor C w a none = cond (keyThere C w (a .key)) (Places.Replaces (slotFor C w (a .key))) (Places.Adds (slotFor C w (a .key)))
 
--- a word put before the words of a column from slot i up to slot e
+-- a word inserted at slot i of a column: the words from there up to slot e move one slot on
 unfoldable pub inserted : Cols → ℕ → ℕ → ℕ → ℕ → Cols
-inserted C k i e v = pour C k i (v ∷ part (C k) i e)
+inserted C k i e v = writeRange C k i (v ∷ slice (C k) i e)
 
 unfoldable pub replaced : Cols → ℕ → Attribute → Cols
 replaced C i a = write (write C slotKind i (a .kind)) slotContent i (a .content)

@@ -30,14 +30,14 @@ ghost use Rattle.building.specs.Types.{attributeOf};
 ghost use Rattle.building.specs.Raw.{seek, slotFor, keyThere, placeFor, replaced, added};
 ghost use Rattle.building.specs.Calls.{Did};
 
-// Where a set attribute goes: nowhere for a cause, or to its key's slot, where the key stands already or is to be put in.
-enum Place {
+// What becomes of an attribute that is to be set: it is refused for a cause, it replaces the one at a slot, or it is inserted at a slot.
+enum AttributePlace {
     Refused(u32),
     Replaces(usize),
     Adds(usize),
 }
 
-// Of so many slots from `first` on, the first whose key is not below this one.
+// Of `count` slots from `first` on, the first whose key is not below this one; the slot behind them if there is none.
 fn slot_from(store: &[u32], first: usize, count: usize, key: u32) -> usize
     requires { ⌜ length (now store) ≡ bufferLength ⌝ }
     requires { ⌜ count ≤ 8 ⌝ }
@@ -63,7 +63,7 @@ fn slot_for(store: &[u32], owner: Owner, key: u32) -> usize
     slot_from(store, first_slot(owner), key_count(store, owner), key)
 }
 
-// The key stands already at that slot.
+// The owner has the key already: it stands at `slot`, where it belongs.
 fn key_there(store: &[u32], owner: Owner, slot: usize, key: u32) -> bool
     requires { ⌜ IsSound (now store) ⌝ }
     requires { ⌜ ownerExists (storeIn (now store)) (ownerOf owner) ≡ true ⌝ }
@@ -76,31 +76,31 @@ fn key_there(store: &[u32], owner: Owner, slot: usize, key: u32) -> bool
     at(store, SLOT_KEY, slot) == key
 }
 
-// Where the attribute goes.
-fn place_for(store: &[u32], owner: Owner, attribute: Attribute) -> Place
+// What becomes of the attribute, by the tests of document 01 in their order.
+fn place_for(store: &[u32], owner: Owner, attribute: Attribute) -> AttributePlace
     requires { ⌜ IsSound (now store) ⌝ }
     ensures { λ r. ⌜ r ≡ placeFor (columns (now (store .entry))) (ownerOf owner) (attributeOf attribute) (firstFailed (tests (storeIn (now (store .entry))) (setAttribute (ownerOf owner) (attributeOf attribute)))) ⌝ }
 {
     if attribute.kind > 63 {
-        return Place::Refused(6);
+        return AttributePlace::Refused(6);
     }
     if !owner_exists(store, owner) {
-        return Place::Refused(2);
+        return AttributePlace::Refused(2);
     }
     let slot = slot_for(store, owner, attribute.key);
     if key_there(store, owner, slot, attribute.key) {
-        return Place::Replaces(slot);
+        return AttributePlace::Replaces(slot);
     }
     if key_count(store, owner) >= 8 {
-        return Place::Refused(4);
+        return AttributePlace::Refused(4);
     }
     if at(store, COUNTS, ATTRIBUTES) >= 1024 {
-        return Place::Refused(3);
+        return AttributePlace::Refused(3);
     }
-    Place::Adds(slot)
+    AttributePlace::Adds(slot)
 }
 
-// The attribute at a slot is replaced.
+// Replaces the kind and the content at a slot.
 fn put_replaced(store: &mut [u32], slot: usize, attribute: Attribute)
     requires { ⌜ length (now store) ≡ bufferLength ⌝ }
     requires { ⌜ slot < 6144 ⌝ }
@@ -110,7 +110,7 @@ fn put_replaced(store: &mut [u32], slot: usize, attribute: Attribute)
     put(store, SLOT_CONTENT, slot, attribute.content);
 }
 
-// An attribute is put before those from a slot on, and counted.
+// Inserts an attribute at a slot: the owner's attributes from there on move one slot on, and both counts that it adds to are written.
 fn put_added(store: &mut [u32], owner: Owner, slot: usize, attribute: Attribute)
     requires { ⌜ IsSound (now store) ⌝ }
     requires { ⌜ ownerExists (storeIn (now store)) (ownerOf owner) ≡ true ⌝ }
@@ -139,12 +139,12 @@ pub fn set_attribute(store: &mut [u32], owner: Owner, attribute: Attribute) -> B
     ensures { λ r. ⌜ Did (now (store .entry)) (now (store .exit)) (setAttribute (ownerOf owner) (attributeOf attribute)) r ⌝ }
 {
     match place_for(store, owner, attribute) {
-        Place::Refused(cause) => Built::Refused(cause),
-        Place::Replaces(slot) => {
+        AttributePlace::Refused(cause) => Built::Refused(cause),
+        AttributePlace::Replaces(slot) => {
             put_replaced(store, slot, attribute);
             Built::Accepted
         }
-        Place::Adds(slot) => {
+        AttributePlace::Adds(slot) => {
             put_added(store, owner, slot, attribute);
             Built::Accepted
         }

@@ -25,7 +25,7 @@ ghost use Rattle.layout.specs.Causes.{causeOf};
 ghost use Rattle.building.specs.Raw.{blockWritten, withBlock};
 ghost use Rattle.building.specs.Calls.{Did};
 
-// The cause for which the call is refused, if there is one; label and location are never it.
+// The cause for which the call is refused, if there is one. It does not depend on label and location.
 fn block_cause(store: &[u32], region: u32, types: &[u32]) -> Cause
     requires { ⌜ IsSound (now store) ⌝ }
     ensures { λ r. ⌜ ((label location : ℕ) → causeOf r ≡ firstFailed (tests (storeIn (now (store .entry))) (newBlock region label location (now (types .entry))))) ⌝ }
@@ -45,7 +45,7 @@ fn block_cause(store: &[u32], region: u32, types: &[u32]) -> Cause
     Cause::None
 }
 
-// The row of block m, with so many arguments from the next value on.
+// Writes the row of a new block, m: its arguments are the next `arguments` values of the store, and it has no operations or attributes yet.
 fn put_block_row(
     store: &mut [u32],
     m: usize,
@@ -65,7 +65,7 @@ fn put_block_row(
     put_row(store, BLOCK_REGION, m, &row);
 }
 
-// The block, its place in its region, and its arguments.
+// Writes all of a new block: its row, its number into its region's range, its arguments, and the count of blocks.
 fn put_block(store: &mut [u32], region: u32, label: u32, location: u32, types: &[u32])
     requires { ⌜ length (now store) ≡ bufferLength ⌝ }
     requires { ⌜ region < 256 ⌝ }

@@ -54,7 +54,7 @@ pub fn set_attribute(store: &mut [u32], owner: Owner, attribute: Attribute) -> B
     crate::attributes::set_attribute(store, owner, attribute)
 }
 
-// Operand i of operation n is value v.
+// Operand i of operation n becomes value v.
 pub fn set_operand(store: &mut [u32], n: u32, i: u32, v: u32) -> Built
     ensures { λ r. ⌜ Answered (now (store .entry)) (now (store .exit)) (setOperand n i v) r ⌝ }
 {

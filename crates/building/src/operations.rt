@@ -7,9 +7,9 @@ use crate::tests::operation_room;
 use crate::types::Built;
 use crate::types::Parent;
 use crate::writes::extend;
-use crate::writes::put_part;
 use crate::writes::put_regions;
 use crate::writes::put_row;
+use crate::writes::put_slice;
 use crate::writes::put_values;
 use layout::causes::Cause;
 use layout::columns::BLOCK_OP_END;
@@ -40,7 +40,7 @@ ghost use Rattle.layout.specs.Causes.{causeOf};
 ghost use Rattle.building.specs.Raw.{OpRoom, withRow, parentBelow, parentCode, opRow, opPlaced, opWritten, withOperation};
 ghost use Rattle.building.specs.Calls.{Did};
 
-// The cause for which the call is refused, if there is one; kind and location are never it.
+// The cause for which the call is refused, if there is one. It does not depend on kind and location.
 fn operation_cause(
     store: &[u32],
     parent: Parent,
@@ -67,7 +67,8 @@ fn operation_cause(
     Cause::None
 }
 
-// The row of operation n: so many of each thing that it has, behind the old ones.
+// Writes the row of a new operation, n: its regions, results, operands and successors are the next of the store, so many of each, and it
+// has no attributes yet.
 fn put_op_row(
     store: &mut [u32],
     n: usize,
@@ -107,7 +108,7 @@ fn put_op_row(
     put_row(store, OP_KIND, n, &row);
 }
 
-// Operation n goes to the end of its block.
+// Operation n goes to the end of its block's range, if it has a block.
 fn place_op(store: &mut [u32], parent: Parent, n: usize)
     requires { ⌜ length (now store) ≡ bufferLength ⌝ }
     requires { ⌜ parentBelow 256 (parentOf parent) ⌝ }
@@ -120,7 +121,7 @@ fn place_op(store: &mut [u32], parent: Parent, n: usize)
     }
 }
 
-// A parent as a word.
+// A parent as a word of the store: 0 for none, else the block's number and one.
 fn parent_word(parent: Parent) -> u32
     requires { ⌜ parentBelow 256 (parentOf parent) ⌝ }
     ensures { λ r. ⌜ r ≡ parentCode (parentOf parent) ⌝ }
@@ -131,7 +132,7 @@ fn parent_word(parent: Parent) -> u32
     }
 }
 
-// The words of a new operation, its number at the end of its block among them.
+// Writes a new operation's row, and its number into its block's range.
 fn put_op(
     store: &mut [u32],
     kind: u32,
@@ -165,7 +166,7 @@ fn put_op(
     place_op(store, parent, n);
 }
 
-// All that a new operation writes.
+// Writes all of a new operation: its row, its regions, its results, its operands and successors, and the count of operations.
 fn put_operation(
     store: &mut [u32],
     kind: u32,
@@ -195,8 +196,8 @@ fn put_operation(
     );
     put_regions(store, n, count);
     put_values(store, (2 * n) as u32, types);
-    put_part(store, OPERAND_WORDS, OPERANDS, operands);
-    put_part(store, SUCCESSOR_WORDS, SUCCESSORS, successors);
+    put_slice(store, OPERAND_WORDS, OPERANDS, operands);
+    put_slice(store, SUCCESSOR_WORDS, SUCCESSORS, successors);
     put(store, COUNTS, OPS, (n + 1) as u32);
 }
 

@@ -1,4 +1,4 @@
-// The tests of the calls, in the order of their causes. Each asks for a sound buffer.
+// The tests of a new operation, on a sound buffer.
 use crate::types::Parent;
 use layout::children::op_around;
 use layout::columns::BLOCKS;
@@ -87,7 +87,7 @@ pub fn depth_under(store: &[u32], parent: Parent) -> u32
     }
 }
 
-// Nesting would not pass 32.
+// The nesting of an operation with this parent is at most 32.
 pub fn nesting_holds(store: &[u32], parent: Parent) -> bool
     requires { ⌜ IsSound (now store) ⌝ }
     requires { ⌜ parentExists (storeIn (now store)) (parentOf parent) ≡ true ⌝ }
@@ -96,7 +96,7 @@ pub fn nesting_holds(store: &[u32], parent: Parent) -> bool
     depth_under(store, parent) <= 32
 }
 
-// No total would be passed by a new operation.
+// The store has room for a new operation: no total is passed by it.
 pub fn operation_room(
     store: &[u32],
     regions: u32,

@@ -15,15 +15,15 @@ use layout::columns::put_same;
 ghost use mathlib.Core.Path.{_≡_};
 ghost use Prim.Native.Nat.{ℕ, _+_, _<_, _≤_};
 ghost use lib.ListN.{length};
-ghost use Rattle.layout.specs.Columns.{bufferLength, size, columns, counts};
+ghost use Rattle.layout.specs.Columns.{bufferLength, columnSize, columns, counts};
 ghost use Rattle.layout.specs.Reading.{regionCount, valueCount};
-ghost use Rattle.building.specs.Raw.{withRow, begun, extended, withPart, withRegions, withValuesBy};
+ghost use Rattle.building.specs.Raw.{withRow, begun, extended, withSlice, withRegions, withValuesBy};
 
-// Row n: its words, one to a column, from column `first` on.
+// Writes row n of a table: its words, one to a column, from column `first` on.
 pub fn put_row(store: &mut [u32], first: usize, n: usize, row: &[u32])
     requires { ⌜ length (now store) ≡ bufferLength ⌝ }
     requires { ⌜ first + length (now row) ≤ 32 ⌝ }
-    requires { ⌜ ((j : ℕ) → j < length (now row) → n < size (first + j)) ⌝ }
+    requires { ⌜ ((j : ℕ) → j < length (now row) → n < columnSize (first + j)) ⌝ }
     ensures { λ _. ⌜ columns (now (store .exit)) ≡ withRow (columns (now (store .entry))) first n (now (row .entry)) ⌝ }
 {
     let mut j = 0;
@@ -33,7 +33,7 @@ pub fn put_row(store: &mut [u32], first: usize, n: usize, row: &[u32])
     }
 }
 
-// Where a range of children begins once n is in it: with n if it was empty.
+// Where a range of children begins once n is in it: at n if it was empty, else where it began before.
 fn begin(first: u32, end: u32, n: u32) -> u32
     ensures { λ r. ⌜ r ≡ begun first end n ⌝ }
 {
@@ -43,13 +43,13 @@ fn begin(first: u32, end: u32, n: u32) -> u32
     first
 }
 
-// A child, number n, goes to the end of its owner's range.
+// A new child, number n, goes to the end of its owner's range, which stands in the columns `first` and `end`.
 pub fn extend(store: &mut [u32], first: usize, end: usize, owner: usize, n: usize)
     requires { ⌜ length (now store) ≡ bufferLength ⌝ }
     requires { ⌜ first < 32 ⌝ }
     requires { ⌜ end < 32 ⌝ }
-    requires { ⌜ owner < size first ⌝ }
-    requires { ⌜ owner < size end ⌝ }
+    requires { ⌜ owner < columnSize first ⌝ }
+    requires { ⌜ owner < columnSize end ⌝ }
     requires { ⌜ n < 512 ⌝ }
     ensures { λ _. ⌜ columns (now (store .exit)) ≡ extended (columns (now (store .entry))) first end owner n ⌝ }
 {
@@ -58,7 +58,7 @@ pub fn extend(store: &mut [u32], first: usize, end: usize, owner: usize, n: usiz
     put(store, end, owner, (n + 1) as u32);
 }
 
-// So many regions, of operation n, without blocks.
+// Makes `regions` regions of operation n, without blocks.
 pub fn put_regions(store: &mut [u32], n: usize, regions: usize)
     requires { ⌜ length (now store) ≡ bufferLength ⌝ }
     requires { ⌜ n < 512 ⌝ }
@@ -72,7 +72,8 @@ pub fn put_regions(store: &mut [u32], n: usize, regions: usize)
     put(store, COUNTS, REGIONS, (from + regions) as u32);
 }
 
-// The values of a new owner, by its code.
+// Makes the values of a new owner, one of each type. The owner is given as a word: twice an operation's number, or twice a block's number
+// and one.
 pub fn put_values(store: &mut [u32], owner: u32, types: &[u32])
     requires { ⌜ length (now store) ≡ bufferLength ⌝ }
     requires { ⌜ valueCount (columns (now store)) + length (now types) ≤ 2048 ⌝ }
@@ -84,14 +85,14 @@ pub fn put_values(store: &mut [u32], owner: u32, types: &[u32])
     put(store, COUNTS, VALUES, (from + types.len()) as u32);
 }
 
-// A part of a shared list, at its end; the list's count is word `word` of the counts.
-pub fn put_part(store: &mut [u32], column: usize, word: usize, list: &[u32])
+// Appends a list to a shared list; the shared list's length is word `word` of the counts.
+pub fn put_slice(store: &mut [u32], column: usize, word: usize, list: &[u32])
     requires { ⌜ length (now store) ≡ bufferLength ⌝ }
     requires { ⌜ column < 32 ⌝ }
     requires { ⌜ word < 8 ⌝ }
-    requires { ⌜ Rattle.layout.specs.Columns.at (columns (now store)) counts word + length (now list) ≤ size column ⌝ }
-    requires { ⌜ size column ≤ 2048 ⌝ }
-    ensures { λ _. ⌜ columns (now (store .exit)) ≡ withPart (columns (now (store .entry))) column word (now (list .entry)) ⌝ }
+    requires { ⌜ Rattle.layout.specs.Columns.at (columns (now store)) counts word + length (now list) ≤ columnSize column ⌝ }
+    requires { ⌜ columnSize column ≤ 2048 ⌝ }
+    ensures { λ _. ⌜ columns (now (store .exit)) ≡ withSlice (columns (now (store .entry))) column word (now (list .entry)) ⌝ }
 {
     let from = number(store, COUNTS, word);
     put_all(store, column, from, list);

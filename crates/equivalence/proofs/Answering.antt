@@ -12,20 +12,20 @@ use Rattle.rules.specs.Fragments.{Sort, op, block, region, exists}
 use Rattle.rules.specs.Building.{firstFailed}
 use Rattle.rules.specs.Shells.{Ignore}
 use Rattle.rules.specs.Mapping.{Mapping, allowed}
-use Rattle.rules.specs.Comparison.{State, unequal, oneLonger, tooDeep, Walk, on, ended, standing, _>>=_, paper, pairOps, compareBy, start, compare}
+use Rattle.rules.specs.Comparison.{State, unequal, oneLonger, tooDeep, Walk, on, ended, standing, _>>=_, pairOps, compareBy, start, compare}
 use Rattle.rules.specs.Answers.{Comparison, eq, neq, refused, shallow, compareTests, comparisonOf, comparisonBy, comparison}
 use Rattle.rules.proofs.Basics.Tests.{and-left, and-right}
 use Rattle.rules.proofs.Walking.Deep.{compare-not-deep}
 use Rattle.rules.proofs.Walking.Paired.{paired-most}
 use Rattle.layout.specs.Reading.{storeIn}
 use Rattle.layout.specs.Soundness.{soundBuffer, IsSound}
-use Rattle.fragments.specs.Order.{listed}
-use Rattle.equivalence.specs.Lent.{mappingLength, mappingOf}
-use Rattle.equivalence.specs.Walked.{answerOf, lent, outcome, Told, Few, leftOf, rightOf, namedBy, regionWalk, opWalk, listsWalk}
+use Rattle.fragments.specs.Order.{blockList}
+use Rattle.equivalence.specs.MappingWords.{mappingLength, mappingOf}
+use Rattle.equivalence.specs.Walked.{answerOf, stateOf, outcome, Told, PairedFits, leftOf, rightOf, pairOfLists, regionWalk, opWalk, listsWalk}
 use Rattle.equivalence.specs.Calls.{pairTests, Answered}
 use Rattle.equivalence.specs.declared.types.EqResult.{EqResult}
 use Rattle.equivalence.specs.declared.types.EqResult.the-variants.{Refused}
-use Rattle.equivalence.specs.declared.types.Lists.the-variants.{Alone}
+use Rattle.equivalence.specs.declared.types.BlockLists.the-variants.{Alone}
 use Rattle.equivalence.proofs.Entries.{wrong-length}
 
 -- ---- the tests of a pair
@@ -84,44 +84,44 @@ outcome-is (ended tooDeep st) m h = absurd (h st refl)
 module _ (b m : List ℕ) (ig : Ignore) (f : Sort) (l r : ℕ) where
   pub unsound : soundBuffer b ≡ false → Answered b m m ig f l r (Refused 1)
   unfolding comparison comparisonBy compareTests firstFailed answerOf
-  unsound e = record { told = rw e refl; kept = λ c h. refl }
+  unsound e = record { told = rw e refl; unchanged = λ c h. refl }
 
   pub unallowed : soundBuffer b ≡ true → allowed (storeIn b) (mappingOf m) ≡ false → Answered b m m ig f l r (Refused 8)
   unfolding comparison comparisonBy compareTests firstFailed answerOf
-  unallowed e a = record { told = rw (e, a) refl; kept = λ c h. refl }
+  unallowed e a = record { told = rw (e, a) refl; unchanged = λ c h. refl }
 
   module _ (sd : soundBuffer b ≡ true) (a : allowed (storeIn b) (mappingOf m) ≡ true) where
     pub refused-pair : (c : ℕ) → firstFailed (pairTests (storeIn b) f l r) ≡ some c → Answered b m m ig f l r (Refused c)
     unfolding comparison comparisonBy compareTests firstFailed answerOf pairTests
-    refused-pair c e = record { told = rw (sd, a, e) refl; kept = λ k h. refl }
+    refused-pair c e = record { told = rw (sd, a, e) refl; unchanged = λ k h. refl }
 
     pub walked : IsSound b → (q : EqResult) (z : List ℕ) → firstFailed (pairTests (storeIn b) f l r) ≡ none
-        → Told (compareBy paper (storeIn b) ig f l r (lent m 0)) q z → Answered b m z ig f l r q
-    unfolding comparison comparisonBy compareTests firstFailed pairTests compare start lent Told
+        → Told (compareBy (storeIn b) ig f l r (stateOf m 0)) q z → Answered b m z ig f l r q
+    unfolding comparison comparisonBy compareTests firstFailed pairTests compare start stateOf Told
     walked h q z e t =
         let ex = pair-exists (storeIn b) f l r e .0 in
         let deep = compare-not-deep (storeIn b) (h .ruled) ig f l r ex (mappingOf m) in
         record {
-          told = rw (sd, a, e) (outcome-is (compareBy paper (storeIn b) ig f l r (start (mappingOf m))) (mappingOf m) deep ∙ t);
-          kept = λ c k. let w = told-refused (compareBy paper (storeIn b) ig f l r (start (mappingOf m))) c z (subst (λ x. Told (compareBy paper (storeIn b) ig f l r (lent m 0)) x z) k t) in absurd (deep (w .0) (w .1));
+          told = rw (sd, a, e) (outcome-is (compareBy (storeIn b) ig f l r (start (mappingOf m))) (mappingOf m) deep ∙ t);
+          unchanged = λ c k. let w = told-refused (compareBy (storeIn b) ig f l r (start (mappingOf m))) c z (subst (λ x. Told (compareBy (storeIn b) ig f l r (stateOf m 0)) x z) k t) in absurd (deep (w .0) (w .1));
         }
 
 -- ---- the walk of each sort, and that it enters no more than there are operations and blocks
 
-pub few-walk : (s : Store) → sound s ≡ true → (ig : Ignore) (f : Sort) (l r : ℕ) → exists s f l ≡ true → (m : List ℕ) → Few (compareBy paper s ig f l r (lent m 0))
-unfolding lent
-few-walk s sd ig f l r e m = paired-most s sd paper ig f l r e (lent m 0)
+pub few-walk : (s : Store) → sound s ≡ true → (ig : Ignore) (f : Sort) (l r : ℕ) → exists s f l ≡ true → (m : List ℕ) → PairedFits (compareBy s ig f l r (stateOf m 0))
+unfolding stateOf
+few-walk s sd ig f l r e m = paired-most s sd ig f l r e (stateOf m 0)
 
 module _ (s : Store) (ig : Ignore) (l r : ℕ) (st : State) where
-  pub op-walk : compareBy paper s ig op l r st ≡ pairOps s ig l r st >>= opWalk s ig l r
+  pub op-walk : compareBy s ig op l r st ≡ pairOps s ig l r st >>= opWalk s ig l r
   unfolding compareBy opWalk
   op-walk = refl
 
-  pub block-walk : compareBy paper s ig block l r st ≡ listsWalk s ig (Alone l r) st
-  unfolding compareBy listsWalk opWalk leftOf rightOf listed namedBy
+  pub block-walk : compareBy s ig block l r st ≡ listsWalk s ig (Alone l r) st
+  unfolding compareBy listsWalk opWalk leftOf rightOf blockList pairOfLists
   block-walk = refl
 
-  pub region-walk : compareBy paper s ig region l r st ≡ regionWalk s ig l r st
+  pub region-walk : compareBy s ig region l r st ≡ regionWalk s ig l r st
   unfolding compareBy regionWalk
   region-walk = refl
 

@@ -7,8 +7,8 @@ use mathlib.Core.Path.{_≡_, refl, sym, ap, ap₂, _∙_}
 use lib.ListN.{take, drop, set}
 use lib.Seq.{take-set-le, drop-set-lt}
 use Rattle.rules.specs.Mapping.{Mapping, enterAll}
-use Rattle.layout.specs.Reading.{tabulateFrom, following}
-use Rattle.equivalence.specs.Lent.{mappingOf, withOp, withBlock, withValues}
+use Rattle.layout.specs.Reading.{tabulateFrom, consecutive}
+use Rattle.equivalence.specs.MappingWords.{mappingOf, opMapped, blockMapped, valuesMapped}
 
 take-set : (n : ℕ) (b : List ℕ) (i v : ℕ) → i < n → take n (set b i v) ≡ set (take n b) i v
 take-set zero b i v l = absurd (not-suc-le-zero l)
@@ -33,16 +33,16 @@ table-set n size b i v l = ap (take size) (words-set n b i v) ∙ take-set size 
 table-kept : (n size : ℕ) (b : List ℕ) (i v : ℕ) → n + size ≤ i → take size (drop n (set b i v)) ≡ take size (drop n b)
 table-kept n size b i v l = ap (take size) (drop-set n b i v (omega arith)) ∙ take-set-le size (drop n b) (i - n) v (omega arith)
 
-pub op-entered : (b : List ℕ) (l r : ℕ) → mappingOf (set b (2304 + l) r) ≡ withOp (mappingOf b) l r
-unfolding mappingOf withOp
+pub op-entered : (b : List ℕ) (l r : ℕ) → mappingOf (set b (2304 + l) r) ≡ opMapped (mappingOf b) l r
+unfolding mappingOf opMapped
 op-entered b l r = λ i. record {
   values = take-set-le 2048 b (2304 + l) r (omega arith) i;
   blocks = table-kept 2048 256 b (2304 + l) r (omega arith) i;
   ops = words-set 2304 b l r i;
 }
 
-pub block-entered : (b : List ℕ) (l r : ℕ) → l < 256 → mappingOf (set b (2048 + l) r) ≡ withBlock (mappingOf b) l r
-unfolding mappingOf withBlock
+pub block-entered : (b : List ℕ) (l r : ℕ) → l < 256 → mappingOf (set b (2048 + l) r) ≡ blockMapped (mappingOf b) l r
+unfolding mappingOf blockMapped
 block-entered b l r h = λ i. record {
   values = take-set-le 2048 b (2048 + l) r (omega arith) i;
   blocks = table-set 2048 256 b l r h i;
@@ -50,8 +50,8 @@ block-entered b l r h = λ i. record {
 }
 
 values-entered : (b : List ℕ) (l r n : ℕ) → l < 2048
-    → withValues (mappingOf b) (following l (suc n)) (following r (suc n)) ≡ withValues (mappingOf (set b l r)) (following (suc l) n) (following (suc r) n)
-unfolding mappingOf withValues following tabulateFrom enterAll
+    → valuesMapped (mappingOf b) (consecutive l (suc n)) (consecutive r (suc n)) ≡ valuesMapped (mappingOf (set b l r)) (consecutive (suc l) n) (consecutive (suc r) n)
+unfolding mappingOf valuesMapped consecutive tabulateFrom enterAll
 values-entered b l r n h = λ i. record {
   values = enterAll (tabulateFrom (suc l) n (λ (k : ℕ). k)) (tabulateFrom (suc r) n (λ (k : ℕ). k)) (sym (take-set 2048 b l r h) i);
   blocks = ap (take 256) (sym (drop-set-lt 2048 b l r h)) i;
@@ -60,17 +60,17 @@ values-entered b l r n h = λ i. record {
 
 -- what is left to enter from value v on, up to e: one, and then those past it
 pub value-next : (b : List ℕ) (v image e : ℕ) → v < e → e ≤ 2048
-    → withValues (mappingOf b) (following v (e - v)) (following image (e - v))
-    ≡ withValues (mappingOf (set b v image)) (following (v + 1) (e - (v + 1))) (following (image + 1) (e - (v + 1)))
+    → valuesMapped (mappingOf b) (consecutive v (e - v)) (consecutive image (e - v))
+    ≡ valuesMapped (mappingOf (set b v image)) (consecutive (v + 1) (e - (v + 1))) (consecutive (image + 1) (e - (v + 1)))
 value-next b v image e h f =
     let n : e - v ≡ suc (e - (v + 1)) = omega arith in
     let pv : suc v ≡ v + 1 = omega arith in
     let pi : suc image ≡ image + 1 = omega arith in
     let k : ℕ = e - (v + 1) in
-    ap (λ (j : ℕ). withValues (mappingOf b) (following v j) (following image j)) n
+    ap (λ (j : ℕ). valuesMapped (mappingOf b) (consecutive v j) (consecutive image j)) n
     ∙ values-entered b v image k (omega arith)
-    ∙ ap₂ (λ (i j : ℕ). withValues (mappingOf (set b v image)) (following i k) (following j k)) pv pi
+    ∙ ap₂ (λ (i j : ℕ). valuesMapped (mappingOf (set b v image)) (consecutive i k) (consecutive j k)) pv pi
 
-pub values-over : (m : Mapping) (v image e : ℕ) → e ≤ v → withValues m (following v (e - v)) (following image (e - v)) ≡ m
-unfolding withValues following tabulateFrom enterAll
-values-over m v image e h = let n : e - v ≡ 0 = omega arith in ap (λ (j : ℕ). withValues m (following v j) (following image j)) n
+pub values-over : (m : Mapping) (v image e : ℕ) → e ≤ v → valuesMapped m (consecutive v (e - v)) (consecutive image (e - v)) ≡ m
+unfolding valuesMapped consecutive tabulateFrom enterAll
+values-over m v image e h = let n : e - v ≡ 0 = omega arith in ap (λ (j : ℕ). valuesMapped m (consecutive v j) (consecutive image j)) n

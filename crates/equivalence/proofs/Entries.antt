@@ -18,7 +18,7 @@ use Rattle.layout.specs.Columns.{Cols}
 use Rattle.layout.specs.Reading.{valueCount, blockCount, opCount, storeOf}
 use Rattle.layout.proofs.Tabulate.{ops-length, blocks-length, values-length}
 use Rattle.layout.proofs.Scans.{Before, and-false, last}
-use Rattle.equivalence.specs.Lent.{mappingLength, mappingOf, entryAllowed}
+use Rattle.equivalence.specs.MappingWords.{mappingLength, mappingOf, entryAllowed}
 
 -- entry i of a table whose first has number n
 abbrev Entry : ℕ → ℕ → List ℕ → ℕ → Bool

@@ -11,14 +11,14 @@ use Rattle.rules.specs.Comparison.{standing, expect, enterOps, pairOps, enterBl
 use Rattle.rules.specs.Answers.{comparisonOf}
 use Rattle.rules.proofs.Basics.Tests.{and-right}
 use Rattle.layout.specs.Columns.{Cols, columns}
-use Rattle.layout.specs.Reading.{opCount, storeOf, storeIn, following}
+use Rattle.layout.specs.Reading.{opCount, storeOf, storeIn, consecutive}
 use Rattle.layout.specs.Soundness.{IsSound}
-use Rattle.equivalence.specs.Lent.{mappingOf, withOp, withBlock, withValues}
+use Rattle.equivalence.specs.MappingWords.{mappingOf, opMapped, blockMapped, valuesMapped}
 use Rattle.fragments.specs.Rows.{RowOf}
 use Rattle.fragments.specs.declared.types.Row.{Row}
-use Rattle.fragments.proofs.ByRows.{opHead, head-whole}
+use Rattle.fragments.proofs.ByRows.{headOfOp, head-whole}
 use Rattle.equivalence.specs.Rows.{sameHeads, sameRows}
-use Rattle.equivalence.specs.Walked.{answerOf, lent, outcome, Told}
+use Rattle.equivalence.specs.Walked.{answerOf, stateOf, outcome, Told}
 use Rattle.equivalence.specs.declared.types.EqResult.the-variants.{Eq, FirstNEQOps, FirstNEQBlocks}
 use Rattle.equivalence.proofs.Alike.{op-shells, block-shells, as-many}
 
@@ -28,8 +28,8 @@ use Rattle.equivalence.proofs.Alike.{op-shells, block-shells, as-many}
 pub record Side (C : Cols) (w v : Owner) (l r : Row) : Type 0 where
   pub leftFits : l .value + l .values ≤ maxValues
   pub rightFits : r .value + l .values ≤ maxValues
-  pub left : valuesOf (storeOf C) w ≡ following (l .value) (l .values)
-  pub right : valuesOf (storeOf C) v ≡ following (r .value) (l .values)
+  pub left : valuesOf (storeOf C) w ≡ consecutive (l .value) (l .values)
+  pub right : valuesOf (storeOf C) v ≡ consecutive (r .value) (l .values)
 
 side : {C : Cols} {w v : Owner} {l r : Row} → RowOf C w l → RowOf C v r → l .values ≡ r .values → Side C w v l r
 side {l = l} {r = r} hl hr e =
@@ -37,7 +37,7 @@ side {l = l} {r = r} hl hr e =
       leftFits = hl .fits .values;
       rightFits = omega (arith, hr .fits .values);
       left = hl .values;
-      right = hr .values ∙ ap (following (r .value)) (sym e);
+      right = hr .values ∙ ap (consecutive (r .value)) (sym e);
     }
 
 module _ (b : List ℕ) (ig : Ignore) (x y : ℕ) {l r : Row} where
@@ -45,7 +45,7 @@ module _ (b : List ℕ) (ig : Ignore) (x y : ℕ) {l r : Row} where
       → sameShells (storeIn b) ig (ofOp x) (ofOp y) ≡ true → Side (columns b) (ofOp x) (ofOp y) l r
   op-side s lx ly el er t =
       let same = sym (op-shells ig (head-whole b s x lx) (head-whole b s y ly) el er) ∙ t in
-      side el er (as-many (columns b) ig l r (and-right (sameHeads (opHead (columns b) x) (opHead (columns b) y)) (sameRows (columns b) ig l r) same))
+      side el er (as-many (columns b) ig l r (and-right (sameHeads (headOfOp (columns b) x) (headOfOp (columns b) y)) (sameRows (columns b) ig l r) same))
 
   pub block-side : RowOf (columns b) (ofBlock x) l → RowOf (columns b) (ofBlock y) r → sameShells (storeIn b) ig (ofBlock x) (ofBlock y) ≡ true
       → Side (columns b) (ofBlock x) (ofBlock y) l r
@@ -54,21 +54,21 @@ module _ (b : List ℕ) (ig : Ignore) (x y : ℕ) {l r : Row} where
 -- ---- what is told
 
 module _ (s : Store) (ig : Ignore) (l r : ℕ) (b : List ℕ) (n : ℕ) where
-  pub ops-unlike : sameShells s ig (ofOp l) (ofOp r) ≡ false → Told (pairOps s ig l r (lent b n)) (FirstNEQOps l r n) b
-  unfolding Told outcome pairOps expect comparisonOf standing answerOf lent
+  pub ops-unlike : sameShells s ig (ofOp l) (ofOp r) ≡ false → Told (pairOps s ig l r (stateOf b n)) (FirstNEQOps l r n) b
+  unfolding Told outcome pairOps expect comparisonOf standing answerOf stateOf
   ops-unlike e = rw e refl
 
-  pub blocks-unlike : sameShells s ig (ofBlock l) (ofBlock r) ≡ false → Told (pairBlocks s ig l r (lent b n)) (FirstNEQBlocks l r n) b
-  unfolding Told outcome pairBlocks expect comparisonOf standing answerOf lent
+  pub blocks-unlike : sameShells s ig (ofBlock l) (ofBlock r) ≡ false → Told (pairBlocks s ig l r (stateOf b n)) (FirstNEQBlocks l r n) b
+  unfolding Told outcome pairBlocks expect comparisonOf standing answerOf stateOf
   blocks-unlike e = rw e refl
 
   module _ (c : List ℕ) (ls rs : List ℕ) where
     pub ops-alike : sameShells s ig (ofOp l) (ofOp r) ≡ true → valuesOf s (ofOp l) ≡ ls → valuesOf s (ofOp r) ≡ rs
-        → mappingOf c ≡ withValues (withOp (mappingOf b) l r) ls rs → Told (pairOps s ig l r (lent b n)) (Eq (n + 1)) c
-    unfolding Told outcome pairOps expect comparisonOf standing answerOf lent enterOps withValues withOp
+        → mappingOf c ≡ valuesMapped (opMapped (mappingOf b) l r) ls rs → Told (pairOps s ig l r (stateOf b n)) (Eq (n + 1)) c
+    unfolding Told outcome pairOps expect comparisonOf standing answerOf stateOf enterOps valuesMapped opMapped
     ops-alike e el er m = rw (e, el, er, m) refl
 
     pub blocks-alike : sameShells s ig (ofBlock l) (ofBlock r) ≡ true → valuesOf s (ofBlock l) ≡ ls → valuesOf s (ofBlock r) ≡ rs
-        → mappingOf c ≡ withValues (withBlock (mappingOf b) l r) ls rs → Told (pairBlocks s ig l r (lent b n)) (Eq (n + 1)) c
-    unfolding Told outcome pairBlocks expect comparisonOf standing answerOf lent enterBlocks withValues withBlock
+        → mappingOf c ≡ valuesMapped (blockMapped (mappingOf b) l r) ls rs → Told (pairBlocks s ig l r (stateOf b n)) (Eq (n + 1)) c
+    unfolding Told outcome pairBlocks expect comparisonOf standing answerOf stateOf enterBlocks valuesMapped blockMapped
     blocks-alike e el er m = rw (e, el, er, m) refl

@@ -14,7 +14,7 @@ use Rattle.rules.specs.Mapping.{orSelf, image, noImage}
 use Rattle.rules.proofs.Basics.Tests.{and-both, all-at}
 use Rattle.rules.proofs.Basics.Appended.{mem-getD}
 use Rattle.layout.proofs.Scans.{Before, AtBoth, and-false}
-use Rattle.equivalence.specs.Lent.{mappingLength, mappingOf}
+use Rattle.equivalence.specs.MappingWords.{mappingLength, mappingOf}
 
 pub pairs-pass : (p : ℕ → ℕ → Bool) (xs ys : List ℕ) (n : ℕ) → min (length xs) (length ys) ≤ n → Before (AtBoth p xs ys) n → allPairs p xs ys ≡ true
 unfolding allPairs

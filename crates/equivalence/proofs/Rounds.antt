@@ -11,7 +11,7 @@ use lib.ListN.{length}
 use Rattle.rules.specs.Store.{Store, regionsOf, regionExists, sound}
 use Rattle.rules.specs.Fragments.{op, region, exists, levels}
 use Rattle.rules.specs.Shells.{Ignore}
-use Rattle.rules.specs.Comparison.{State, Walk, on, standing, _>>=_, paper, eachPair, expect, operandsAgree, successorsAgree, checkNames, checkOps, pass1, pass2, pass3, compareLists, compareRegions, compareBy}
+use Rattle.rules.specs.Comparison.{State, Walk, on, standing, _>>=_, eachPair, expect, operandsAgree, successorsAgree, checkNames, checkOps, pass1, pass2, pass3, compareLists, compareRegions, compareBy}
 use Rattle.rules.specs.Answers.{comparisonOf}
 use Rattle.rules.proofs.Walking.Enough.{enough-one}
 use Rattle.rules.proofs.Walking.Deep.{walks-not-deep}
@@ -20,14 +20,14 @@ use Rattle.layout.specs.Columns.{Cols, at, opRegionFirst, opRegionEnd}
 use Rattle.layout.specs.Reading.{opCount, regionCount, storeOf}
 use Rattle.layout.proofs.Laid.{Laid}
 use Rattle.layout.proofs.Ranges.{range, range-empty, range-first, length-range, regions-range, in-range}
-use Rattle.fragments.specs.Order.{listed}
-use Rattle.equivalence.specs.Lent.{mappingOf}
-use Rattle.equivalence.specs.Walked.{answerOf, lent, outcome, Told, Few, leftOf, rightOf, lefts, rights, namedBy, regionWalk, opWalk, listsWalk}
+use Rattle.fragments.specs.Order.{blockList}
+use Rattle.equivalence.specs.MappingWords.{mappingOf}
+use Rattle.equivalence.specs.Walked.{answerOf, stateOf, outcome, Told, PairedFits, leftOf, rightOf, lefts, rights, pairOfLists, regionWalk, opWalk, listsWalk}
 use Rattle.equivalence.specs.Order.{pairsFrom, walkPairs}
 use Rattle.equivalence.specs.declared.types.EqResult.{EqResult}
 use Rattle.equivalence.specs.declared.types.EqResult.the-variants.{Eq, FirstNEQOps}
-use Rattle.equivalence.specs.declared.types.Lists.{Lists}
-use Rattle.equivalence.specs.declared.types.Lists.the-variants.{InRegions}
+use Rattle.equivalence.specs.declared.types.BlockLists.{BlockLists}
+use Rattle.equivalence.specs.declared.types.BlockLists.the-variants.{InRegions}
 use Rattle.equivalence.proofs.Ordered.{pass3-pairs}
 use Rattle.equivalence.proofs.Telling.{NotEq, told-ended, told-bind, few-part}
 
@@ -36,28 +36,28 @@ module _ (s : Store) (ig : Ignore) where
 
   -- one region more to enter makes no difference
   pub region-lists : sound s ≡ true → (l r : ℕ) → regionExists s l ≡ true → (st : State) → regionWalk s ig l r st ≡ listsWalk s ig (InRegions l r) st
-  unfolding regionWalk listsWalk opWalk leftOf rightOf listed namedBy compareRegions compareBy exists
-  region-lists sd l r e st = sym (enough-one paper s ig levels l r st (λ t h. walks-not-deep s sd paper ig region l r e st t h))
+  unfolding regionWalk listsWalk opWalk leftOf rightOf blockList pairOfLists compareRegions compareBy exists
+  region-lists sd l r e st = sym (enough-one s ig levels l r st (λ t h. walks-not-deep s sd ig region l r e st t h))
 
   -- ---- two operations
 
   pub names-disagree : (l r : ℕ) (b : List ℕ) (n : ℕ) → (operandsAgree s (mappingOf b) l r && successorsAgree s (mappingOf b) l r) ≡ false
-      → Told (opWalk s ig l r (lent b n)) (FirstNEQOps l r n) b
-  unfolding Told outcome opWalk checkOps checkNames expect comparisonOf standing answerOf lent
+      → Told (opWalk s ig l r (stateOf b n)) (FirstNEQOps l r n) b
+  unfolding Told outcome opWalk checkOps checkNames expect comparisonOf standing answerOf stateOf
   names-disagree l r b n e = rw e refl
 
   pub names-passed : (l r : ℕ) (b : List ℕ) (n : ℕ) → (operandsAgree s (mappingOf b) l r && successorsAgree s (mappingOf b) l r) ≡ true
-      → opWalk s ig l r (lent b n) ≡ eachPair (regionWalk s ig) (regionsOf s l) (regionsOf s r) (lent b n)
-  unfolding opWalk checkOps checkNames expect lent regionWalk
+      → opWalk s ig l r (stateOf b n) ≡ eachPair (regionWalk s ig) (regionsOf s l) (regionsOf s r) (stateOf b n)
+  unfolding opWalk checkOps checkNames expect stateOf regionWalk
   names-passed l r b n e = rw e refl
 
   pub grows-region : (l r : ℕ) → Grows (regionWalk s ig l r)
   unfolding regionWalk
-  grows-region l r = grows-regions paper s ig levels l r
+  grows-region l r = grows-regions s ig levels l r
 
   pub grows-op : (l r : ℕ) → Grows (opWalk s ig l r)
   unfolding opWalk
-  grows-op l r = grows-ops s _ (grows-regions paper s ig levels) l r
+  grows-op l r = grows-ops s _ (grows-regions s ig levels) l r
 
   -- ---- two lists of blocks
 
@@ -76,12 +76,12 @@ module _ (s : Store) (ig : Ignore) where
   unfolding walkPairs
   pairs-step l r qs st e = ap (λ (ps : List (ℕ × ℕ)). walkPairs (opWalk s ig) ps st) e
 
-  module _ (x : Lists) (st : State) where
+  module _ (x : BlockLists) (st : State) where
     abbrev pub first : Walk
-    first = pass1 paper s ig (namedBy x) (lefts s x) (rights s x) st
+    first = pass1 s ig (pairOfLists x) (lefts s x) (rights s x) st
 
     abbrev pub second : State → Walk
-    second = pass2 paper s ig (lefts s x) (rights s x)
+    second = pass2 s ig (lefts s x) (rights s x)
 
     abbrev third : State → Walk
     third = pass3 s (opWalk s ig) (lefts s x) (rights s x)
@@ -89,28 +89,28 @@ module _ (s : Store) (ig : Ignore) where
     grows-third : Grows third
     grows-third = grows-pass3 s (opWalk s ig) grows-op (lefts s x) (rights s x)
 
-    pub few-first : Few (listsWalk s ig x st) → Few first
+    pub few-first : PairedFits (listsWalk s ig x st) → PairedFits first
     unfolding listsWalk compareLists
-    few-first h = few-part (first >>= second) first second (grows-pass2 paper s ig (lefts s x) (rights s x)) refl (few-part (listsWalk s ig x st) (first >>= second) third grows-third refl h)
+    few-first h = few-part (first >>= second) first second (grows-pass2 s ig (lefts s x) (rights s x)) refl (few-part (listsWalk s ig x st) (first >>= second) third grows-third refl h)
 
     pub first-ended : (q : EqResult) (b : List ℕ) → NotEq q → Told first q b → Told (listsWalk s ig x st) q b
     unfolding listsWalk compareLists
     first-ended q b k h = told-ended (first >>= second) third q b k (told-ended first second q b k h)
 
     module _ (b : List ℕ) {n : ℕ} {q : EqResult} (e : q ≡ Eq n) (h : Told first q b) where
-      past-first : listsWalk s ig x st ≡ second (lent b n) >>= third
+      past-first : listsWalk s ig x st ≡ second (stateOf b n) >>= third
       unfolding listsWalk compareLists
       past-first = ap (λ (w : Walk). w >>= third) (told-bind first second b e h)
 
-      pub few-second : Few (listsWalk s ig x st) → Few (second (lent b n))
-      few-second f = few-part (listsWalk s ig x st) (second (lent b n)) third grows-third past-first f
+      pub few-second : PairedFits (listsWalk s ig x st) → PairedFits (second (stateOf b n))
+      few-second f = few-part (listsWalk s ig x st) (second (stateOf b n)) third grows-third past-first f
 
-      pub second-ended : (o : EqResult) (c : List ℕ) → NotEq o → Told (second (lent b n)) o c → Told (listsWalk s ig x st) o c
-      second-ended o c k t = subst (λ (w : Walk). Told w o c) (sym past-first) (told-ended (second (lent b n)) third o c k t)
+      pub second-ended : (o : EqResult) (c : List ℕ) → NotEq o → Told (second (stateOf b n)) o c → Told (listsWalk s ig x st) o c
+      second-ended o c k t = subst (λ (w : Walk). Told w o c) (sym past-first) (told-ended (second (stateOf b n)) third o c k t)
 
-      pub third-starts : (c : List ℕ) {m : ℕ} {o : EqResult} → o ≡ Eq m → Told (second (lent b n)) o c
-          → listsWalk s ig x st ≡ walkPairs (opWalk s ig) (pairsFrom s x (record { lblock = 0; rblock = 0; lop = 0; rop = 0 })) (lent c m)
-      third-starts c {m} f t = past-first ∙ told-bind (second (lent b n)) third c f t ∙ pass3-pairs (opWalk s ig) s x (lent c m)
+      pub third-starts : (c : List ℕ) {m : ℕ} {o : EqResult} → o ≡ Eq m → Told (second (stateOf b n)) o c
+          → listsWalk s ig x st ≡ walkPairs (opWalk s ig) (pairsFrom s x (record { lblock = 0; rblock = 0; lop = 0; rop = 0 })) (stateOf c m)
+      third-starts c {m} f t = past-first ∙ told-bind (second (stateOf b n)) third c f t ∙ pass3-pairs (opWalk s ig) s x (stateOf c m)
 
 -- ---- regions pair by pair
 

@@ -6,7 +6,7 @@ use mathlib.Core.List.{List, _∷_}
 use mathlib.Core.Path.{_≡_, refl, ap, _∙_}
 use lib.ListN.{take, drop, replicate}
 use Rattle.rules.specs.Mapping.{noImage, emptyMapping}
-use Rattle.equivalence.specs.Lent.{mappingOf, emptyWords}
+use Rattle.equivalence.specs.MappingWords.{mappingOf, emptyWords}
 
 take-same : (n m x : ℕ) → n ≤ m → take n (replicate m x) ≡ replicate n x
 take-same zero m x l = refl

@@ -9,7 +9,7 @@ use Rattle.rules.specs.Shells as rules
 use Rattle.rules.specs.Answers.{shallow, comparison}
 use Rattle.layout.specs.Reading.{storeIn}
 use Rattle.layout.specs.Soundness.{soundBuffer}
-use Rattle.equivalence.specs.Lent.{mappingOf}
+use Rattle.equivalence.specs.MappingWords.{mappingOf}
 use Rattle.equivalence.specs.Walked.{answerOf}
 use Rattle.equivalence.specs.declared.types.EqResult.{EqResult}
 use Rattle.equivalence.specs.declared.types.EqResult.the-variants.{Refused}
@@ -22,4 +22,4 @@ pairTests s f l r = (exists s f l && exists s f r, 2) ∷ (shallow s f l && shal
 pub record Answered (store before after : List ℕ) (ig : rules.Ignore) (f : Sort) (l r : ℕ) (q : EqResult) : Type 0 where
   pub told : comparison (soundBuffer store) (storeIn store) (mappingOf before) ig f l r ≡ record { answer = answerOf q; mapping = mappingOf after }
   -- "refused: ... mapping as they were": every word
-  pub kept : (cause : ℕ) → q ≡ Refused cause → after ≡ before
+  pub unchanged : (cause : ℕ) → q ≡ Refused cause → after ≡ before

@@ -1,4 +1,4 @@
--- Two lists gone through side by side: the next of each, and the pairs of operations that are left from a place on.
+-- Two lists walked through side by side: the next of each, and the pairs of operations that are left from a position on.
 use Prim.Native.Nat.{ℕ, _+_}
 use mathlib.Core.List.{List, [], _∷_, _++_, List·Memᴰ}
 use mathlib.Core.Path.{_≡_}
@@ -10,26 +10,26 @@ use Rattle.layout.specs.declared.children.Found.{Found}
 use Rattle.layout.specs.declared.children.Found.the-variants.{At, Nothing}
 use Rattle.fragments.specs.Order as order
 use Rattle.equivalence.specs.Walked.{leftOf, rightOf, lefts, rights}
-use Rattle.equivalence.specs.declared.types.Lists.{Lists}
-use Rattle.equivalence.specs.declared.types.Next.{Next}
-use Rattle.equivalence.specs.declared.types.Next.the-variants.{Both, Neither, Unequal}
-use Rattle.equivalence.specs.declared.types.Place.{Place}
+use Rattle.equivalence.specs.declared.types.BlockLists.{BlockLists}
+use Rattle.equivalence.specs.declared.types.ZipNext.{ZipNext}
+use Rattle.equivalence.specs.declared.types.ZipNext.the-variants.{Both, Neither, Unequal}
+use Rattle.equivalence.specs.declared.types.PairPosition.{PairPosition}
 use Rattle.equivalence.specs.declared.types.NextOps.{NextOps}
 use Rattle.equivalence.specs.declared.types.NextOps.the-variants as ops
 
-unfoldable pub bothOf : Found → Found → Next
+unfoldable pub bothOf : Found → Found → ZipNext
 bothOf Nothing Nothing = Neither
 bothOf Nothing (At r) = Unequal
 bothOf (At l) Nothing = Unequal
 bothOf (At l) (At r) = Both l r
 
 -- the next of each list, from a and from b on
-unfoldable pub nextOf : ℕ → List ℕ → ℕ → List ℕ → Next
+unfoldable pub nextOf : ℕ → List ℕ → ℕ → List ℕ → ZipNext
 nextOf a ls b rs = bothOf (foundFrom (firstFrom a ls)) (foundFrom (firstFrom b rs))
 
 -- two regions or two blocks of the store
-abbrev pub Existing : Cols → Lists → Type 0
-Existing C x = order.Existing C (leftOf x) × order.Existing C (rightOf x)
+abbrev pub ListsExist : Cols → BlockLists → Type 0
+ListsExist C x = order.BlocksExist C (leftOf x) × order.BlocksExist C (rightOf x)
 
 -- ---- pairs of operations
 
@@ -44,23 +44,23 @@ pairsIn s c d [] rs = []
 pairsIn s c d (l ∷ ls) [] = []
 pairsIn s c d (l ∷ ls) (r ∷ rs) = zipped (onFrom c (opsOf s l)) (onFrom d (opsOf s r)) ++ pairsIn s 0 0 ls rs
 
-unfoldable pub pairsFrom : Store → Lists → Place → List (ℕ × ℕ)
+unfoldable pub pairsFrom : Store → BlockLists → PairPosition → List (ℕ × ℕ)
 pairsFrom s x p = pairsIn s (p .lop) (p .rop) (onFrom (p .lblock) (lefts s x)) (onFrom (p .rblock) (rights s x))
 
--- past the pair of operations at a place
-unfoldable pub past : Place → Place
-past p = record { lblock = p .lblock; rblock = p .rblock; lop = p .lop + 1; rop = p .rop + 1 }
+-- past the pair of operations at a position
+unfoldable pub pastPair : PairPosition → PairPosition
+pastPair p = record { lblock = p .lblock; rblock = p .rblock; lop = p .lop + 1; rop = p .rop + 1 }
 
 -- the pair at q is the first from p on, and q's blocks stand in the lists
-pub record First (s : Store) (x : Lists) (p q : Place) : Type 0 where
-  pub pairs : pairsFrom s x p ≡ (q .lop, q .rop) ∷ pairsFrom s x (past q)
+pub record IsFirstPair (s : Store) (x : BlockLists) (p q : PairPosition) : Type 0 where
+  pub pairs : pairsFrom s x p ≡ (q .lop, q .rop) ∷ pairsFrom s x (pastPair q)
   pub lBlock : List·Memᴰ (q .lblock) (lefts s x)
   pub rBlock : List·Memᴰ (q .rblock) (rights s x)
   pub lOp : List·Memᴰ (q .lop) (opsOf s (q .lblock))
   pub rOp : List·Memᴰ (q .rop) (opsOf s (q .rblock))
 
-unfoldable pub FirstPair : Store → Lists → Place → NextOps → Type 0
-FirstPair s x p (ops.At q) = First s x p q
+unfoldable pub FirstPair : Store → BlockLists → PairPosition → NextOps → Type 0
+FirstPair s x p (ops.At q) = IsFirstPair s x p q
 FirstPair s x p ops.End = pairsFrom s x p ≡ []
 
 -- a walk over pairs of operations

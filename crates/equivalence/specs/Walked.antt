@@ -6,17 +6,17 @@ use lib.ListN.{length}
 use Rattle.rules.specs.Store.{Store}
 use Rattle.rules.specs.Fragments.{op, block, region, levels}
 use Rattle.rules.specs.Shells as rules
-use Rattle.rules.specs.Comparison.{State, Pair, Walk, standing, paper, pairOf, checkOps, compareLists, compareRegions}
+use Rattle.rules.specs.Comparison.{State, Pair, Walk, standing, pairOf, checkOps, compareLists, compareRegions}
 use Rattle.rules.specs.Answers.{Compared, Comparison, eq, neq, refused, comparisonOf}
 use Rattle.layout.specs.Soundness.{IsSound}
-use Rattle.fragments.specs.Order.{listed}
+use Rattle.fragments.specs.Order.{blockList}
 use Rattle.fragments.specs.declared.types.Blocks.{Blocks}
 use Rattle.fragments.specs.declared.types.Blocks.the-variants as list
-use Rattle.equivalence.specs.Lent.{mappingLength, mappingOf}
+use Rattle.equivalence.specs.MappingWords.{mappingLength, mappingOf}
 use Rattle.equivalence.specs.declared.types.EqResult.{EqResult}
 use Rattle.equivalence.specs.declared.types.EqResult.the-variants.{Eq, FirstNEQOps, FirstNEQRegions, FirstNEQBlocks, Refused}
-use Rattle.equivalence.specs.declared.types.Lists.{Lists}
-use Rattle.equivalence.specs.declared.types.Lists.the-variants.{InRegions, Alone}
+use Rattle.equivalence.specs.declared.types.BlockLists.{BlockLists}
+use Rattle.equivalence.specs.declared.types.BlockLists.the-variants.{InRegions, Alone}
 
 -- 01's answer and numbers for each case
 unfoldable pub answerOf : EqResult → Compared
@@ -26,9 +26,9 @@ answerOf (FirstNEQRegions l r n) = neq (pairOf region l r) n
 answerOf (FirstNEQBlocks l r n) = neq (pairOf block l r) n
 answerOf (Refused cause) = refused cause
 
--- the state of a walk: lent words, and so many entered
-unfoldable pub lent : List ℕ → ℕ → State
-lent b n = record { mapping = mappingOf b; paired = n }
+-- the state of a walk: the words of the mapping, and so many pairs entered
+unfoldable pub stateOf : List ℕ → ℕ → State
+stateOf b n = record { mapping = mappingOf b; paired = n }
 
 -- where a walk has come to: its answer, and the mapping with the entries made so far
 unfoldable pub outcome : Walk → Comparison
@@ -39,53 +39,53 @@ unfoldable pub Told : Walk → EqResult → List ℕ → Type 0
 Told w q b = outcome w ≡ record { answer = answerOf q; mapping = mappingOf b }
 
 -- a sound store, and a mapping of the right length: what every step of a walk asks for
-pub record Ready (store mapping : List ℕ) : Type 0 where
+pub record ReadyToCompare (store mapping : List ℕ) : Type 0 where
   pub sound : IsSound store
   pub long : length mapping ≡ mappingLength
 
 -- a walk enters no more than there are operations and blocks
-abbrev pub most : ℕ
-most = 768
+abbrev pub maxPaired : ℕ
+maxPaired = 768
 
-abbrev pub Few : Walk → Type 0
-Few w = standing w .paired ≤ most
+abbrev pub PairedFits : Walk → Type 0
+PairedFits w = standing w .paired ≤ maxPaired
 
 -- ---- two lists of blocks
 
-unfoldable pub leftOf : Lists → Blocks
+unfoldable pub leftOf : BlockLists → Blocks
 leftOf (InRegions l r) = list.InRegion l
 leftOf (Alone l r) = list.Alone l
 
-unfoldable pub rightOf : Lists → Blocks
+unfoldable pub rightOf : BlockLists → Blocks
 rightOf (InRegions l r) = list.InRegion r
 rightOf (Alone l r) = list.Alone r
 
-abbrev pub lefts : Store → Lists → List ℕ
-lefts s x = listed s (leftOf x)
+abbrev pub lefts : Store → BlockLists → List ℕ
+lefts s x = blockList s (leftOf x)
 
-abbrev pub rights : Store → Lists → List ℕ
-rights s x = listed s (rightOf x)
+abbrev pub rights : Store → BlockLists → List ℕ
+rights s x = blockList s (rightOf x)
 
--- the pair that unequal lengths name
-unfoldable pub namedBy : Lists → Pair
-namedBy (InRegions l r) = pairOf region l r
-namedBy (Alone l r) = pairOf block l r
+-- the first unequal pair, where one list is longer than the other
+unfoldable pub pairOfLists : BlockLists → Pair
+pairOfLists (InRegions l r) = pairOf region l r
+pairOfLists (Alone l r) = pairOf block l r
 
-unfoldable pub neqOf : Lists → ℕ → EqResult
+unfoldable pub neqOf : BlockLists → ℕ → EqResult
 neqOf (InRegions l r) n = FirstNEQRegions l r n
 neqOf (Alone l r) n = FirstNEQBlocks l r n
 
 -- no larger than there may be blocks and regions
-unfoldable pub Bounded : Lists → Type 0
+unfoldable pub Bounded : BlockLists → Type 0
 Bounded (InRegions l r) = (l ≤ 256) × (r ≤ 256)
 Bounded (Alone l r) = (l ≤ 256) × (r ≤ 256)
 
 -- the walk over two regions, over two operations that are paired, and over two lists of blocks
 unfoldable pub regionWalk : Store → rules.Ignore → ℕ → ℕ → State → Walk
-regionWalk s ig l r st = compareRegions levels paper s ig l r st
+regionWalk s ig l r st = compareRegions levels s ig l r st
 
 unfoldable pub opWalk : Store → rules.Ignore → ℕ → ℕ → State → Walk
-opWalk s ig l r st = checkOps s (compareRegions levels paper s ig) l r st
+opWalk s ig l r st = checkOps s (compareRegions levels s ig) l r st
 
-unfoldable pub listsWalk : Store → rules.Ignore → Lists → State → Walk
-listsWalk s ig x st = compareLists paper s ig (opWalk s ig) (namedBy x) (lefts s x) (rights s x) st
+unfoldable pub listsWalk : Store → rules.Ignore → BlockLists → State → Walk
+listsWalk s ig x st = compareLists s ig (opWalk s ig) (pairOfLists x) (lefts s x) (rights s x) st

@@ -1,4 +1,4 @@
-// Attributes, by their slots: `attributes_eq`.
+// Attributes, by their slots. Slots stand by rising key, so equal lists of attributes are equal slot by slot.
 use fragments::ignoring::Ignore;
 use fragments::ignoring::next_kept;
 use layout::columns::SLOT_CONTENT;
@@ -30,7 +30,7 @@ fn attribute_eq(store: &[u32], l: usize, r: usize) -> bool
     at(store, SLOT_CONTENT, l) == at(store, SLOT_CONTENT, r)
 }
 
-// The unignored attributes of two runs of slots are equal.
+// Compare the attributes of two runs of slots, without the ignored ones: those from `l` up to `lend`, and those from `r` up to `rend`.
 pub fn attributes_eq(
     store: &[u32],
     ignore: Ignore,

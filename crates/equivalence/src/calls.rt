@@ -1,4 +1,5 @@
-// The three offered comparisons: each refuses a buffer that is not sound and a mapping that is not allowed, and then compares its fragments.
+// The three offered comparisons: each refuses a buffer that is not sound and a mapping that is not allowed, and then compares its
+// fragments.
 use crate::comparison::fragments_eq;
 use crate::mapping::is_allowed;
 use crate::types::EqResult;
@@ -10,7 +11,7 @@ ghost use Rattle.fragments.specs.Ignoring.{ignoreOf};
 ghost use Rattle.fragments.specs.Sorts.{sortOf};
 ghost use Rattle.equivalence.specs.Calls.{Answered};
 
-// Two fragments of one sort, with a store and a mapping of any words.
+// Compare two fragments of one sort, with a store and a mapping that may hold any words.
 fn lent_eq(
     store: &[u32],
     mapping: &mut [u32],

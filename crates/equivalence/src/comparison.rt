@@ -3,8 +3,8 @@ use crate::pairing::op_eq_map;
 use crate::regions::blocks_eq;
 use crate::regions::op_eq_mapped;
 use crate::regions::region_eq;
+use crate::types::BlockLists;
 use crate::types::EqResult;
-use crate::types::Lists;
 use fragments::ignoring::Ignore;
 use fragments::sorts::exists;
 use fragments::sorts::is_shallow;
@@ -15,7 +15,7 @@ ghost use mathlib.Core.Path.{_≡_};
 ghost use Rattle.rules.specs.Building.{firstFailed};
 ghost use Rattle.rules.specs.Fragments.{op};
 ghost use Rattle.rules.specs.Mapping.{allowed};
-ghost use Rattle.rules.specs.Comparison.{paper, compareBy};
+ghost use Rattle.rules.specs.Comparison.{compareBy};
 ghost use Prim.Native.Nat.{_<_};
 ghost use Rattle.layout.specs.Columns.{columns};
 ghost use Rattle.layout.specs.Reading.{opCount, storeIn};
@@ -23,8 +23,8 @@ ghost use Rattle.layout.specs.Causes.{causeOf};
 ghost use Rattle.layout.specs.Soundness.{IsSound};
 ghost use Rattle.fragments.specs.Sorts.{sortOf};
 ghost use Rattle.fragments.specs.Ignoring.{ignoreOf};
-ghost use Rattle.equivalence.specs.Lent.{mappingOf};
-ghost use Rattle.equivalence.specs.Walked.{Ready, Told, Few, lent};
+ghost use Rattle.equivalence.specs.MappingWords.{mappingOf};
+ghost use Rattle.equivalence.specs.Walked.{ReadyToCompare, Told, PairedFits, stateOf};
 ghost use Rattle.equivalence.specs.Calls.{Answered, pairTests};
 
 // Why two fragments are not compared: one does not exist, or one is nested too deep. Nothing is entered yet.
@@ -47,13 +47,13 @@ fn pair_cause(store: &[u32], sort: Sort, lhs: u32, rhs: u32) -> Cause
     Cause::None
 }
 
-// Two operations: they are paired, then checked.
+// Compare two operations: they are mapped, and then everything else about them is compared.
 fn ops_eq(store: &[u32], mapping: &mut [u32], lhs: usize, rhs: usize, ignore: Ignore) -> EqResult
-    requires { ⌜ Ready (now store) (now mapping) ⌝ }
+    requires { ⌜ ReadyToCompare (now store) (now mapping) ⌝ }
     requires { ⌜ lhs < opCount (columns (now store)) ⌝ }
     requires { ⌜ rhs < opCount (columns (now store)) ⌝ }
-    requires { ⌜ Few (compareBy paper (storeIn (now store)) (ignoreOf ignore) op lhs rhs (lent (now mapping) 0)) ⌝ }
-    ensures { λ q. ⌜ Told (compareBy paper (storeIn (now (store .entry))) (ignoreOf ignore) op lhs rhs (lent (now (mapping .entry)) 0)) q (now (mapping .exit)) ⌝ }
+    requires { ⌜ PairedFits (compareBy (storeIn (now store)) (ignoreOf ignore) op lhs rhs (stateOf (now mapping) 0)) ⌝ }
+    ensures { λ q. ⌜ Told (compareBy (storeIn (now (store .entry))) (ignoreOf ignore) op lhs rhs (stateOf (now (mapping .entry)) 0)) q (now (mapping .exit)) ⌝ }
 {
     let mapped = op_eq_map(store, mapping, lhs, rhs, ignore, 0);
     let EqResult::Eq(paired) = mapped else {
@@ -62,7 +62,7 @@ fn ops_eq(store: &[u32], mapping: &mut [u32], lhs: usize, rhs: usize, ignore: Ig
     op_eq_mapped(store, mapping, lhs, rhs, ignore, paired)
 }
 
-// Two fragments by their sort; a block is a list of one.
+// Compare two fragments by their sort. Two blocks are two lists of one block each.
 fn walk_eq(
     store: &[u32],
     mapping: &mut [u32],
@@ -71,14 +71,14 @@ fn walk_eq(
     rhs: usize,
     ignore: Ignore,
 ) -> EqResult
-    requires { ⌜ Ready (now store) (now mapping) ⌝ }
+    requires { ⌜ ReadyToCompare (now store) (now mapping) ⌝ }
     requires { ⌜ Rattle.rules.specs.Fragments.exists (storeIn (now store)) (sortOf sort) lhs ≡ true ⌝ }
     requires { ⌜ Rattle.rules.specs.Fragments.exists (storeIn (now store)) (sortOf sort) rhs ≡ true ⌝ }
-    ensures { λ q. ⌜ Told (compareBy paper (storeIn (now (store .entry))) (ignoreOf ignore) (sortOf sort) lhs rhs (lent (now (mapping .entry)) 0)) q (now (mapping .exit)) ⌝ }
+    ensures { λ q. ⌜ Told (compareBy (storeIn (now (store .entry))) (ignoreOf ignore) (sortOf sort) lhs rhs (stateOf (now (mapping .entry)) 0)) q (now (mapping .exit)) ⌝ }
 {
     match sort {
         Sort::Op => ops_eq(store, mapping, lhs, rhs, ignore),
-        Sort::Block => blocks_eq(store, mapping, Lists::Alone(lhs, rhs), ignore, 0),
+        Sort::Block => blocks_eq(store, mapping, BlockLists::Alone(lhs, rhs), ignore, 0),
         Sort::Region => region_eq(store, mapping, lhs, rhs, ignore, 0),
     }
 }

@@ -1,4 +1,4 @@
-// A lent mapping: its words, its check, and entries made in it.
+// A mapping that the caller lends: its words, the test whether it is allowed, and entries made in it.
 use layout::columns::BLOCKS;
 use layout::columns::COUNTS;
 use layout::columns::OPS;
@@ -8,25 +8,25 @@ ghost use mathlib.Core.Path.{_≡_};
 ghost use Prim.Native.Nat.{_+_, _<_, _≤_};
 ghost use lib.ListN.{length};
 ghost use Rattle.rules.specs.Mapping.{entriesAllowed, allowed};
-ghost use Rattle.layout.specs.Reading.{storeIn, following};
+ghost use Rattle.layout.specs.Reading.{storeIn, consecutive};
 ghost use Rattle.layout.specs.Soundness.{Arranged};
-ghost use Rattle.equivalence.specs.Lent.{mappingLength, mappingOf, entryAllowed, withOp, withBlock, withValues};
+ghost use Rattle.equivalence.specs.MappingWords.{mappingLength, mappingOf, entryAllowed, opMapped, blockMapped, valuesMapped};
 
 // The entry of a number that has no image.
-pub const NONE: u32 = 4294967295;
+pub const NO_IMAGE: u32 = 4294967295;
 
-pub const LENGTH: usize = 2816;
+pub const MAPPING_LENGTH: usize = 2816;
 
-// Where the entries of blocks and of operations begin.
+// Where the entries of blocks and of operations begin, behind those of values.
 pub const BLOCK_ENTRIES: usize = 2048;
 
 pub const OP_ENTRIES: usize = 2304;
 
-// Number n and its image exist among so many, if it has one.
+// An entry is allowed if it has no image, or if its number n and its image exist, in a store with `count` of what it is an entry of.
 fn entry_allowed(count: u32, n: usize, image: u32) -> bool
     ensures { λ r. ⌜ r ≡ entryAllowed count n image ⌝ }
 {
-    if image == NONE {
+    if image == NO_IMAGE {
         return true;
     }
     if n >= count as usize {
@@ -54,7 +54,7 @@ pub fn is_allowed(store: &[u32], mapping: &[u32]) -> bool
     requires { ⌜ Arranged (now store) ⌝ }
     ensures { λ r. ⌜ r ≡ allowed (storeIn (now (store .entry))) (mappingOf (now (mapping .entry))) ⌝ }
 {
-    if mapping.len() != LENGTH {
+    if mapping.len() != MAPPING_LENGTH {
         return false;
     }
     if !entries_allowed(at(store, COUNTS, VALUES), &mapping[0..BLOCK_ENTRIES]) {
@@ -66,33 +66,33 @@ pub fn is_allowed(store: &[u32], mapping: &[u32]) -> bool
     ) {
         return false;
     }
-    entries_allowed(at(store, COUNTS, OPS), &mapping[OP_ENTRIES..LENGTH])
+    entries_allowed(at(store, COUNTS, OPS), &mapping[OP_ENTRIES..MAPPING_LENGTH])
 }
 
-// The image of operation l is r.
+// Maps operation l to r.
 pub fn map_op(mapping: &mut [u32], l: usize, r: u32)
     requires { ⌜ length (now mapping) ≡ mappingLength ⌝ }
     requires { ⌜ l < 512 ⌝ }
-    ensures { λ _. ⌜ mappingOf (now (mapping .exit)) ≡ withOp (mappingOf (now (mapping .entry))) l r ⌝ }
+    ensures { λ _. ⌜ mappingOf (now (mapping .exit)) ≡ opMapped (mappingOf (now (mapping .entry))) l r ⌝ }
 {
     mapping[OP_ENTRIES + l] = r;
 }
 
-// The image of block l is r.
+// Maps block l to r.
 pub fn map_block(mapping: &mut [u32], l: usize, r: u32)
     requires { ⌜ length (now mapping) ≡ mappingLength ⌝ }
     requires { ⌜ l < 256 ⌝ }
-    ensures { λ _. ⌜ mappingOf (now (mapping .exit)) ≡ withBlock (mappingOf (now (mapping .entry))) l r ⌝ }
+    ensures { λ _. ⌜ mappingOf (now (mapping .exit)) ≡ blockMapped (mappingOf (now (mapping .entry))) l r ⌝ }
 {
     mapping[BLOCK_ENTRIES + l] = r;
 }
 
-// The images of so many values from l on are those from r on.
+// Maps `count` values from l on to those from r on.
 pub fn map_values(mapping: &mut [u32], l: usize, r: u32, count: usize)
     requires { ⌜ length (now mapping) ≡ mappingLength ⌝ }
     requires { ⌜ l + count ≤ 2048 ⌝ }
     requires { ⌜ r + count ≤ 2048 ⌝ }
-    ensures { λ _. ⌜ mappingOf (now (mapping .exit)) ≡ withValues (mappingOf (now (mapping .entry))) (following l count) (following r count) ⌝ }
+    ensures { λ _. ⌜ mappingOf (now (mapping .exit)) ≡ valuesMapped (mappingOf (now (mapping .entry))) (consecutive l count) (consecutive r count) ⌝ }
 {
     let mut image = r;
     let mut v = l;

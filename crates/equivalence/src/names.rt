@@ -1,10 +1,10 @@
-// What two operations name, pair by pair: operands and successors, as `op_eq_mapped` checks them.
+// The uses of two operations, pair by pair: operands and successors, as `op_eq_mapped` checks them.
 use crate::mapping::BLOCK_ENTRIES;
-use crate::mapping::NONE;
+use crate::mapping::NO_IMAGE;
 use layout::columns::VALUE_TYPE;
 use layout::columns::at;
-use layout::parts::operands_of;
-use layout::parts::successors_of;
+use layout::slices::operands_of;
+use layout::slices::successors_of;
 ghost use mathlib.Core.Path.{_≡_};
 ghost use mathlib.Core.Bool.{true, _&&_};
 ghost use Prim.Native.Nat.{_<_};
@@ -16,22 +16,23 @@ ghost use Rattle.layout.specs.Columns.{columns};
 ghost use Rattle.rules.specs.Comparison.{operandsAgree, successorsAgree};
 ghost use Rattle.layout.specs.Reading.{opCount, valueCount, storeIn};
 ghost use Rattle.layout.specs.Soundness.{Arranged};
-ghost use Rattle.equivalence.specs.Lent.{mappingLength, mappingOf, sameOperand, sameSuccessor};
-ghost use Rattle.equivalence.specs.Walked.{Ready};
+ghost use Rattle.equivalence.specs.MappingWords.{mappingLength, mappingOf, sameOperand, sameSuccessor};
+ghost use Rattle.equivalence.specs.Walked.{ReadyToCompare};
 
-// The entry at i, or n itself where there is none.
+// The image of number n, whose entry is at i, or n itself if it is not mapped.
 fn image_at(mapping: &[u32], i: usize, n: u32) -> u32
     requires { ⌜ i < length (now mapping) ⌝ }
     ensures { λ r. ⌜ r ≡ orSelf (getD (now (mapping .entry)) i 0) n ⌝ }
 {
     let image = mapping[i];
-    if image == NONE {
+    if image == NO_IMAGE {
         return n;
     }
     image
 }
 
-// The left value's image is the right one, and their types are the same.
+// If an operand is mapped, its image must match. Otherwise, it must be identical (e.g. a free/external value shared by both sides). The
+// types of both must be the same.
 fn value_agrees(store: &[u32], mapping: &[u32], l: u32, r: u32) -> bool
     requires { ⌜ Arranged (now store) ⌝ }
     requires { ⌜ length (now mapping) ≡ mappingLength ⌝ }
@@ -45,7 +46,7 @@ fn value_agrees(store: &[u32], mapping: &[u32], l: u32, r: u32) -> bool
     at(store, VALUE_TYPE, l as usize) == at(store, VALUE_TYPE, r as usize)
 }
 
-// The left block's image is the right one.
+// If a successor is mapped, its image must match. Otherwise, it must be identical (e.g. a free/external block shared by both sides).
 fn block_agrees(mapping: &[u32], l: u32, r: u32) -> bool
     requires { ⌜ length (now mapping) ≡ mappingLength ⌝ }
     requires { ⌜ l < 256 ⌝ }
@@ -64,7 +65,7 @@ fn shorter(l: &[u32], r: &[u32]) -> usize
     r.len()
 }
 
-// Each operand's image is the right operand, and left and right have equal types.
+// Each pair of two lists of operands agrees.
 pub fn operands_agree(store: &[u32], mapping: &[u32], l: &[u32], r: &[u32]) -> bool
     requires { ⌜ Arranged (now store) ⌝ }
     requires { ⌜ length (now mapping) ≡ mappingLength ⌝ }
@@ -83,7 +84,7 @@ pub fn operands_agree(store: &[u32], mapping: &[u32], l: &[u32], r: &[u32]) -> b
     true
 }
 
-// Each successor's image is the right one.
+// Each pair of two lists of successors agrees.
 pub fn successors_agree(mapping: &[u32], l: &[u32], r: &[u32]) -> bool
     requires { ⌜ length (now mapping) ≡ mappingLength ⌝ }
     requires { ⌜ all (λ b. ltb b 256) (now l) ≡ true ⌝ }
@@ -102,7 +103,7 @@ pub fn successors_agree(mapping: &[u32], l: &[u32], r: &[u32]) -> bool
 
 // Each operand of two operations agrees.
 fn op_operands_agree(store: &[u32], mapping: &[u32], lhs: usize, rhs: usize) -> bool
-    requires { ⌜ Ready (now store) (now mapping) ⌝ }
+    requires { ⌜ ReadyToCompare (now store) (now mapping) ⌝ }
     requires { ⌜ lhs < opCount (columns (now store)) ⌝ }
     requires { ⌜ rhs < opCount (columns (now store)) ⌝ }
     ensures { λ q. ⌜ q ≡ operandsAgree (storeIn (now (store .entry))) (mappingOf (now (mapping .entry))) lhs rhs ⌝ }
@@ -117,7 +118,7 @@ fn op_operands_agree(store: &[u32], mapping: &[u32], lhs: usize, rhs: usize) -> 
 
 // Each successor of two operations agrees.
 fn op_successors_agree(store: &[u32], mapping: &[u32], lhs: usize, rhs: usize) -> bool
-    requires { ⌜ Ready (now store) (now mapping) ⌝ }
+    requires { ⌜ ReadyToCompare (now store) (now mapping) ⌝ }
     requires { ⌜ lhs < opCount (columns (now store)) ⌝ }
     requires { ⌜ rhs < opCount (columns (now store)) ⌝ }
     ensures { λ q. ⌜ q ≡ successorsAgree (storeIn (now (store .entry))) (mappingOf (now (mapping .entry))) lhs rhs ⌝ }
@@ -129,9 +130,9 @@ fn op_successors_agree(store: &[u32], mapping: &[u32], lhs: usize, rhs: usize) -
     )
 }
 
-// What two operations name agrees.
+// The operands and the successors of two operations agree.
 pub fn names_agree(store: &[u32], mapping: &[u32], lhs: usize, rhs: usize) -> bool
-    requires { ⌜ Ready (now store) (now mapping) ⌝ }
+    requires { ⌜ ReadyToCompare (now store) (now mapping) ⌝ }
     requires { ⌜ lhs < opCount (columns (now store)) ⌝ }
     requires { ⌜ rhs < opCount (columns (now store)) ⌝ }
     ensures { λ q. ⌜ q ≡ (operandsAgree (storeIn (now (store .entry))) (mappingOf (now (mapping .entry))) lhs rhs && successorsAgree (storeIn (now (store .entry))) (mappingOf (now (mapping .entry))) lhs rhs) ⌝ }

@@ -1,8 +1,8 @@
-// The order of a comparison: two lists of blocks, and the operations in two blocks, side by side.
-use crate::types::Lists;
-use crate::types::Next;
+// The order of a comparison: two lists of blocks, and the operations in two blocks, are walked through side by side.
+use crate::types::BlockLists;
 use crate::types::NextOps;
-use crate::types::Place;
+use crate::types::PairPosition;
+use crate::types::ZipNext;
 use layout::children::Found;
 use layout::children::next_block;
 use layout::children::next_op;
@@ -14,38 +14,38 @@ ghost use Rattle.layout.specs.Columns.{columns};
 ghost use Rattle.layout.specs.Reading.{blockCount, storeIn};
 ghost use Rattle.layout.specs.Soundness.{IsSound};
 ghost use Rattle.equivalence.specs.Walked.{lefts, rights};
-ghost use Rattle.equivalence.specs.Order.{bothOf, nextOf, Existing, FirstPair};
+ghost use Rattle.equivalence.specs.Order.{bothOf, nextOf, ListsExist, FirstPair};
 
-// The next of two lists, from the next of each.
-fn both(l: Found, r: Found) -> Next
+// What is next in two lists side by side, from what is next in each.
+fn both(l: Found, r: Found) -> ZipNext
     ensures { λ q. ⌜ q ≡ bothOf l r ⌝ }
 {
     match l {
         Found::At(x) => match r {
-            Found::At(y) => Next::Both(x, y),
-            Found::Nothing => Next::Unequal,
+            Found::At(y) => ZipNext::Both(x, y),
+            Found::Nothing => ZipNext::Unequal,
         },
         Found::Nothing => match r {
-            Found::At(_) => Next::Unequal,
-            Found::Nothing => Next::Neither,
+            Found::At(_) => ZipNext::Unequal,
+            Found::Nothing => ZipNext::Neither,
         },
     }
 }
 
-// The next of two lists of blocks, from a and from b on.
-pub fn next_blocks(store: &[u32], lists: Lists, a: usize, b: usize) -> Next
+// The next blocks of two lists, from the numbers a and b on.
+pub fn next_blocks(store: &[u32], lists: BlockLists, a: usize, b: usize) -> ZipNext
     requires { ⌜ IsSound (now store) ⌝ }
-    requires { ⌜ Existing (columns (now store)) lists ⌝ }
+    requires { ⌜ ListsExist (columns (now store)) lists ⌝ }
     ensures { λ q. ⌜ q ≡ nextOf a (lefts (storeIn (now (store .entry))) lists) b (rights (storeIn (now (store .entry))) lists) ⌝ }
 {
     match lists {
-        Lists::InRegions(l, r) => both(next_block(store, l, a), next_block(store, r, b)),
-        Lists::Alone(l, r) => both(one_from(l, a), one_from(r, b)),
+        BlockLists::InRegions(l, r) => both(next_block(store, l, a), next_block(store, r, b)),
+        BlockLists::Alone(l, r) => both(one_from(l, a), one_from(r, b)),
     }
 }
 
-// The next operations of two blocks, from a and from b on.
-pub fn next_ops(store: &[u32], l: usize, r: usize, a: usize, b: usize) -> Next
+// The next operations of two blocks, from the numbers a and b on.
+pub fn next_ops(store: &[u32], l: usize, r: usize, a: usize, b: usize) -> ZipNext
     requires { ⌜ IsSound (now store) ⌝ }
     requires { ⌜ l < blockCount (columns (now store)) ⌝ }
     requires { ⌜ r < blockCount (columns (now store)) ⌝ }
@@ -54,28 +54,28 @@ pub fn next_ops(store: &[u32], l: usize, r: usize, a: usize, b: usize) -> Next
     both(next_op(store, l, a), next_op(store, r, b))
 }
 
-// The next pair of operations in two lists of blocks, from a place on.
-pub fn next_pair(store: &[u32], lists: Lists, from: Place) -> NextOps
+// The next pair of operations in two lists of blocks, from a position on.
+pub fn next_pair(store: &[u32], lists: BlockLists, from: PairPosition) -> NextOps
     requires { ⌜ IsSound (now store) ⌝ }
-    requires { ⌜ Existing (columns (now store)) lists ⌝ }
+    requires { ⌜ ListsExist (columns (now store)) lists ⌝ }
     ensures { λ q. ⌜ FirstPair (storeIn (now (store .entry))) lists from q ⌝ }
 {
     let mut at = from;
     loop {
         let blocks = next_blocks(store, lists, at.lblock, at.rblock);
-        let Next::Both(l, r) = blocks else {
+        let ZipNext::Both(l, r) = blocks else {
             return NextOps::End;
         };
         let ops = next_ops(store, l, r, at.lop, at.rop);
-        if let Next::Both(m, n) = ops {
-            return NextOps::At(Place {
+        if let ZipNext::Both(m, n) = ops {
+            return NextOps::At(PairPosition {
                 lblock: l,
                 rblock: r,
                 lop: m,
                 rop: n,
             });
         }
-        at = Place {
+        at = PairPosition {
             lblock: l + 1,
             rblock: r + 1,
             lop: 0,

@@ -1,4 +1,4 @@
-// Two operations or two blocks are paired: they are alike by themselves, and are entered with their values.
+// Two operations or two blocks are paired: what they have by themselves is compared, and then they and their values are mapped.
 use crate::mapping::map_block;
 use crate::mapping::map_op;
 use crate::mapping::map_values;
@@ -13,7 +13,7 @@ ghost use Rattle.rules.specs.Comparison.{pairOps, pairBlocks};
 ghost use Rattle.layout.specs.Columns.{columns};
 ghost use Rattle.layout.specs.Reading.{opCount, blockCount, storeIn};
 ghost use Rattle.fragments.specs.Ignoring.{ignoreOf};
-ghost use Rattle.equivalence.specs.Walked.{Ready, Told, lent, most};
+ghost use Rattle.equivalence.specs.Walked.{ReadyToCompare, Told, stateOf, maxPaired};
 
 // Check that `lhs` and `rhs` have the same shape and map `lhs -> rhs`.
 pub fn op_eq_map(
@@ -24,11 +24,11 @@ pub fn op_eq_map(
     ignore: Ignore,
     paired: u32,
 ) -> EqResult
-    requires { ⌜ Ready (now store) (now mapping) ⌝ }
+    requires { ⌜ ReadyToCompare (now store) (now mapping) ⌝ }
     requires { ⌜ lhs < opCount (columns (now store)) ⌝ }
     requires { ⌜ rhs < opCount (columns (now store)) ⌝ }
-    requires { ⌜ paired ≤ most ⌝ }
-    ensures { λ q. ⌜ Told (pairOps (storeIn (now (store .entry))) (ignoreOf ignore) lhs rhs (lent (now (mapping .entry)) paired)) q (now (mapping .exit)) ⌝ }
+    requires { ⌜ paired ≤ maxPaired ⌝ }
+    ensures { λ q. ⌜ Told (pairOps (storeIn (now (store .entry))) (ignoreOf ignore) lhs rhs (stateOf (now (mapping .entry)) paired)) q (now (mapping .exit)) ⌝ }
 {
     let l = op_row(store, lhs);
     let r = op_row(store, rhs);
@@ -49,11 +49,11 @@ pub fn block_eq_map(
     ignore: Ignore,
     paired: u32,
 ) -> EqResult
-    requires { ⌜ Ready (now store) (now mapping) ⌝ }
+    requires { ⌜ ReadyToCompare (now store) (now mapping) ⌝ }
     requires { ⌜ lhs < blockCount (columns (now store)) ⌝ }
     requires { ⌜ rhs < blockCount (columns (now store)) ⌝ }
-    requires { ⌜ paired ≤ most ⌝ }
-    ensures { λ q. ⌜ Told (pairBlocks (storeIn (now (store .entry))) (ignoreOf ignore) lhs rhs (lent (now (mapping .entry)) paired)) q (now (mapping .exit)) ⌝ }
+    requires { ⌜ paired ≤ maxPaired ⌝ }
+    ensures { λ q. ⌜ Told (pairBlocks (storeIn (now (store .entry))) (ignoreOf ignore) lhs rhs (stateOf (now (mapping .entry)) paired)) q (now (mapping .exit)) ⌝ }
 {
     let l = block_row(store, lhs);
     let r = block_row(store, rhs);

@@ -1,14 +1,14 @@
-// Two regions, two lists of blocks, and two operations that are paired: they call one another, and with each round fewer operations are
-// below. Nothing that an operation names is read before everything beside it is entered, and nothing in its regions is entered before
-// what it names is read.
+// Comparison of two regions, of two lists of blocks, and of two operations that are mapped. The three functions call one another; this ends
+// since a region holds fewer operations than the operation around it. An operation's uses are compared after everything in its list of
+// blocks is mapped, and before anything in its own regions is.
 use crate::names::names_agree;
 use crate::order::next_pair;
 use crate::passes::map_blocks;
 use crate::passes::map_ops;
+use crate::types::BlockLists;
 use crate::types::EqResult;
-use crate::types::Lists;
 use crate::types::NextOps;
-use crate::types::Place;
+use crate::types::PairPosition;
 use fragments::ignoring::Ignore;
 use fragments::rows::op_regions;
 use layout::columns::OP_REGION_FIRST;
@@ -21,8 +21,8 @@ ghost use Rattle.layout.specs.Columns.{columns};
 ghost use Rattle.layout.specs.Reading.{opCount, regionCount, storeIn};
 ghost use Rattle.layout.specs.Soundness.{IsSound};
 ghost use Rattle.fragments.specs.Ignoring.{ignoreOf};
-ghost use Rattle.equivalence.specs.Walked.{Ready, Told, Few, lent, regionWalk, opWalk, listsWalk};
-ghost use Rattle.equivalence.specs.Order.{Existing, past};
+ghost use Rattle.equivalence.specs.Walked.{ReadyToCompare, Told, PairedFits, stateOf, regionWalk, opWalk, listsWalk};
+ghost use Rattle.equivalence.specs.Order.{ListsExist, pastPair};
 
 // How many pairs of regions two operations have.
 fn region_pairs(store: &[u32], lhs: usize, rhs: usize) -> usize
@@ -39,13 +39,13 @@ fn region_pairs(store: &[u32], lhs: usize, rhs: usize) -> usize
     r
 }
 
-// The place past a pair of operations.
-fn past_pair(p: Place) -> Place
+// The position past a pair of operations.
+fn past_pair(p: PairPosition) -> PairPosition
     requires { ⌜ p .lop < 512 ⌝ }
     requires { ⌜ p .rop < 512 ⌝ }
-    ensures { λ q. ⌜ q ≡ past p ⌝ }
+    ensures { λ q. ⌜ q ≡ pastPair p ⌝ }
 {
-    Place {
+    PairPosition {
         lblock: p.lblock,
         rblock: p.rblock,
         lop: p.lop + 1,
@@ -53,7 +53,7 @@ fn past_pair(p: Place) -> Place
     }
 }
 
-// Compare everything that `op_eq_map` left unchecked: operands, successors and nested regions.
+// Compare everything that `op_eq_map` left unchecked: operands, successors and nested regions. Their mapping must already be updated.
 pub fn op_eq_mapped(
     store: &[u32],
     mapping: &mut [u32],
@@ -62,11 +62,11 @@ pub fn op_eq_mapped(
     ignore: Ignore,
     paired: u32,
 ) -> EqResult
-    requires { ⌜ Ready (now store) (now mapping) ⌝ }
+    requires { ⌜ ReadyToCompare (now store) (now mapping) ⌝ }
     requires { ⌜ lhs < opCount (columns (now store)) ⌝ }
     requires { ⌜ rhs < opCount (columns (now store)) ⌝ }
-    requires { ⌜ Few (opWalk (storeIn (now store)) (ignoreOf ignore) lhs rhs (lent (now mapping) paired)) ⌝ }
-    ensures { λ q. ⌜ Told (opWalk (storeIn (now (store .entry))) (ignoreOf ignore) lhs rhs (lent (now (mapping .entry)) paired)) q (now (mapping .exit)) ⌝ }
+    requires { ⌜ PairedFits (opWalk (storeIn (now store)) (ignoreOf ignore) lhs rhs (stateOf (now mapping) paired)) ⌝ }
+    ensures { λ q. ⌜ Told (opWalk (storeIn (now (store .entry))) (ignoreOf ignore) lhs rhs (stateOf (now (mapping .entry)) paired)) q (now (mapping .exit)) ⌝ }
 {
     if !names_agree(store, mapping, lhs, rhs) {
         return EqResult::FirstNEQOps(lhs as u32, rhs as u32, paired);
@@ -96,39 +96,47 @@ pub fn region_eq(
     ignore: Ignore,
     paired: u32,
 ) -> EqResult
-    requires { ⌜ Ready (now store) (now mapping) ⌝ }
+    requires { ⌜ ReadyToCompare (now store) (now mapping) ⌝ }
     requires { ⌜ lhs < regionCount (columns (now store)) ⌝ }
     requires { ⌜ rhs < regionCount (columns (now store)) ⌝ }
-    requires { ⌜ Few (regionWalk (storeIn (now store)) (ignoreOf ignore) lhs rhs (lent (now mapping) paired)) ⌝ }
-    ensures { λ q. ⌜ Told (regionWalk (storeIn (now (store .entry))) (ignoreOf ignore) lhs rhs (lent (now (mapping .entry)) paired)) q (now (mapping .exit)) ⌝ }
+    requires { ⌜ PairedFits (regionWalk (storeIn (now store)) (ignoreOf ignore) lhs rhs (stateOf (now mapping) paired)) ⌝ }
+    ensures { λ q. ⌜ Told (regionWalk (storeIn (now (store .entry))) (ignoreOf ignore) lhs rhs (stateOf (now (mapping .entry)) paired)) q (now (mapping .exit)) ⌝ }
 {
-    blocks_eq(store, mapping, Lists::InRegions(lhs, rhs), ignore, paired)
+    blocks_eq(
+        store,
+        mapping,
+        BlockLists::InRegions(lhs, rhs),
+        ignore,
+        paired,
+    )
 }
 
-// Compare two lists of blocks.
+// Compare two lists of blocks, in three passes: the first two map all definitions, so that uses can be compared in the third.
 pub fn blocks_eq(
     store: &[u32],
     mapping: &mut [u32],
-    lists: Lists,
+    lists: BlockLists,
     ignore: Ignore,
     paired: u32,
 ) -> EqResult
-    requires { ⌜ Ready (now store) (now mapping) ⌝ }
-    requires { ⌜ Existing (columns (now store)) lists ⌝ }
-    requires { ⌜ Few (listsWalk (storeIn (now store)) (ignoreOf ignore) lists (lent (now mapping) paired)) ⌝ }
-    ensures { λ q. ⌜ Told (listsWalk (storeIn (now (store .entry))) (ignoreOf ignore) lists (lent (now (mapping .entry)) paired)) q (now (mapping .exit)) ⌝ }
+    requires { ⌜ ReadyToCompare (now store) (now mapping) ⌝ }
+    requires { ⌜ ListsExist (columns (now store)) lists ⌝ }
+    requires { ⌜ PairedFits (listsWalk (storeIn (now store)) (ignoreOf ignore) lists (stateOf (now mapping) paired)) ⌝ }
+    ensures { λ q. ⌜ Told (listsWalk (storeIn (now (store .entry))) (ignoreOf ignore) lists (stateOf (now (mapping .entry)) paired)) q (now (mapping .exit)) ⌝ }
 {
+    // Pass 1: blocks and their arguments.
     let blocks = map_blocks(store, mapping, lists, ignore, paired);
     let EqResult::Eq(entered) = blocks else {
         return blocks;
     };
+    // Pass 2: every block's operations and their results.
     let ops = map_ops(store, mapping, lists, ignore, entered);
     let EqResult::Eq(mapped) = ops else {
         return ops;
     };
-    // Pass 3: full comparison of every op (operands, successors, regions).
+    // Pass 3: full comparison of every operation (operands, successors, regions).
     let mut count = mapped;
-    let mut at = Place {
+    let mut at = PairPosition {
         lblock: 0,
         rblock: 0,
         lop: 0,

@@ -1,4 +1,4 @@
-// What is compared of two operations or two blocks by themselves, before anything is entered: the first half of `op_eq_map` and of
+// What is compared of two operations or two blocks by themselves, before they are mapped: the first half of `op_eq_map` and of
 // `block_eq_map`.
 use crate::attributes::attributes_eq;
 use fragments::ignoring::Ignore;
@@ -16,13 +16,13 @@ ghost use Rattle.rules.specs.Lists.{sameList};
 ghost use Rattle.rules.specs.Store.{ofOp};
 ghost use Rattle.rules.specs.Shells.{unignoredLocation, sameLocation, sameShells};
 ghost use Rattle.layout.specs.Columns.{bufferLength, columns, valueType};
-ghost use Rattle.layout.specs.Reading.{opCount, part, storeIn};
+ghost use Rattle.layout.specs.Reading.{opCount, slice, storeIn};
 ghost use Rattle.layout.specs.Soundness.{IsSound};
 ghost use Rattle.fragments.specs.Ignoring.{ignoreOf};
-ghost use Rattle.fragments.specs.Rows.{Fits, RowOf};
+ghost use Rattle.fragments.specs.Rows.{RowFits, RowOf};
 ghost use Rattle.equivalence.specs.Rows.{sameHeads, sameRows};
 
-// Kinds, and numbers of regions, successors and operands.
+// Two operations have the same kind, and as many regions, successors and operands.
 fn heads_eq(l: Head, r: Head) -> bool
     ensures { λ q. ⌜ q ≡ sameHeads l r ⌝ }
 {
@@ -38,7 +38,7 @@ fn heads_eq(l: Head, r: Head) -> bool
     l.operands == r.operands
 }
 
-// Locations, unless they are ignored.
+// Two locations are equal, or locations are ignored.
 fn locations_eq(ignore: Ignore, l: u32, r: u32) -> bool
     ensures { λ q. ⌜ q ≡ sameLocation (unignoredLocation (ignoreOf ignore) l) (unignoredLocation (ignoreOf ignore) r) ⌝ }
 {
@@ -48,12 +48,12 @@ fn locations_eq(ignore: Ignore, l: u32, r: u32) -> bool
     l == r
 }
 
-// The types of two rows' values.
+// The values of two rows have the same types.
 fn types_eq(store: &[u32], l: Row, r: Row) -> bool
     requires { ⌜ length (now store) ≡ bufferLength ⌝ }
-    requires { ⌜ Fits (columns (now store)) l ⌝ }
-    requires { ⌜ Fits (columns (now store)) r ⌝ }
-    ensures { λ q. ⌜ q ≡ sameList eqb (part (columns (now (store .entry)) valueType) (l .value) (l .value + l .values)) (part (columns (now (store .entry)) valueType) (r .value) (r .value + r .values)) ⌝ }
+    requires { ⌜ RowFits (columns (now store)) l ⌝ }
+    requires { ⌜ RowFits (columns (now store)) r ⌝ }
+    ensures { λ q. ⌜ q ≡ sameList eqb (slice (columns (now (store .entry)) valueType) (l .value) (l .value + l .values)) (slice (columns (now (store .entry)) valueType) (r .value) (r .value + r .values)) ⌝ }
 {
     words_eq(
         words(store, VALUE_TYPE, l.value, l.value + l.values),
@@ -61,12 +61,12 @@ fn types_eq(store: &[u32], l: Row, r: Row) -> bool
     )
 }
 
-// What operations and blocks have in common, and all that is compared of two blocks: numbers of values, locations, attributes, and the
-// types of the values.
+// What operations and blocks have in common is equal, and this is all that is compared of two blocks: numbers of values, locations,
+// attributes, and the types of the values.
 pub fn rows_eq(store: &[u32], ignore: Ignore, l: Row, r: Row) -> bool
     requires { ⌜ length (now store) ≡ bufferLength ⌝ }
-    requires { ⌜ Fits (columns (now store)) l ⌝ }
-    requires { ⌜ Fits (columns (now store)) r ⌝ }
+    requires { ⌜ RowFits (columns (now store)) l ⌝ }
+    requires { ⌜ RowFits (columns (now store)) r ⌝ }
     ensures { λ q. ⌜ q ≡ sameRows (columns (now (store .entry))) (ignoreOf ignore) l r ⌝ }
 {
     if l.values != r.values {
@@ -83,7 +83,7 @@ pub fn rows_eq(store: &[u32], ignore: Ignore, l: Row, r: Row) -> bool
     types_eq(store, l, r)
 }
 
-// Two operations are alike by themselves; `l` and `r` are their rows.
+// What two operations have by themselves is equal; `l` and `r` are their rows.
 pub fn op_shells_eq(store: &[u32], ignore: Ignore, lhs: usize, rhs: usize, l: Row, r: Row) -> bool
     requires { ⌜ IsSound (now store) ⌝ }
     requires { ⌜ lhs < opCount (columns (now store)) ⌝ }

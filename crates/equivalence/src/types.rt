@@ -1,7 +1,7 @@
-// What the comparison answers, and what it goes through.
+// What a comparison answers, and what it walks through.
 
-// What a comparison says: equal, or the first pair found to be unequal, left and right; last how many operations and blocks were
-// entered. Or the cause of its refusal.
+// The result of a comparison: equal, or the first pair found to be unequal, left and right, each with how many pairs of operations and
+// blocks were mapped (the last number). Or the cause for which it is refused.
 pub enum EqResult {
     Eq(u32),
     FirstNEQOps(u32, u32, u32),
@@ -11,28 +11,30 @@ pub enum EqResult {
 }
 
 // Two lists of blocks that are compared: those of two regions, or two blocks, each a list of one.
-pub enum Lists {
+pub enum BlockLists {
     InRegions(usize, usize),
     Alone(usize, usize),
 }
 
-// The next of two lists that are gone through side by side: one of each, or of neither or one list there is none left.
-pub enum Next {
+// What is next in two lists that are walked through side by side: one of each; nothing, as both have ended; or one list has ended before
+// the other, so that their lengths are unequal.
+pub enum ZipNext {
     Both(usize, usize),
     Neither,
     Unequal,
 }
 
-// A place in two lists of blocks: blocks from these numbers on, and of the first two the operations from these numbers on.
-pub struct Place {
+// How far a walk through two lists of blocks has come. To come on the left are the blocks from number `lblock` on, and in the first of
+// these the operations from number `lop` on; on the right likewise.
+pub struct PairPosition {
     pub lblock: usize,
     pub rblock: usize,
     pub lop: usize,
     pub rop: usize,
 }
 
-// The next pair of operations in two lists of blocks, and the blocks that they are in.
+// The next pair of operations in two lists of blocks, and the blocks that they are in; or that there is none.
 pub enum NextOps {
-    At(Place),
+    At(PairPosition),
     End,
 }

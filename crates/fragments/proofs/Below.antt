@@ -10,7 +10,7 @@ use lib.ListN.{length, getD}
 use Rattle.rules.specs.Store.{Store, opAround, opAfter, opsOf, regionsOf, sound}
 use Rattle.rules.proofs.Soundness.Sound.{facts}
 use Rattle.rules.proofs.Soundness.Children.{ops-in, blocks-in, regions-in}
-use Rattle.fragments.specs.Order.{listed}
+use Rattle.fragments.specs.Order.{blockList}
 use Rattle.fragments.specs.declared.types.Blocks.{Blocks}
 use Rattle.fragments.specs.declared.types.Blocks.the-variants.{InRegion, Alone}
 
@@ -23,13 +23,13 @@ unfoldable pub aroundList : Store → Blocks → ℕ
 aroundList s (InRegion r) = getD (s .regions) r 0
 aroundList s (Alone b) = opAround s b
 
-around-all : (s : Store) (x : Blocks) (b : ℕ) → List·Memᴰ b (listed s x) → opAround s b ≡ aroundList s x
-unfolding listed aroundList opAround
+around-all : (s : Store) (x : Blocks) (b : ℕ) → List·Memᴰ b (blockList s x) → opAround s b ≡ aroundList s x
+unfolding blockList aroundList opAround
 around-all s (InRegion r) b m = ap (λ (q : ℕ). getD (s .regions) q 0) (blocks-in s r m .1)
 around-all s (Alone a) b m = ap (opAround s) (List·Memᴰ·eq-of-singleton m)
 
 -- an operation in the list is behind the one around it
-pub op-falls : (s : Store) → sound s ≡ true → (x : Blocks) (b n : ℕ) → List·Memᴰ b (listed s x) → List·Memᴰ n (opsOf s b) → below s n < below s (aroundList s x)
+pub op-falls : (s : Store) → sound s ≡ true → (x : Blocks) (b n : ℕ) → List·Memᴰ b (blockList s x) → List·Memᴰ n (opsOf s b) → below s n < below s (aroundList s x)
 unfolding opAfter
 op-falls s sd x b n mb mn =
     let w = ops-in s b mn in

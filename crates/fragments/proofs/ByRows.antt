@@ -8,7 +8,7 @@ use lib.ListN.{length}
 use Rattle.rules.specs.Store.{Op, Block, Owner, ofOp, ofBlock, typeOf, valuesOf, maxValues, maxOps, maxBlocks, maxOwnKeys, regionsOf}
 use Rattle.rules.specs.Shells.{Ignore, unignored, unignoredLocation, shellOf}
 use Rattle.layout.specs.Columns.{Cols, at, columns, opKind, opRegionFirst, opRegionEnd, opSuccessorFirst, opSuccessorEnd, opOperandFirst, opOperandEnd, opLocation, opResultFirst, opResultEnd, opAttributes, blockLocation, blockArgumentFirst, blockArgumentEnd, blockAttributes, valueType}
-use Rattle.layout.specs.Reading.{opCount, blockCount, valueCount, slotsOf, part, attributesFrom, opOf, blockOf, storeOf, following}
+use Rattle.layout.specs.Reading.{opCount, blockCount, valueCount, slotsOf, slice, attributesFrom, opOf, blockOf, storeOf, consecutive}
 use Rattle.layout.specs.Owners.{countColumn, ownerNumber, keyCount}
 use Rattle.layout.specs.Soundness.{IsSound}
 use Rattle.layout.proofs.Laid.{Laid, Ranged, laid-facts}
@@ -27,24 +27,24 @@ slots-kept : (C : Cols) (ig : Ignore) (first n : ℕ) → unignored ig (attribut
 unfolding keptFrom
 slots-kept C ig first n = let z : n ≡ first + n - first = omega arith in ap (λ (k : ℕ). unignored ig (attributesFrom C first k)) z
 
-pub following-length : (a n : ℕ) → length (following a n) ≡ n
-unfolding following
-following-length a n = length-from a n (λ (i : ℕ). i)
+pub consecutive-length : (a n : ℕ) → length (consecutive a n) ≡ n
+unfolding consecutive
+consecutive-length a n = length-from a n (λ (i : ℕ). i)
 
-range-following : (a e : ℕ) → range a e ≡ following a (e - a)
-unfolding range following
-range-following a e = λ i. range a e
+range-consecutive : (a e : ℕ) → range a e ≡ consecutive a (e - a)
+unfolding range consecutive
+range-consecutive a e = λ i. range a e
 
 -- ---- the rows and heads of a sound store
 
-unfoldable pub opRow : Cols → ℕ → Row
-opRow C n = record { location = at C opLocation n; slot = slotsOf (ofOp n); attributes = keyCount C (ofOp n); value = at C opResultFirst n; values = at C opResultEnd n - at C opResultFirst n }
+unfoldable pub rowOfOp : Cols → ℕ → Row
+rowOfOp C n = record { location = at C opLocation n; slot = slotsOf (ofOp n); attributes = keyCount C (ofOp n); value = at C opResultFirst n; values = at C opResultEnd n - at C opResultFirst n }
 
-unfoldable pub blockRow : Cols → ℕ → Row
-blockRow C n = record { location = at C blockLocation n; slot = slotsOf (ofBlock n); attributes = keyCount C (ofBlock n); value = at C blockArgumentFirst n; values = at C blockArgumentEnd n - at C blockArgumentFirst n }
+unfoldable pub rowOfBlock : Cols → ℕ → Row
+rowOfBlock C n = record { location = at C blockLocation n; slot = slotsOf (ofBlock n); attributes = keyCount C (ofBlock n); value = at C blockArgumentFirst n; values = at C blockArgumentEnd n - at C blockArgumentFirst n }
 
-unfoldable pub opHead : Cols → ℕ → Head
-opHead C n =
+unfoldable pub headOfOp : Cols → ℕ → Head
+headOfOp C n =
     record {
       kind = at C opKind n;
       regions = at C opRegionEnd n - at C opRegionFirst n;
@@ -60,15 +60,15 @@ module _ (b : List ℕ) (s : IsSound b) where
   laid = laid-facts C (s .laid)
 
   -- the types of a range of values
-  types-part : (w : Owner) (a e : ℕ) → Ranged a e (valueCount C) → valuesOf (storeOf C) w ≡ range a e
-      → map (typeOf (storeOf C)) (valuesOf (storeOf C) w) ≡ part (C valueType) a (a + (e - a))
-  types-part w a e r h =
+  types-slice : (w : Owner) (a e : ℕ) → Ranged a e (valueCount C) → valuesOf (storeOf C) w ≡ range a e
+      → map (typeOf (storeOf C)) (valuesOf (storeOf C) w) ≡ slice (C valueType) a (a + (e - a))
+  types-slice w a e r h =
       let up : a ≤ e = r .rises in
       let z : e ≡ a + (e - a) = omega arith in
-      ap (map (typeOf (storeOf C))) h ∙ types-read C (columns-shaped b (s .sized)) laid a e (r .fits) ∙ ap (part (C valueType) a) z
+      ap (map (typeOf (storeOf C))) h ∙ types-read C (columns-shaped b (s .sized)) laid a e (r .fits) ∙ ap (slice (C valueType) a) z
 
-  pub op-whole : (n : ℕ) → n < opCount C → RowOf C (ofOp n) (opRow C n)
-  unfolding opRow rowShell shellOf opOf slotsOf keyCount countColumn ownerNumber
+  pub op-whole : (n : ℕ) → n < opCount C → RowOf C (ofOp n) (rowOfOp C n)
+  unfolding rowOfOp rowShell shellOf opOf slotsOf keyCount countColumn ownerNumber
   op-whole n l =
       let r = laid .op n l .results .range in
       let few : opCount C ≤ maxOps = laid .counts .ops in
@@ -81,20 +81,20 @@ module _ (b : List ℕ) (s : IsSound b) where
         shell = λ ig i. record {
           location = ap (λ (o : Op). unignoredLocation ig (o .location)) (op-read C n l) i;
           attributes = (ap (λ (o : Op). unignored ig (o .attributes)) (op-read C n l) ∙ slots-kept C ig (8 * n) (at C opAttributes n)) i;
-          types = types-part (ofOp n) (at C opResultFirst n) (at C opResultEnd n) r (results-range C laid n l) i;
+          types = types-slice (ofOp n) (at C opResultFirst n) (at C opResultEnd n) r (results-range C laid n l) i;
         };
-        values = results-range C laid n l ∙ range-following (at C opResultFirst n) (at C opResultEnd n);
+        values = results-range C laid n l ∙ range-consecutive (at C opResultFirst n) (at C opResultEnd n);
       }
 
   pub op-row : (n : ℕ) → n < opCount C → {place slot keys first many : ℕ}
       → place ≡ at C opLocation n → slot ≡ slotsOf (ofOp n) → keys ≡ keyCount C (ofOp n) → first ≡ at C opResultFirst n → many ≡ at C opResultEnd n - at C opResultFirst n
       → RowOf C (ofOp n) (record { location = place; slot = slot; attributes = keys; value = first; values = many })
-  unfolding opRow
+  unfolding rowOfOp
   op-row n l p s k f m =
       subst (RowOf C (ofOp n)) (λ i. record { location = sym p i; slot = sym s i; attributes = sym k i; value = sym f i; values = sym m i }) (op-whole n l)
 
-  block-whole : (n : ℕ) → n < blockCount C → RowOf C (ofBlock n) (blockRow C n)
-  unfolding blockRow rowShell shellOf blockOf slotsOf keyCount countColumn ownerNumber
+  block-whole : (n : ℕ) → n < blockCount C → RowOf C (ofBlock n) (rowOfBlock C n)
+  unfolding rowOfBlock rowShell shellOf blockOf slotsOf keyCount countColumn ownerNumber
   block-whole n l =
       let r = laid .block n l .arguments .range in
       let few : blockCount C ≤ maxBlocks = laid .counts .blocks in
@@ -107,21 +107,21 @@ module _ (b : List ℕ) (s : IsSound b) where
         shell = λ ig i. record {
           location = ap (λ (o : Block). unignoredLocation ig (o .location)) (block-read C n l) i;
           attributes = (ap (λ (o : Block). unignored ig (o .attributes)) (block-read C n l) ∙ slots-kept C ig (4096 + 8 * n) (at C blockAttributes n)) i;
-          types = types-part (ofBlock n) (at C blockArgumentFirst n) (at C blockArgumentEnd n) r (arguments-range C laid n l) i;
+          types = types-slice (ofBlock n) (at C blockArgumentFirst n) (at C blockArgumentEnd n) r (arguments-range C laid n l) i;
         };
-        values = arguments-range C laid n l ∙ range-following (at C blockArgumentFirst n) (at C blockArgumentEnd n);
+        values = arguments-range C laid n l ∙ range-consecutive (at C blockArgumentFirst n) (at C blockArgumentEnd n);
       }
 
   pub block-row : (n : ℕ) → n < blockCount C → {place slot keys first many : ℕ}
       → place ≡ at C blockLocation n → slot ≡ slotsOf (ofBlock n) → keys ≡ keyCount C (ofBlock n) → first ≡ at C blockArgumentFirst n → many ≡ at C blockArgumentEnd n - at C blockArgumentFirst n
       → RowOf C (ofBlock n) (record { location = place; slot = slot; attributes = keys; value = first; values = many })
-  unfolding blockRow
+  unfolding rowOfBlock
   block-row n l p s k f m =
       subst (RowOf C (ofBlock n)) (λ i. record { location = sym p i; slot = sym s i; attributes = sym k i; value = sym f i; values = sym m i }) (block-whole n l)
 
   -- each count is the length of a range
-  pub head-whole : (n : ℕ) → n < opCount C → HeadOf (storeOf C) n (opHead C n)
-  unfolding opHead opOf
+  pub head-whole : (n : ℕ) → n < opCount C → HeadOf (storeOf C) n (headOfOp C n)
+  unfolding headOfOp opOf
   head-whole n l =
       let e = op-read C n l in
       let shaped = columns-shaped b (s .sized) in
@@ -133,17 +133,17 @@ module _ (b : List ℕ) (s : IsSound b) where
       }
 
   pub op-regions : (n : ℕ) → n < opCount C → {r : ℕ} → r ≡ at C opRegionEnd n - at C opRegionFirst n → r ≡ length (regionsOf (storeOf C) n)
-  unfolding opHead
+  unfolding headOfOp
   op-regions n l r = r ∙ head-whole n l .regions
 
   pub op-head : (n : ℕ) → n < opCount C → {kind regions successors operands : ℕ}
       → kind ≡ at C opKind n → regions ≡ length (regionsOf (storeOf C) n) → successors ≡ at C opSuccessorEnd n - at C opSuccessorFirst n → operands ≡ at C opOperandEnd n - at C opOperandFirst n
       → HeadOf (storeOf C) n (record { kind = kind; regions = regions; successors = successors; operands = operands })
-  unfolding opHead
+  unfolding headOfOp
   op-head n l k r u o =
       let w = head-whole n l in
       record { kind = k ∙ w .kind; regions = r; successors = u ∙ w .successors; operands = o ∙ w .operands }
 
 -- a row has as many values as its owner
 pub row-count : {C : Cols} {w : Owner} {r : Row} → RowOf C w r → r .values ≡ length (valuesOf (storeOf C) w)
-row-count {C} {w} {r} h = sym (ap length (h .values) ∙ following-length (r .value) (r .values))
+row-count {C} {w} {r} h = sym (ap length (h .values) ∙ consecutive-length (r .value) (r .values))

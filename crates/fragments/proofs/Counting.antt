@@ -66,14 +66,14 @@ module _ (h : ℕ → Option ℕ) where
 
   module _ (whole : Option ℕ) where
     -- so much was counted, and these are left
-    abbrev pub Counted : ℕ → List ℕ → Type 0
-    Counted size rest = whole ≡ plus (some size) (sizes h rest)
+    abbrev pub CountedSoFar : ℕ → List ℕ → Type 0
+    CountedSoFar size rest = whole ≡ plus (some size) (sizes h rest)
 
-    pub count-done : (size : ℕ) (rest : List ℕ) → Counted size rest → rest ≡ [] → whole ≡ some size
+    pub count-done : (size : ℕ) (rest : List ℕ) → CountedSoFar size rest → rest ≡ [] → whole ≡ some size
     unfolding sizes
     count-done size rest e none-left = e ∙ ap (λ (xs : List ℕ). plus (some size) (sizes h xs)) none-left ∙ nothing-plus (some size)
 
-    module _ (size : ℕ) (rest : List ℕ) (e : Counted size rest) (x : ℕ) (xs : List ℕ) (first : rest ≡ x ∷ xs) where
+    module _ (size : ℕ) (rest : List ℕ) (e : CountedSoFar size rest) (x : ℕ) (xs : List ℕ) (first : rest ≡ x ∷ xs) where
       item : (q : Option ℕ) → h x ≡ q → whole ≡ plus (plus (some size) q) (sizes h xs)
       unfolding sizes
       item q one =
@@ -85,6 +85,6 @@ module _ (h : ℕ → Option ℕ) where
       unfolding plus
       count-deep one = item none one
 
-      pub count-more : (k : ℕ) → h x ≡ some k → Counted (size + k) xs
+      pub count-more : (k : ℕ) → h x ≡ some k → CountedSoFar (size + k) xs
       unfolding plus
       count-more k one = item (some k) one

@@ -4,7 +4,7 @@ use native.Mathlib.Omega.{arith}
 use mathlib.Core.Bool.{Bool, true, false, cond, not}
 use mathlib.Core.List.{List, [], _∷_}
 use mathlib.Core.Path.{_≡_, ap, ap₂, _∙_}
-use Rattle.rules.specs.Lists.{keep}
+use Rattle.rules.specs.Lists.{filter}
 use Rattle.rules.specs.Store.{Attribute}
 use Rattle.rules.specs.Shells.{Ignore, ignored, unignored}
 use Rattle.layout.specs.Columns.{Cols}
@@ -26,19 +26,19 @@ module _ (C : Cols) (ig : Ignore) where
 
   -- past the end there is nothing
   pub kept-none : (a e : ℕ) → e ≤ a → keptFrom C ig a e ≡ []
-  unfolding keptFrom unignored keep attributesFrom tabulate tabulateFrom
+  unfolding keptFrom unignored filter attributesFrom tabulate tabulateFrom
   kept-none a e l =
       let z : e - a ≡ 0 = omega arith in
       ap (λ (n : ℕ). unignored ig (tabulate n (λ (i : ℕ). attributeAt C (a + i)))) z
 
   pub kept-skip : (a e : ℕ) → a < e → ignored ig (attributeAt C a) ≡ true → keptFrom C ig a e ≡ keptFrom C ig (a + 1) e
-  unfolding keptFrom unignored keep
+  unfolding keptFrom unignored filter
   kept-skip a e l h =
       ap (unignored ig) (run a e l)
       ∙ ap (λ (t : Bool). cond (not t) (attributeAt C a ∷ unignored ig (attributesFrom C (a + 1) (e - (a + 1)))) (unignored ig (attributesFrom C (a + 1) (e - (a + 1))))) h
 
   pub kept-head : (a e : ℕ) → a < e → ignored ig (attributeAt C a) ≡ false → keptFrom C ig a e ≡ attributeAt C a ∷ keptFrom C ig (a + 1) e
-  unfolding keptFrom unignored keep
+  unfolding keptFrom unignored filter
   kept-head a e l h =
       ap (unignored ig) (run a e l)
       ∙ ap (λ (t : Bool). cond (not t) (attributeAt C a ∷ unignored ig (attributesFrom C (a + 1) (e - (a + 1)))) (unignored ig (attributesFrom C (a + 1) (e - (a + 1))))) h

@@ -19,16 +19,16 @@ use Rattle.layout.proofs.Laid.{Laid}
 use Rattle.layout.proofs.Tabulate.{ops-length}
 use Rattle.layout.proofs.ChildList.{ops-facts, blocks-facts}
 use Rattle.layout.proofs.Ranges.{range, length-range, range-empty, range-first, regions-range}
-use Rattle.layout.proofs.Seeking.{Next, from-zero, next-op, next-block, none-next}
+use Rattle.layout.proofs.Seeking.{NextChild, from-zero, next-op, next-block, none-next}
 use Rattle.fragments.specs.Sizes.{sizeFrom, sizeBelow, blockSize, regionSize}
 use Rattle.fragments.specs.declared.types.Size.{Size}
 use Rattle.fragments.specs.declared.types.Size.the-variants.{Of, TooDeep}
-use Rattle.fragments.proofs.Counting.{Counted, plus-nothing, count-done, count-deep, count-more, size-of, size-deep}
+use Rattle.fragments.proofs.Counting.{CountedSoFar, plus-nothing, count-done, count-deep, count-more, size-of, size-deep}
 use Rattle.fragments.proofs.Parts.{block-by-ops, region-by-blocks, op-by-regions}
 use Rattle.fragments.proofs.Most.{op-most, block-most, region-most}
 
 -- nothing is counted yet
-begun : (h : ℕ → Option ℕ) (whole : Option ℕ) (xs : List ℕ) → whole ≡ sizes h xs → Counted h whole 0 (onFrom 0 xs)
+begun : (h : ℕ → Option ℕ) (whole : Option ℕ) (xs : List ℕ) → whole ≡ sizes h xs → CountedSoFar h whole 0 (onFrom 0 xs)
 begun h whole xs e = e ∙ sym (ap (λ (ys : List ℕ). plus (some 0) (sizes h ys)) (from-zero xs) ∙ plus-nothing (sizes h xs))
 
 told : (whole : Option ℕ) (n : ℕ) → whole ≡ some n → Of n ≡ sizeFrom whole
@@ -42,18 +42,18 @@ told-deep whole e = sym (ap sizeFrom e)
 -- ---- the operations of a block
 
 -- those before number from are counted
-abbrev pub InBlock : Cols → ℕ → ℕ → ℕ → ℕ → Type 0
-InBlock C k b size from = Counted (sizeBelow k (storeOf C)) (blockSize k (storeOf C) b) size (onFrom from (opsOf (storeOf C) b)) × (size ≤ 512 * from)
+abbrev pub SummingBlock : Cols → ℕ → ℕ → ℕ → ℕ → Type 0
+SummingBlock C k b size from = CountedSoFar (sizeBelow k (storeOf C)) (blockSize k (storeOf C) b) size (onFrom from (opsOf (storeOf C) b)) × (size ≤ 512 * from)
 
-pub block-begun : (C : Cols) (k b : ℕ) → InBlock C k b 0 0
+pub block-begun : (C : Cols) (k b : ℕ) → SummingBlock C k b 0 0
 block-begun C k b = (begun (sizeBelow k (storeOf C)) _ (opsOf (storeOf C) b) (block-by-ops (storeOf C) k b), omega arith)
 
-module _ (C : Cols) (k b size from : ℕ) (inv : InBlock C k b size from) (r : Found) (e : r ≡ foundFrom (firstFrom from (opsOf (storeOf C) b))) where
+module _ (C : Cols) (k b size from : ℕ) (inv : SummingBlock C k b size from) (r : Found) (e : r ≡ foundFrom (firstFrom from (opsOf (storeOf C) b))) where
   pub block-done : r ≡ Nothing → Of size ≡ sizeFrom (blockSize k (storeOf C) b)
   block-done f = told _ size (count-done (sizeBelow k (storeOf C)) _ size _ (inv .0) (none-next from (opsOf (storeOf C) b) r e f))
 
   module _ (n : ℕ) (f : r ≡ At n) where
-    op-next : Next (opsOf (storeOf C) b) from n
+    op-next : NextChild (opsOf (storeOf C) b) from n
     op-next = next-op (storeOf C) b from n r e f
 
     pub op-found : Laid C → (from ≤ n) × (n < opCount C)
@@ -74,7 +74,7 @@ module _ (C : Cols) (k b size from : ℕ) (inv : InBlock C k b size from) (r : F
       pub op-deep : q ≡ TooDeep → TooDeep ≡ sizeFrom (blockSize k (storeOf C) b)
       op-deep d = deep (below ∙ size-deep q _ a d)
 
-      pub op-more : sound (storeOf C) ≡ true → (z : ℕ) → q ≡ Of z → InBlock C k b (size + z) (n + 1)
+      pub op-more : sound (storeOf C) ≡ true → (z : ℕ) → q ≡ Of z → SummingBlock C k b (size + z) (n + 1)
       op-more sd z d =
           let one : sizeBelow k (storeOf C) n ≡ some z = below ∙ size-of q _ z a d in
           let m : z ≤ 512 = op-most (storeOf C) sd k b n z (op-next .child) one in
@@ -84,18 +84,18 @@ module _ (C : Cols) (k b size from : ℕ) (inv : InBlock C k b size from) (r : F
 
 -- ---- the blocks of a region
 
-abbrev pub InRegion : Cols → ℕ → ℕ → ℕ → ℕ → Type 0
-InRegion C k r size from = Counted (blockSize k (storeOf C)) (regionSize k (storeOf C) r) size (onFrom from (blocksOf (storeOf C) r)) × (size ≤ 262144 * from)
+abbrev pub SummingRegion : Cols → ℕ → ℕ → ℕ → ℕ → Type 0
+SummingRegion C k r size from = CountedSoFar (blockSize k (storeOf C)) (regionSize k (storeOf C) r) size (onFrom from (blocksOf (storeOf C) r)) × (size ≤ 262144 * from)
 
-pub region-begun : (C : Cols) (k r : ℕ) → InRegion C k r 0 0
+pub region-begun : (C : Cols) (k r : ℕ) → SummingRegion C k r 0 0
 region-begun C k r = (begun (blockSize k (storeOf C)) _ (blocksOf (storeOf C) r) (region-by-blocks (storeOf C) k r), omega arith)
 
-module _ (C : Cols) (k r size from : ℕ) (inv : InRegion C k r size from) (q : Found) (e : q ≡ foundFrom (firstFrom from (blocksOf (storeOf C) r))) where
+module _ (C : Cols) (k r size from : ℕ) (inv : SummingRegion C k r size from) (q : Found) (e : q ≡ foundFrom (firstFrom from (blocksOf (storeOf C) r))) where
   pub region-done : q ≡ Nothing → Of size ≡ sizeFrom (regionSize k (storeOf C) r)
   region-done f = told _ size (count-done (blockSize k (storeOf C)) _ size _ (inv .0) (none-next from (blocksOf (storeOf C) r) q e f))
 
   module _ (b : ℕ) (f : q ≡ At b) where
-    block-next : Next (blocksOf (storeOf C) r) from b
+    block-next : NextChild (blocksOf (storeOf C) r) from b
     block-next = next-block (storeOf C) r from b q e f
 
     pub block-found : Laid C → (from ≤ b) × (b < blockCount C)
@@ -105,7 +105,7 @@ module _ (C : Cols) (k r size from : ℕ) (inv : InRegion C k r size from) (q : 
       pub block-deep : p ≡ TooDeep → TooDeep ≡ sizeFrom (regionSize k (storeOf C) r)
       block-deep d = told-deep _ (count-deep (blockSize k (storeOf C)) _ size _ (inv .0) b _ (block-next .rest) (size-deep p _ a d))
 
-      pub block-more : sound (storeOf C) ≡ true → (z : ℕ) → p ≡ Of z → InRegion C k r (size + z) (b + 1)
+      pub block-more : sound (storeOf C) ≡ true → (z : ℕ) → p ≡ Of z → SummingRegion C k r (size + z) (b + 1)
       block-more sd z d =
           let one : blockSize k (storeOf C) b ≡ some z = size-of p _ z a d in
           let m : z ≤ 262144 = block-most (storeOf C) sd k b z one in
@@ -115,13 +115,13 @@ module _ (C : Cols) (k r size from : ℕ) (inv : InRegion C k r size from) (q : 
 
 -- ---- the regions of an operation
 
-abbrev pub InOp : Cols → ℕ → ℕ → ℕ → ℕ → Type 0
-InOp C k n size r =
-    Counted (regionSize k (storeOf C)) (opSize k (storeOf C) n) size (range r (at C opRegionEnd n))
+abbrev pub SummingOp : Cols → ℕ → ℕ → ℕ → ℕ → Type 0
+SummingOp C k n size r =
+    CountedSoFar (regionSize k (storeOf C)) (opSize k (storeOf C) n) size (range r (at C opRegionEnd n))
     × (at C opRegionFirst n ≤ r)
     × (size ≤ 1 + 67108864 * (r - at C opRegionFirst n))
 
-pub op-begun : (C : Cols) (k n : ℕ) → Laid C → n < opCount C → InOp C k n 1 (at C opRegionFirst n)
+pub op-begun : (C : Cols) (k n : ℕ) → Laid C → n < opCount C → SummingOp C k n 1 (at C opRegionFirst n)
 op-begun C k n h l = (
   op-by-regions (storeOf C) k n ∙ ap (λ (xs : List ℕ). plus (some 1) (sizes (regionSize k (storeOf C)) xs)) (regions-range C h n l),
   omega arith,
@@ -134,7 +134,7 @@ few-regions C h sd n l =
     let e : length (regionsOf (storeOf C) n) ≡ at C opRegionEnd n - at C opRegionFirst n = ap (λ (xs : List ℕ). length xs) (regions-range C h n l) ∙ length-range _ _ in
     omega arith
 
-module _ (C : Cols) (k n size r : ℕ) (inv : InOp C k n size r) where
+module _ (C : Cols) (k n size r : ℕ) (inv : SummingOp C k n size r) where
   pub op-done : at C opRegionEnd n ≤ r → Of size ≡ sizeFrom (opSize k (storeOf C) n)
   op-done l = told _ size (count-done (regionSize k (storeOf C)) _ size _ (inv .0) (range-empty r _ l))
 
@@ -142,7 +142,7 @@ module _ (C : Cols) (k n size r : ℕ) (inv : InOp C k n size r) where
     pub region-deep : q ≡ TooDeep → TooDeep ≡ sizeFrom (opSize k (storeOf C) n)
     region-deep d = told-deep _ (count-deep (regionSize k (storeOf C)) _ size _ (inv .0) r _ (range-first r _ l) (size-deep q _ a d))
 
-    pub region-more : sound (storeOf C) ≡ true → (z : ℕ) → q ≡ Of z → InOp C k n (size + z) (r + 1)
+    pub region-more : sound (storeOf C) ≡ true → (z : ℕ) → q ≡ Of z → SummingOp C k n (size + z) (r + 1)
     region-more sd z d =
         let one : regionSize k (storeOf C) r ≡ some z = size-of q _ z a d in
         let m : z ≤ 67108864 = region-most (storeOf C) sd k r z one in

@@ -23,7 +23,7 @@ bitSet bits kind = eqb ((bits / 2 ^ kind) % 2) 1
 unfoldable pub keptFrom : Cols → rules.Ignore → ℕ → ℕ → List Attribute
 keptFrom C ig a e = unignored ig (attributesFrom C a (e - a))
 
--- the kinds of the slots from a on, up to e, are kinds
+-- the attribute kinds in the slots from a on, up to e, are at most 63, as every kind is
 abbrev pub Kinds : Cols → ℕ → ℕ → Type 0
 Kinds C a e = (k : ℕ) → a ≤ k → k < e → at C slotKind k < 64
 

@@ -5,13 +5,13 @@ use lib.ListN.{length}
 use Rattle.rules.specs.Store.{Store, Owner, opAt, regionsOf, valuesOf, maxValues}
 use Rattle.rules.specs.Shells.{Ignore, Shell, shellOf, unignoredLocation}
 use Rattle.layout.specs.Columns.{Cols, valueType}
-use Rattle.layout.specs.Reading.{part, storeOf, following}
+use Rattle.layout.specs.Reading.{slice, storeOf, consecutive}
 use Rattle.fragments.specs.Ignoring.{keptFrom, Kinds}
 use Rattle.fragments.specs.declared.types.Row.{Row}
 use Rattle.fragments.specs.declared.types.Head.{Head}
 
--- its runs stand within the columns, and its kinds are kinds
-pub record Fits (C : Cols) (r : Row) : Type 0 where
+-- its slots and values are in the columns, and its attribute kinds are at most 63
+pub record RowFits (C : Cols) (r : Row) : Type 0 where
   pub slots : r .slot + r .attributes ≤ 6144
   pub kinds : Kinds C (r .slot) (r .slot + r .attributes)
   pub values : r .value + r .values ≤ maxValues
@@ -22,16 +22,16 @@ rowShell C ig r =
     record {
       location = unignoredLocation ig (r .location);
       attributes = keptFrom C ig (r .slot) (r .slot + r .attributes);
-      types = part (C valueType) (r .value) (r .value + r .values);
+      types = slice (C valueType) (r .value) (r .value + r .values);
     }
 
 -- the row is that of an operation or a block
 pub record RowOf (C : Cols) (w : Owner) (r : Row) : Type 0 where
-  pub fits : Fits C r
+  pub fits : RowFits C r
   pub shell : (ig : Ignore) → shellOf (storeOf C) ig w ≡ rowShell C ig r
-  pub values : valuesOf (storeOf C) w ≡ following (r .value) (r .values)
+  pub values : valuesOf (storeOf C) w ≡ consecutive (r .value) (r .values)
 
--- what an operation has beside
+-- what an operation has besides its row
 pub record HeadOf (s : Store) (n : ℕ) (h : Head) : Type 0 where
   pub kind : h .kind ≡ opAt s n .kind
   pub regions : h .regions ≡ length (regionsOf s n)

@@ -10,7 +10,7 @@ unfoldable pub sizeFrom : Option ℕ → Size
 sizeFrom none = TooDeep
 sizeFrom (some n) = Of n
 
--- of an operation in a region, where so many regions may stand, one in another, the one around it among them
+-- of an operation in a region, where so many levels of regions are left, the region around it among them
 unfoldable pub sizeBelow : ℕ → Store → ℕ → Option ℕ
 sizeBelow zero s n = none
 sizeBelow (suc k) s n = opSize k s n

@@ -1,4 +1,4 @@
-// The ignore rule, and the attribute slots that it leaves.
+// The ignore rule, and the attribute slots that it does not ignore.
 use layout::columns::SLOT_KIND;
 use layout::columns::at;
 ghost use mathlib.Core.Path.{_≡_};

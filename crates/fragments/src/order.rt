@@ -1,7 +1,7 @@
 // The order of a walk: a list of blocks, and the operations in its blocks.
 use crate::types::Blocks;
 use crate::types::NextOp;
-use crate::types::Place;
+use crate::types::Position;
 use layout::children::Found;
 use layout::children::next_block;
 use layout::children::next_op;
@@ -12,13 +12,13 @@ ghost use Rattle.layout.specs.Reading.{storeIn};
 ghost use Rattle.layout.specs.Columns.{columns};
 ghost use Rattle.layout.specs.Soundness.{IsSound};
 ghost use Rattle.layout.specs.Children.{firstFrom, foundFrom};
-ghost use Rattle.fragments.specs.Order.{listed, Existing, past, FirstOp};
+ghost use Rattle.fragments.specs.Order.{blockList, BlocksExist, pastOp, FirstOp};
 
-// The next of a list of blocks, from a number on.
+// The first of a list of blocks whose number is not below `from`.
 pub fn next_in(store: &[u32], blocks: Blocks, from: usize) -> Found
     requires { ⌜ IsSound (now store) ⌝ }
-    requires { ⌜ Existing (columns (now store)) blocks ⌝ }
-    ensures { λ q. ⌜ q ≡ foundFrom (firstFrom from (listed (storeIn (now (store .entry))) blocks)) ⌝ }
+    requires { ⌜ BlocksExist (columns (now store)) blocks ⌝ }
+    ensures { λ q. ⌜ q ≡ foundFrom (firstFrom from (blockList (storeIn (now (store .entry))) blocks)) ⌝ }
 {
     match blocks {
         Blocks::InRegion(r) => next_block(store, r, from),
@@ -26,10 +26,10 @@ pub fn next_in(store: &[u32], blocks: Blocks, from: usize) -> Found
     }
 }
 
-// The next operation in a list of blocks, from a place on.
-pub fn next_op_in(store: &[u32], blocks: Blocks, from: Place) -> NextOp
+// The next operation in a list of blocks, from a position on.
+pub fn next_op_in(store: &[u32], blocks: Blocks, from: Position) -> NextOp
     requires { ⌜ IsSound (now store) ⌝ }
-    requires { ⌜ Existing (columns (now store)) blocks ⌝ }
+    requires { ⌜ BlocksExist (columns (now store)) blocks ⌝ }
     ensures { λ q. ⌜ FirstOp (storeIn (now (store .entry))) blocks from q ⌝ }
 {
     let mut at = from;
@@ -40,21 +40,21 @@ pub fn next_op_in(store: &[u32], blocks: Blocks, from: Place) -> NextOp
         };
         let op = next_op(store, b, at.op);
         if let Found::At(n) = op {
-            return NextOp::At(Place { block: b, op: n });
+            return NextOp::At(Position { block: b, op: n });
         }
-        at = Place {
+        at = Position {
             block: b + 1,
             op: 0,
         };
     }
 }
 
-// The place past an operation.
-pub fn past_op(p: Place) -> Place
+// The position past an operation.
+pub fn past_op(p: Position) -> Position
     requires { ⌜ p .op < 512 ⌝ }
-    ensures { λ q. ⌜ q ≡ past p ⌝ }
+    ensures { λ q. ⌜ q ≡ pastOp p ⌝ }
 {
-    Place {
+    Position {
         block: p.block,
         op: p.op + 1,
     }

@@ -23,25 +23,25 @@ ghost use mathlib.Core.Path.{_≡_};
 ghost use Prim.Native.Nat.{_-_, _<_, _≤_};
 ghost use lib.ListN.{length};
 ghost use Rattle.rules.specs.Store.{ofOp, ofBlock, regionsOf};
-ghost use Rattle.layout.specs.Columns.{bufferLength, size, columns};
+ghost use Rattle.layout.specs.Columns.{bufferLength, columnSize, columns};
 ghost use Rattle.layout.specs.Reading.{opCount, blockCount, storeIn};
 ghost use Rattle.layout.specs.Soundness.{IsSound};
 ghost use Rattle.fragments.specs.Rows.{RowOf, HeadOf};
 
-// How long a row's range is.
+// How many numbers there are in a row's range.
 fn span(store: &[u32], first: usize, end: usize, n: usize) -> usize
     requires { ⌜ length (now store) ≡ bufferLength ⌝ }
     requires { ⌜ first < 32 ⌝ }
     requires { ⌜ end < 32 ⌝ }
-    requires { ⌜ n < size first ⌝ }
-    requires { ⌜ n < size end ⌝ }
+    requires { ⌜ n < columnSize first ⌝ }
+    requires { ⌜ n < columnSize end ⌝ }
     requires { ⌜ Rattle.layout.specs.Columns.at (columns (now store)) first n ≤ Rattle.layout.specs.Columns.at (columns (now store)) end n ⌝ }
     ensures { λ r. ⌜ r ≡ Rattle.layout.specs.Columns.at (columns (now (store .entry))) end n - Rattle.layout.specs.Columns.at (columns (now (store .entry))) first n ⌝ }
 {
     number(store, end, n) - number(store, first, n)
 }
 
-// Of an operation; its values are its results.
+// The row of an operation; its values are its results.
 pub fn op_row(store: &[u32], n: usize) -> Row
     requires { ⌜ IsSound (now store) ⌝ }
     requires { ⌜ n < opCount (columns (now store)) ⌝ }
@@ -57,7 +57,7 @@ pub fn op_row(store: &[u32], n: usize) -> Row
     }
 }
 
-// Of a block; its values are its arguments.
+// The row of a block; its values are its arguments.
 pub fn block_row(store: &[u32], n: usize) -> Row
     requires { ⌜ IsSound (now store) ⌝ }
     requires { ⌜ n < blockCount (columns (now store)) ⌝ }
@@ -82,7 +82,7 @@ pub fn op_regions(store: &[u32], n: usize) -> usize
     span(store, OP_REGION_FIRST, OP_REGION_END, n)
 }
 
-// What an operation has beside its row.
+// What an operation has besides its row.
 pub fn op_head(store: &[u32], n: usize) -> Head
     requires { ⌜ IsSound (now store) ⌝ }
     requires { ⌜ n < opCount (columns (now store)) ⌝ }

@@ -1,5 +1,5 @@
-// The size of a fragment: an operation counts itself and those in its regions. Nesting ends the recursion: each operation in a block
-// has one region fewer left that may stand inside it.
+// The size of a fragment: how many operations are in it. An operation counts itself and those in its regions. Nesting is limited, and so
+// the recursion ends: `left` is how many levels of regions are left, and each operation in a block has one fewer than its block.
 use crate::types::Size;
 use layout::children::Found;
 use layout::children::next_block;
@@ -21,7 +21,7 @@ ghost use Rattle.layout.specs.Reading.{opCount, blockCount, regionCount, storeI
 ghost use Rattle.layout.specs.Soundness.{IsSound};
 ghost use Rattle.fragments.specs.Sizes.{sizeFrom, blockSize, regionSize};
 
-// The size of a block, where `left` regions may stand one in another, the one around the block among them.
+// The size of a block. `left` counts the region around the block and all levels inside it.
 fn size_in_block(store: &[u32], b: usize, left: u32) -> Size
     requires { ⌜ IsSound (now store) ⌝ }
     requires { ⌜ b < blockCount (columns (now store)) ⌝ }
@@ -44,7 +44,7 @@ fn size_in_block(store: &[u32], b: usize, left: u32) -> Size
     }
 }
 
-// The size of a region, where it and those inside it may be `left` regions, one in another.
+// The size of a region. `left` counts this region and all levels inside it.
 fn size_in_region(store: &[u32], r: usize, left: u32) -> Size
     requires { ⌜ IsSound (now store) ⌝ }
     requires { ⌜ r < regionCount (columns (now store)) ⌝ }
@@ -64,7 +64,7 @@ fn size_in_region(store: &[u32], r: usize, left: u32) -> Size
     }
 }
 
-// The size of an operation in which `left` more regions may stand, one in another.
+// The size of an operation. `left` counts its regions as one level, and all levels inside them.
 fn size_in_op(store: &[u32], n: usize, left: u32) -> Size
     requires { ⌜ IsSound (now store) ⌝ }
     requires { ⌜ n < opCount (columns (now store)) ⌝ }
@@ -83,7 +83,7 @@ fn size_in_op(store: &[u32], n: usize, left: u32) -> Size
     Size::Of(size)
 }
 
-// How many more regions may stand in an operation, one in another.
+// How many levels of regions an operation may have inside it.
 fn levels_left(store: &[u32], n: usize) -> u32
     requires { ⌜ IsSound (now store) ⌝ }
     requires { ⌜ n < opCount (columns (now store)) ⌝ }

@@ -1,6 +1,6 @@
 // What is told of a fragment, and what a walk over one goes through.
 
-// How many operations are in it, or that one is nested too deep.
+// How many operations are in a fragment, or that one of them is nested too deep.
 pub enum Size {
     Of(u32),
     TooDeep,
@@ -13,7 +13,8 @@ pub enum Sort {
     Region,
 }
 
-// What an operation or a block has by itself: a location, so many attributes from a slot on, and so many values from one on.
+// What an operation or a block has by itself: its location, its attributes in `attributes` slots from `slot` on, and its results or
+// arguments, `values` of them from value `value` on.
 pub struct Row {
     pub location: u32,
     pub slot: usize,
@@ -22,7 +23,7 @@ pub struct Row {
     pub values: usize,
 }
 
-// What an operation has beside: its kind, and how many regions, successors and operands.
+// What only an operation has: its kind, and how many regions, successors and operands.
 pub struct Head {
     pub kind: u32,
     pub regions: usize,
@@ -36,14 +37,15 @@ pub enum Blocks {
     Alone(usize),
 }
 
-// A place in a list of blocks: blocks from this number on, and of the first the operations from this number on.
-pub struct Place {
+// How far a walk through a list of blocks has come. To come are the blocks from number `block` on, and in the first of these the operations
+// from number `op` on.
+pub struct Position {
     pub block: usize,
     pub op: usize,
 }
 
-// The next operation in a list of blocks, and the block that it is in.
+// The next operation in a list of blocks, and the block that it is in; or that there is none.
 pub enum NextOp {
-    At(Place),
+    At(Position),
     End,
 }

@@ -14,14 +14,14 @@ use Rattle.rules.specs.Answers.{shallow, hashTests, hashedBy, hashed}
 use Rattle.layout.specs.Reading.{storeIn}
 use Rattle.layout.specs.Soundness.{soundBuffer, IsSound}
 use Rattle.layout.proofs.Empty.{sound-of}
-use Rattle.hashing.specs.Walked.{Stands, Fed, Room, fullSteps, listedSteps, atStart}
-use Rattle.fragments.specs.Order.{listed}
+use Rattle.hashing.specs.Walked.{Stands, Fed, DefinitionsFit, fullSteps, listedSteps, atStart}
+use Rattle.fragments.specs.Order.{blockList}
 use Rattle.hashing.specs.Calls.{hashedOf, fragmentTests, Answered}
 use Rattle.fragments.specs.declared.types.Blocks.the-variants.{InRegion, Alone}
 use Rattle.hashing.specs.declared.types.Hashed.the-variants.{Hash, Refused}
 use Rattle.hashing.specs.declared.types.Hashing.{Hashing}
 use Rattle.hashing.proofs.Feeding.{room-start, fed-hash}
-use Rattle.hashing.proofs.Rounds.{region-listed}
+use Rattle.hashing.proofs.Rounds.{region-list}
 
 -- ---- the tests of a fragment
 
@@ -53,24 +53,24 @@ pub op-steps : (s : Store) (n : ℕ) → steps s op n ≡ (shell (ofOp n) ∷ []
 unfolding steps fullSteps
 op-steps s n = refl
 
-pub block-steps : (s : Store) (n : ℕ) → steps s block n ≡ listedSteps s (listed s (Alone n))
-unfolding steps listedSteps fullSteps listed
+pub block-steps : (s : Store) (n : ℕ) → steps s block n ≡ listedSteps s (blockList s (Alone n))
+unfolding steps listedSteps fullSteps blockList
 block-steps s n = refl
 
-pub region-steps : (s : Store) → sound s ≡ true → (n : ℕ) → steps s region n ≡ listedSteps s (listed s (InRegion n))
+pub region-steps : (s : Store) → sound s ≡ true → (n : ℕ) → steps s region n ≡ listedSteps s (blockList s (InRegion n))
 unfolding steps
-region-steps s sd n = region-listed s sd n
+region-steps s sd n = region-list s sd n
 
 module _ (s : Store) (f : Sort) (n : ℕ) (xs : List Step) (e : steps s f n ≡ xs) {st : Hashing} where
-  pub steps-room : Room s (steps s f n) st → Room s xs st
-  steps-room r = subst (λ (l : List Step). Room s l st) e r
+  pub steps-room : DefinitionsFit s (steps s f n) st → DefinitionsFit s xs st
+  steps-room r = subst (λ (l : List Step). DefinitionsFit s l st) e r
 
   pub steps-fed : {ig : Ignore} {numbers numbers′ : List ℕ} {st′ : Hashing} → Fed s ig xs numbers numbers′ st st′ → Fed s ig (steps s f n) numbers numbers′ st st′
   steps-fed {ig} {numbers} {numbers′} {st′} d = subst (λ (l : List Step). Fed s ig l numbers numbers′ st st′) (sym e) d
 
 module _ (s : Store) (f : Sort) (n : ℕ) {st : Hashing} (z : st ≡ atStart) where
-  pub begin-room : sound s ≡ true → exists s f n ≡ true → Room s (steps s f n) st
-  begin-room sd h = subst (λ (t : Hashing). Room s (steps s f n) t) (sym z) (room-start s sd f n h)
+  pub begin-room : sound s ≡ true → exists s f n ≡ true → DefinitionsFit s (steps s f n) st
+  begin-room sd h = subst (λ (t : Hashing). DefinitionsFit s (steps s f n) t) (sym z) (room-start s sd f n h)
 
   pub all-hash : (ig : Ignore) {numbers numbers′ : List ℕ} {st′ : Hashing} → Stands noNumbers numbers atStart → Fed s ig (steps s f n) numbers numbers′ st st′ → st′ .word ≡ hash s ig f n
   all-hash ig {numbers} {numbers′} {st′} h d = fed-hash s ig f n h (subst (λ (t : Hashing). Fed s ig (steps s f n) numbers numbers′ t st′) z d)

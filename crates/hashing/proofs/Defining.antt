@@ -16,9 +16,9 @@ use lib.Seq.{getD-set-same, getD-set-other}
 use Rattle.rules.specs.Lists.{position}
 use Rattle.rules.specs.Hash.{Numbering}
 use Rattle.rules.proofs.Form.Images.{position-some, position-kept, position-next, position-other}
-use Rattle.layout.specs.Reading.{tabulateFrom, following}
-use Rattle.fragments.proofs.ByRows.{following-length}
-use Rattle.hashing.specs.Words.{numbersLength, noNumber, numberOr, Words, withValues, withBlock, defineAt, NumbersValues, NumbersBlock}
+use Rattle.layout.specs.Reading.{tabulateFrom, consecutive}
+use Rattle.fragments.proofs.ByRows.{consecutive-length}
+use Rattle.hashing.specs.Words.{numbersLength, noNumber, numberOr, Words, defineValues, defineBlock, defineAt, NumbersValues, NumbersBlock}
 
 -- ---- one word
 
@@ -82,8 +82,8 @@ from-zero ns D t v l = subst (λ (k : ℕ). getD ns k 0 ≡ numberOr (position v
 -- ---- all words
 
 module _ (N : Numbering) (ns : List ℕ) (w : Words N ns) where
-  pub value-defined : (v : ℕ) → v < 2048 → length (N .values) ≤ noNumber → Words (withValues N (v ∷ [])) (defineAt ns v (length (N .values)))
-  unfolding withValues
+  pub value-defined : (v : ℕ) → v < 2048 → length (N .values) ≤ noNumber → Words (defineValues N (v ∷ [])) (defineAt ns v (length (N .values)))
+  unfolding defineValues
   value-defined v l few =
       let long : length ns ≡ numbersLength = w .long in
       let e : 0 + v ≡ v = zero-add v in
@@ -96,8 +96,8 @@ module _ (N : Numbering) (ns : List ℕ) (w : Words N ns) where
         blocks = table-kept 2048 256 ns (N .blocks) v (length (N .values)) (λ n h k. omega arith) (w .blocks);
       }
 
-  pub block-defined : (b : ℕ) → b < 256 → length (N .blocks) ≤ noNumber → Words (withBlock N b) (defineAt ns (2048 + b) (length (N .blocks)))
-  unfolding withBlock
+  pub block-defined : (b : ℕ) → b < 256 → length (N .blocks) ≤ noNumber → Words (defineBlock N b) (defineAt ns (2048 + b) (length (N .blocks)))
+  unfolding defineBlock
   block-defined b l few =
       let long : length ns ≡ numbersLength = w .long in
       record {
@@ -108,25 +108,25 @@ module _ (N : Numbering) (ns : List ℕ) (w : Words N ns) where
 
 pub value-numbered : (ns ns′ : List ℕ) (v id : ℕ) → v < 2048 → id < 2048 → ns′ ≡ defineAt ns v id → NumbersValues ns ns′ id (v ∷ [])
 value-numbered ns ns′ v id l few e N h w =
-    subst (λ (x : List ℕ). Words (withValues N (v ∷ [])) x) (ap (defineAt ns v) h ∙ sym e) (value-defined N ns w v l (omega arith))
+    subst (λ (x : List ℕ). Words (defineValues N (v ∷ [])) x) (ap (defineAt ns v) h ∙ sym e) (value-defined N ns w v l (omega arith))
 
 pub block-numbered : (ns ns′ : List ℕ) (b id : ℕ) → b < 256 → id < 256 → ns′ ≡ defineAt ns (2048 + b) id → NumbersBlock ns ns′ id b
 block-numbered ns ns′ b id l few e N h w =
-    subst (λ (x : List ℕ). Words (withBlock N b) x) (ap (defineAt ns (2048 + b)) h ∙ sym e) (block-defined N ns w b l (omega arith))
+    subst (λ (x : List ℕ). Words (defineBlock N b) x) (ap (defineAt ns (2048 + b)) h ∙ sym e) (block-defined N ns w b l (omega arith))
 
 -- ---- values one after the other
 
-following-next : (a n : ℕ) → following a (suc n) ≡ following a n ++ (a + n) ∷ []
-unfolding following tabulateFrom
-following-next a zero = let e : a ≡ a + 0 = omega arith in ap (λ (k : ℕ). k ∷ []) e
-following-next a (suc n) = let e : suc a + n ≡ a + suc n = omega arith in ap (λ (l : List ℕ). a ∷ l) (following-next (suc a) n ∙ ap (λ (k : ℕ). following (suc a) n ++ k ∷ []) e)
+consecutive-next : (a n : ℕ) → consecutive a (suc n) ≡ consecutive a n ++ (a + n) ∷ []
+unfolding consecutive tabulateFrom
+consecutive-next a zero = let e : a ≡ a + 0 = omega arith in ap (λ (k : ℕ). k ∷ []) e
+consecutive-next a (suc n) = let e : suc a + n ≡ a + suc n = omega arith in ap (λ (l : List ℕ). a ∷ l) (consecutive-next (suc a) n ∙ ap (λ (k : ℕ). consecutive (suc a) n ++ k ∷ []) e)
 
 -- none
-pub values-none : (ns : List ℕ) (id a : ℕ) → NumbersValues ns ns id (following a (a - a))
-unfolding withValues following tabulateFrom
+pub values-none : (ns : List ℕ) (id a : ℕ) → NumbersValues ns ns id (consecutive a (a - a))
+unfolding defineValues consecutive tabulateFrom
 values-none ns id a N e w =
     let z : a - a ≡ 0 = omega arith in
-    let none : N .values ++ following a (a - a) ≡ N .values = ap (λ (n : ℕ). N .values ++ following a n) z ∙ append-nil (N .values) in
+    let none : N .values ++ consecutive a (a - a) ≡ N .values = ap (λ (n : ℕ). N .values ++ consecutive a n) z ∙ append-nil (N .values) in
     record {
       long = w .long;
       values = λ v l. w .values v l ∙ ap (λ (D : List ℕ). numberOr (position v D)) (sym none);
@@ -135,17 +135,17 @@ values-none ns id a N e w =
 
 -- one more, v being the next
 pub values-next : (ns ns₁ ns₂ : List ℕ) (id a v next : ℕ) → a ≤ v → next + a ≡ id + v
-    → NumbersValues ns ns₁ id (following a (v - a)) → NumbersValues ns₁ ns₂ next (v ∷ []) → NumbersValues ns ns₂ id (following a (v + 1 - a))
-unfolding withValues
+    → NumbersValues ns ns₁ id (consecutive a (v - a)) → NumbersValues ns₁ ns₂ next (v ∷ []) → NumbersValues ns ns₂ id (consecutive a (v + 1 - a))
+unfolding defineValues
 values-next ns ns₁ ns₂ id a v next l same before one N e w =
-    let long : length (N .values ++ following a (v - a)) ≡ length (N .values) + length (following a (v - a)) = length-append (N .values) (following a (v - a)) in
-    let many : length (following a (v - a)) ≡ v - a = following-length a (v - a) in
-    let w₂ : Words (withValues (withValues N (following a (v - a))) (v ∷ [])) ns₂ = one (withValues N (following a (v - a))) (omega arith) (before N e w) in
+    let long : length (N .values ++ consecutive a (v - a)) ≡ length (N .values) + length (consecutive a (v - a)) = length-append (N .values) (consecutive a (v - a)) in
+    let many : length (consecutive a (v - a)) ≡ v - a = consecutive-length a (v - a) in
+    let w₂ : Words (defineValues (defineValues N (consecutive a (v - a))) (v ∷ [])) ns₂ = one (defineValues N (consecutive a (v - a))) (omega arith) (before N e w) in
     let k : v + 1 - a ≡ suc (v - a) = omega arith in
     let j : a + (v - a) ≡ v = omega arith in
-    let all : (N .values ++ following a (v - a)) ++ v ∷ [] ≡ N .values ++ following a (v + 1 - a) =
-    append-assoc (N .values) (following a (v - a)) (v ∷ [])
-    ∙ ap (λ (l : List ℕ). N .values ++ l) (ap (λ (i : ℕ). following a (v - a) ++ i ∷ []) (sym j) ∙ sym (following-next a (v - a)) ∙ ap (following a) (sym k)) in
+    let all : (N .values ++ consecutive a (v - a)) ++ v ∷ [] ≡ N .values ++ consecutive a (v + 1 - a) =
+    append-assoc (N .values) (consecutive a (v - a)) (v ∷ [])
+    ∙ ap (λ (l : List ℕ). N .values ++ l) (ap (λ (i : ℕ). consecutive a (v - a) ++ i ∷ []) (sym j) ∙ sym (consecutive-next a (v - a)) ∙ ap (consecutive a) (sym k)) in
     record {
       long = w₂ .long;
       values = λ x h. w₂ .values x h ∙ ap (λ (D : List ℕ). numberOr (position x D)) all;
@@ -153,5 +153,5 @@ values-next ns ns₁ ns₂ id a v next l same before one N e w =
     }
 
 -- all
-pub values-over : (ns ns₁ : List ℕ) (id a n v : ℕ) → v ≤ a + n → a + n ≤ v → NumbersValues ns ns₁ id (following a (v - a)) → NumbersValues ns ns₁ id (following a n)
-values-over ns ns₁ id a n v l h k = let e : v - a ≡ n = omega arith in subst (λ (i : ℕ). NumbersValues ns ns₁ id (following a i)) e k
+pub values-over : (ns ns₁ : List ℕ) (id a n v : ℕ) → v ≤ a + n → a + n ≤ v → NumbersValues ns ns₁ id (consecutive a (v - a)) → NumbersValues ns ns₁ id (consecutive a n)
+values-over ns ns₁ id a n v l h k = let e : v - a ≡ n = omega arith in subst (λ (i : ℕ). NumbersValues ns ns₁ id (consecutive a i)) e k

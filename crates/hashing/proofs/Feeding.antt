@@ -14,8 +14,8 @@ use Rattle.rules.specs.Hash.{fnvFrom, fnv, Numbering, noNumbers, numbered, feed
 use Rattle.rules.proofs.Basics.Distinct.{concatMap-append}
 use Rattle.rules.proofs.Form.Counted.{values-most, blocks-most}
 use Rattle.rules.proofs.Form.Hashes.{fnv-append}
-use Rattle.hashing.specs.Words.{numbersLength, noNumber, numberOr, Few}
-use Rattle.hashing.specs.Walked.{Stands, numberedAll, valuesIn, blocksIn, Fed, Room, atStart}
+use Rattle.hashing.specs.Words.{numbersLength, noNumber, numberOr, NumberingFits}
+use Rattle.hashing.specs.Walked.{Stands, numberedAll, valuesIn, blocksIn, Fed, DefinitionsFit, atStart}
 use Rattle.hashing.specs.declared.types.Hashing.{Hashing}
 
 -- ---- steps that follow on others
@@ -76,15 +76,15 @@ module _ (s : Store) (ig : Ignore) where
 
 -- ---- room
 
-module _ (s : Store) (xs ys : List Step) {st : Hashing} (r : Room s (xs ++ ys) st) where
-  pub room-first : Room s xs st
+module _ (s : Store) (xs ys : List Step) {st : Hashing} (r : DefinitionsFit s (xs ++ ys) st) where
+  pub room-first : DefinitionsFit s xs st
   room-first =
       record {
         values = omega (arith, values-append s xs ys, r .values);
         blocks = omega (arith, blocks-append xs ys, r .blocks);
       }
 
-  pub room-rest : {ig : Ignore} {a b : List ℕ} {st₁ : Hashing} → Fed s ig xs a b st st₁ → Room s ys st₁
+  pub room-rest : {ig : Ignore} {a b : List ℕ} {st₁ : Hashing} → Fed s ig xs a b st st₁ → DefinitionsFit s ys st₁
   room-rest f =
       record {
         values = omega (arith, values-append s xs ys, r .values, f .values);
@@ -92,12 +92,12 @@ module _ (s : Store) (xs ys : List Step) {st : Hashing} (r : Room s (xs ++ ys) s
       }
 
 -- where there is room, no more is numbered than there may be
-pub room-few : {s : Store} {xs : List Step} {N : Numbering} {numbers : List ℕ} {st : Hashing} → Room s xs st → Stands N numbers st → Few N
+pub room-few : {s : Store} {xs : List Step} {N : Numbering} {numbers : List ℕ} {st : Hashing} → DefinitionsFit s xs st → Stands N numbers st → NumberingFits N
 room-few r h = record { values = omega (arith, r .values, h .values); blocks = omega (arith, r .blocks, h .blocks) }
 
 -- ---- the start, and the whole
 
-pub room-start : (s : Store) → sound s ≡ true → (f : Sort) (n : ℕ) → exists s f n ≡ true → Room s (steps s f n) atStart
+pub room-start : (s : Store) → sound s ≡ true → (f : Sort) (n : ℕ) → exists s f n ≡ true → DefinitionsFit s (steps s f n) atStart
 unfolding atStart valuesIn blocksIn definesValues definesBlocks definesOwners
 room-start s sd f n e =
     let v : length (definesValues s f n) ≤ maxValues = values-most s sd f n e in

@@ -16,34 +16,34 @@ use Rattle.rules.proofs.Basics.Tests.{all-at}
 use Rattle.rules.proofs.Basics.Appended.{mem-getD}
 use Rattle.rules.proofs.Form.Images.{position-some}
 use Rattle.rules.proofs.Form.Hashes.{fnv-append}
-use Rattle.hashing.specs.Words.{noNumber, numberOr, Words, Few, namedBy, valueBytes, blockBytes, FeedsNames}
+use Rattle.hashing.specs.Words.{noNumber, numberOr, Words, NumberingFits, nameByWord, valueBytes, blockBytes, FeedsNames}
 
-pub named-by : (number n : ℕ) (D : List ℕ) → length D ≤ noNumber → number ≡ numberOr (position n D) → namedBy number n ≡ nameOf D n
-unfolding namedBy numberOr nameOf nameAt
+pub named-by : (number n : ℕ) (D : List ℕ) → length D ≤ noNumber → number ≡ numberOr (position n D) → nameByWord number n ≡ nameOf D n
+unfolding nameByWord numberOr nameOf nameAt
 named-by number n D few e = go (position n D) refl
   where
-    go : (o : Option ℕ) → position n D ≡ o → namedBy number n ≡ nameAt (position n D) n
+    go : (o : Option ℕ) → position n D ≡ o → nameByWord number n ≡ nameAt (position n D) n
     go none p = let h : number ≡ noNumber = e ∙ ap numberOr p in rw (eq-eqb number noNumber h, p) refl
     go (some k) p =
         let h : number ≡ k = e ∙ ap numberOr p in
         let l : k < length D = position-some n D k p .0 in
         rw (ne-eqb number noNumber (λ x. omega arith), p, h) refl
 
-pub name-fed : (number n word : ℕ) {r : ℕ} → number ≡ noNumber → r ≡ fnvFrom word (nameBytes (storeNumber n)) → r ≡ fnvFrom word (nameBytes (namedBy number n))
-unfolding namedBy
+pub name-fed : (number n word : ℕ) {r : ℕ} → number ≡ noNumber → r ≡ fnvFrom word (nameBytes (storeNumber n)) → r ≡ fnvFrom word (nameBytes (nameByWord number n))
+unfolding nameByWord
 name-fed number n word h e = rw (eq-eqb number noNumber h) e
 
-pub number-fed : (number n word : ℕ) {r : ℕ} → (number ≡ noNumber → ⊥) → r ≡ fnvFrom word (nameBytes (walkNumber number)) → r ≡ fnvFrom word (nameBytes (namedBy number n))
-unfolding namedBy
+pub number-fed : (number n word : ℕ) {r : ℕ} → (number ≡ noNumber → ⊥) → r ≡ fnvFrom word (nameBytes (walkNumber number)) → r ≡ fnvFrom word (nameBytes (nameByWord number n))
+unfolding nameByWord
 number-fed number n word h e = rw (ne-eqb number noNumber h) e
 
 module _ (numbers : List ℕ) (n word : ℕ) where
-  pub value-fed : {r : ℕ} → n < 2048 → r ≡ fnvFrom word (nameBytes (namedBy (getD numbers n 0) n)) → FeedsNames numbers (λ (N : Numbering). valueBytes N n) word r
+  pub value-fed : {r : ℕ} → n < 2048 → r ≡ fnvFrom word (nameBytes (nameByWord (getD numbers n 0) n)) → FeedsNames numbers (λ (N : Numbering). valueBytes N n) word r
   value-fed l e N w few =
       let m : length (N .values) ≤ 2048 = few .values in
       e ∙ ap (λ (x : Name). fnvFrom word (nameBytes x)) (named-by (getD numbers n 0) n (N .values) (omega arith) (w .values n l))
 
-  pub block-fed : {r : ℕ} → n < 256 → r ≡ fnvFrom word (nameBytes (namedBy (getD numbers (2048 + n) 0) n)) → FeedsNames numbers (λ (N : Numbering). blockBytes N n) word r
+  pub block-fed : {r : ℕ} → n < 256 → r ≡ fnvFrom word (nameBytes (nameByWord (getD numbers (2048 + n) 0) n)) → FeedsNames numbers (λ (N : Numbering). blockBytes N n) word r
   block-fed l e N w few =
       let m : length (N .blocks) ≤ 256 = few .blocks in
       e ∙ ap (λ (x : Name). fnvFrom word (nameBytes x)) (named-by (getD numbers (2048 + n) 0) n (N .blocks) (omega arith) (w .blocks n l))
@@ -52,7 +52,7 @@ module _ (numbers : List ℕ) (n word : ℕ) where
 
 -- what is left to feed goes into the word as it is; the whole, into the word as it was
 abbrev pub LeftToFeed : List ℕ → (Numbering → ℕ → List ℕ) → List ℕ → ℕ → ℕ → ℕ → Type 0
-LeftToFeed numbers bytes list i word fed = (N : Numbering) → Words N numbers → Few N → fnvFrom fed (concatMap (bytes N) (drop i list)) ≡ fnvFrom word (concatMap (bytes N) list)
+LeftToFeed numbers bytes list i word fed = (N : Numbering) → Words N numbers → NumberingFits N → fnvFrom fed (concatMap (bytes N) (drop i list)) ≡ fnvFrom word (concatMap (bytes N) list)
 
 module _ (numbers : List ℕ) (bytes : Numbering → ℕ → List ℕ) (list : List ℕ) (word : ℕ) where
   pub left-all : LeftToFeed numbers bytes list 0 word word

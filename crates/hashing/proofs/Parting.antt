@@ -8,8 +8,8 @@ use Rattle.rules.specs.Store.{Store}
 use Rattle.rules.specs.Fragments.{Step}
 use Rattle.rules.specs.Shells.{Ignore}
 use Rattle.layout.specs.Children.{onFrom}
-use Rattle.layout.proofs.Seeking.{Next}
-use Rattle.hashing.specs.Walked.{Fed, Room}
+use Rattle.layout.proofs.Seeking.{NextChild}
+use Rattle.hashing.specs.Walked.{Fed, DefinitionsFit}
 use Rattle.hashing.specs.declared.types.Hashing.{Hashing}
 use Rattle.hashing.proofs.Feeding.{fed-none, fed-then, room-first, room-rest}
 
@@ -27,10 +27,10 @@ module _ {s : Store} {ig : Ignore} {whole : List Step} {a : List ℕ} {st : Hash
     all-fed e = subst (λ (xs : List Step). Fed s ig xs a b st st₁) (sym (append-nil (p .done)) ∙ ap (λ (l : List Step). p .done ++ l) (sym e) ∙ p .rest) (p .fed)
 
     module _ (xs ys : List Step) (e : left ≡ xs ++ ys) where
-      pub part-room : Room s whole st → Room s xs st₁
+      pub part-room : DefinitionsFit s whole st → DefinitionsFit s xs st₁
       part-room r =
           let all : whole ≡ p .done ++ (xs ++ ys) = sym (p .rest) ∙ ap (λ (l : List Step). p .done ++ l) e in
-          room-first s xs ys (room-rest s (p .done) (xs ++ ys) (subst (λ (l : List Step). Room s l st) all r) (p .fed))
+          room-first s xs ys (room-rest s (p .done) (xs ++ ys) (subst (λ (l : List Step). DefinitionsFit s l st) all r) (p .fed))
 
       pub part-fed : {c : List ℕ} {st₂ : Hashing} → Fed s ig xs b c st₁ st₂ → Partly s ig whole ys a c st st₂
       part-fed f =
@@ -42,7 +42,7 @@ module _ {s : Store} {ig : Ignore} {whole : List Step} {a : List ℕ} {st : Hash
 
 -- ---- what is left of a list, where this child is next
 
-module _ {xs : List ℕ} {from n : ℕ} (h : Next xs from n) where
+module _ {xs : List ℕ} {from n : ℕ} (h : NextChild xs from n) where
   pub map-left : (f : ℕ → Step) → map f (onFrom from xs) ≡ (f n ∷ []) ++ map f (onFrom (n + 1) xs)
   map-left f = ap (map f) (h .rest)
 

@@ -15,14 +15,14 @@ use Rattle.layout.proofs.Tabulate.{op-read}
 use Rattle.fragments.specs.Rows.{RowOf}
 use Rattle.fragments.specs.declared.types.Row.{Row}
 use Rattle.fragments.proofs.ByRows.{row-count}
-use Rattle.hashing.specs.Walked.{valuesIn, blocksIn, Room}
+use Rattle.hashing.specs.Walked.{valuesIn, blocksIn, DefinitionsFit}
 use Rattle.hashing.specs.declared.types.Hashing.{Hashing}
 
-pub row-room : {C : Cols} {w : Owner} {r : Row} → RowOf C w r → {st : Hashing} → Room (storeOf C) (shell w ∷ []) st → st .values + r .values ≤ maxValues
+pub row-room : {C : Cols} {w : Owner} {r : Row} → RowOf C w r → {st : Hashing} → DefinitionsFit (storeOf C) (shell w ∷ []) st → st .values + r .values ≤ maxValues
 unfolding valuesIn concatMap stepDefines
 row-room {C} {w} h m = omega (arith, m .values, row-count h, ap length (append-nil (valuesOf (storeOf C) w)))
 
-pub block-room : {s : Store} {n : ℕ} {st : Hashing} → Room s (shell (ofBlock n) ∷ []) st → st .blocks < maxBlocks
+pub block-room : {s : Store} {n : ℕ} {st : Hashing} → DefinitionsFit s (shell (ofBlock n) ∷ []) st → st .blocks < maxBlocks
 unfolding blocksIn concatMap stepDefines blockOwner
 block-room m = omega (arith, m .blocks)
 

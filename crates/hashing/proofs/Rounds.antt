@@ -17,12 +17,12 @@ use Rattle.rules.proofs.Basics.Tests.{all-at, all-of}
 use Rattle.rules.proofs.Soundness.Sound.{facts}
 use Rattle.rules.proofs.Walking.EnoughSteps.{region-steps}
 use Rattle.layout.proofs.Ranges.{range, range-empty, range-first}
-use Rattle.hashing.specs.Walked.{Fed, Room, blockShells, opShells, fullSteps, listedSteps}
-use Rattle.fragments.specs.Order.{listed, opsFrom, past, First}
+use Rattle.hashing.specs.Walked.{Fed, DefinitionsFit, blockShells, opShells, fullSteps, listedSteps}
+use Rattle.fragments.specs.Order.{blockList, opsFrom, pastOp, IsFirstOp}
 use Rattle.hashing.specs.declared.types.Hashing.{Hashing}
 use Rattle.fragments.specs.declared.types.Blocks.{Blocks}
 use Rattle.fragments.specs.declared.types.Blocks.the-variants.{InRegion}
-use Rattle.fragments.specs.declared.types.Place.{Place}
+use Rattle.fragments.specs.declared.types.Position.{Position}
 use Rattle.hashing.proofs.Feeding.{fed-then, room-first, room-rest}
 use Rattle.fragments.proofs.Ordered.{third-pass}
 
@@ -51,20 +51,20 @@ module _ (s : Store) where
   unfolding fullSteps fullOp
   full-parts n = refl
 
-  pub region-listed : sound s ≡ true → (r : ℕ) → inRegion r ≡ listedSteps s (listed s (InRegion r))
-  unfolding listedSteps fullSteps listed
-  region-listed sd r = region-steps s sd r
+  pub region-list : sound s ≡ true → (r : ℕ) → inRegion r ≡ listedSteps s (blockList s (InRegion r))
+  unfolding listedSteps fullSteps blockList
+  region-list sd r = region-steps s sd r
 
-module _ {s : Store} (n : ℕ) {st : Hashing} (r : Room s (fullSteps s n) st) where
-  parted : Room s ((names n ∷ []) ++ concatMap (inRegion s) (regionsOf s n)) st
-  parted = subst (λ (xs : List Step). Room s xs st) (full-parts s n) r
+module _ {s : Store} (n : ℕ) {st : Hashing} (r : DefinitionsFit s (fullSteps s n) st) where
+  parted : DefinitionsFit s ((names n ∷ []) ++ concatMap (inRegion s) (regionsOf s n)) st
+  parted = subst (λ (xs : List Step). DefinitionsFit s xs st) (full-parts s n) r
 
-  pub names-room : Room s (names n ∷ []) st
+  pub names-room : DefinitionsFit s (names n ∷ []) st
   names-room = room-first s (names n ∷ []) (concatMap (inRegion s) (regionsOf s n)) parted
 
   module _ {ig : Ignore} {a : List ℕ} {st₁ : Hashing} (f : Fed s ig (names n ∷ []) a a st st₁) (rs : List ℕ) (e : regionsOf s n ≡ rs) where
-    pub regions-room : Room s (concatMap (inRegion s) rs) st₁
-    regions-room = subst (λ (xs : List ℕ). Room s (concatMap (inRegion s) xs) st₁) e (room-rest s (names n ∷ []) (concatMap (inRegion s) (regionsOf s n)) parted f)
+    pub regions-room : DefinitionsFit s (concatMap (inRegion s) rs) st₁
+    regions-room = subst (λ (xs : List ℕ). DefinitionsFit s (concatMap (inRegion s) xs) st₁) e (room-rest s (names n ∷ []) (concatMap (inRegion s) (regionsOf s n)) parted f)
 
     pub full-fed : {b : List ℕ} {st₂ : Hashing} → Fed s ig (concatMap (inRegion s) rs) a b st₁ st₂ → Fed s ig (fullSteps s n) a b st st₂
     full-fed {b} {st₂} g =
@@ -83,7 +83,7 @@ module _ (f : ℕ → List Step) (r e : ℕ) where
 -- ---- a list of blocks
 
 module _ (f : ℕ → List Step) where
-  pub ops-left : {s : Store} {x : Blocks} {p q : Place} → First s x p q → concatMap f (opsFrom s x p) ≡ f (q .op) ++ concatMap f (opsFrom s x (past q))
+  pub ops-left : {s : Store} {x : Blocks} {p q : Position} → IsFirstOp s x p q → concatMap f (opsFrom s x p) ≡ f (q .op) ++ concatMap f (opsFrom s x (pastOp q))
   unfolding concatMap
   ops-left h = ap (concatMap f) (h .ops)
 
@@ -92,37 +92,37 @@ module _ (f : ℕ → List Step) where
   ops-none e = ap (concatMap f) e
 
 -- the place where a walk through a list begins
-abbrev pub start : Place
+abbrev pub start : Position
 start = record { block = 0; op = 0 }
 
-module _ {s : Store} (x : Blocks) {st : Hashing} (r : Room s (listedSteps s (listed s x)) st) where
+module _ {s : Store} (x : Blocks) {st : Hashing} (r : DefinitionsFit s (listedSteps s (blockList s x)) st) where
   abbrev first : List Step
-  first = blockShells (listed s x)
+  first = blockShells (blockList s x)
 
   abbrev second : List Step
-  second = concatMap (opShells s) (listed s x)
+  second = concatMap (opShells s) (blockList s x)
 
   abbrev third : List Step
   third = concatMap (fullSteps s) (opsFrom s x start)
 
-  passes : listedSteps s (listed s x) ≡ first ++ second ++ third
+  passes : listedSteps s (blockList s x) ≡ first ++ second ++ third
   unfolding listedSteps listSteps blockShells opShells
   passes = ap (λ (xs : List Step). first ++ second ++ xs) (sym (third-pass s (fullSteps s) x))
 
-  all-passes : Room s (first ++ second ++ third) st
-  all-passes = subst (λ (xs : List Step). Room s xs st) passes r
+  all-passes : DefinitionsFit s (first ++ second ++ third) st
+  all-passes = subst (λ (xs : List Step). DefinitionsFit s xs st) passes r
 
-  pub first-room : Room s first st
+  pub first-room : DefinitionsFit s first st
   first-room = room-first s first second (room-first s (first ++ second) third all-passes)
 
   module _ {ig : Ignore} {a b : List ℕ} {st₁ : Hashing} (f : Fed s ig first a b st st₁) where
-    pub second-room : Room s second st₁
+    pub second-room : DefinitionsFit s second st₁
     second-room = room-rest s first second (room-first s (first ++ second) third all-passes) f
 
     module _ {c : List ℕ} {st₂ : Hashing} (g : Fed s ig second b c st₁ st₂) where
-      pub third-room : Room s third st₂
+      pub third-room : DefinitionsFit s third st₂
       third-room = room-rest s (first ++ second) third all-passes (fed-then s ig first second f g)
 
-      pub passes-fed : {d : List ℕ} {st₃ : Hashing} → Fed s ig third c d st₂ st₃ → Fed s ig (listedSteps s (listed s x)) a d st st₃
+      pub passes-fed : {d : List ℕ} {st₃ : Hashing} → Fed s ig third c d st₂ st₃ → Fed s ig (listedSteps s (blockList s x)) a d st st₃
       passes-fed {d} {st₃} h =
           subst (λ (xs : List Step). Fed s ig xs a d st st₃) (sym passes) (fed-then s ig (first ++ second) third (fed-then s ig first second f g) h)

@@ -18,43 +18,43 @@ use Rattle.hashing.proofs.Bytes.{fed-after}
 
 module _ (C : Cols) (ig : Ignore) (first end : ℕ) where
   -- slot i is kept, or the end
-  pub record Stop (i : ℕ) : Type 0 where
+  pub record KeptSlot (i : ℕ) : Type 0 where
     pub from : first ≤ i
     pub upTo : i ≤ end
     pub kept : i < end → ignored ig (attributeAt C i) ≡ false
 
-  pub first-stop : (i : ℕ) → Skipped C ig first end i → Stop i
+  pub first-stop : (i : ℕ) → Skipped C ig first end i → KeptSlot i
   first-stop i h = record { from = h .from; upTo = h .upTo; kept = h .kept }
 
-  pub next-stop : (i j : ℕ) → Stop i → Skipped C ig (i + 1) end j → Stop j
+  pub next-stop : (i j : ℕ) → KeptSlot i → Skipped C ig (i + 1) end j → KeptSlot j
   next-stop i j s h = record { from = omega (arith, s .from, h .from); upTo = h .upTo; kept = h .kept }
 
   -- a kept slot, and the slots past it
-  kept-step : (i j : ℕ) → Stop i → i < end → Skipped C ig (i + 1) end j → keptFrom C ig i end ≡ attributeAt C i ∷ keptFrom C ig j end
+  kept-step : (i j : ℕ) → KeptSlot i → i < end → Skipped C ig (i + 1) end j → keptFrom C ig i end ≡ attributeAt C i ∷ keptFrom C ig j end
   kept-step i j s l h = kept-head C ig i end l (s .kept l) ∙ ap (λ (xs : List Attribute). attributeAt C i ∷ xs) (h .same)
 
   -- ---- counted
 
-  pub record Counting (n i : ℕ) : Type 0 where
-    pub stop : Stop i
+  pub record KeptCounting (n i : ℕ) : Type 0 where
+    pub stop : KeptSlot i
     pub sum : n + length (keptFrom C ig i end) ≡ length (keptFrom C ig first end)
     pub few : n ≤ i
 
-  pub count-begins : (i : ℕ) → Skipped C ig first end i → Counting 0 i
+  pub count-begins : (i : ℕ) → Skipped C ig first end i → KeptCounting 0 i
   count-begins i h = record { stop = first-stop i h; sum = omega (arith, ap length (h .same)); few = omega arith }
 
-  pub count-goes-on : (n i j : ℕ) → Counting n i → i < end → Skipped C ig (i + 1) end j → Counting (n + 1) j
+  pub count-goes-on : (n i j : ℕ) → KeptCounting n i → i < end → Skipped C ig (i + 1) end j → KeptCounting (n + 1) j
   count-goes-on n i j c l h =
       let e : length (keptFrom C ig i end) ≡ length (attributeAt C i ∷ keptFrom C ig j end) = ap length (kept-step i j (c .stop) l h) in
       record { stop = next-stop i j (c .stop) h; sum = omega (arith, c .sum); few = omega (arith, c .few, h .from) }
 
-  pub count-over : (n i : ℕ) → Counting n i → end ≤ i → n ≡ length (keptFrom C ig first end)
+  pub count-over : (n i : ℕ) → KeptCounting n i → end ≤ i → n ≡ length (keptFrom C ig first end)
   count-over n i c l = omega (arith, c .sum, ap length (kept-none C ig i end l))
 
   -- ---- fed
 
   pub record Feeding (word fed i : ℕ) : Type 0 where
-    pub stop : Stop i
+    pub stop : KeptSlot i
     pub left : fnvFrom fed (concatMap attributeBytes (keptFrom C ig i end)) ≡ fnvFrom word (concatMap attributeBytes (keptFrom C ig first end))
 
   module _ (word : ℕ) where

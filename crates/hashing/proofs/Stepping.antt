@@ -10,14 +10,14 @@ use Rattle.rules.specs.Fragments.{shell, names, stepDefines, blockOwner}
 use Rattle.rules.specs.Shells.{Ignore, shellOf}
 use Rattle.rules.specs.Hash.{fnvFrom, Numbering, numbered, headBytes, shellBytes, feeds, allBytes}
 use Rattle.rules.proofs.Form.Hashes.{fnv-append}
-use Rattle.hashing.specs.Words.{numberOr, Words, withValues, withBlock, valueBytes, blockBytes, NumbersValues, NumbersBlock, FeedsNames}
-use Rattle.hashing.specs.Walked.{Stands, numberedAll, valuesIn, blocksIn, Fed, Room}
+use Rattle.hashing.specs.Words.{numberOr, Words, defineValues, defineBlock, valueBytes, blockBytes, NumbersValues, NumbersBlock, FeedsNames}
+use Rattle.hashing.specs.Walked.{Stands, numberedAll, valuesIn, blocksIn, Fed, DefinitionsFit}
 use Rattle.hashing.specs.declared.types.Hashing.{Hashing}
 use Rattle.hashing.proofs.Feeding.{room-few}
 
 module _ (s : Store) (ig : Ignore) (n : ℕ) {st st′ : Hashing} where
   -- an operation's names: its operands, then its successors
-  pub fed-names : {numbers : List ℕ} {fed : ℕ} → Room s (names n ∷ []) st
+  pub fed-names : {numbers : List ℕ} {fed : ℕ} → DefinitionsFit s (names n ∷ []) st
       → FeedsNames numbers (λ (N : Numbering). concatMap (valueBytes N) (opAt s n .operands)) (st .word) fed
       → FeedsNames numbers (λ (N : Numbering). concatMap (blockBytes N) (opAt s n .successors)) fed (st′ .word)
       → st′ .values ≡ st .values → st′ .blocks ≡ st .blocks
@@ -45,7 +45,7 @@ module _ (s : Store) (ig : Ignore) (n : ℕ) {st st′ : Hashing} where
       → NumbersValues numbers numbers′ (st .values) (valuesOf s (ofOp n))
       → st′ .values ≡ st .values + length (valuesOf s (ofOp n)) → st′ .blocks ≡ st .blocks
       → Fed s ig (shell (ofOp n) ∷ []) numbers numbers′ st st′
-  unfolding allBytes feeds numberedAll numbered valuesIn blocksIn concatMap stepDefines blockOwner withValues
+  unfolding allBytes feeds numberedAll numbered valuesIn blocksIn concatMap stepDefines blockOwner defineValues
   fed-op {numbers} {numbers′} word results ev eb =
       record {
         fed = λ N h. (word ∙ ap (fnvFrom (st .word)) (sym (append-nil (headBytes s (ofOp n) ++ shellBytes (shellOf s ig (ofOp n))))), stands N h);
@@ -55,7 +55,7 @@ module _ (s : Store) (ig : Ignore) (n : ℕ) {st st′ : Hashing} where
     where
       stands : (N : Numbering) → Stands N numbers st → Stands (numbered s (shell (ofOp n)) N) numbers′ st′
       stands N h =
-          let w : Words (withValues N (valuesOf s (ofOp n))) numbers′ = results N (sym (h .values)) (h .words) in
+          let w : Words (defineValues N (valuesOf s (ofOp n))) numbers′ = results N (sym (h .values)) (h .words) in
           let none : N .blocks ++ [] ≡ N .blocks = append-nil (N .blocks) in
           record {
             words = record {
@@ -73,7 +73,7 @@ module _ (s : Store) (ig : Ignore) (n : ℕ) {st st′ : Hashing} where
       → NumbersBlock numbers numbers₁ (st .blocks) n → NumbersValues numbers₁ numbers′ (st .values) (valuesOf s (ofBlock n))
       → st′ .values ≡ st .values + length (valuesOf s (ofBlock n)) → st′ .blocks ≡ st .blocks + 1
       → Fed s ig (shell (ofBlock n) ∷ []) numbers numbers′ st st′
-  unfolding allBytes feeds numberedAll numbered valuesIn blocksIn concatMap stepDefines blockOwner withValues withBlock headBytes
+  unfolding allBytes feeds numberedAll numbered valuesIn blocksIn concatMap stepDefines blockOwner defineValues defineBlock headBytes
   fed-block {numbers} {numbers₁} {numbers′} word block arguments ev eb =
       record {
         fed = λ N h. (word ∙ ap (fnvFrom (st .word)) (sym (append-nil (shellBytes (shellOf s ig (ofBlock n))))), stands N h);
@@ -83,8 +83,8 @@ module _ (s : Store) (ig : Ignore) (n : ℕ) {st st′ : Hashing} where
     where
       stands : (N : Numbering) → Stands N numbers st → Stands (numbered s (shell (ofBlock n)) N) numbers′ st′
       stands N h =
-          let w₁ : Words (withBlock N n) numbers₁ = block N (sym (h .blocks)) (h .words) in
-          let w : Words (withValues (withBlock N n) (valuesOf s (ofBlock n))) numbers′ = arguments (withBlock N n) (sym (h .values)) w₁ in
+          let w₁ : Words (defineBlock N n) numbers₁ = block N (sym (h .blocks)) (h .words) in
+          let w : Words (defineValues (defineBlock N n) (valuesOf s (ofBlock n))) numbers′ = arguments (defineBlock N n) (sym (h .values)) w₁ in
           record {
             words = record { long = w .long; values = w .values; blocks = w .blocks };
             values = omega (arith, h .values, length-append (N .values) (valuesOf s (ofBlock n)));

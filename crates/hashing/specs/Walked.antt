@@ -13,7 +13,7 @@ use Rattle.hashing.specs.Words.{numbersLength, Words}
 use Rattle.hashing.specs.declared.types.Hashing.{Hashing}
 
 -- a sound store, and words of the right length: what every step of a walk asks for
-pub record Ready (store numbers : List ℕ) : Type 0 where
+pub record ReadyToHash (store numbers : List ℕ) : Type 0 where
   pub sound : IsSound store
   pub long : length numbers ≡ numbersLength
 
@@ -42,7 +42,7 @@ pub record Fed (s : Store) (ig : Ignore) (xs : List Step) (numbers numbers′ : 
   pub blocks : st′ .blocks ≡ st .blocks + length (blocksIn xs)
 
 -- what these steps define still fits
-pub record Room (s : Store) (xs : List Step) (st : Hashing) : Type 0 where
+pub record DefinitionsFit (s : Store) (xs : List Step) (st : Hashing) : Type 0 where
   pub values : st .values + length (valuesIn s xs) ≤ maxValues
   pub blocks : st .blocks + length (blocksIn xs) ≤ maxBlocks
 

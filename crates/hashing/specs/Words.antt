@@ -28,17 +28,17 @@ pub record Words (N : Numbering) (numbers : List ℕ) : Type 0 where
   pub blocks : (b : ℕ) → b < maxBlocks → getD numbers (2048 + b) 0 ≡ numberOr (position b (N .blocks))
 
 -- no more is numbered than there may be
-pub record Few (N : Numbering) : Type 0 where
+pub record NumberingFits (N : Numbering) : Type 0 where
   pub values : length (N .values) ≤ maxValues
   pub blocks : length (N .blocks) ≤ maxBlocks
 
 -- ---- more is numbered
 
-unfoldable pub withValues : Numbering → List ℕ → Numbering
-withValues N vs = record { values = N .values ++ vs; blocks = N .blocks }
+unfoldable pub defineValues : Numbering → List ℕ → Numbering
+defineValues N vs = record { values = N .values ++ vs; blocks = N .blocks }
 
-unfoldable pub withBlock : Numbering → ℕ → Numbering
-withBlock N b = record { values = N .values; blocks = N .blocks ++ b ∷ [] }
+unfoldable pub defineBlock : Numbering → ℕ → Numbering
+defineBlock N b = record { values = N .values; blocks = N .blocks ++ b ∷ [] }
 
 -- the word at i is id, unless it is a number already
 unfoldable pub defineAt : List ℕ → ℕ → ℕ → List ℕ
@@ -46,16 +46,16 @@ defineAt numbers i id = cond (eqb (getD numbers i 0) noNumber) (set numbers i id
 
 -- where so many values are numbered that the next gets id, these get the next numbers
 abbrev pub NumbersValues : List ℕ → List ℕ → ℕ → List ℕ → Type 0
-NumbersValues before after id vs = (N : Numbering) → length (N .values) ≡ id → Words N before → Words (withValues N vs) after
+NumbersValues before after id vs = (N : Numbering) → length (N .values) ≡ id → Words N before → Words (defineValues N vs) after
 
 abbrev pub NumbersBlock : List ℕ → List ℕ → ℕ → ℕ → Type 0
-NumbersBlock before after id b = (N : Numbering) → length (N .blocks) ≡ id → Words N before → Words (withBlock N b) after
+NumbersBlock before after id b = (N : Numbering) → length (N .blocks) ≡ id → Words N before → Words (defineBlock N b) after
 
 -- ---- names
 
--- a name by its word
-unfoldable pub namedBy : ℕ → ℕ → Name
-namedBy number n = cond (eqb number noNumber) (storeNumber n) (walkNumber number)
+-- how a use of n is hashed, whose word of the numbering is this
+unfoldable pub nameByWord : ℕ → ℕ → Name
+nameByWord number n = cond (eqb number noNumber) (storeNumber n) (walkNumber number)
 
 abbrev pub valueBytes : Numbering → ℕ → List ℕ
 valueBytes N v = nameBytes (nameOf (N .values) v)
@@ -65,4 +65,4 @@ blockBytes N b = nameBytes (nameOf (N .blocks) b)
 
 -- whatever numbering the words stand for, r is the word after these bytes of it
 abbrev pub FeedsNames : List ℕ → (Numbering → List ℕ) → ℕ → ℕ → Type 0
-FeedsNames numbers bytes word r = (N : Numbering) → Words N numbers → Few N → r ≡ fnvFrom word (bytes N)
+FeedsNames numbers bytes word r = (N : Numbering) → Words N numbers → NumberingFits N → r ≡ fnvFrom word (bytes N)

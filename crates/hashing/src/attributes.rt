@@ -1,4 +1,4 @@
-// Attributes, by their slots: `attributes_hash`. Slots stand by rising key, so the order in which keys were set is without effect.
+// Attributes, by their slots. Slots stand by rising key, so that the hash doesn't depend on the order in which keys were set.
 use crate::state::with_attribute;
 use crate::state::with_count;
 use fragments::ignoring::Ignore;
@@ -34,7 +34,7 @@ fn count_kept(store: &[u32], ignore: Ignore, first: usize, end: usize) -> u64
     kept
 }
 
-// The attribute at a slot: its key, its kind, its content.
+// Hash the attribute at a slot: its key, its kind, its content.
 fn feed_attribute(store: &[u32], slot: usize, word: u64) -> u64
     requires { ⌜ length (now store) ≡ bufferLength ⌝ }
     requires { ⌜ slot < 6144 ⌝ }
@@ -46,7 +46,7 @@ fn feed_attribute(store: &[u32], slot: usize, word: u64) -> u64
     with_attribute(word, key, kind, content)
 }
 
-// Each attribute of a run of slots that is not ignored.
+// Hash each attribute of a run of slots that is not ignored.
 fn feed_kept(store: &[u32], ignore: Ignore, first: usize, end: usize, word: u64) -> u64
     requires { ⌜ length (now store) ≡ bufferLength ⌝ }
     requires { ⌜ end ≤ 6144 ⌝ }

@@ -9,7 +9,7 @@ ghost use Rattle.fragments.specs.Ignoring.{ignoreOf};
 ghost use Rattle.fragments.specs.Sorts.{sortOf};
 ghost use Rattle.hashing.specs.Calls.{Answered};
 
-// A fragment of one sort, in a buffer of any words.
+// Hash a fragment of one sort, in a buffer that may hold any words.
 fn lent_hash(store: &[u32], sort: Sort, n: u32, ignore: Ignore) -> Hashed
     ensures { λ q. ⌜ Answered (now (store .entry)) (ignoreOf ignore) (sortOf sort) n q ⌝ }
 {

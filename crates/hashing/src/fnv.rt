@@ -4,26 +4,27 @@ use crate::product::wrapping_mul;
 ghost use mathlib.Core.Path.{_≡_};
 ghost use Rattle.rules.specs.Hash.{fnvByte, fnvFrom, bytes, tag, leaf, count};
 
-// The word before anything is fed.
+// FNV's offset basis: the word before anything is fed.
 pub const START: u64 = 14695981039346656037;
 
+// FNV's prime.
 const PRIME: u64 = 1099511628211;
 
-// One byte: xored in, then the word is multiplied.
+// Feeds one byte: it is xored in, and then the word is multiplied.
 pub fn fnv_byte(word: u64, byte: u8) -> u64
     ensures { λ r. ⌜ r ≡ fnvByte word byte ⌝ }
 {
     wrapping_mul(word ^ byte as u64, PRIME)
 }
 
-// A number of 1 byte.
+// Feeds a number of 1 byte.
 pub fn feed_tag(word: u64, n: u8) -> u64
     ensures { λ r. ⌜ r ≡ fnvFrom word (tag n) ⌝ }
 {
     fnv_byte(word, n)
 }
 
-// A number of 2 bytes.
+// Feeds a number of 2 bytes.
 fn feed_pair(word: u64, n: u16) -> u64
     ensures { λ r. ⌜ r ≡ fnvFrom word (bytes 2 n) ⌝ }
 {
@@ -31,7 +32,7 @@ fn feed_pair(word: u64, n: u16) -> u64
     feed_tag(fed, (n / 256) as u8)
 }
 
-// A number of 4 bytes.
+// Feeds a number of 4 bytes.
 pub fn feed_leaf(word: u64, n: u32) -> u64
     ensures { λ r. ⌜ r ≡ fnvFrom word (leaf n) ⌝ }
 {
@@ -39,7 +40,7 @@ pub fn feed_leaf(word: u64, n: u32) -> u64
     feed_pair(fed, (n / 65536) as u16)
 }
 
-// A number of 8 bytes.
+// Feeds a number of 8 bytes.
 pub fn feed_count(word: u64, n: u64) -> u64
     ensures { λ r. ⌜ r ≡ fnvFrom word (count n) ⌝ }
 {

@@ -1,7 +1,7 @@
-// The hash of a fragment on a sound store: its steps are fed, with no numbers given yet.
+// The hash of a fragment on a sound store. It begins with nothing hashed and nothing numbered.
 use crate::fnv::START;
-use crate::numbering::LENGTH;
-use crate::numbering::NONE;
+use crate::numbering::NO_NUMBER;
+use crate::numbering::NUMBERS_LENGTH;
 use crate::shells::hash_op_shell;
 use crate::types::Hashed;
 use crate::types::Hashing;
@@ -24,7 +24,7 @@ ghost use Rattle.layout.specs.Columns.{columns};
 ghost use Rattle.layout.specs.Soundness.{IsSound};
 ghost use Rattle.fragments.specs.Ignoring.{ignoreOf};
 ghost use Rattle.fragments.specs.Sorts.{sortOf};
-ghost use Rattle.hashing.specs.Walked.{Ready, Fed, Room, atStart};
+ghost use Rattle.hashing.specs.Walked.{ReadyToHash, Fed, DefinitionsFit, atStart};
 ghost use Rattle.hashing.specs.Calls.{fragmentTests, Answered};
 
 // Why a fragment is not hashed: it does not exist, or an operation in it is nested too deep.
@@ -41,7 +41,7 @@ fn hash_cause(store: &[u32], sort: Sort, n: u32) -> Cause
     Cause::None
 }
 
-// Before anything is fed.
+// Nothing is hashed or numbered yet.
 fn at_start() -> Hashing
     ensures { λ r. ⌜ r ≡ atStart ⌝ }
 {
@@ -52,18 +52,18 @@ fn at_start() -> Hashing
     }
 }
 
-// An operation alone: its shell, then in full.
+// Hash an operation: its shell, then its operands, successors and nested regions.
 fn hash_op(store: &[u32], numbers: &mut [u32], n: usize, ignore: Ignore, st: Hashing) -> Hashing
-    requires { ⌜ Ready (now store) (now numbers) ⌝ }
+    requires { ⌜ ReadyToHash (now store) (now numbers) ⌝ }
     requires { ⌜ n < opCount (columns (now store)) ⌝ }
-    requires { ⌜ Room (storeIn (now store)) (steps (storeIn (now store)) op n) st ⌝ }
+    requires { ⌜ DefinitionsFit (storeIn (now store)) (steps (storeIn (now store)) op n) st ⌝ }
     ensures { λ r. ⌜ Fed (storeIn (now (store .entry))) (ignoreOf ignore) (steps (storeIn (now (store .entry))) op n) (now (numbers .entry)) (now (numbers .exit)) st r ⌝ }
 {
     let shell = hash_op_shell(store, numbers, n, ignore, st);
     hash_op_full(store, numbers, n, ignore, shell)
 }
 
-// A fragment by its sort; a block is a list of one.
+// Hash a fragment by its sort. A block is a list of one block.
 fn hash_steps(
     store: &[u32],
     numbers: &mut [u32],
@@ -72,9 +72,9 @@ fn hash_steps(
     ignore: Ignore,
     st: Hashing,
 ) -> Hashing
-    requires { ⌜ Ready (now store) (now numbers) ⌝ }
+    requires { ⌜ ReadyToHash (now store) (now numbers) ⌝ }
     requires { ⌜ Rattle.rules.specs.Fragments.exists (storeIn (now store)) (sortOf sort) n ≡ true ⌝ }
-    requires { ⌜ Room (storeIn (now store)) (steps (storeIn (now store)) (sortOf sort) n) st ⌝ }
+    requires { ⌜ DefinitionsFit (storeIn (now store)) (steps (storeIn (now store)) (sortOf sort) n) st ⌝ }
     ensures { λ r. ⌜ Fed (storeIn (now (store .entry))) (ignoreOf ignore) (steps (storeIn (now (store .entry))) (sortOf sort) n) (now (numbers .entry)) (now (numbers .exit)) st r ⌝ }
 {
     match sort {
@@ -93,7 +93,7 @@ pub fn fragment_hash(store: &[u32], sort: Sort, n: u32, ignore: Ignore) -> Hashe
     if let Cause::Is(k) = cause {
         return Hashed::Refused(k);
     }
-    let mut numbers = [NONE; LENGTH];
+    let mut numbers = [NO_NUMBER; NUMBERS_LENGTH];
     let fed = hash_steps(store, &mut numbers, sort, n as usize, ignore, at_start());
     Hashed::Hash(fed.word)
 }

@@ -1,5 +1,7 @@
-// The hash of a fragment: the published 64-bit FNV-1a, the running hash that every step which feeds is lent, the numbers that a walk gives,
-// the walk, and the calls that are offered.
+// Structural hashing of operations, blocks and regions, by the published 64-bit FNV-1a.
+//
+// The hash is coherent with equality: two fragments that compare as equal, begun with an empty mapping and under the same ignore rule, have
+// the same hash. The converse isn't guaranteed: collisions are possible.
 pub mod attributes;
 pub mod calls;
 pub mod fnv;

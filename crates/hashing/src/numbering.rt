@@ -1,4 +1,5 @@
-// The walk numbers of what is defined so far, and the names that are fed: a walk number, or, of what has none, the store number.
+// Walk numbers: each value and block that is defined within the fragment being hashed gets one, in the order in which the walk comes to
+// them. A use is hashed as the walk number, or, of what is defined elsewhere, as the number in the store.
 use crate::state::with_store_number;
 use crate::state::with_walk_number;
 ghost use mathlib.Core.Bool.{true};
@@ -10,28 +11,28 @@ ghost use lib.ListN.{length};
 ghost use Rattle.rules.specs.Lists.{all, concatMap};
 ghost use Rattle.rules.specs.Store.{maxValues, maxBlocks};
 ghost use Rattle.rules.specs.Hash.{fnvFrom, nameBytes};
-ghost use Rattle.layout.specs.Reading.{following};
-ghost use Rattle.hashing.specs.Words.{numbersLength, defineAt, namedBy, valueBytes, blockBytes, NumbersValues, NumbersBlock, FeedsNames};
+ghost use Rattle.layout.specs.Reading.{consecutive};
+ghost use Rattle.hashing.specs.Words.{numbersLength, defineAt, nameByWord, valueBytes, blockBytes, NumbersValues, NumbersBlock, FeedsNames};
 
-// The word of what has no number.
-pub const NONE: u32 = 4294967295;
+// The word of a value or block that has no walk number.
+pub const NO_NUMBER: u32 = 4294967295;
 
-// How many words there are, and where those of blocks begin.
-pub const LENGTH: usize = 2304;
+// How many words there are, one for each value and then one for each block, and where those of blocks begin.
+pub const NUMBERS_LENGTH: usize = 2304;
 
 pub const BLOCK_NUMBERS: usize = 2048;
 
-// The number at i is id, unless there is one.
+// Word i becomes the walk number id, unless it is one already.
 fn define(numbers: &mut [u32], i: usize, id: u32)
     requires { ⌜ i < length (now numbers) ⌝ }
     ensures { λ _. ⌜ now (numbers .exit) ≡ defineAt (now (numbers .entry)) i id ⌝ }
 {
-    if numbers[i] == NONE {
+    if numbers[i] == NO_NUMBER {
         numbers[i] = id;
     }
 }
 
-// Value v is defined in what is hashed, after so many.
+// Record that value v is defined within the fragment being hashed. Its walk number is id: so many values were defined before it.
 pub fn define_value(numbers: &mut [u32], v: usize, id: u32)
     requires { ⌜ length (now numbers) ≡ numbersLength ⌝ }
     requires { ⌜ v < maxValues ⌝ }
@@ -41,7 +42,7 @@ pub fn define_value(numbers: &mut [u32], v: usize, id: u32)
     define(numbers, v, id);
 }
 
-// Block b is defined in what is hashed, after so many.
+// Record that block b is defined within the fragment being hashed. Its walk number is id: so many blocks were defined before it.
 pub fn define_block(numbers: &mut [u32], b: usize, id: u32)
     requires { ⌜ length (now numbers) ≡ numbersLength ⌝ }
     requires { ⌜ b < maxBlocks ⌝ }
@@ -51,12 +52,12 @@ pub fn define_block(numbers: &mut [u32], b: usize, id: u32)
     define(numbers, BLOCK_NUMBERS + b, id);
 }
 
-// So many values from the first on are defined, one after the other.
+// Record the same of `count` values from `first` on, one after the other.
 pub fn define_values(numbers: &mut [u32], first: usize, count: usize, id: u32)
     requires { ⌜ length (now numbers) ≡ numbersLength ⌝ }
     requires { ⌜ first + count ≤ maxValues ⌝ }
     requires { ⌜ id + count ≤ maxValues ⌝ }
-    ensures { λ _. ⌜ NumbersValues (now (numbers .entry)) (now (numbers .exit)) id (following first count) ⌝ }
+    ensures { λ _. ⌜ NumbersValues (now (numbers .entry)) (now (numbers .exit)) id (consecutive first count) ⌝ }
 {
     let mut next = id;
     let mut v = first;
@@ -67,17 +68,17 @@ pub fn define_values(numbers: &mut [u32], first: usize, count: usize, id: u32)
     }
 }
 
-// A name: tag 0 and its number, or, if it has none, tag 1 and its store number.
+// Hash a use: tag 0 and the walk number, or, if it has none, tag 1 and n, the number in the store.
 fn hash_name(number: u32, n: u32, word: u64) -> u64
-    ensures { λ r. ⌜ r ≡ fnvFrom word (nameBytes (namedBy number n)) ⌝ }
+    ensures { λ r. ⌜ r ≡ fnvFrom word (nameBytes (nameByWord number n)) ⌝ }
 {
-    if number == NONE {
+    if number == NO_NUMBER {
         return with_store_number(word, n);
     }
     with_walk_number(word, number as u64)
 }
 
-// A use of value v.
+// Hash a use of value v: its walk number if it is defined within the fragment being hashed, or its number in the store otherwise.
 pub fn hash_value(numbers: &[u32], v: u32, word: u64) -> u64
     requires { ⌜ length (now numbers) ≡ numbersLength ⌝ }
     requires { ⌜ v < maxValues ⌝ }
@@ -86,7 +87,7 @@ pub fn hash_value(numbers: &[u32], v: u32, word: u64) -> u64
     hash_name(numbers[v as usize], v, word)
 }
 
-// A use of block b as a successor.
+// Hash a use of block b as a successor, likewise.
 pub fn hash_block(numbers: &[u32], b: u32, word: u64) -> u64
     requires { ⌜ length (now numbers) ≡ numbersLength ⌝ }
     requires { ⌜ b < maxBlocks ⌝ }
@@ -95,7 +96,7 @@ pub fn hash_block(numbers: &[u32], b: u32, word: u64) -> u64
     hash_name(numbers[BLOCK_NUMBERS + b as usize], b, word)
 }
 
-// Each operand.
+// Hash each operand.
 pub fn hash_operands(numbers: &[u32], list: &[u32], word: u64) -> u64
     requires { ⌜ length (now numbers) ≡ numbersLength ⌝ }
     requires { ⌜ all (λ v. ltb v maxValues) (now list) ≡ true ⌝ }
@@ -110,7 +111,7 @@ pub fn hash_operands(numbers: &[u32], list: &[u32], word: u64) -> u64
     fed
 }
 
-// Each successor.
+// Hash each successor.
 pub fn hash_successors(numbers: &[u32], list: &[u32], word: u64) -> u64
     requires { ⌜ length (now numbers) ≡ numbersLength ⌝ }
     requires { ⌜ all (λ b. ltb b maxBlocks) (now list) ≡ true ⌝ }

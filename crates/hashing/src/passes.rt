@@ -1,4 +1,4 @@
-// The first two passes over a list of blocks: what they define is hashed by itself and numbered, before anything that they name is fed.
+// The first two passes of `hash_blocks_full`: what a list of blocks defines is hashed by itself and numbered, before any use is hashed.
 use crate::shells::hash_block_shell;
 use crate::shells::hash_op_shell;
 use crate::types::Hashing;
@@ -12,8 +12,8 @@ ghost use Rattle.rules.specs.Lists.{concatMap};
 ghost use Rattle.layout.specs.Columns.{columns};
 ghost use Rattle.layout.specs.Reading.{blockCount, storeIn};
 ghost use Rattle.fragments.specs.Ignoring.{ignoreOf};
-ghost use Rattle.hashing.specs.Walked.{Ready, blockShells, opShells, Fed, Room};
-ghost use Rattle.fragments.specs.Order.{listed, Existing};
+ghost use Rattle.hashing.specs.Walked.{ReadyToHash, blockShells, opShells, Fed, DefinitionsFit};
+ghost use Rattle.fragments.specs.Order.{blockList, BlocksExist};
 
 // Pass 1: every block's shell.
 pub fn hash_block_shells(
@@ -23,10 +23,10 @@ pub fn hash_block_shells(
     ignore: Ignore,
     st: Hashing,
 ) -> Hashing
-    requires { ⌜ Ready (now store) (now numbers) ⌝ }
-    requires { ⌜ Existing (columns (now store)) blocks ⌝ }
-    requires { ⌜ Room (storeIn (now store)) (blockShells (listed (storeIn (now store)) blocks)) st ⌝ }
-    ensures { λ r. ⌜ Fed (storeIn (now (store .entry))) (ignoreOf ignore) (blockShells (listed (storeIn (now (store .entry))) blocks)) (now (numbers .entry)) (now (numbers .exit)) st r ⌝ }
+    requires { ⌜ ReadyToHash (now store) (now numbers) ⌝ }
+    requires { ⌜ BlocksExist (columns (now store)) blocks ⌝ }
+    requires { ⌜ DefinitionsFit (storeIn (now store)) (blockShells (blockList (storeIn (now store)) blocks)) st ⌝ }
+    ensures { λ r. ⌜ Fed (storeIn (now (store .entry))) (ignoreOf ignore) (blockShells (blockList (storeIn (now (store .entry))) blocks)) (now (numbers .entry)) (now (numbers .exit)) st r ⌝ }
 {
     let mut fed = st;
     let mut from = 0;
@@ -47,9 +47,9 @@ fn hash_op_shells_in(
     ignore: Ignore,
     st: Hashing,
 ) -> Hashing
-    requires { ⌜ Ready (now store) (now numbers) ⌝ }
+    requires { ⌜ ReadyToHash (now store) (now numbers) ⌝ }
     requires { ⌜ b < blockCount (columns (now store)) ⌝ }
-    requires { ⌜ Room (storeIn (now store)) (opShells (storeIn (now store)) b) st ⌝ }
+    requires { ⌜ DefinitionsFit (storeIn (now store)) (opShells (storeIn (now store)) b) st ⌝ }
     ensures { λ r. ⌜ Fed (storeIn (now (store .entry))) (ignoreOf ignore) (opShells (storeIn (now (store .entry))) b) (now (numbers .entry)) (now (numbers .exit)) st r ⌝ }
 {
     let mut fed = st;
@@ -71,10 +71,10 @@ pub fn hash_op_shells(
     ignore: Ignore,
     st: Hashing,
 ) -> Hashing
-    requires { ⌜ Ready (now store) (now numbers) ⌝ }
-    requires { ⌜ Existing (columns (now store)) blocks ⌝ }
-    requires { ⌜ Room (storeIn (now store)) (concatMap (opShells (storeIn (now store))) (listed (storeIn (now store)) blocks)) st ⌝ }
-    ensures { λ r. ⌜ Fed (storeIn (now (store .entry))) (ignoreOf ignore) (concatMap (opShells (storeIn (now (store .entry)))) (listed (storeIn (now (store .entry))) blocks)) (now (numbers .entry)) (now (numbers .exit)) st r ⌝ }
+    requires { ⌜ ReadyToHash (now store) (now numbers) ⌝ }
+    requires { ⌜ BlocksExist (columns (now store)) blocks ⌝ }
+    requires { ⌜ DefinitionsFit (storeIn (now store)) (concatMap (opShells (storeIn (now store))) (blockList (storeIn (now store)) blocks)) st ⌝ }
+    ensures { λ r. ⌜ Fed (storeIn (now (store .entry))) (ignoreOf ignore) (concatMap (opShells (storeIn (now (store .entry)))) (blockList (storeIn (now (store .entry))) blocks)) (now (numbers .entry)) (now (numbers .exit)) st r ⌝ }
 {
     let mut fed = st;
     let mut from = 0;

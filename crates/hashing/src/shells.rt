@@ -1,4 +1,4 @@
-// What is hashed of an operation or a block by itself; then its values, and a block itself, get the next walk numbers.
+// Shells: what is hashed of an operation or a block by itself. Then its values, and a block itself, get the next walk numbers.
 use crate::attributes::attributes_hash;
 use crate::numbering::define_block;
 use crate::numbering::define_values;
@@ -27,10 +27,10 @@ ghost use Rattle.layout.specs.Columns.{bufferLength, columns};
 ghost use Rattle.layout.specs.Reading.{opCount, blockCount, storeIn};
 ghost use Rattle.layout.specs.Soundness.{IsSound};
 ghost use Rattle.fragments.specs.Ignoring.{ignoreOf};
-ghost use Rattle.fragments.specs.Rows.{Fits, rowShell};
-ghost use Rattle.hashing.specs.Walked.{Ready, Fed, Room};
+ghost use Rattle.fragments.specs.Rows.{RowFits, rowShell};
+ghost use Rattle.hashing.specs.Walked.{ReadyToHash, Fed, DefinitionsFit};
 
-// A location, unless locations are ignored.
+// Hash a location, unless locations are ignored.
 fn location_hash(ignore: Ignore, location: u32, word: u64) -> u64
     ensures { λ r. ⌜ r ≡ fnvFrom word (locationBytes (unignoredLocation (ignoreOf ignore) location)) ⌝ }
 {
@@ -40,7 +40,7 @@ fn location_hash(ignore: Ignore, location: u32, word: u64) -> u64
     with_leaf(word, location)
 }
 
-// Each type.
+// Hash each type.
 fn hash_types(types: &[u32], word: u64) -> u64
     ensures { λ r. ⌜ r ≡ fnvFrom word (concatMap leaf (now (types .entry))) ⌝ }
 {
@@ -53,10 +53,10 @@ fn hash_types(types: &[u32], word: u64) -> u64
     fed
 }
 
-// What an operation and a block have in common: location, attributes, and the types of their values.
+// Hash what operations and blocks have in common: location, attributes, and the types of the values.
 fn hash_row(store: &[u32], ignore: Ignore, row: Row, word: u64) -> u64
     requires { ⌜ length (now store) ≡ bufferLength ⌝ }
-    requires { ⌜ Fits (columns (now store)) row ⌝ }
+    requires { ⌜ RowFits (columns (now store)) row ⌝ }
     ensures { λ r. ⌜ r ≡ fnvFrom word (shellBytes (rowShell (columns (now (store .entry))) (ignoreOf ignore) row)) ⌝ }
 {
     let located = location_hash(ignore, row.location, word);
@@ -66,7 +66,7 @@ fn hash_row(store: &[u32], ignore: Ignore, row: Row, word: u64) -> u64
     hash_types(types, attributed)
 }
 
-// What only an operation has: its kind, and how many regions it has.
+// Hash what only an operation has: its kind, and how many regions it has.
 fn hash_head(store: &[u32], n: usize, word: u64) -> u64
     requires { ⌜ IsSound (now store) ⌝ }
     requires { ⌜ n < opCount (columns (now store)) ⌝ }
@@ -84,9 +84,9 @@ pub fn hash_op_shell(
     ignore: Ignore,
     st: Hashing,
 ) -> Hashing
-    requires { ⌜ Ready (now store) (now numbers) ⌝ }
+    requires { ⌜ ReadyToHash (now store) (now numbers) ⌝ }
     requires { ⌜ n < opCount (columns (now store)) ⌝ }
-    requires { ⌜ Room (storeIn (now store)) (shell (ofOp n) ∷ []) st ⌝ }
+    requires { ⌜ DefinitionsFit (storeIn (now store)) (shell (ofOp n) ∷ []) st ⌝ }
     ensures { λ r. ⌜ Fed (storeIn (now (store .entry))) (ignoreOf ignore) (shell (ofOp n) ∷ []) (now (numbers .entry)) (now (numbers .exit)) st r ⌝ }
 {
     let row = op_row(store, n);
@@ -108,9 +108,9 @@ pub fn hash_block_shell(
     ignore: Ignore,
     st: Hashing,
 ) -> Hashing
-    requires { ⌜ Ready (now store) (now numbers) ⌝ }
+    requires { ⌜ ReadyToHash (now store) (now numbers) ⌝ }
     requires { ⌜ n < blockCount (columns (now store)) ⌝ }
-    requires { ⌜ Room (storeIn (now store)) (shell (ofBlock n) ∷ []) st ⌝ }
+    requires { ⌜ DefinitionsFit (storeIn (now store)) (shell (ofBlock n) ∷ []) st ⌝ }
     ensures { λ r. ⌜ Fed (storeIn (now (store .entry))) (ignoreOf ignore) (shell (ofBlock n) ∷ []) (now (numbers .entry)) (now (numbers .exit)) st r ⌝ }
 {
     let row = block_row(store, n);

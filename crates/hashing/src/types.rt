@@ -7,7 +7,7 @@ pub struct Hashing {
     pub blocks: u32,
 }
 
-// What a hash says: any 64-bit number, or the cause of its refusal, which is never mistaken for one.
+// What a hash answers: the hash, which may be any 64-bit number, or the cause of its refusal.
 pub enum Hashed {
     Hash(u64),
     Refused(u32),

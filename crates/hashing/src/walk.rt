@@ -1,5 +1,6 @@
-// An operation in full and a list of blocks in full: they call one another, and with each round fewer operations are below. Nothing that
-// an operation names is fed before everything beside it is numbered, and nothing in its regions is numbered before what it names is fed.
+// An operation in full, and a list of blocks in full. The two functions call one another; this ends since a region holds fewer operations
+// than the operation around it. An operation's uses are hashed after everything in its list of blocks is numbered, and before anything in
+// its own regions is.
 use crate::numbering::hash_operands;
 use crate::numbering::hash_successors;
 use crate::passes::hash_block_shells;
@@ -10,26 +11,26 @@ use fragments::order::next_op_in;
 use fragments::order::past_op;
 use fragments::types::Blocks;
 use fragments::types::NextOp;
-use fragments::types::Place;
+use fragments::types::Position;
 use layout::columns::OP_REGION_END;
 use layout::columns::OP_REGION_FIRST;
 use layout::columns::number;
-use layout::parts::operands_of;
-use layout::parts::successors_of;
+use layout::slices::operands_of;
+use layout::slices::successors_of;
 ghost use Prim.Native.Nat.{_<_};
 ghost use mathlib.Core.List.{[], _∷_};
 ghost use Rattle.rules.specs.Fragments.{names};
 ghost use Rattle.layout.specs.Columns.{columns};
 ghost use Rattle.layout.specs.Reading.{opCount, storeIn};
 ghost use Rattle.fragments.specs.Ignoring.{ignoreOf};
-ghost use Rattle.hashing.specs.Walked.{Ready, fullSteps, listedSteps, Fed, FedNames, Room};
-ghost use Rattle.fragments.specs.Order.{listed, Existing};
+ghost use Rattle.hashing.specs.Walked.{ReadyToHash, fullSteps, listedSteps, Fed, FedNames, DefinitionsFit};
+ghost use Rattle.fragments.specs.Order.{blockList, BlocksExist};
 
-// What an operation names: its operands, then its successors.
+// Hash what an operation uses: its operands, then its successors.
 fn hash_names(store: &[u32], numbers: &[u32], n: usize, st: Hashing) -> Hashing
-    requires { ⌜ Ready (now store) (now numbers) ⌝ }
+    requires { ⌜ ReadyToHash (now store) (now numbers) ⌝ }
     requires { ⌜ n < opCount (columns (now store)) ⌝ }
-    requires { ⌜ Room (storeIn (now store)) (names n ∷ []) st ⌝ }
+    requires { ⌜ DefinitionsFit (storeIn (now store)) (names n ∷ []) st ⌝ }
     ensures { λ r. ⌜ FedNames (storeIn (now (store .entry))) n (now (numbers .entry)) st r ⌝ }
 {
     let operands = hash_operands(numbers, operands_of(store, n), st.word);
@@ -50,9 +51,9 @@ pub fn hash_op_full(
     ignore: Ignore,
     st: Hashing,
 ) -> Hashing
-    requires { ⌜ Ready (now store) (now numbers) ⌝ }
+    requires { ⌜ ReadyToHash (now store) (now numbers) ⌝ }
     requires { ⌜ n < opCount (columns (now store)) ⌝ }
-    requires { ⌜ Room (storeIn (now store)) (fullSteps (storeIn (now store)) n) st ⌝ }
+    requires { ⌜ DefinitionsFit (storeIn (now store)) (fullSteps (storeIn (now store)) n) st ⌝ }
     ensures { λ r. ⌜ Fed (storeIn (now (store .entry))) (ignoreOf ignore) (fullSteps (storeIn (now (store .entry))) n) (now (numbers .entry)) (now (numbers .exit)) st r ⌝ }
 {
     let mut fed = hash_names(store, numbers, n, st);
@@ -65,8 +66,12 @@ pub fn hash_op_full(
     fed
 }
 
-// Hash a list of blocks: every block's shell, the shell of every operation, then every operation's operands, successors and nested
-// regions. So any name that is defined in the list is numbered by the time it is fed.
+// Hash a list of blocks, hashing the following components in order:
+// 1. Every block's shell (attributes and arguments).
+// 2. Every operation's shell (attributes, results etc), which doesn't depend on other things.
+// 3. Every operation's operands, successors and nested regions.
+//
+// So any use of a block or value that is defined anywhere in the list is already numbered by the time it's hashed: forward references too.
 pub fn hash_blocks_full(
     store: &[u32],
     numbers: &mut [u32],
@@ -74,14 +79,14 @@ pub fn hash_blocks_full(
     ignore: Ignore,
     st: Hashing,
 ) -> Hashing
-    requires { ⌜ Ready (now store) (now numbers) ⌝ }
-    requires { ⌜ Existing (columns (now store)) blocks ⌝ }
-    requires { ⌜ Room (storeIn (now store)) (listedSteps (storeIn (now store)) (listed (storeIn (now store)) blocks)) st ⌝ }
-    ensures { λ r. ⌜ Fed (storeIn (now (store .entry))) (ignoreOf ignore) (listedSteps (storeIn (now (store .entry))) (listed (storeIn (now (store .entry))) blocks)) (now (numbers .entry)) (now (numbers .exit)) st r ⌝ }
+    requires { ⌜ ReadyToHash (now store) (now numbers) ⌝ }
+    requires { ⌜ BlocksExist (columns (now store)) blocks ⌝ }
+    requires { ⌜ DefinitionsFit (storeIn (now store)) (listedSteps (storeIn (now store)) (blockList (storeIn (now store)) blocks)) st ⌝ }
+    ensures { λ r. ⌜ Fed (storeIn (now (store .entry))) (ignoreOf ignore) (listedSteps (storeIn (now (store .entry))) (blockList (storeIn (now (store .entry))) blocks)) (now (numbers .entry)) (now (numbers .exit)) st r ⌝ }
 {
     let shells = hash_block_shells(store, numbers, blocks, ignore, st);
     let mut fed = hash_op_shells(store, numbers, blocks, ignore, shells);
-    let mut at = Place { block: 0, op: 0 };
+    let mut at = Position { block: 0, op: 0 };
     loop {
         let next = next_op_in(store, blocks, at);
         let NextOp::At(p) = next else {

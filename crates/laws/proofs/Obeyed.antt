@@ -19,7 +19,7 @@ use Rattle.layout.specs.Soundness.{soundBuffer}
 use Rattle.layout.proofs.Empty.{sound-facts}
 use Rattle.building.specs.Calls.{AfterCalls}
 use Rattle.building.proofs.Answering.{after-calls}
-use Rattle.equivalence.specs.Lent.{mappingOf, emptyWords}
+use Rattle.equivalence.specs.MappingWords.{mappingOf, emptyWords}
 use Rattle.equivalence.specs.Walked.{answerOf}
 use Rattle.equivalence.proofs.Unmapped.{empty-words}
 use Rattle.equivalence.specs.declared.types.EqResult.{EqResult}
@@ -31,7 +31,7 @@ use Rattle.laws.specs.Answers.{Compares, Hashes, SaysEqual, AnswersObey,
 
 -- ---- single answers
 
-equal-only : (q : EqResult) (n : ℕ) → answerOf q ≡ eq n → q ≡ Eq n
+pub equal-only : (q : EqResult) (n : ℕ) → answerOf q ≡ eq n → q ≡ Eq n
 unfolding answerOf
 equal-only (Eq m) n e = let k : m ≡ n = cc in ap Eq k
 equal-only (FirstNEQOps l r m) n e = cc
@@ -39,13 +39,13 @@ equal-only (FirstNEQRegions l r m) n e = cc
 equal-only (FirstNEQBlocks l r m) n e = cc
 equal-only (Refused m) n e = cc
 
-hash-only : (h : Hashed) (w : ℕ) → hashes.hashedOf h ≡ hashIs w → h ≡ code.Hash w
+pub hash-only : (h : Hashed) (w : ℕ) → hashes.hashedOf h ≡ hashIs w → h ≡ code.Hash w
 unfolding hashes.hashedOf
 hash-only (code.Hash v) w e = let k : v ≡ w = cc in ap code.Hash k
 hash-only (code.Refused c) w e = cc
 
 module _ (b : List ℕ) (sd : soundBuffer b ≡ true) (ig : Ignore) (f : Sort) where
-  ruled : sound (storeIn b) ≡ true
+  pub ruled : sound (storeIn b) ≡ true
   ruled = sound-facts b sd .ruled
 
   laws : Laws (storeIn b) ig f
@@ -68,7 +68,7 @@ module _ (b : List ℕ) (sd : soundBuffer b ≡ true) (ig : Ignore) (f : Sort) w
     unfolding answerOf
     said q c (n, e) = equal-answered (storeIn b) ruled ig f x y ix iy .1 (n, answered q c ∙ ap answerOf e)
 
-  hash-said : (x : ℕ) → In (storeIn b) f x → (h : Hashed) → Hashes b ig f x h → h ≡ code.Hash (hash (storeIn b) ig f x)
+  pub hash-said : (x : ℕ) → In (storeIn b) f x → (h : Hashed) → Hashes b ig f x h → h ≡ code.Hash (hash (storeIn b) ig f x)
   unfolding Hashes
   hash-said x ix h a =
       hash-only h (hash (storeIn b) ig f x)
@@ -86,4 +86,4 @@ module _ (b : List ℕ) (sd : soundBuffer b ≡ true) (ig : Ignore) (f : Sort) w
 
 pub demand3-of-code : Demand3OfCode
 unfolding Demand3OfCode AfterCalls
-demand3-of-code calls buffer made ig f = answers-obey buffer (after-calls calls buffer made .1) ig f
+demand3-of-code entry e calls buffer made ig f = answers-obey buffer (after-calls entry e calls buffer made .1) ig f

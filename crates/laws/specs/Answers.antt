@@ -9,9 +9,8 @@ use Rattle.rules.specs.Building.{Call}
 use Rattle.rules.specs.Shells.{Ignore}
 use Rattle.rules.specs.Laws.{In}
 use Rattle.layout.specs.Reading.{storeIn}
-use Rattle.layout.specs.Columns.{emptyBuffer}
-use Rattle.building.specs.Calls.{Made}
-use Rattle.equivalence.specs.Lent.{emptyWords}
+use Rattle.building.specs.Calls.{Made, IsEmpty}
+use Rattle.equivalence.specs.MappingWords.{emptyWords}
 use Rattle.equivalence.specs.Calls as comparisons
 use Rattle.equivalence.specs.declared.types.EqResult.{EqResult}
 use Rattle.equivalence.specs.declared.types.EqResult.the-variants.{Eq}
@@ -47,6 +46,8 @@ pub record AnswersObey (buffer : List ℕ) (ig : Ignore) (f : Sort) : Type 0 whe
       → (q : EqResult) → Compares buffer ig f a b q → SaysEqual q
       → (h k : Hashed) → Hashes buffer ig f a h → Hashes buffer ig f b k → (w : ℕ) × (h ≡ Hash w) × (k ≡ Hash w)
 
--- from a buffer of zeros, after every list of building calls made through the offered functions, whatever the arguments and refusals
+-- from every empty store, after every list of building calls made through the offered functions, whatever the arguments and refusals
 unfoldable pub Demand3OfCode : Type 0
-Demand3OfCode = (calls : List Call) (buffer : List ℕ) → Made emptyBuffer calls buffer → (ig : Ignore) (f : Sort) → AnswersObey buffer ig f
+Demand3OfCode =
+    (entry : List ℕ) → IsEmpty entry → (calls : List Call) (buffer : List ℕ) → Made entry calls buffer
+    → (ig : Ignore) (f : Sort) → AnswersObey buffer ig f

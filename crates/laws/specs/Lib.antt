@@ -1,2 +1,3 @@
--- Demand 3, over the code.
+-- Demands 2 and 3, over the code.
 pub mod Answers
+pub mod Demand2

@@ -11,8 +11,8 @@ use lib.Dec.{eqb}
 use lib.ListN.{length, getD, set, take, drop, length-drop, length-set}
 use lib.Seq.{length-take-le, getD-take, getD-drop, drop-set-lt, take-set-le, take-set-lt, drop-set-add, take-nil, take-take, drop-drop, sets, length-sets, sets-eq}
 use Rattle.rules.specs.Lists.{sum}
-use Rattle.layout.specs.Columns.{Cols, sizes, size, base, bufferLength, columns, at, write, pour}
-use Rattle.layout.specs.Reading.{part}
+use Rattle.layout.specs.Columns.{Cols, columnSizes, columnSize, base, bufferLength, columns, at, write, writeRange}
+use Rattle.layout.specs.Reading.{slice}
 use Rattle.layout.proofs.Laid.{Shaped}
 
 -- ---- where the columns stand
@@ -37,14 +37,14 @@ sum-fits zero xs = omega arith
 sum-fits (suc k) [] = omega arith
 sum-fits (suc k) (x ∷ xs) = omega (arith, sum-fits k xs)
 
-pub base-fits : (k : ℕ) → base k + size k ≤ bufferLength
+pub base-fits : (k : ℕ) → base k + columnSize k ≤ bufferLength
 unfolding base sum
-base-fits k = omega (arith, sum-suc k sizes, sum-fits (suc k) sizes)
+base-fits k = omega (arith, sum-suc k columnSizes, sum-fits (suc k) columnSizes)
 
 -- a column ends where a later one begins, or before
-pub base-before : (j k : ℕ) → j < k → base j + size j ≤ base k
+pub base-before : (j k : ℕ) → j < k → base j + columnSize j ≤ base k
 unfolding base
-base-before j k h = omega (arith, sum-suc j sizes, sum-rises (suc j) k sizes h)
+base-before j k h = omega (arith, sum-suc j columnSizes, sum-rises (suc j) k columnSizes h)
 
 -- ---- lists
 
@@ -54,7 +54,7 @@ drop-take (suc a) zero l = ap (λ (k : ℕ). take k (drop (suc a) l)) (sym (zero
 drop-take (suc a) (suc z) [] = sym (take-nil (suc z - suc a))
 drop-take (suc a) (suc z) (x ∷ xs) = drop-take a z xs ∙ ap (λ (k : ℕ). take k (drop a xs)) (sym (suc-sub-suc z a))
 
--- a run of stores, and a part of the list
+-- a run of stores, and a slice of the list
 
 module _ {A : Type 0} where
   sets-inside : (a z n : ℕ) (vs l : List A) → n + length vs ≤ z → take z (drop a (sets l (a + n) vs)) ≡ sets (take z (drop a l)) n vs
@@ -77,7 +77,7 @@ module _ {A : Type 0} where
 
 -- ---- the columns of a buffer
 
-columns-sets : (b : List ℕ) (k n : ℕ) (vs : List ℕ) → n + length vs ≤ size k
+columns-sets : (b : List ℕ) (k n : ℕ) (vs : List ℕ) → n + length vs ≤ columnSize k
     → (j : ℕ) → columns (sets b (base k + n) vs) j ≡ cond (eqb j k) (sets (columns b j) n vs) (columns b j)
 unfolding columns
 columns-sets b k n vs fits j = go (ℕ-discrete j k)
@@ -85,47 +85,47 @@ columns-sets b k n vs fits j = go (ℕ-discrete j k)
     other : Dec (j < k) → (j ≡ k → ⊥) → columns (sets b (base k + n) vs) j ≡ columns b j
     other (yes h) ne =
         let i : base k + n ≡ base j + (base k + n - base j) = omega (arith, base-before j k h) in
-        ap (λ (m : ℕ). take (size j) (drop (base j) (sets b m vs))) i ∙ sets-after (base j) (size j) _ vs b (omega (arith, base-before j k h))
-    other (no h) ne = sets-before (base j) (size j) (base k + n) vs b (omega (arith, base-before k j (omega arith)))
+        ap (λ (m : ℕ). take (columnSize j) (drop (base j) (sets b m vs))) i ∙ sets-after (base j) (columnSize j) _ vs b (omega (arith, base-before j k h))
+    other (no h) ne = sets-before (base j) (columnSize j) (base k + n) vs b (omega (arith, base-before k j (omega arith)))
 
     go : Dec (j ≡ k) → columns (sets b (base k + n) vs) j ≡ cond (eqb j k) (sets (columns b j) n vs) (columns b j)
-    go (yes e) = rw (eq-eqb j k e, e) (sets-inside (base k) (size k) n vs b fits)
+    go (yes e) = rw (eq-eqb j k e, e) (sets-inside (base k) (columnSize k) n vs b fits)
     go (no ne) = rw (ne-eqb j k ne) (other (decLt j k) ne)
 
-pub at-columns : (b : List ℕ) (k n : ℕ) → n < size k → at (columns b) k n ≡ getD b (base k + n) 0
+pub at-columns : (b : List ℕ) (k n : ℕ) → n < columnSize k → at (columns b) k n ≡ getD b (base k + n) 0
 unfolding at columns
-at-columns b k n h = getD-take (size k) (drop (base k) b) n 0 h ∙ getD-drop (base k) b n 0
+at-columns b k n h = getD-take (columnSize k) (drop (base k) b) n 0 h ∙ getD-drop (base k) b n 0
 
-pub part-columns : (b : List ℕ) (k a e : ℕ) → e ≤ size k → part (columns b k) a e ≡ take (e - a) (drop (base k + a) b)
-unfolding columns part
-part-columns b k a e fits =
-    ap (take (e - a)) (drop-take a (size k) (drop (base k) b))
-    ∙ take-take (e - a) (size k - a) (drop a (drop (base k) b)) (omega arith)
+pub slice-columns : (b : List ℕ) (k a e : ℕ) → e ≤ columnSize k → slice (columns b k) a e ≡ take (e - a) (drop (base k + a) b)
+unfolding columns slice
+slice-columns b k a e fits =
+    ap (take (e - a)) (drop-take a (columnSize k) (drop (base k) b))
+    ∙ take-take (e - a) (columnSize k - a) (drop a (drop (base k) b)) (omega arith)
     ∙ ap (take (e - a)) (drop-drop a (base k) b)
 
-pub columns-set : (b : List ℕ) (k n v : ℕ) → n < size k → columns (set b (base k + n) v) ≡ write (columns b) k n v
+pub columns-set : (b : List ℕ) (k n v : ℕ) → n < columnSize k → columns (set b (base k + n) v) ≡ write (columns b) k n v
 unfolding write
 columns-set b k n v h = fun-ext (columns-sets b k n (v ∷ []) (omega arith))
 
 -- what is poured into a column of the right length is a run of stores
-pour-sets : (C : Cols) (k n : ℕ) (vs : List ℕ) → n + length vs ≤ size k → Shaped C
-    → (j : ℕ) → pour C k n vs j ≡ cond (eqb j k) (sets (C j) n vs) (C j)
-unfolding pour
-pour-sets C k n vs h shaped j = go (ℕ-discrete j k)
+writeRange-sets : (C : Cols) (k n : ℕ) (vs : List ℕ) → n + length vs ≤ columnSize k → Shaped C
+    → (j : ℕ) → writeRange C k n vs j ≡ cond (eqb j k) (sets (C j) n vs) (C j)
+unfolding writeRange
+writeRange-sets C k n vs h shaped j = go (ℕ-discrete j k)
   where
-    go : Dec (j ≡ k) → pour C k n vs j ≡ cond (eqb j k) (sets (C j) n vs) (C j)
-    go (yes e) = rw (eq-eqb j k e) (sym (sets-eq vs (C j) n (omega (arith, shaped j, ap size e))))
+    go : Dec (j ≡ k) → writeRange C k n vs j ≡ cond (eqb j k) (sets (C j) n vs) (C j)
+    go (yes e) = rw (eq-eqb j k e) (sym (sets-eq vs (C j) n (omega (arith, shaped j, ap columnSize e))))
     go (no ne) = rw (ne-eqb j k ne) refl
 
 pub columns-shaped : (b : List ℕ) → length b ≡ bufferLength → Shaped (columns b)
 unfolding columns
-columns-shaped b long k = length-take-le (size k) (drop (base k) b) (omega (arith, length-drop (base k) b, base-fits k))
+columns-shaped b long k = length-take-le (columnSize k) (drop (base k) b) (omega (arith, length-drop (base k) b, base-fits k))
 
-pub columns-run : (b : List ℕ) → length b ≡ bufferLength → (k n : ℕ) (vs : List ℕ) → n + length vs ≤ size k
-    → columns (take (base k + n) b ++ vs ++ drop (base k + n + length vs) b) ≡ pour (columns b) k n vs
+pub columns-run : (b : List ℕ) → length b ≡ bufferLength → (k n : ℕ) (vs : List ℕ) → n + length vs ≤ columnSize k
+    → columns (take (base k + n) b ++ vs ++ drop (base k + n + length vs) b) ≡ writeRange (columns b) k n vs
 columns-run b long k n vs h =
     ap columns (sym (sets-eq vs b (base k + n) (omega (arith, base-fits k))))
-    ∙ fun-ext (λ (j : ℕ). columns-sets b k n vs h j ∙ sym (pour-sets (columns b) k n vs h (columns-shaped b long) j))
+    ∙ fun-ext (λ (j : ℕ). columns-sets b k n vs h j ∙ sym (writeRange-sets (columns b) k n vs h (columns-shaped b long) j))
 
 -- ---- what is written: in its column, and in no other; and it keeps the columns' lengths
 
@@ -137,9 +137,9 @@ pub write-other : (C : Cols) (k n v j : ℕ) → eqb j k ≡ false → write C k
 unfolding write
 write-other C k n v j e = rw e
 
-pub pour-other : (C : Cols) (k n : ℕ) (vs : List ℕ) (j : ℕ) → eqb j k ≡ false → pour C k n vs j ≡ C j
-unfolding pour
-pour-other C k n vs j e = rw e
+pub writeRange-other : (C : Cols) (k n : ℕ) (vs : List ℕ) (j : ℕ) → eqb j k ≡ false → writeRange C k n vs j ≡ C j
+unfolding writeRange
+writeRange-other C k n vs j e = rw e
 
 cond-length : (t : Bool) (xs ys : List ℕ) → length xs ≡ length ys → length (cond t xs ys) ≡ length ys
 cond-length true xs ys e = e
@@ -149,6 +149,6 @@ pub write-shaped : (C : Cols) (k n v : ℕ) → Shaped C → Shaped (write C k n
 unfolding write
 write-shaped C k n v shaped j = cond-length (eqb j k) _ (C j) (length-set (C j) n v) ∙ shaped j
 
-pub pour-shaped : (C : Cols) (k n : ℕ) (vs : List ℕ) → Shaped C → n + length vs ≤ size k → Shaped (pour C k n vs)
-pour-shaped C k n vs shaped h j =
-    ap length (pour-sets C k n vs h shaped j) ∙ cond-length (eqb j k) _ (C j) (length-sets (C j) n vs) ∙ shaped j
+pub writeRange-shaped : (C : Cols) (k n : ℕ) (vs : List ℕ) → Shaped C → n + length vs ≤ columnSize k → Shaped (writeRange C k n vs)
+writeRange-shaped C k n vs shaped h j =
+    ap length (writeRange-sets C k n vs h shaped j) ∙ cond-length (eqb j k) _ (C j) (length-sets (C j) n vs) ∙ shaped j

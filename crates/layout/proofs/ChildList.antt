@@ -18,7 +18,7 @@ use Rattle.layout.specs.Columns.{Cols, at, opParent, regionOp, regionBlo
 use Rattle.layout.specs.Reading.{tabulateFrom, tabulate, opCount, blockCount, regionCount, parentFrom, opOf, blockOf, storeOf}
 use Rattle.layout.specs.Soundness.{placed}
 use Rattle.layout.specs.Children.{firstFrom}
-use Rattle.layout.proofs.Laid.{Laid, Within}
+use Rattle.layout.proofs.Laid.{Laid, InRange}
 use Rattle.layout.proofs.Tabulate.{ops-length, blocks-length, parent-read, block-read}
 use Rattle.layout.proofs.Nesting.{placed-facts}
 
@@ -75,7 +75,7 @@ module _ {A : Type 0} (p : A → Bool) (f : ℕ → A) (word : ℕ → ℕ) (c :
   child-mem count v l e = mem-from 0 count v (omega arith) (omega arith) e
 
   -- the entries lie in the range
-  child-scan : (first end count : ℕ) → end ≤ count → ((i : ℕ) → i < count → word i ≡ c → Within first end i) → Scan word c end (numbersWhere p (tabulate count f))
+  child-scan : (first end count : ℕ) → end ≤ count → ((i : ℕ) → i < count → word i ≡ c → InRange first end i) → Scan word c end (numbersWhere p (tabulate count f))
   unfolding numbersWhere tabulate
   child-scan first end count fits inside =
       record {
@@ -94,16 +94,16 @@ parent-word b (suc q) = (λ t. let e : q ≡ b = eqb-true q b t in omega arith, 
 pub record OpChild (C : Cols) (b n : ℕ) : Type 0 where
   pub exists : n < opCount C
   pub word : at C opParent n ≡ suc b
-  pub place : Within (at C blockOpFirst b) (at C blockOpEnd b) n
+  pub place : InRange (at C blockOpFirst b) (at C blockOpEnd b) n
 
 -- and of a region's blocks
 pub record BlockChild (C : Cols) (r m : ℕ) : Type 0 where
   pub exists : m < blockCount C
   pub word : at C blockRegion m ≡ r
-  pub place : Within (at C regionBlockFirst r) (at C regionBlockEnd r) m
+  pub place : InRange (at C regionBlockFirst r) (at C regionBlockEnd r) m
 
 module _ (C : Cols) (h : Laid C) where
-  op-inside : (b n : ℕ) → n < opCount C → at C opParent n ≡ suc b → Within (at C blockOpFirst b) (at C blockOpEnd b) n
+  op-inside : (b n : ℕ) → n < opCount C → at C opParent n ≡ suc b → InRange (at C blockOpFirst b) (at C blockOpEnd b) n
   unfolding parentFrom
   op-inside b n l e = placed-facts C n b (subst (λ (w : ℕ). placed C n (parentFrom w) ≡ true) e (h .op n l .place)) .place
 
@@ -128,8 +128,8 @@ module _ (C : Cols) (h : Laid C) where
 
   -- ---- the blocks of a region
 
-  block-inside : (r m : ℕ) → m < blockCount C → at C blockRegion m ≡ r → Within (at C regionBlockFirst r) (at C regionBlockEnd r) m
-  block-inside r m l e = subst (λ (x : ℕ). Within (at C regionBlockFirst x) (at C regionBlockEnd x) m) e (h .block m l .place)
+  block-inside : (r m : ℕ) → m < blockCount C → at C blockRegion m ≡ r → InRange (at C regionBlockFirst r) (at C regionBlockEnd r) m
+  block-inside r m l e = subst (λ (x : ℕ). InRange (at C regionBlockFirst x) (at C regionBlockEnd x) m) e (h .block m l .place)
 
   pub blocks-facts : (r : ℕ) {m : ℕ} → List·Memᴰ m (blocksOf (storeOf C) r) → BlockChild C r m
   unfolding blockOf

@@ -7,19 +7,19 @@ use lib.Dec.{eqb, leb, ltb}
 use lib.ListN.{length}
 use Rattle.rules.specs.Store.{ofOp, ofBlock, maxOps, maxBlocks, maxRegions, maxValues, maxOperands, maxSuccessors, maxAttributes, maxOwnKeys}
 use Rattle.rules.proofs.Basics.Tests.{and-left, and-right, and-both, passed, every-of, allBelow-at, allBelow-of}
-use Rattle.layout.specs.Columns.{Cols, size, at, opParent, opRegionFirst, opRegionEnd, opResultFirst, opResultEnd, opOperandFirst, opOperandEnd, opSuccessorFirst, opSuccessorEnd, opAttributes, regionOp, regionBlockFirst, regionBlockEnd, blockRegion, blockArgumentFirst, blockArgumentEnd, blockOpEnd, blockAttributes, valueOwner}
+use Rattle.layout.specs.Columns.{Cols, columnSize, at, opParent, opRegionFirst, opRegionEnd, opResultFirst, opResultEnd, opOperandFirst, opOperandEnd, opSuccessorFirst, opSuccessorEnd, opAttributes, regionOp, regionBlockFirst, regionBlockEnd, blockRegion, blockArgumentFirst, blockArgumentEnd, blockOpEnd, blockAttributes, valueOwner}
 use Rattle.layout.specs.Reading.{opCount, blockCount, regionCount, valueCount, operandCount, successorCount, attributeCount, parentFrom, ownerCode}
 use Rattle.layout.specs.Soundness.{ranged, within, owned, ownedWithin, endBefore, tiled, placed, regionsOwned, resultsOwned, listsTiled, opLaid, blockLaid, regionLaid, valueLaid, attributeSum, countsHold, countsLaid, laidOut}
 
 -- each column is as long as it should be
 abbrev pub Shaped : Cols → Type 0
-Shaped C = (k : ℕ) → length (C k) ≡ size k
+Shaped C = (k : ℕ) → length (C k) ≡ columnSize k
 
 pub record Ranged (a e n : ℕ) : Type 0 where
   pub rises : a ≤ e
   pub fits : e ≤ n
 
-pub record Within (a e n : ℕ) : Type 0 where
+pub record InRange (a e n : ℕ) : Type 0 where
   pub from : a ≤ n
   pub below : n < e
 
@@ -41,14 +41,14 @@ pub record OpLaid (C : Cols) (n : ℕ) : Type 0 where
 
 pub record BlockLaid (C : Cols) (m : ℕ) : Type 0 where
   pub regionIn : at C blockRegion m < regionCount C
-  pub place : Within (at C regionBlockFirst (at C blockRegion m)) (at C regionBlockEnd (at C blockRegion m)) m
+  pub place : InRange (at C regionBlockFirst (at C blockRegion m)) (at C regionBlockEnd (at C blockRegion m)) m
   pub arguments : Owned C valueOwner (at C blockArgumentFirst m) (at C blockArgumentEnd m) (valueCount C) (ownerCode (ofBlock m))
   pub ops : at C blockOpEnd m ≤ opCount C
   pub keys : at C blockAttributes m ≤ maxOwnKeys
 
 pub record RegionLaid (C : Cols) (r : ℕ) : Type 0 where
   pub opIn : at C regionOp r < opCount C
-  pub place : Within (at C opRegionFirst (at C regionOp r)) (at C opRegionEnd (at C regionOp r)) r
+  pub place : InRange (at C opRegionFirst (at C regionOp r)) (at C opRegionEnd (at C regionOp r)) r
   pub blocks : at C regionBlockEnd r ≤ blockCount C
 
 pub record Counts (C : Cols) : Type 0 where
@@ -78,11 +78,11 @@ pub ranged-of : (a e n : ℕ) → Ranged a e n → ranged a e n ≡ true
 unfolding ranged
 ranged-of a e n h = and-both _ _ (le-leb a e (h .rises)) (le-leb e n (h .fits))
 
-pub within-facts : (a e n : ℕ) → within a e n ≡ true → Within a e n
+pub within-facts : (a e n : ℕ) → within a e n ≡ true → InRange a e n
 unfolding within
 within-facts a e n h = record { from = leb-true a n (and-left _ (ltb n e) h); below = ltb-true n e (and-right (leb a n) _ h) }
 
-pub within-of : (a e n : ℕ) → Within a e n → within a e n ≡ true
+pub within-of : (a e n : ℕ) → InRange a e n → within a e n ≡ true
 unfolding within
 within-of a e n h = and-both _ _ (le-leb a n (h .from)) (lt-ltb n e (h .below))
 

@@ -4,6 +4,7 @@ pub mod Tabulate
 pub mod Scans
 pub mod Pasted
 pub mod Buffer
+pub mod Filled
 pub mod Copies
 pub mod Ranges
 pub mod Types

@@ -14,7 +14,7 @@ use Rattle.rules.proofs.Soundness.Sound.{facts}
 use Rattle.layout.specs.Columns.{Cols, at, opDepth, blockRegion, blockOpFirst, blockOpEnd}
 use Rattle.layout.specs.Reading.{opCount, blockCount, regionCount, around, storeOf}
 use Rattle.layout.specs.Soundness.{placed}
-use Rattle.layout.proofs.Laid.{Laid, Within, within-facts, within-of}
+use Rattle.layout.proofs.Laid.{Laid, InRange, within-facts, within-of}
 use Rattle.layout.proofs.Tabulate.{ops-length, parent-read, around-read}
 
 -- what `placed` says of an operation in block b
@@ -23,7 +23,7 @@ pub record Placed (C : Cols) (n b : ℕ) : Type 0 where
   pub regionIn : at C blockRegion b < regionCount C
   pub later : around C b < n
   pub depth : at C opDepth n ≡ at C opDepth (around C b) + 1
-  pub place : Within (at C blockOpFirst b) (at C blockOpEnd b) n
+  pub place : InRange (at C blockOpFirst b) (at C blockOpEnd b) n
 
 pub placed-facts : (C : Cols) (n b : ℕ) → placed C n (some b) ≡ true → Placed C n b
 unfolding placed

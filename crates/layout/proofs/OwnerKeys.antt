@@ -5,7 +5,7 @@ use mathlib.Core.Bool.{true}
 use mathlib.Core.Path.{_≡_, sym, subst, _∙_}
 use borrow.Author.Tests.{lt-ltb}
 use Rattle.rules.specs.Store.{Owner, ofOp, ofBlock, ownerExists, maxOwnKeys}
-use Rattle.layout.specs.Columns.{Cols, size}
+use Rattle.layout.specs.Columns.{Cols, columnSize}
 use Rattle.layout.specs.Reading.{opCount, blockCount, slotsOf, storeOf}
 use Rattle.layout.specs.Owners.{countColumn, ownerNumber, keyCount}
 use Rattle.layout.proofs.Laid.{Laid}
@@ -41,7 +41,7 @@ unfolding countColumn
 column-low (ofOp n) = omega arith
 column-low (ofBlock m) = omega arith
 
-number-low : (C : Cols) (w : Owner) → Laid C → ownerIn C w → ownerNumber w < size (countColumn w)
+number-low : (C : Cols) (w : Owner) → Laid C → ownerIn C w → ownerNumber w < columnSize (countColumn w)
 unfolding countColumn ownerNumber
 number-low C (ofOp n) h l = omega (arith, h .counts .ops)
 number-low C (ofBlock m) h l = omega (arith, h .counts .blocks)
@@ -50,15 +50,15 @@ number-low C (ofBlock m) h l = omega (arith, h .counts .blocks)
 pub record Reachable (C : Cols) (w : Owner) : Type 0 where
   pub within : ownerIn C w
   pub column : countColumn w < 32
-  pub number : ownerNumber w < size (countColumn w)
+  pub number : ownerNumber w < columnSize (countColumn w)
   pub keys : keyCount C w ≤ maxOwnKeys
   pub slots : slotsOf w + 8 ≤ 6144
 
 pub owner-reached : (C : Cols) (w : Owner) → Laid C → ownerIn C w → Reachable C w
 owner-reached C w h l = record { within = l; column = column-low w; number = number-low C w h l; keys = owner-keys C w h l; slots = slots-fit C w h l }
 
-pub count-reached : (C : Cols) (w : Owner) → Reachable C w → (k n : ℕ) → k ≡ countColumn w → n ≡ ownerNumber w → (k < 32) × (n < size k)
+pub count-reached : (C : Cols) (w : Owner) → Reachable C w → (k n : ℕ) → k ≡ countColumn w → n ≡ ownerNumber w → (k < 32) × (n < columnSize k)
 count-reached C w r k n p q = (
   subst (λ (x : ℕ). x < 32) (sym p) (r .column),
-  subst (λ (x : ℕ). x < size k) (sym q) (subst (λ (x : ℕ). ownerNumber w < size x) (sym p) (r .number)),
+  subst (λ (x : ℕ). x < columnSize k) (sym q) (subst (λ (x : ℕ). ownerNumber w < columnSize x) (sym p) (r .number)),
 )

@@ -6,8 +6,8 @@ use mathlib.Core.Path.{_≡_, sym, ap, subst, _∙_}
 use lib.ListN.{length, getD, take, drop, length-append, length-take, length-drop, List·getD-append}
 use lib.Seq.{length-take-le, getD-take, getD-drop, getD-append-add, ext-getD}
 use Rattle.layout.specs.Columns.{pasted}
-use Rattle.layout.specs.Reading.{part}
-use Rattle.layout.proofs.Scans.{part-length, part-at}
+use Rattle.layout.specs.Reading.{slice}
+use Rattle.layout.proofs.Scans.{slice-length, slice-at}
 
 -- what stands behind the first m entries
 pub getD-behind : {A : Type 0} (xs ys : List A) (m n : ℕ) (d : A) → length xs ≡ m → getD (xs ++ ys) (m + n) d ≡ getD ys n d
@@ -38,13 +38,13 @@ module _ (l : List ℕ) (n : ℕ) (vs : List ℕ) (fits : n + length vs ≤ leng
       ∙ getD-behind (take n l ++ vs) (drop (n + length vs) l) (n + length vs) _ 0 head-length
       ∙ getD-drop (n + length vs) l _ 0 ∙ ap (λ (k : ℕ). getD l k 0) (sym e)
 
-  pub part-old : (a e : ℕ) → e ≤ n → part (pasted l n vs) a e ≡ part l a e
-  part-old a e h =
-      let long = part-length (pasted l n vs) a e (omega (arith, pasted-length)) in
-      ext-getD 0 _ _ (long ∙ sym (part-length l a e (omega arith)))
-      (λ i b. let c : i < e - a = omega (arith, long) in part-at (pasted l n vs) a e i c ∙ pasted-old (a + i) (omega arith) ∙ sym (part-at l a e i c))
+  pub slice-old : (a e : ℕ) → e ≤ n → slice (pasted l n vs) a e ≡ slice l a e
+  slice-old a e h =
+      let long = slice-length (pasted l n vs) a e (omega (arith, pasted-length)) in
+      ext-getD 0 _ _ (long ∙ sym (slice-length l a e (omega arith)))
+      (λ i b. let c : i < e - a = omega (arith, long) in slice-at (pasted l n vs) a e i c ∙ pasted-old (a + i) (omega arith) ∙ sym (slice-at l a e i c))
 
-  pub part-new : part (pasted l n vs) n (n + length vs) ≡ vs
-  part-new =
-      let long : length (part (pasted l n vs) n (n + length vs)) ≡ length vs = part-length (pasted l n vs) n (n + length vs) (omega (arith, pasted-length)) ∙ omega arith in
-      ext-getD 0 _ _ long (λ i b. part-at (pasted l n vs) n (n + length vs) i (omega (arith, long)) ∙ pasted-new i (omega (arith, long)))
+  pub slice-new : slice (pasted l n vs) n (n + length vs) ≡ vs
+  slice-new =
+      let long : length (slice (pasted l n vs) n (n + length vs)) ≡ length vs = slice-length (pasted l n vs) n (n + length vs) (omega (arith, pasted-length)) ∙ omega arith in
+      ext-getD 0 _ _ long (λ i b. slice-at (pasted l n vs) n (n + length vs) i (omega (arith, long)) ∙ pasted-new i (omega (arith, long)))

@@ -16,7 +16,7 @@ use Rattle.rules.proofs.Soundness.NewValues.{same-self}
 use Rattle.layout.specs.Columns.{Cols, at, opRegionFirst, opRegionEnd, opResultFirst, opResultEnd, regionOp, blockArgumentFirst, blockArgumentEnd, valueOwner}
 use Rattle.layout.specs.Reading.{tabulateFrom, tabulate, opCount, blockCount, regionCount, valueCount, ownerFrom, ownerCode, valueOf, storeOf}
 use Rattle.layout.specs.Soundness.{inOwner, valueLaid}
-use Rattle.layout.proofs.Laid.{Laid, Within, Owned, within-facts}
+use Rattle.layout.proofs.Laid.{Laid, InRange, Owned, within-facts}
 use Rattle.layout.proofs.Tabulate.{length-from}
 
 -- the numbers from a on, up to e
@@ -49,18 +49,18 @@ unfolding range
 in-range a e k l h = in-from a (e - a) k l (omega arith)
 
 module _ {A : Type 0} (p : A → Bool) (f : ℕ → A) where
-  numbers-from : (i n a e : ℕ) → a ≤ e → e ≤ i + n → ((j : ℕ) → i ≤ j → j < i + n → p (f j) ≡ true → Within a e j) → ((j : ℕ) → Within a e j → p (f j) ≡ true)
+  numbers-from : (i n a e : ℕ) → a ≤ e → e ≤ i + n → ((j : ℕ) → i ≤ j → j < i + n → p (f j) ≡ true → InRange a e j) → ((j : ℕ) → InRange a e j → p (f j) ≡ true)
       → numbersFrom i p (tabulateFrom i n f) ≡ range (max i a) e
   unfolding numbersFrom tabulateFrom
   numbers-from i zero a e rises fits only each = sym (range-empty (max i a) e (omega arith))
   numbers-from i (suc n) a e rises fits only each =
       go (p (f i)) refl (numbers-from (suc i) n a e rises (omega arith) (λ j h l t. only j (omega arith) (omega arith) t) each)
     where
-      past : Dec (i < e) → (Within a e i → ⊥) → a ≤ i → e ≤ i
+      past : Dec (i < e) → (InRange a e i → ⊥) → a ≤ i → e ≤ i
       past (yes h) out l = absurd (out (record { from = l; below = h }))
       past (no h) out l = omega arith
 
-      later : Dec (i < a) → (Within a e i → ⊥) → range (max (suc i) a) e ≡ range (max i a) e
+      later : Dec (i < a) → (InRange a e i → ⊥) → range (max (suc i) a) e ≡ range (max i a) e
       later (yes h) out = let k : max (suc i) a ≡ max i a = omega arith in ap (λ (x : ℕ). range x e) k
       later (no h) out =
           let l : e ≤ i = past (decLt i e) out (omega arith) in
@@ -69,14 +69,14 @@ module _ {A : Type 0} (p : A → Bool) (f : ℕ → A) where
       go : (b : Bool) → p (f i) ≡ b → numbersFrom (suc i) p (tabulateFrom (suc i) n f) ≡ range (max (suc i) a) e
           → cond b (i ∷ numbersFrom (suc i) p (tabulateFrom (suc i) n f)) (numbersFrom (suc i) p (tabulateFrom (suc i) n f)) ≡ range (max i a) e
       go true t rest =
-          let w : Within a e i = only i (omega arith) (omega arith) t in
+          let w : InRange a e i = only i (omega arith) (omega arith) t in
           let k : max (suc i) a ≡ suc (max i a) = omega arith in
           let m : max i a ≡ i = omega arith in
           ap₂ _∷_ (sym m) (rest ∙ ap (λ (x : ℕ). range x e) k) ∙ sym (range-first (max i a) e (omega arith))
       go false t rest = rest ∙ later (decLt i a) (λ w. clash (each i w) t)
 
   -- the test passes exactly in the range
-  pub numbers-range : (n a e : ℕ) → a ≤ e → e ≤ n → ((j : ℕ) → j < n → p (f j) ≡ true → Within a e j) → ((j : ℕ) → Within a e j → p (f j) ≡ true)
+  pub numbers-range : (n a e : ℕ) → a ≤ e → e ≤ n → ((j : ℕ) → j < n → p (f j) ≡ true → InRange a e j) → ((j : ℕ) → InRange a e j → p (f j) ≡ true)
       → numbersWhere p (tabulate n f) ≡ range a e
   unfolding numbersWhere tabulate
   numbers-range n a e rises fits only each =
@@ -89,7 +89,7 @@ owner-read (ofOp n) = let r : (2 * n) % 2 ≡ 0 = omega arith in let q : (2 * n)
 owner-read (ofBlock b) = let r : (2 * b + 1) % 2 ≡ 1 = omega arith in let q : (2 * b + 1) / 2 ≡ b = omega arith in rw (r, q) refl
 
 -- the words of a range, by their own number
-owned-at : (C : Cols) (k a e n w : ℕ) → Owned C k a e n w → (j : ℕ) → Within a e j → at C k j ≡ w
+owned-at : (C : Cols) (k a e n w : ℕ) → Owned C k a e n w → (j : ℕ) → InRange a e j → at C k j ≡ w
 owned-at C k a e n w h j l = let i : a + (j - a) ≡ j = omega arith in subst (λ (x : ℕ). at C k x ≡ w) i (h .words (j - a) (omega arith))
 
 module _ (C : Cols) (h : Laid C) where
@@ -98,10 +98,10 @@ module _ (C : Cols) (h : Laid C) where
   regions-range n l =
       let o = h .op n l .regions in
       numbers-range (λ (x : ℕ). eqb x n) (at C regionOp) (regionCount C) _ _ (o .range .rises) (o .range .fits)
-      (λ r l′ t. subst (λ (x : ℕ). Within (at C opRegionFirst x) (at C opRegionEnd x) r) (eqb-true _ n t) (h .region r l′ .place))
+      (λ r l′ t. subst (λ (x : ℕ). InRange (at C opRegionFirst x) (at C opRegionEnd x) r) (eqb-true _ n t) (h .region r l′ .place))
       (λ r w. eq-eqb _ n (owned-at C regionOp _ _ _ n o r w))
 
-  values-range : (w : Owner) (a e : ℕ) → Owned C valueOwner a e (valueCount C) (ownerCode w) → ((v : ℕ) → inOwner C v w ≡ true → Within a e v) → valuesOf (storeOf C) w ≡ range a e
+  values-range : (w : Owner) (a e : ℕ) → Owned C valueOwner a e (valueCount C) (ownerCode w) → ((v : ℕ) → inOwner C v w ≡ true → InRange a e v) → valuesOf (storeOf C) w ≡ range a e
   unfolding valuesOf storeOf valueOf valueLaid
   values-range w a e o only =
       numbers-range (λ (v : Value). sameOwner (v .owner) w) (valueOf C) (valueCount C) a e (o .range .rises) (o .range .fits)

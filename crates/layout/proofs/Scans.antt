@@ -14,7 +14,7 @@ use Rattle.rules.specs.Lists.{every, all, allBelow, sameList}
 use Rattle.rules.proofs.Basics.Tests.{and-both, all-at, allBelow-at, allBelow-of, numbers-same}
 use Rattle.rules.proofs.Basics.Appended.{mem-getD}
 use Rattle.layout.specs.Columns.{Cols, at}
-use Rattle.layout.specs.Reading.{part}
+use Rattle.layout.specs.Reading.{slice}
 use Rattle.layout.specs.Soundness.{owned, endBefore}
 
 -- the test passes at each number below i
@@ -103,7 +103,7 @@ unfolding every
 last true e = e
 last false e = e
 
--- ---- a part of a list, entry by entry
+-- ---- a slice of a list, entry by entry
 
 -- two tests that pass together are the same
 pub same-tests : (a b : Bool) → (a ≡ true → b ≡ true) → (b ≡ true → a ≡ true) → a ≡ b
@@ -118,21 +118,21 @@ all-below p xs =
     (λ h. allBelow-of (length xs) (At p xs) (λ i l. all-at p xs h (mem-getD xs i 0 l)))
     (λ h. all-passes p xs (allBelow-at (length xs) (At p xs) h))
 
-pub part-length : (xs : List ℕ) (a e : ℕ) → e ≤ length xs → length (part xs a e) ≡ e - a
-unfolding part
-part-length xs a e h = length-take-le (e - a) (drop a xs) (omega (arith, length-drop a xs))
+pub slice-length : (xs : List ℕ) (a e : ℕ) → e ≤ length xs → length (slice xs a e) ≡ e - a
+unfolding slice
+slice-length xs a e h = length-take-le (e - a) (drop a xs) (omega (arith, length-drop a xs))
 
-pub part-at : (xs : List ℕ) (a e i : ℕ) → i < e - a → getD (part xs a e) i 0 ≡ getD xs (a + i) 0
-unfolding part
-part-at xs a e i l = getD-take (e - a) (drop a xs) i 0 l ∙ getD-drop a xs i 0
+pub slice-at : (xs : List ℕ) (a e i : ℕ) → i < e - a → getD (slice xs a e) i 0 ≡ getD xs (a + i) 0
+unfolding slice
+slice-at xs a e i l = getD-take (e - a) (drop a xs) i 0 l ∙ getD-drop a xs i 0
 
 -- the words of a column in a range are all w
-pub owned-part : (C : Cols) (k a e w : ℕ) → e ≤ length (C k) → all (λ (x : ℕ). eqb x w) (part (C k) a e) ≡ owned C k a e w
+pub owned-slice : (C : Cols) (k a e w : ℕ) → e ≤ length (C k) → all (λ (x : ℕ). eqb x w) (slice (C k) a e) ≡ owned C k a e w
 unfolding owned at
-owned-part C k a e w h =
-    all-below (λ (x : ℕ). eqb x w) (part (C k) a e)
-    ∙ ap (λ (n : ℕ). allBelow n (At (λ (x : ℕ). eqb x w) (part (C k) a e))) (part-length (C k) a e h)
-    ∙ below-cong (e - a) _ _ (λ i m. ap (λ (x : ℕ). eqb x w) (part-at (C k) a e i m))
+owned-slice C k a e w h =
+    all-below (λ (x : ℕ). eqb x w) (slice (C k) a e)
+    ∙ ap (λ (n : ℕ). allBelow n (At (λ (x : ℕ). eqb x w) (slice (C k) a e))) (slice-length (C k) a e h)
+    ∙ below-cong (e - a) _ _ (λ i m. ap (λ (x : ℕ). eqb x w) (slice-at (C k) a e i m))
 
 pub first-end : (C : Cols) (k n : ℕ) → n ≡ 0 → 0 ≡ endBefore C k n
 unfolding endBefore

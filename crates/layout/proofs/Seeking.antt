@@ -144,18 +144,18 @@ module _ (s : Store) where
 
 -- ---- a child that was found is the first of what is left from a number on
 
-pub record Next (xs : List ℕ) (from n : ℕ) : Type 0 where
+pub record NextChild (xs : List ℕ) (from n : ℕ) : Type 0 where
   pub child : List·Memᴰ n xs
   pub later : from ≤ n
   pub rest : onFrom from xs ≡ n ∷ onFrom (n + 1) xs
 
-next-of : (from n : ℕ) (xs : List ℕ) → Rising xs → firstFrom from xs ≡ some n → Next xs from n
+next-of : (from n : ℕ) (xs : List ℕ) → Rising xs → firstFrom from xs ≡ some n → NextChild xs from n
 next-of from n xs rise e = let w = found-in from n xs e in record { child = w .0; later = w .1; rest = from-found from n xs rise e }
 
-pub next-op : (s : Store) (b from n : ℕ) (r : Found) → r ≡ foundFrom (firstFrom from (opsOf s b)) → r ≡ At n → Next (opsOf s b) from n
+pub next-op : (s : Store) (b from n : ℕ) (r : Found) → r ≡ foundFrom (firstFrom from (opsOf s b)) → r ≡ At n → NextChild (opsOf s b) from n
 next-op s b from n r e h = next-of from n (opsOf s b) (ops-rise s b) (found-at r _ n e h)
 
-pub next-block : (s : Store) (r from b : ℕ) (q : Found) → q ≡ foundFrom (firstFrom from (blocksOf s r)) → q ≡ At b → Next (blocksOf s r) from b
+pub next-block : (s : Store) (r from b : ℕ) (q : Found) → q ≡ foundFrom (firstFrom from (blocksOf s r)) → q ≡ At b → NextChild (blocksOf s r) from b
 next-block s r from b q e h = next-of from b (blocksOf s r) (blocks-rise s r) (found-at q _ b e h)
 
 -- where none was found, nothing is left

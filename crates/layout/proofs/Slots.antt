@@ -1,4 +1,4 @@
--- The attributes of an owner, slot by slot: what a key that was looked at leaves to look at, and the kinds as a part of their column. Assumes nothing.
+-- The attributes of an owner, slot by slot: what a key that was looked at leaves to look at, and the kinds as a slice of their column. Assumes nothing.
 use Prim.Native.Nat.{ℕ, zero, suc, _+_, _-_, _<_, _≤_}
 use native.Mathlib.Omega.{arith}
 use mathlib.Core.Bool.{Bool, true, false, _&&_}
@@ -11,9 +11,9 @@ use Rattle.rules.specs.Store.{Attribute, keysRise, keysRiseAfter, maxOwnKeys, m
 use Rattle.rules.proofs.Basics.Tests.{all-at, allBelow-at, allBelow-of}
 use Rattle.rules.proofs.Basics.Appended.{mem-getD}
 use Rattle.layout.specs.Columns.{Cols, at, slotKey, slotKind}
-use Rattle.layout.specs.Reading.{tabulateFrom, tabulate, part, parentFrom, attributeAt, attributesFrom}
+use Rattle.layout.specs.Reading.{tabulateFrom, tabulate, slice, parentFrom, attributeAt, attributesFrom}
 use Rattle.layout.proofs.Tabulate.{length-tabulate, getD-tabulate}
-use Rattle.layout.proofs.Scans.{At, same-tests, all-below, below-cong, part-length, part-at}
+use Rattle.layout.proofs.Scans.{At, same-tests, all-below, below-cong, slice-length, slice-at}
 use Rattle.layout.proofs.Rules.{all-tabulate}
 
 -- ---- the keys
@@ -63,13 +63,13 @@ module _ {A : Type 0} (p : A → Bool) (f : ℕ → A) where
       (λ h. allBelow-of n _ (λ k l. subst (λ (x : A). p x ≡ true) (getD-tabulate n f k (f 0) l) (all-at p (tabulate n f) h (mem-getD (tabulate n f) k (f 0) (omega (arith, length-tabulate n f))))))
       (λ h. all-tabulate p f n (allBelow-at n _ h))
 
-pub kinds-part : (C : Cols) (first count : ℕ) → first + count ≤ length (C slotKind) → all (λ (x : ℕ). ltb x 64) (part (C slotKind) first (first + count)) ≡ all (λ (a : Attribute). leb (a .kind) maxAttributeKind) (attributesFrom C first count)
+pub kinds-slice : (C : Cols) (first count : ℕ) → first + count ≤ length (C slotKind) → all (λ (x : ℕ). ltb x 64) (slice (C slotKind) first (first + count)) ≡ all (λ (a : Attribute). leb (a .kind) maxAttributeKind) (attributesFrom C first count)
 unfolding attributesFrom attributeAt at
-kinds-part C first count h =
+kinds-slice C first count h =
     let e : (first + count) - first ≡ count = omega arith in
-    all-below (λ (x : ℕ). ltb x 64) (part (C slotKind) first (first + count))
-    ∙ ap (λ (n : ℕ). allBelow n (At (λ (x : ℕ). ltb x 64) (part (C slotKind) first (first + count)))) (part-length (C slotKind) first (first + count) h ∙ e)
-    ∙ below-cong count _ _ (λ i l. ap (λ (x : ℕ). ltb x 64) (part-at (C slotKind) first (first + count) i (omega arith)) ∙ kind-test (at C slotKind (first + i)))
+    all-below (λ (x : ℕ). ltb x 64) (slice (C slotKind) first (first + count))
+    ∙ ap (λ (n : ℕ). allBelow n (At (λ (x : ℕ). ltb x 64) (slice (C slotKind) first (first + count)))) (slice-length (C slotKind) first (first + count) h ∙ e)
+    ∙ below-cong count _ _ (λ i l. ap (λ (x : ℕ). ltb x 64) (slice-at (C slotKind) first (first + count) i (omega arith)) ∙ kind-test (at C slotKind (first + i)))
     ∙ sym (tabulate-tests (λ (a : Attribute). leb (a .kind) maxAttributeKind) (λ (i : ℕ). attributeAt C (first + i)) count)
   where
     kind-test : (x : ℕ) → ltb x 64 ≡ leb x 63

@@ -1,4 +1,4 @@
--- The counts of operands, successors and attributes are the store's totals: the parts of a shared list stand one behind the other, so their lengths add up to where the last one ends. Assumes nothing.
+-- The counts of operands, successors and attributes are the store's totals: the slices of a shared list stand one behind the other, so their lengths add up to where the last one ends. Assumes nothing.
 use Prim.Native.Nat.{ℕ, zero, suc, _+_, _-_, _<_}
 use native.Mathlib.Omega.{arith}
 use mathlib.Core.List.{map}
@@ -10,7 +10,7 @@ use Rattle.layout.specs.Columns.{Cols, at, opOperandFirst, opOperandEnd,
 use Rattle.layout.specs.Reading.{tabulateFrom, tabulate, opCount, blockCount, operandCount, successorCount, attributeCount, attributesFrom, opOf, blockOf, storeOf}
 use Rattle.layout.specs.Soundness.{endBefore, attributeSum}
 use Rattle.layout.proofs.Laid.{Laid, Shaped, Tiled}
-use Rattle.layout.proofs.Scans.{part-length}
+use Rattle.layout.proofs.Scans.{slice-length}
 use Rattle.layout.proofs.Sums.{sum-suc}
 use Rattle.layout.proofs.Tabulate.{length-tabulate, tabulate-cong, map-from}
 
@@ -21,16 +21,16 @@ module _ {A : Type 0} (g : A → ℕ) (f : ℕ → A) where
   unfolding tabulate
   sum-same n w same = ap sum (map-from g f 0 n ∙ tabulate-cong n (λ (k : ℕ). g (f k)) w same)
 
--- the lengths of the parts
-abbrev part-lengths : Cols → ℕ → ℕ → ℕ → ℕ
-part-lengths C first end k = at C end k - at C first k
+-- the lengths of the slices
+abbrev slice-lengths : Cols → ℕ → ℕ → ℕ → ℕ
+slice-lengths C first end k = at C end k - at C first k
 
-sum-tiled : (C : Cols) (first end n total : ℕ) → ((k : ℕ) → k < n → Tiled C first end k total) → sum (tabulate n (part-lengths C first end)) ≡ endBefore C end n
+sum-tiled : (C : Cols) (first end n total : ℕ) → ((k : ℕ) → k < n → Tiled C first end k total) → sum (tabulate n (slice-lengths C first end)) ≡ endBefore C end n
 unfolding endBefore sum tabulate tabulateFrom
 sum-tiled C first end zero total tiles = refl
 sum-tiled C first end (suc n) total tiles =
     let t = tiles n (omega arith) in
-    sum-suc n (part-lengths C first end) ∙ omega (arith, sum-tiled C first end n total (λ k h. tiles k (omega arith)))
+    sum-suc n (slice-lengths C first end) ∙ omega (arith, sum-tiled C first end n total (λ k h. tiles k (omega arith)))
 
 -- ---- the store's totals
 
@@ -55,23 +55,23 @@ module _ (C : Cols) (shaped : Shaped C) (h : Laid C) where
   operands-length n l =
       let c = h .counts .operands in
       let t = h .op n l .operands .range .fits in
-      part-length (C operandWords) _ _ (omega (arith, shaped operandWords))
+      slice-length (C operandWords) _ _ (omega (arith, shaped operandWords))
 
   pub successors-length : (n : ℕ) → n < opCount C → length (opOf C n .successors) ≡ at C opSuccessorEnd n - at C opSuccessorFirst n
   unfolding opOf
   successors-length n l =
       let c = h .counts .successors in
       let t = h .op n l .successors .range .fits in
-      part-length (C successorWords) _ _ (omega (arith, shaped successorWords))
+      slice-length (C successorWords) _ _ (omega (arith, shaped successorWords))
 
   pub operand-total : operandTotal (storeOf C) ≡ operandCount C
   unfolding operandTotal storeOf
   operand-total =
-      sum-same (λ (o : Op). length (o .operands)) (opOf C) (opCount C) (part-lengths C opOperandFirst opOperandEnd) operands-length
+      sum-same (λ (o : Op). length (o .operands)) (opOf C) (opCount C) (slice-lengths C opOperandFirst opOperandEnd) operands-length
       ∙ sum-tiled C opOperandFirst opOperandEnd (opCount C) (operandCount C) (λ k l. h .op k l .operands) ∙ h .operandEnd
 
   pub successor-total : successorTotal (storeOf C) ≡ successorCount C
   unfolding successorTotal storeOf
   successor-total =
-      sum-same (λ (o : Op). length (o .successors)) (opOf C) (opCount C) (part-lengths C opSuccessorFirst opSuccessorEnd) successors-length
+      sum-same (λ (o : Op). length (o .successors)) (opOf C) (opCount C) (slice-lengths C opSuccessorFirst opSuccessorEnd) successors-length
       ∙ sum-tiled C opSuccessorFirst opSuccessorEnd (opCount C) (successorCount C) (λ k l. h .op k l .successors) ∙ h .successorEnd

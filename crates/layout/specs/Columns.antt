@@ -122,8 +122,8 @@ slotContent = 31
 
 -- ---- where they stand, one behind the other
 
-abbrev pub sizes : List ℕ
-sizes =
+abbrev pub columnSizes : List ℕ
+columnSizes =
     8
     ∷ 512 ∷ 512 ∷ 512 ∷ 512 ∷ 512 ∷ 512 ∷ 512 ∷ 512 ∷ 512 ∷ 512 ∷ 512 ∷ 512 ∷ 512
     ∷ 256 ∷ 256 ∷ 256
@@ -133,11 +133,11 @@ sizes =
     ∷ 6144 ∷ 6144 ∷ 6144
     ∷ []
 
-abbrev pub size : ℕ → ℕ
-size k = getD sizes k 0
+abbrev pub columnSize : ℕ → ℕ
+columnSize k = getD columnSizes k 0
 
 unfoldable pub base : ℕ → ℕ
-base k = sum (take k sizes)
+base k = sum (take k columnSizes)
 
 -- the buffer's length in words
 abbrev pub bufferLength : ℕ
@@ -148,7 +148,7 @@ unfoldable pub emptyBuffer : List ℕ
 emptyBuffer = replicate bufferLength 0
 
 unfoldable pub columns : List ℕ → Cols
-columns b k = take (size k) (drop (base k) b)
+columns b k = take (columnSize k) (drop (base k) b)
 
 -- one word
 unfoldable pub at : Cols → ℕ → ℕ → ℕ
@@ -163,5 +163,5 @@ pasted xs n vs = take n xs ++ vs ++ drop (n + length vs) xs
 unfoldable pub write : Cols → ℕ → ℕ → ℕ → Cols
 write C k n v j = cond (eqb j k) (set (C j) n v) (C j)
 
-unfoldable pub pour : Cols → ℕ → ℕ → List ℕ → Cols
-pour C k n vs j = cond (eqb j k) (pasted (C j) n vs) (C j)
+unfoldable pub writeRange : Cols → ℕ → ℕ → List ℕ → Cols
+writeRange C k n vs j = cond (eqb j k) (pasted (C j) n vs) (C j)

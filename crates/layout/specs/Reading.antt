@@ -17,13 +17,13 @@ tabulateFrom i (suc n) f = f i ∷ tabulateFrom (suc i) n f
 unfoldable pub tabulate : {A : Type 0} → ℕ → (ℕ → A) → List A
 tabulate n f = tabulateFrom 0 n f
 
--- so many numbers, from one on
-unfoldable pub following : ℕ → ℕ → List ℕ
-following a n = tabulateFrom a n (λ (i : ℕ). i)
+-- n numbers one after the other, from a on
+unfoldable pub consecutive : ℕ → ℕ → List ℕ
+consecutive a n = tabulateFrom a n (λ (i : ℕ). i)
 
 -- the entries of a list from a on, up to e
-unfoldable pub part : List ℕ → ℕ → ℕ → List ℕ
-part xs a e = take (e - a) (drop a xs)
+unfoldable pub slice : List ℕ → ℕ → ℕ → List ℕ
+slice xs a e = take (e - a) (drop a xs)
 
 -- ---- the counts
 
@@ -85,8 +85,8 @@ opOf C n =
       kind = at C opKind n;
       parent = parentFrom (at C opParent n);
       location = at C opLocation n;
-      operands = part (C operandWords) (at C opOperandFirst n) (at C opOperandEnd n);
-      successors = part (C successorWords) (at C opSuccessorFirst n) (at C opSuccessorEnd n);
+      operands = slice (C operandWords) (at C opOperandFirst n) (at C opOperandEnd n);
+      successors = slice (C successorWords) (at C opSuccessorFirst n) (at C opSuccessorEnd n);
       attributes = attributesFrom C (slotsOf (ofOp n)) (at C opAttributes n);
     }
 

@@ -29,12 +29,12 @@ owned C k a e w = allBelow (e - a) (λ (i : ℕ). eqb (at C k (a + i)) w)
 unfoldable pub ownedWithin : Cols → ℕ → ℕ → ℕ → ℕ → ℕ → Bool
 ownedWithin C k a e n w = ranged a e n && owned C k a e w
 
--- where the part of a shared list ends that stands before operation n's
+-- where the slice of a shared list ends that stands before operation n's
 unfoldable pub endBefore : Cols → ℕ → ℕ → ℕ
 endBefore C k zero = 0
 endBefore C k (suc n) = at C k n
 
--- an operation's part of a shared list begins where the one before it ends, and ends within so many
+-- an operation's slice of a shared list begins where the one before it ends, and ends within so many
 unfoldable pub tiled : Cols → ℕ → ℕ → ℕ → ℕ → Bool
 tiled C first end n total = eqb (at C first n) (endBefore C end n) && ranged (at C first n) (at C end n) total
 
@@ -59,7 +59,7 @@ regionsOwned C n = ownedWithin C regionOp (at C opRegionFirst n) (at C opRegionE
 unfoldable pub resultsOwned : Cols → ℕ → Bool
 resultsOwned C n = ownedWithin C valueOwner (at C opResultFirst n) (at C opResultEnd n) (valueCount C) (ownerCode (ofOp n))
 
--- its parts of the two shared lists
+-- its slices of the two shared lists
 unfoldable pub listsTiled : Cols → ℕ → Bool
 listsTiled C n = tiled C opOperandFirst opOperandEnd n (operandCount C) && tiled C opSuccessorFirst opSuccessorEnd n (successorCount C)
 
@@ -99,7 +99,7 @@ inOwner C v (ofBlock b) = ltb b (blockCount C) && within (at C blockArgumentFirs
 unfoldable pub valueLaid : Cols → ℕ → Bool
 valueLaid C v = inOwner C v (ownerFrom (at C valueOwner v))
 
--- row i of a table; the tables go by their words of the counts: operations, blocks, regions, values
+-- row i of a table; a table is named by its index among the counts: operations, blocks, regions, values
 unfoldable pub rowLaid : Cols → ℕ → ℕ → Bool
 rowLaid C table i = getD (opLaid C i ∷ blockLaid C i ∷ regionLaid C i ∷ valueLaid C i ∷ []) table false
 
@@ -120,7 +120,7 @@ countsHold C =
     ∷ leb (attributeCount C) maxAttributes
     ∷ [])
 
--- the shared lists end with the last operation's part, and the attributes are as many as the owners say
+-- the shared lists end where the last operation's slice ends, and there are as many attributes as their owners count
 unfoldable pub countsLaid : Cols → Bool
 countsLaid C =
     every
@@ -158,7 +158,7 @@ rulesHold C = allBelow (opCount C) (opRules C) && allBelow (blockCount C) (block
 -- ---- the buffer
 
 -- of the right length, and its counts within the totals: so rows can be read
-pub record Counted (b : List ℕ) : Type 0 where
+pub record CountsBounded (b : List ℕ) : Type 0 where
   pub sized : length b ≡ bufferLength
   pub counted : countsHold (columns b) ≡ true
 

@@ -1,4 +1,4 @@
-// The counts, and all rows of the buffer.
+// Is the buffer laid out? Its counts first, then every row of its tables, then what rows and counts say together.
 use crate::columns::ATTRIBUTES;
 use crate::columns::BLOCK_ATTRIBUTES;
 use crate::columns::BLOCKS;
@@ -23,11 +23,11 @@ ghost use Prim.Native.Nat.{_<_, _≤_, _+_};
 ghost use lib.Dec.{leb};
 ghost use lib.ListN.{length};
 ghost use Rattle.rules.specs.Lists.{allBelow, sum};
-ghost use Rattle.layout.specs.Columns.{bufferLength, size, counts, columns, at};
+ghost use Rattle.layout.specs.Columns.{bufferLength, columnSize, counts, columns, at};
 ghost use Rattle.layout.specs.Reading.{tabulate, opCount, blockCount};
-ghost use Rattle.layout.specs.Soundness.{Counted, opLaid, blockLaid, rowLaid, attributeSum, countsHold, countsLaid, laidOut};
+ghost use Rattle.layout.specs.Soundness.{CountsBounded, opLaid, blockLaid, rowLaid, attributeSum, countsHold, countsLaid, laidOut};
 
-// The counts are within the totals.
+// The counts are within the totals of document 01.
 fn counts_hold(store: &[u32]) -> bool
     requires { ⌜ length (now store) ≡ bufferLength ⌝ }
     ensures { λ r. ⌜ r ≡ countsHold (columns (now (store .entry))) ⌝ }
@@ -53,9 +53,9 @@ fn counts_hold(store: &[u32]) -> bool
     number(store, COUNTS, ATTRIBUTES) <= 1024
 }
 
-// Row i of a table is laid out. The tables go by their words of the counts.
+// Row i of a table is laid out. A table is named by its index among the counts: OPS, BLOCKS, REGIONS or VALUES.
 fn row_laid(store: &[u32], table: usize, i: usize) -> bool
-    requires { ⌜ Counted (now store) ⌝ }
+    requires { ⌜ CountsBounded (now store) ⌝ }
     requires { ⌜ table < 4 ⌝ }
     requires { ⌜ i < at (columns (now store)) counts table ⌝ }
     ensures { λ r. ⌜ r ≡ rowLaid (columns (now (store .entry))) table i ⌝ }
@@ -70,7 +70,7 @@ fn row_laid(store: &[u32], table: usize, i: usize) -> bool
 
 // Each row of a table is laid out.
 fn rows_laid(store: &[u32], table: usize) -> bool
-    requires { ⌜ Counted (now store) ⌝ }
+    requires { ⌜ CountsBounded (now store) ⌝ }
     requires { ⌜ table < 4 ⌝ }
     ensures { λ r. ⌜ r ≡ allBelow (at (columns (now (store .entry))) counts table) (rowLaid (columns (now (store .entry))) table) ⌝ }
 {
@@ -89,7 +89,7 @@ fn rows_laid(store: &[u32], table: usize) -> bool
 fn sum_of(store: &[u32], column: usize, n: usize) -> usize
     requires { ⌜ length (now store) ≡ bufferLength ⌝ }
     requires { ⌜ column < 32 ⌝ }
-    requires { ⌜ n ≤ size column ⌝ }
+    requires { ⌜ n ≤ columnSize column ⌝ }
     requires { ⌜ allBelow n (λ i. leb (at (columns (now store)) column i) 8) ≡ true ⌝ }
     ensures { λ r. ⌜ r ≡ sum (tabulate n (at (columns (now (store .entry))) column)) ⌝ }
 {
@@ -104,7 +104,7 @@ fn sum_of(store: &[u32], column: usize, n: usize) -> usize
 
 // How many attributes the operations and the blocks have together.
 fn attribute_sum(store: &[u32]) -> usize
-    requires { ⌜ Counted (now store) ⌝ }
+    requires { ⌜ CountsBounded (now store) ⌝ }
     requires { ⌜ allBelow (opCount (columns (now store))) (opLaid (columns (now store))) ≡ true ⌝ }
     requires { ⌜ allBelow (blockCount (columns (now store))) (blockLaid (columns (now store))) ≡ true ⌝ }
     ensures { λ r. ⌜ r ≡ attributeSum (columns (now (store .entry))) ⌝ }
@@ -114,9 +114,10 @@ fn attribute_sum(store: &[u32]) -> usize
     sum_of(store, OP_ATTRIBUTES, ops) + sum_of(store, BLOCK_ATTRIBUTES, blocks)
 }
 
-// The shared lists end with the last operation's part, and the attributes are as many as the owners say.
+// The shared lists of operands and of successors end where the last operation's slice ends, and there are as many attributes as their
+// owners count.
 fn counts_laid(store: &[u32]) -> bool
-    requires { ⌜ Counted (now store) ⌝ }
+    requires { ⌜ CountsBounded (now store) ⌝ }
     requires { ⌜ allBelow (opCount (columns (now store))) (opLaid (columns (now store))) ≡ true ⌝ }
     requires { ⌜ allBelow (blockCount (columns (now store))) (blockLaid (columns (now store))) ≡ true ⌝ }
     ensures { λ r. ⌜ r ≡ countsLaid (columns (now (store .entry))) ⌝ }

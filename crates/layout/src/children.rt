@@ -1,4 +1,5 @@
-// The children of a block and of a region, the next from a number on; and the operation around a block.
+// Children are found one after the other: the next operation of a block, or the next block of a region, from a number on. And the operation
+// around a block.
 use crate::columns::BLOCK_OP_END;
 use crate::columns::BLOCK_OP_FIRST;
 use crate::columns::BLOCK_REGION;
@@ -13,7 +14,7 @@ ghost use mathlib.Core.List.{[], _∷_};
 ghost use Prim.Native.Nat.{max, _-_, _<_, _≤_};
 ghost use lib.ListN.{length};
 ghost use Rattle.rules.specs.Store.{opsOf, blocksOf};
-ghost use Rattle.layout.specs.Columns.{bufferLength, size, columns};
+ghost use Rattle.layout.specs.Columns.{bufferLength, columnSize, columns};
 ghost use Rattle.layout.specs.Reading.{blockCount, regionCount, around, storeIn};
 ghost use Rattle.layout.specs.Soundness.{Arranged};
 ghost use Rattle.layout.specs.Children.{firstFrom, firstWord, foundFrom};
@@ -24,11 +25,11 @@ pub enum Found {
     Nothing,
 }
 
-// The first entry of a column that is w, from a on and before e.
+// The first index from `a` up to `e` at which a column has the word `w`.
 fn first_at(store: &[u32], column: usize, w: u32, a: usize, e: usize) -> Found
     requires { ⌜ length (now store) ≡ bufferLength ⌝ }
     requires { ⌜ column < 32 ⌝ }
-    requires { ⌜ e ≤ size column ⌝ }
+    requires { ⌜ e ≤ columnSize column ⌝ }
     ensures { λ r. ⌜ r ≡ foundFrom (firstWord (columns (now (store .entry))) column w a (e - a)) ⌝ }
 {
     let mut i = a;
@@ -51,7 +52,7 @@ fn larger(a: usize, b: usize) -> usize
     a
 }
 
-// The first operation of a block, from a number on.
+// The first operation of a block whose number is not below `from`.
 pub fn next_op(store: &[u32], block: usize, from: usize) -> Found
     requires { ⌜ Arranged (now store) ⌝ }
     requires { ⌜ block < blockCount (columns (now store)) ⌝ }
@@ -62,7 +63,7 @@ pub fn next_op(store: &[u32], block: usize, from: usize) -> Found
     first_at(store, OP_PARENT, block as u32 + 1, start, end)
 }
 
-// The first block of a region, from a number on.
+// The first block of a region whose number is not below `from`.
 pub fn next_block(store: &[u32], region: usize, from: usize) -> Found
     requires { ⌜ Arranged (now store) ⌝ }
     requires { ⌜ region < regionCount (columns (now store)) ⌝ }
@@ -82,7 +83,7 @@ pub fn op_around(store: &[u32], block: usize) -> usize
     number(store, REGION_OP, number(store, BLOCK_REGION, block))
 }
 
-// The first of a list of one, from a number on.
+// The same of a list that has only `n`.
 pub fn one_from(n: usize, from: usize) -> Found
     ensures { λ q. ⌜ q ≡ foundFrom (firstFrom from (n ∷ [])) ⌝ }
 {

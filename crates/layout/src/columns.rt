@@ -6,11 +6,11 @@ ghost use mathlib.Core.Path.{_≡_};
 ghost use mathlib.Core.List.{_∷_};
 ghost use Prim.Native.Nat.{_+_, _-_, _<_, _≤_};
 ghost use lib.ListN.{length, replicate};
-ghost use Rattle.layout.specs.Columns.{bufferLength, size, columns, at, write, pour};
-ghost use Rattle.layout.specs.Reading.{part};
+ghost use Rattle.layout.specs.Columns.{bufferLength, columnSize, columns, at, write, writeRange};
+ghost use Rattle.layout.specs.Reading.{slice};
 
 // The buffer's length in words.
-pub const LENGTH: usize = 34568;
+pub const STORE_LENGTH: usize = 34568;
 
 // How many there are of each thing: the words of the first column.
 pub const COUNTS: usize = 0;
@@ -144,30 +144,30 @@ fn base(column: usize) -> usize
 pub fn at(store: &[u32], column: usize, n: usize) -> u32
     requires { ⌜ length (now store) ≡ bufferLength ⌝ }
     requires { ⌜ column < 32 ⌝ }
-    requires { ⌜ n < size column ⌝ }
+    requires { ⌜ n < columnSize column ⌝ }
     ensures { λ r. ⌜ r ≡ Rattle.layout.specs.Columns.at (columns (now (store .entry))) column n ⌝ }
 {
     let i = base(column) + n;
     store[i]
 }
 
-// The same, to count and to index with.
+// The same word, as a number to count and to index with.
 pub fn number(store: &[u32], column: usize, n: usize) -> usize
     requires { ⌜ length (now store) ≡ bufferLength ⌝ }
     requires { ⌜ column < 32 ⌝ }
-    requires { ⌜ n < size column ⌝ }
+    requires { ⌜ n < columnSize column ⌝ }
     ensures { λ r. ⌜ r ≡ Rattle.layout.specs.Columns.at (columns (now (store .entry))) column n ⌝ }
 {
     at(store, column, n) as usize
 }
 
-// The words of a column from a on, up to e.
+// The words of a column from `a` up to `e`, which is not among them.
 pub fn words(store: &[u32], column: usize, a: usize, e: usize) -> &[u32]
     requires { ⌜ length (now store) ≡ bufferLength ⌝ }
     requires { ⌜ column < 32 ⌝ }
     requires { ⌜ a ≤ e ⌝ }
-    requires { ⌜ e ≤ size column ⌝ }
-    ensures { λ r. ⌜ now r ≡ part (columns (now (store .entry)) column) a e ⌝ }
+    requires { ⌜ e ≤ columnSize column ⌝ }
+    ensures { λ r. ⌜ now r ≡ slice (columns (now (store .entry)) column) a e ⌝ }
 {
     let from = base(column);
     &store[from + a..from + e]
@@ -177,42 +177,42 @@ pub fn words(store: &[u32], column: usize, a: usize, e: usize) -> &[u32]
 pub fn put(store: &mut [u32], column: usize, n: usize, v: u32)
     requires { ⌜ length (now store) ≡ bufferLength ⌝ }
     requires { ⌜ column < 32 ⌝ }
-    requires { ⌜ n < size column ⌝ }
+    requires { ⌜ n < columnSize column ⌝ }
     ensures { λ _. ⌜ columns (now (store .exit)) ≡ write (columns (now (store .entry))) column n v ⌝ }
 {
     let i = base(column) + n;
     store[i] = v;
 }
 
-// Writes a list into a column, from n on.
+// Writes a list over the words of a column, from word `n` on.
 pub fn put_all(store: &mut [u32], column: usize, n: usize, list: &[u32])
     requires { ⌜ length (now store) ≡ bufferLength ⌝ }
     requires { ⌜ column < 32 ⌝ }
-    requires { ⌜ n + length (now list) ≤ size column ⌝ }
-    ensures { λ _. ⌜ columns (now (store .exit)) ≡ pour (columns (now (store .entry))) column n (now (list .entry)) ⌝ }
+    requires { ⌜ n + length (now list) ≤ columnSize column ⌝ }
+    ensures { λ _. ⌜ columns (now (store .exit)) ≡ writeRange (columns (now (store .entry))) column n (now (list .entry)) ⌝ }
 {
     let from = base(column) + n;
     copy_at(store, from, list);
 }
 
-// Writes one word so many times into a column, from n on.
+// Writes the word `v` over `count` words of a column, from word `n` on.
 pub fn put_same(store: &mut [u32], column: usize, n: usize, count: usize, v: u32)
     requires { ⌜ length (now store) ≡ bufferLength ⌝ }
     requires { ⌜ column < 32 ⌝ }
-    requires { ⌜ n + count ≤ size column ⌝ }
-    ensures { λ _. ⌜ columns (now (store .exit)) ≡ pour (columns (now (store .entry))) column n (replicate count v) ⌝ }
+    requires { ⌜ n + count ≤ columnSize column ⌝ }
+    ensures { λ _. ⌜ columns (now (store .exit)) ≡ writeRange (columns (now (store .entry))) column n (replicate count v) ⌝ }
 {
     let from = base(column) + n;
     fill_at(store, from, count, v);
 }
 
-// Puts a word before the words of a column from a on, up to e: they go one further, over the word behind them.
+// Inserts a word at `a`: the words of a column from `a` up to `e` move one place on, and the word at `e` is overwritten.
 pub fn insert(store: &mut [u32], column: usize, a: usize, e: usize, v: u32)
     requires { ⌜ length (now store) ≡ bufferLength ⌝ }
     requires { ⌜ column < 32 ⌝ }
     requires { ⌜ a ≤ e ⌝ }
-    requires { ⌜ e < size column ⌝ }
-    ensures { λ _. ⌜ columns (now (store .exit)) ≡ pour (columns (now (store .entry))) column a (v ∷ part (columns (now (store .entry)) column) a e) ⌝ }
+    requires { ⌜ e < columnSize column ⌝ }
+    ensures { λ _. ⌜ columns (now (store .exit)) ≡ writeRange (columns (now (store .entry))) column a (v ∷ slice (columns (now (store .entry)) column) a e) ⌝ }
 {
     let from = base(column) + a;
     insert_at(store, from, e - a, v);

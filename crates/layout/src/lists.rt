@@ -1,4 +1,4 @@
-// Tests over a list of words, and lists written into one.
+// Tests of lists of words, and writing into one.
 ghost use mathlib.Core.Path.{_≡_};
 ghost use mathlib.Core.List.{_∷_};
 ghost use Prim.Native.Nat.{_+_, _<_, _≤_};
@@ -52,7 +52,7 @@ pub fn words_eq(l: &[u32], r: &[u32]) -> bool
     true
 }
 
-// Writes a list into another, from `from` on.
+// Writes a list over the words of another, from `from` on.
 pub fn copy_at(to: &mut [u32], from: usize, list: &[u32])
     requires { ⌜ from + length (now list) ≤ length (now to) ⌝ }
     ensures { λ _. ⌜ now (to .exit) ≡ pasted (now (to .entry)) from (now (list .entry)) ⌝ }
@@ -64,7 +64,7 @@ pub fn copy_at(to: &mut [u32], from: usize, list: &[u32])
     }
 }
 
-// Writes one word so many times, from `from` on.
+// Writes the word `v` over `count` words, from `from` on.
 pub fn fill_at(to: &mut [u32], from: usize, count: usize, v: u32)
     requires { ⌜ from + count ≤ length (now to) ⌝ }
     ensures { λ _. ⌜ now (to .exit) ≡ pasted (now (to .entry)) from (replicate count v) ⌝ }
@@ -76,7 +76,7 @@ pub fn fill_at(to: &mut [u32], from: usize, count: usize, v: u32)
     }
 }
 
-// Puts a word before so many words, from `from` on: they go one further, over the word behind them.
+// Inserts a word at `from`: the `count` words there move one place on, and the word behind them is overwritten.
 pub fn insert_at(to: &mut [u32], from: usize, count: usize, v: u32)
     requires { ⌜ from + count < length (now to) ⌝ }
     ensures { λ _. ⌜ now (to .exit) ≡ pasted (now (to .entry)) from (v ∷ take count (drop from (now (to .entry)))) ⌝ }

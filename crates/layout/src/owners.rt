@@ -29,7 +29,7 @@ pub fn owner_exists(store: &[u32], owner: Owner) -> bool
     }
 }
 
-// The column of attribute counts that the owner's stands in.
+// The column that has the owner's number of attributes.
 pub fn count_column(owner: Owner) -> usize
     ensures { λ r. ⌜ r ≡ countColumn (ownerOf owner) ⌝ }
 {

@@ -1,4 +1,5 @@
-// A row of the buffer: each range that helps to find things is held to what the words are read as.
+// Is a row of the buffer laid out? Ranges of children and depths only help to find things: they must agree with the words that tell what
+// stands where.
 use crate::columns::BLOCK_ARGUMENT_END;
 use crate::columns::BLOCK_ARGUMENT_FIRST;
 use crate::columns::BLOCK_ATTRIBUTES;
@@ -37,11 +38,12 @@ ghost use mathlib.Core.Option.{some};
 ghost use Prim.Native.Nat.{_<_, _+_};
 ghost use Rattle.layout.specs.Columns.{columns, at, opParent};
 ghost use Rattle.layout.specs.Reading.{parentFrom};
-ghost use Rattle.layout.specs.Soundness.{Counted, placed, regionsOwned, resultsOwned, listsTiled, opLaid, blockLaid, regionLaid, valueLaid};
+ghost use Rattle.layout.specs.Soundness.{CountsBounded, placed, regionsOwned, resultsOwned, listsTiled, opLaid, blockLaid, regionLaid, valueLaid};
 
-// Operation n stands in block b, which stands in an operation before it, one region deeper, and in the block's range.
+// Operation n may stand in block b: the operation around b has a smaller number and is one region less deep, and n lies in b's range of
+// operations.
 fn placed_in(store: &[u32], n: usize, b: usize) -> bool
-    requires { ⌜ Counted (now store) ⌝ }
+    requires { ⌜ CountsBounded (now store) ⌝ }
     requires { ⌜ n < 512 ⌝ }
     ensures { λ r. ⌜ r ≡ placed (columns (now (store .entry))) n (some b) ⌝ }
 {
@@ -63,9 +65,9 @@ fn placed_in(store: &[u32], n: usize, b: usize) -> bool
     holds(store, BLOCK_OP_FIRST, BLOCK_OP_END, b, n)
 }
 
-// The same of its own parent, or it has none and nothing is around it.
+// Operation n stands so in its parent block, or it has no parent and its depth is 0.
 fn is_placed(store: &[u32], n: usize) -> bool
-    requires { ⌜ Counted (now store) ⌝ }
+    requires { ⌜ CountsBounded (now store) ⌝ }
     requires { ⌜ n < 512 ⌝ }
     ensures { λ r. ⌜ r ≡ placed (columns (now (store .entry))) n (parentFrom (at (columns (now (store .entry))) opParent n)) ⌝ }
 {
@@ -78,7 +80,7 @@ fn is_placed(store: &[u32], n: usize) -> bool
 
 // The regions in operation n's range are its own.
 fn regions_owned(store: &[u32], n: usize) -> bool
-    requires { ⌜ Counted (now store) ⌝ }
+    requires { ⌜ CountsBounded (now store) ⌝ }
     requires { ⌜ n < 512 ⌝ }
     ensures { λ r. ⌜ r ≡ regionsOwned (columns (now (store .entry))) n ⌝ }
 {
@@ -96,7 +98,7 @@ fn regions_owned(store: &[u32], n: usize) -> bool
 
 // The values in operation n's range are its results.
 fn results_owned(store: &[u32], n: usize) -> bool
-    requires { ⌜ Counted (now store) ⌝ }
+    requires { ⌜ CountsBounded (now store) ⌝ }
     requires { ⌜ n < 512 ⌝ }
     ensures { λ r. ⌜ r ≡ resultsOwned (columns (now (store .entry))) n ⌝ }
 {
@@ -112,9 +114,9 @@ fn results_owned(store: &[u32], n: usize) -> bool
     )
 }
 
-// Operation n's parts of the two shared lists begin where those before them end.
+// Operation n's slices of the two shared lists begin where those of the operation before it end.
 fn lists_tiled(store: &[u32], n: usize) -> bool
-    requires { ⌜ Counted (now store) ⌝ }
+    requires { ⌜ CountsBounded (now store) ⌝ }
     requires { ⌜ n < 512 ⌝ }
     ensures { λ r. ⌜ r ≡ listsTiled (columns (now (store .entry))) n ⌝ }
 {
@@ -128,7 +130,7 @@ fn lists_tiled(store: &[u32], n: usize) -> bool
 
 // Operation n's row is laid out.
 pub fn op_laid(store: &[u32], n: usize) -> bool
-    requires { ⌜ Counted (now store) ⌝ }
+    requires { ⌜ CountsBounded (now store) ⌝ }
     requires { ⌜ n < 512 ⌝ }
     ensures { λ r. ⌜ r ≡ opLaid (columns (now (store .entry))) n ⌝ }
 {
@@ -149,7 +151,7 @@ pub fn op_laid(store: &[u32], n: usize) -> bool
 
 // Block m's row is laid out.
 pub fn block_laid(store: &[u32], m: usize) -> bool
-    requires { ⌜ Counted (now store) ⌝ }
+    requires { ⌜ CountsBounded (now store) ⌝ }
     requires { ⌜ m < 256 ⌝ }
     ensures { λ r. ⌜ r ≡ blockLaid (columns (now (store .entry))) m ⌝ }
 {
@@ -180,7 +182,7 @@ pub fn block_laid(store: &[u32], m: usize) -> bool
 
 // Region g's row is laid out.
 pub fn region_laid(store: &[u32], g: usize) -> bool
-    requires { ⌜ Counted (now store) ⌝ }
+    requires { ⌜ CountsBounded (now store) ⌝ }
     requires { ⌜ g < 256 ⌝ }
     ensures { λ r. ⌜ r ≡ regionLaid (columns (now (store .entry))) g ⌝ }
 {
@@ -196,7 +198,7 @@ pub fn region_laid(store: &[u32], g: usize) -> bool
 
 // Value v lies in its owner's range.
 pub fn value_laid(store: &[u32], v: usize) -> bool
-    requires { ⌜ Counted (now store) ⌝ }
+    requires { ⌜ CountsBounded (now store) ⌝ }
     requires { ⌜ v < 2048 ⌝ }
     ensures { λ r. ⌜ r ≡ valueLaid (columns (now (store .entry))) v ⌝ }
 {

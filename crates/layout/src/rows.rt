@@ -1,4 +1,4 @@
-// Tests of a row's ranges, by its words.
+// Tests of ranges. A row has a range of numbers as two words: the first number, and the first one past the range.
 use crate::columns::number;
 use crate::columns::words;
 use crate::lists::all_are;
@@ -6,11 +6,11 @@ ghost use mathlib.Core.Path.{_≡_};
 ghost use Prim.Native.Nat.{_-_, _<_, _≤_};
 ghost use lib.Dec.{leb};
 ghost use lib.ListN.{length};
-ghost use Rattle.layout.specs.Columns.{bufferLength, size, columns, at};
-ghost use Rattle.layout.specs.Reading.{part};
+ghost use Rattle.layout.specs.Columns.{bufferLength, columnSize, columns, at};
+ghost use Rattle.layout.specs.Reading.{slice};
 ghost use Rattle.layout.specs.Soundness.{tiled, owned, ownedWithin};
 
-// The range begins no later than it ends, and ends within so many.
+// The range from `a` to `e` does not end before it begins, and none of its numbers is `n` or above.
 pub fn ranged(a: usize, e: usize, n: usize) -> bool
     ensures { λ r. ⌜ r ≡ Rattle.layout.specs.Soundness.ranged a e n ⌝ }
 {
@@ -20,7 +20,7 @@ pub fn ranged(a: usize, e: usize, n: usize) -> bool
     e <= n
 }
 
-// The number lies in the range.
+// The number `n` lies in the range from `a` to `e`.
 pub fn within(a: usize, e: usize, n: usize) -> bool
     ensures { λ r. ⌜ r ≡ Rattle.layout.specs.Soundness.within a e n ⌝ }
 {
@@ -30,36 +30,36 @@ pub fn within(a: usize, e: usize, n: usize) -> bool
     n < e
 }
 
-// Each word of a column in the range is w.
+// Each word of a column in the range from `a` to `e` is `w`.
 pub fn all_owned(store: &[u32], column: usize, a: usize, e: usize, w: u32) -> bool
     requires { ⌜ length (now store) ≡ bufferLength ⌝ }
     requires { ⌜ column < 32 ⌝ }
     requires { ⌜ a ≤ e ⌝ }
-    requires { ⌜ e ≤ size column ⌝ }
+    requires { ⌜ e ≤ columnSize column ⌝ }
     ensures { λ r. ⌜ r ≡ owned (columns (now (store .entry))) column a e w ⌝ }
 {
     all_are(words(store, column, a, e), w)
 }
 
-// The number lies in the range of a row.
+// The number `n` lies in the range of a row.
 pub fn holds(store: &[u32], first: usize, end: usize, row: usize, n: usize) -> bool
     requires { ⌜ length (now store) ≡ bufferLength ⌝ }
     requires { ⌜ first < 32 ⌝ }
     requires { ⌜ end < 32 ⌝ }
-    requires { ⌜ row < size first ⌝ }
-    requires { ⌜ row < size end ⌝ }
+    requires { ⌜ row < columnSize first ⌝ }
+    requires { ⌜ row < columnSize end ⌝ }
     ensures { λ r. ⌜ r ≡ Rattle.layout.specs.Soundness.within (at (columns (now (store .entry))) first row) (at (columns (now (store .entry))) end row) n ⌝ }
 {
     within(number(store, first, row), number(store, end, row), n)
 }
 
-// The range of a row has at most so many entries.
+// The range of a row has at most `most` numbers.
 pub fn at_most(store: &[u32], first: usize, end: usize, row: usize, most: usize) -> bool
     requires { ⌜ length (now store) ≡ bufferLength ⌝ }
     requires { ⌜ first < 32 ⌝ }
     requires { ⌜ end < 32 ⌝ }
-    requires { ⌜ row < size first ⌝ }
-    requires { ⌜ row < size end ⌝ }
+    requires { ⌜ row < columnSize first ⌝ }
+    requires { ⌜ row < columnSize end ⌝ }
     requires { ⌜ at (columns (now store)) first row ≤ at (columns (now store)) end row ⌝ }
     ensures { λ r. ⌜ r ≡ leb (at (columns (now (store .entry))) end row - at (columns (now (store .entry))) first row) most ⌝ }
 {
@@ -74,11 +74,11 @@ pub fn row_words(store: &[u32], first: usize, end: usize, row: usize, column: us
     requires { ⌜ first < 32 ⌝ }
     requires { ⌜ end < 32 ⌝ }
     requires { ⌜ column < 32 ⌝ }
-    requires { ⌜ row < size first ⌝ }
-    requires { ⌜ row < size end ⌝ }
+    requires { ⌜ row < columnSize first ⌝ }
+    requires { ⌜ row < columnSize end ⌝ }
     requires { ⌜ at (columns (now store)) first row ≤ at (columns (now store)) end row ⌝ }
-    requires { ⌜ at (columns (now store)) end row ≤ size column ⌝ }
-    ensures { λ r. ⌜ now r ≡ part (columns (now (store .entry)) column) (at (columns (now (store .entry))) first row) (at (columns (now (store .entry))) end row) ⌝ }
+    requires { ⌜ at (columns (now store)) end row ≤ columnSize column ⌝ }
+    ensures { λ r. ⌜ now r ≡ slice (columns (now (store .entry)) column) (at (columns (now (store .entry))) first row) (at (columns (now (store .entry))) end row) ⌝ }
 {
     words(
         store,
@@ -88,7 +88,7 @@ pub fn row_words(store: &[u32], first: usize, end: usize, row: usize, column: us
     )
 }
 
-// The range of a row ends within so many, and each word of a column in it is w.
+// The range of a row is one of numbers below `total`, and each word of a column in it is `w`.
 pub fn owns(
     store: &[u32],
     first: usize,
@@ -102,9 +102,9 @@ pub fn owns(
     requires { ⌜ first < 32 ⌝ }
     requires { ⌜ end < 32 ⌝ }
     requires { ⌜ column < 32 ⌝ }
-    requires { ⌜ row < size first ⌝ }
-    requires { ⌜ row < size end ⌝ }
-    requires { ⌜ total ≤ size column ⌝ }
+    requires { ⌜ row < columnSize first ⌝ }
+    requires { ⌜ row < columnSize end ⌝ }
+    requires { ⌜ total ≤ columnSize column ⌝ }
     ensures { λ r. ⌜ r ≡ ownedWithin (columns (now (store .entry))) column (at (columns (now (store .entry))) first row) (at (columns (now (store .entry))) end row) total w ⌝ }
 {
     let a = number(store, first, row);
@@ -115,11 +115,11 @@ pub fn owns(
     all_owned(store, column, a, e, w)
 }
 
-// Where the part of a shared list ends that stands before operation n's.
+// Where the slice of a shared list ends that stands before operation n's; `column` has the ends.
 pub fn end_before(store: &[u32], column: usize, n: usize) -> usize
     requires { ⌜ length (now store) ≡ bufferLength ⌝ }
     requires { ⌜ column < 32 ⌝ }
-    requires { ⌜ n ≤ size column ⌝ }
+    requires { ⌜ n ≤ columnSize column ⌝ }
     ensures { λ r. ⌜ r ≡ Rattle.layout.specs.Soundness.endBefore (columns (now (store .entry))) column n ⌝ }
 {
     if n == 0 {
@@ -128,13 +128,13 @@ pub fn end_before(store: &[u32], column: usize, n: usize) -> usize
     number(store, column, n - 1)
 }
 
-// Operation n's part of a shared list begins where the one before it ends, and ends within so many.
+// Operation n's slice of a shared list begins where the one before it ends, and is one of the first `total` words.
 pub fn is_tiled(store: &[u32], first: usize, end: usize, n: usize, total: usize) -> bool
     requires { ⌜ length (now store) ≡ bufferLength ⌝ }
     requires { ⌜ first < 32 ⌝ }
     requires { ⌜ end < 32 ⌝ }
-    requires { ⌜ n < size first ⌝ }
-    requires { ⌜ n < size end ⌝ }
+    requires { ⌜ n < columnSize first ⌝ }
+    requires { ⌜ n < columnSize end ⌝ }
     ensures { λ r. ⌜ r ≡ tiled (columns (now (store .entry))) first end n total ⌝ }
 {
     let a = number(store, first, n);

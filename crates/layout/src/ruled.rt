@@ -26,9 +26,9 @@ use crate::columns::words;
 use crate::lists::all_below;
 use crate::owners::Owner;
 use crate::owners::first_slot;
-use crate::parts::operands_of;
-use crate::parts::successors_of;
 use crate::rows::at_most;
+use crate::slices::operands_of;
+use crate::slices::successors_of;
 ghost use mathlib.Core.Path.{_≡_};
 ghost use Prim.Native.Nat.{_+_, _-_, _<_, _≤_};
 ghost use lib.Dec.{leb, ltb};
@@ -39,7 +39,7 @@ ghost use Rattle.layout.specs.Columns.{bufferLength, columns, opParent};
 ghost use Rattle.layout.specs.Reading.{attributesFrom, opCount, blockCount, valueCount, around, parentFrom, opOf, storeIn};
 ghost use Rattle.layout.specs.Soundness.{Arranged, opRules, blockRules};
 
-// The keys of so many slots rise.
+// The keys of `count` attribute slots, from slot `first` on, rise: each is above the one before it.
 fn keys_rise(store: &[u32], first: usize, count: usize) -> bool
     requires { ⌜ length (now store) ≡ bufferLength ⌝ }
     requires { ⌜ count ≤ 8 ⌝ }
@@ -57,7 +57,7 @@ fn keys_rise(store: &[u32], first: usize, count: usize) -> bool
     true
 }
 
-// The kinds of so many slots are kinds.
+// The attribute kinds of these slots are at most 63, as every kind is.
 fn kinds_fit(store: &[u32], first: usize, count: usize) -> bool
     requires { ⌜ length (now store) ≡ bufferLength ⌝ }
     requires { ⌜ count ≤ 8 ⌝ }
@@ -67,7 +67,7 @@ fn kinds_fit(store: &[u32], first: usize, count: usize) -> bool
     all_below(words(store, SLOT_KIND, first, first + count), 64)
 }
 
-// The attributes of so many slots hold.
+// The attributes in these slots keep the rules.
 fn attributes_hold(store: &[u32], first: usize, count: usize) -> bool
     requires { ⌜ length (now store) ≡ bufferLength ⌝ }
     requires { ⌜ count ≤ 8 ⌝ }
@@ -188,7 +188,7 @@ fn blocks_hold(store: &[u32]) -> bool
     true
 }
 
-// What the words are read as is a sound store.
+// The store that the words are read as is sound.
 pub fn is_ruled(store: &[u32]) -> bool
     requires { ⌜ Arranged (now store) ⌝ }
     ensures { λ r. ⌜ r ≡ sound (storeIn (now (store .entry))) ⌝ }

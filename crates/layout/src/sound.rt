@@ -1,6 +1,6 @@
 // The soundness check, which every offered call makes first.
 use crate::checks::laid_out;
-use crate::columns::LENGTH;
+use crate::columns::STORE_LENGTH;
 use crate::ruled::is_ruled;
 ghost use mathlib.Core.Path.{_≡_};
 ghost use Rattle.layout.specs.Soundness.{soundBuffer};
@@ -9,7 +9,7 @@ ghost use Rattle.layout.specs.Soundness.{soundBuffer};
 pub fn is_sound(store: &[u32]) -> bool
     ensures { λ r. ⌜ r ≡ soundBuffer (now (store .entry)) ⌝ }
 {
-    if store.len() != LENGTH {
+    if store.len() != STORE_LENGTH {
         return false;
     }
     if !laid_out(store) {

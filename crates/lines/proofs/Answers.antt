@@ -13,14 +13,14 @@ use lib.Seq.{take-suc-set}
 use Rattle.rules.specs.Lists.{sameList}
 use Rattle.rules.specs.Bytes.{isText, numberBelow}
 use Rattle.rules.specs.Lines.{Reader, andThen, giving, field, number, numbers, items, parentMeaning, parentBlock}
-use Rattle.layout.specs.Reading.{part}
-use Rattle.layout.proofs.Scans.{and-false, part-length}
+use Rattle.layout.specs.Reading.{slice}
+use Rattle.layout.proofs.Scans.{and-false, slice-length}
 use Rattle.lines.specs.Reading.{Answer, fieldsLeft, FieldEnd, oneByte, blockMeaning, readOf, itemsOf, On, ReadOn, ReadNumber, Fit, ReadItems}
 use Rattle.lines.specs.declared.reading.Read.{Read}
 use Rattle.lines.specs.declared.reading.Read.the-variants.{At, Bad}
 use Rattle.lines.specs.declared.reading.Items.{Items}
 use Rattle.lines.specs.declared.reading.Items.the-variants.{At as ItemsAt, Bad as NoItems}
-use Rattle.lines.proofs.Cutting.{part-none, part-first}
+use Rattle.lines.proofs.Cutting.{slice-none, slice-first}
 use Rattle.lines.proofs.Fields.{left-within, left-past}
 
 -- ---- an answer that is known, by what it tells
@@ -35,17 +35,17 @@ module _ {A : Type 0} (meaning : List ℕ → Option A) (line : List ℕ) (at : 
   unfolding field
   no-field h = sym (ap (field meaning) (left-past line at h))
 
-  pub field-here : (e : ℕ) → FieldEnd line at e → field meaning (fieldsLeft line at) ≡ Option·map (λ a. (a, fieldsLeft line (e + 1))) (meaning (part line at e))
+  pub field-here : (e : ℕ) → FieldEnd line at e → field meaning (fieldsLeft line at) ≡ Option·map (λ a. (a, fieldsLeft line (e + 1))) (meaning (slice line at e))
   unfolding field
   field-here e h =
       let a : at ≤ e = h .from in
       let b : e ≤ length line = h .within in
       ap (field meaning) (left-within line at (omega arith) ∙ h .fields)
 
-  pub field-bad : (e : ℕ) → FieldEnd line at e → meaning (part line at e) ≡ none → none ≡ field meaning (fieldsLeft line at)
+  pub field-bad : (e : ℕ) → FieldEnd line at e → meaning (slice line at e) ≡ none → none ≡ field meaning (fieldsLeft line at)
   field-bad e h q = sym (field-here e h ∙ ap (Option·map (λ a. (a, fieldsLeft line (e + 1)))) q)
 
-  pub field-good : (e : ℕ) → FieldEnd line at e → (a : A) → meaning (part line at e) ≡ some a → some (a, fieldsLeft line (e + 1)) ≡ field meaning (fieldsLeft line at)
+  pub field-good : (e : ℕ) → FieldEnd line at e → (a : A) → meaning (slice line at e) ≡ some a → some (a, fieldsLeft line (e + 1)) ≡ field meaning (fieldsLeft line at)
   field-good e h a q = sym (field-here e h ∙ ap (Option·map (λ b. (b, fieldsLeft line (e + 1)))) q)
 
 -- ---- a field of one byte
@@ -57,12 +57,12 @@ none-or-more (x ∷ []) h = absurd (h refl)
 none-or-more (x ∷ y ∷ xs) h = refl
 
 module _ (line : List ℕ) (a e : ℕ) (l : a ≤ e) (within : e ≤ length line) where
-  pub one-byte : e - a ≡ 1 → oneByte (part line a e) ≡ some (getD line a 0)
+  pub one-byte : e - a ≡ 1 → oneByte (slice line a e) ≡ some (getD line a 0)
   unfolding oneByte
-  one-byte h = ap oneByte (part-first line a e (omega arith) within ∙ ap (λ (xs : List ℕ). getD line a 0 ∷ xs) (part-none line (a + 1) e (omega arith)))
+  one-byte h = ap oneByte (slice-first line a e (omega arith) within ∙ ap (λ (xs : List ℕ). getD line a 0 ∷ xs) (slice-none line (a + 1) e (omega arith)))
 
-  pub not-one-byte : (e - a ≡ 1 → ⊥) → oneByte (part line a e) ≡ none
-  not-one-byte h = none-or-more (part line a e) (λ q. h (sym (part-length line a e within) ∙ q))
+  pub not-one-byte : (e - a ≡ 1 → ⊥) → oneByte (slice line a e) ≡ none
+  not-one-byte h = none-or-more (slice line a e) (λ q. h (sym (slice-length line a e within) ∙ q))
 
 pub never : {A B : Type 0} (a : A) → none ≡ some a → B
 never a h = let z : _≡_ {A = ℕ} 0 1 = cc in absurd (let w : ⊥ = omega arith in w)

@@ -97,30 +97,30 @@ module _ (l : List ℕ) (at b count n : ℕ) where
 -- ---- how many there are
 
 -- so many digits are counted; at most `more` turns follow
-pub record Counting (n rest count : ℕ) : Type 0 where
+pub record DigitCounting (n rest count : ℕ) : Type 0 where
   pub more : ℕ
   pub turns : count + more ≡ 10
   pub counted : digitCount 10 n + 1 ≡ count + digitCount (suc more) rest
   pub small : rest < 10 ^ suc more
 
-pub counting-starts : (n : ℕ) → n < 4294967296 → Counting n n 1
+pub counting-starts : (n : ℕ) → n < 4294967296 → DigitCounting n n 1
 counting-starts n h = record { more = 9; turns = refl; counted = omega arith; small = omega arith }
 
-tenth : (n rest count k : ℕ) → 10 ≤ rest → count + k ≡ 10 → digitCount 10 n + 1 ≡ count + digitCount (suc k) rest → rest < 10 ^ suc k → Counting n (rest / 10) (count + 1)
+tenth : (n rest count k : ℕ) → 10 ≤ rest → count + k ≡ 10 → digitCount 10 n + 1 ≡ count + digitCount (suc k) rest → rest < 10 ^ suc k → DigitCounting n (rest / 10) (count + 1)
 unfolding digitCount
 tenth n rest count zero h t e s = let no : 1 ≤ 0 = omega arith in absurd (not-suc-le-zero no)
 tenth n rest count (suc k) h t e s =
     let c : digitCount (suc (suc k)) rest ≡ suc (digitCount (suc k) (rest / 10)) = ap (λ (q : Bool). cond q 1 (suc (digitCount (suc k) (rest / 10)))) (le-ltb rest 10 h) in
     record { more = k; turns = omega arith; counted = omega arith; small = omega (arith, pow-suc 10 (suc k)) }
 
-pub counting-turn : (n rest count : ℕ) → 10 ≤ rest → Counting n rest count → Counting n (rest / 10) (count + 1)
+pub counting-turn : (n rest count : ℕ) → 10 ≤ rest → DigitCounting n rest count → DigitCounting n (rest / 10) (count + 1)
 counting-turn n rest count h f = tenth n rest count (f .more) h (f .turns) (f .counted) (f .small)
 
 one-digit : (k rest : ℕ) → rest < 10 → digitCount (suc k) rest ≡ 1
 unfolding digitCount
 one-digit k rest h = ap (λ (q : Bool). cond q 1 (suc (digitCount k (rest / 10)))) (lt-ltb rest 10 h)
 
-pub counting-ends : (n rest count : ℕ) → rest < 10 → Counting n rest count → count ≡ digitCount 10 n
+pub counting-ends : (n rest count : ℕ) → rest < 10 → DigitCounting n rest count → count ≡ digitCount 10 n
 counting-ends n rest count h f =
     let e : digitCount 10 n + 1 ≡ count + digitCount (suc (f .more)) rest = f .counted in
     let o : digitCount (suc (f .more)) rest ≡ 1 = one-digit (f .more) rest h in

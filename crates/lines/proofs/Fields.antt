@@ -9,10 +9,10 @@ use lib.Dec.{ltb}
 use lib.ListN.{length, drop}
 use Rattle.rules.specs.Bytes.{Pieces, comma, cutAt}
 use Rattle.rules.specs.Lines.{fieldsOf}
-use Rattle.layout.specs.Reading.{part}
+use Rattle.layout.specs.Reading.{slice}
 use Rattle.lines.specs.Pieces.{piecesFrom, PieceEnd}
 use Rattle.lines.specs.Reading.{fieldsLeft, FieldEnd, nothingLeft}
-use Rattle.lines.proofs.Cutting.{part-all}
+use Rattle.lines.proofs.Cutting.{slice-all}
 
 -- there is always one field
 some-field : (xs : List ℕ) → nothingLeft (fieldsOf xs) ≡ false
@@ -53,19 +53,19 @@ abbrev asFields : Pieces → List (List ℕ)
 asFields p = p .whole ++ (p .rest ∷ [])
 
 module _ (line : List ℕ) (at e : ℕ) (h : PieceEnd line at comma e) where
-  field-ended : e < length line → fieldsOf (drop at line) ≡ part line at e ∷ fieldsLeft line (e + 1)
+  field-ended : e < length line → fieldsOf (drop at line) ≡ slice line at e ∷ fieldsLeft line (e + 1)
   unfolding fieldsOf piecesFrom
-  field-ended l = ap asFields (h .ended l) ∙ ap (λ (fs : List (List ℕ)). part line at e ∷ fs) (sym (left-within line (e + 1) (omega arith)))
+  field-ended l = ap asFields (h .ended l) ∙ ap (λ (fs : List (List ℕ)). slice line at e ∷ fs) (sym (left-within line (e + 1) (omega arith)))
 
-  field-last : length line ≤ e → fieldsOf (drop at line) ≡ part line at e ∷ fieldsLeft line (e + 1)
+  field-last : length line ≤ e → fieldsOf (drop at line) ≡ slice line at e ∷ fieldsLeft line (e + 1)
   unfolding fieldsOf piecesFrom
   field-last l =
       ap asFields (h .unended l)
-      ∙ ap₂ _∷_ (sym (part-all line at e (h .behind) l)) (sym (left-past line (e + 1) (omega arith)))
+      ∙ ap₂ _∷_ (sym (slice-all line at e (h .behind) l)) (sym (left-past line (e + 1) (omega arith)))
 
   pub field-end : FieldEnd line at e
   field-end = record { from = h .behind; within = h .within; fields = go (ltb e (length line)) refl }
     where
-      go : (t : Bool) → ltb e (length line) ≡ t → fieldsOf (drop at line) ≡ part line at e ∷ fieldsLeft line (e + 1)
+      go : (t : Bool) → ltb e (length line) ≡ t → fieldsOf (drop at line) ≡ slice line at e ∷ fieldsLeft line (e + 1)
       go true l = field-ended (ltb-true _ _ l)
       go false l = field-last (ltb-false _ _ l)

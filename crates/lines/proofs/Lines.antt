@@ -46,14 +46,14 @@ share-line equal all share e = ap (λ (n : ℕ). text "share," ++ (decimal n ++ 
 
 -- ---- the share
 
-pub of-nothing : (part whole : ℕ) → whole ≡ 0 → 0 ≡ perCent part whole
+pub of-nothing : (slice whole : ℕ) → whole ≡ 0 → 0 ≡ perCent slice whole
 unfolding perCent
-of-nothing part whole e = ap (λ (q : Bool). cond q 0 (part * 100 / whole)) (sym (eq-eqb whole 0 e))
+of-nothing slice whole e = ap (λ (q : Bool). cond q 0 (slice * 100 / whole)) (sym (eq-eqb whole 0 e))
 
-pub of-some : (part whole : ℕ) → 0 < whole → part * 100 / whole ≡ perCent part whole
+pub of-some : (slice whole : ℕ) → 0 < whole → slice * 100 / whole ≡ perCent slice whole
 unfolding perCent
-of-some part whole h =
-    ap (λ (q : Bool). cond q 0 (part * 100 / whole)) (sym (ne-eqb whole 0 (λ e. let no : 1 ≤ 0 = omega arith in not-suc-le-zero no)))
+of-some slice whole h =
+    ap (λ (q : Bool). cond q 0 (slice * 100 / whole)) (sym (ne-eqb whole 0 (λ e. let no : 1 ≤ 0 = omega arith in not-suc-le-zero no)))
 
-pub at-most-all : (part whole : ℕ) → part ≤ whole → part * 100 / whole ≤ 100
-at-most-all part whole h = div-le-of-le-mul whole (omega arith)
+pub at-most-all : (slice whole : ℕ) → slice ≤ whole → slice * 100 / whole ≤ 100
+at-most-all slice whole h = div-le-of-le-mul whole (omega arith)

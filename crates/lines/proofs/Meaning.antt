@@ -15,7 +15,7 @@ use Rattle.rules.specs.Building.{newBlock, setAttribute, setOperand}
 use Rattle.rules.specs.Lines.{Line, Reader, building, query, andThen, giving, _>>=_, field, oneOf, number, numbers, items, ignoreBits, yesOrNo, owner, sort, operationLine, blockLine, attributeLine, operandLine, queryLine, allRead, wholly}
 use Rattle.rules.proofs.Basics.Tests.{clash}
 use Rattle.lines.specs.Reading.{Answer, nothingLeft, oneByte}
-use Rattle.lines.specs.Parsing.{OpHead, OpLists, ownerNumber, operationHead, operationLists, operationOf}
+use Rattle.lines.specs.Parsing.{OpFields, OpLists, ownerFields, operationFields, operationLists, operationOf}
 use Rattle.lines.proofs.Answers.{byte-field}
 use Rattle.lines.proofs.Letters.{words, other-word, no-word}
 
@@ -93,9 +93,9 @@ module _ (fs : List (List ℕ)) where
     other-owner n₁ n₂ = other-word owners fs gs b h (n₁, (n₂, tt))
 
     -- whatever the letter is, a number has to follow
-    pub owner-unnumbered : number gs ≡ none → none ≡ ownerNumber fs
-    unfolding ownerNumber owner field
-    owner-unnumbered k = sym (ap ownerNumber (byte-field fs gs b h) ∙ whatever (oneOf (words owners) (b ∷ [])))
+    pub owner-unnumbered : number gs ≡ none → none ≡ ownerFields fs
+    unfolding ownerFields owner field
+    owner-unnumbered k = sym (ap ownerFields (byte-field fs gs b h) ∙ whatever (oneOf (words owners) (b ∷ [])))
       where
         whatever : (q : Option (ℕ → Owner)) → andThen (Option·map (λ of. (of, gs)) q) (λ of. number >>= λ n. giving (of n)) ≡ none
         whatever none = refl
@@ -112,18 +112,18 @@ given-read f (some got) = go (got .1)
     go [] = refl
     go (g ∷ gs) = refl
 
-abbrev withLists : OpHead → Reader Line
+abbrev withLists : OpFields → Reader Line
 withLists h = operationLists >>= λ l. giving (operationOf h l)
 
 module _ (fs : List (List ℕ)) where
-  operation-parts : operationLine fs ≡ andThen (operationHead fs) withLists
-  unfolding operationLine operationHead operationLists operationOf
+  operation-parts : operationLine fs ≡ andThen (operationFields fs) withLists
+  unfolding operationLine operationFields operationLists operationOf
   operation-parts = simp regroup
 
-  pub operation-headless : operationHead fs ≡ none → none ≡ wholly (operationLine fs)
+  pub operation-headless : operationFields fs ≡ none → none ≡ wholly (operationLine fs)
   operation-headless h = unread (operation-parts ∙ stops withLists h)
 
-  module _ (head : OpHead) (gs : List (List ℕ)) (h : operationHead fs ≡ some (head, gs)) where
+  module _ (head : OpFields) (gs : List (List ℕ)) (h : operationFields fs ≡ some (head, gs)) where
     operation-lists : wholly (operationLine fs) ≡ Option·map (operationOf head) (wholly (operationLists gs))
     operation-lists = ap wholly (operation-parts ∙ goes withLists h refl) ∙ given-read (operationOf head) (operationLists gs)
 
@@ -161,14 +161,14 @@ abbrev owned : Owner → Reader Line
 owned w = number >>= λ key. number >>= λ kind. number >>= λ content. attributeWith w key kind content
 
 module _ (fs : List (List ℕ)) where
-  attribute-parts : attributeLine fs ≡ andThen (ownerNumber fs) owned
-  unfolding attributeLine ownerNumber
+  attribute-parts : attributeLine fs ≡ andThen (ownerFields fs) owned
+  unfolding attributeLine ownerFields
   attribute-parts = simp regroup
 
-  pub attribute-ownerless : ownerNumber fs ≡ none → attributeLine fs ≡ none
+  pub attribute-ownerless : ownerFields fs ≡ none → attributeLine fs ≡ none
   attribute-ownerless h = attribute-parts ∙ stops owned h
 
-  module _ {w : Owner} {gs : List (List ℕ)} (h : ownerNumber fs ≡ some (w, gs)) where
+  module _ {w : Owner} {gs : List (List ℕ)} (h : ownerFields fs ≡ some (w, gs)) where
     pub attribute-bad : numbers 3 gs ≡ none → attributeLine fs ≡ none
     attribute-bad k = attribute-parts ∙ goes owned h (three-bad (attributeWith w) gs k)
 

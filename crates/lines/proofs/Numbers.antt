@@ -11,10 +11,10 @@ use lib.ListN.{length, getD}
 use Rattle.rules.specs.Lists.{every, all}
 use Rattle.rules.specs.Bytes.{isDigit, wellWritten, valueFrom, numberBelow}
 use Rattle.rules.proofs.Basics.Tests.{and-right}
-use Rattle.layout.specs.Reading.{part}
+use Rattle.layout.specs.Reading.{slice}
 use Rattle.layout.proofs.Scans.{and-false}
 use Rattle.lines.specs.Reading.{digitValue, startsWell}
-use Rattle.lines.proofs.Cutting.{part-none, part-first}
+use Rattle.lines.proofs.Cutting.{slice-none, slice-first}
 
 -- ---- a digit
 
@@ -72,41 +72,41 @@ well (d ∷ e ∷ ds) = swapped (isDigit d) (not (eqb d 48)) (all isDigit (e ∷
 -- ---- the bytes of a line from i on up to e
 
 module _ (line : List ℕ) (i e : ℕ) where
-  digits-over : e ≤ i → all isDigit (part line i e) ≡ true
+  digits-over : e ≤ i → all isDigit (slice line i e) ≡ true
   unfolding all
-  digits-over h = ap (all isDigit) (part-none line i e h)
+  digits-over h = ap (all isDigit) (slice-none line i e h)
 
-  value-over : (n : ℕ) → e ≤ i → valueFrom n (part line i e) ≡ n
+  value-over : (n : ℕ) → e ≤ i → valueFrom n (slice line i e) ≡ n
   unfolding valueFrom
-  value-over n h = ap (valueFrom n) (part-none line i e h)
+  value-over n h = ap (valueFrom n) (slice-none line i e h)
 
-  pub no-bytes : e - i ≡ 0 → false ≡ startsWell (part line i e)
+  pub no-bytes : e - i ≡ 0 → false ≡ startsWell (slice line i e)
   unfolding startsWell
-  no-bytes h = sym (ap startsWell (part-none line i e (omega arith)))
+  no-bytes h = sym (ap startsWell (slice-none line i e (omega arith)))
 
   module _ (l : i < e) (within : e ≤ length line) where
     abbrev x : ℕ
     x = getD line i 0
 
     abbrev xs : List ℕ
-    xs = part line (i + 1) e
+    xs = slice line (i + 1) e
 
-    first : part line i e ≡ x ∷ xs
-    first = part-first line i e l within
+    first : slice line i e ≡ x ∷ xs
+    first = slice-first line i e l within
 
-    pub one-byte : e - i ≡ 1 → true ≡ startsWell (part line i e)
+    pub one-byte : e - i ≡ 1 → true ≡ startsWell (slice line i e)
     unfolding startsWell
-    one-byte h = sym (ap startsWell (first ∙ ap (λ (ys : List ℕ). x ∷ ys) (part-none line (i + 1) e (omega arith))))
+    one-byte h = sym (ap startsWell (first ∙ ap (λ (ys : List ℕ). x ∷ ys) (slice-none line (i + 1) e (omega arith))))
 
-    pub several-bytes : i + 1 < e → not (eqb x 48) ≡ startsWell (part line i e)
+    pub several-bytes : i + 1 < e → not (eqb x 48) ≡ startsWell (slice line i e)
     unfolding startsWell
-    several-bytes more = sym (ap startsWell (first ∙ ap (λ (zs : List ℕ). x ∷ zs) (part-first line (i + 1) e more within)))
+    several-bytes more = sym (ap startsWell (first ∙ ap (λ (zs : List ℕ). x ∷ zs) (slice-first line (i + 1) e more within)))
 
-    digits-first : (t : Bool) → isDigit x ≡ t → all isDigit (part line i e) ≡ (t && all isDigit xs)
+    digits-first : (t : Bool) → isDigit x ≡ t → all isDigit (slice line i e) ≡ (t && all isDigit xs)
     unfolding all
     digits-first t h = ap (all isDigit) first ∙ ap (λ (q : Bool). q && all isDigit xs) h
 
-    value-next : (n : ℕ) → valueFrom n (part line i e) ≡ valueFrom (n * 10 + (x - 48)) xs
+    value-next : (n : ℕ) → valueFrom n (slice line i e) ≡ valueFrom (n * 10 + (x - 48)) xs
     unfolding valueFrom
     value-next n = ap (valueFrom n) first
 
@@ -151,40 +151,40 @@ module _ (limit : ℕ) (ds : List ℕ) where
 module _ (line : List ℕ) (a e most : ℕ) where
   pub record Reading (n i : ℕ) : Type 0 where
     pub small : n ≤ most
-    pub digits : all isDigit (part line a e) ≡ all isDigit (part line i e)
-    pub value : valueFrom 0 (part line a e) ≡ valueFrom n (part line i e)
+    pub digits : all isDigit (slice line a e) ≡ all isDigit (slice line i e)
+    pub value : valueFrom 0 (slice line a e) ≡ valueFrom n (slice line i e)
 
   pub reading-starts : Reading 0 a
   reading-starts = record { small = omega arith; digits = refl; value = refl }
 
   module _ (n i : ℕ) (inv : Reading n i) where
-    pub reading-ends : startsWell (part line a e) ≡ true → e ≤ i → some n ≡ numberBelow (most + 1) (part line a e)
+    pub reading-ends : startsWell (slice line a e) ≡ true → e ≤ i → some n ≡ numberBelow (most + 1) (slice line a e)
     reading-ends h l =
         let s = inv .small in
-        sym (is-number (most + 1) (part line a e) n
-        (well (part line a e) ∙ ap₂ _&&_ h (inv .digits ∙ digits-over line i e l))
+        sym (is-number (most + 1) (slice line a e) n
+        (well (slice line a e) ∙ ap₂ _&&_ h (inv .digits ∙ digits-over line i e l))
         (inv .value ∙ value-over line i e n l)
         (omega arith))
 
     module _ (l : i < e) (within : e ≤ length line) (d : ℕ) (same : d ≡ digitValue (getD line i 0)) where
-      pub no-digit : 9 < d → none ≡ numberBelow (most + 1) (part line a e)
+      pub no-digit : 9 < d → none ≡ numberBelow (most + 1) (slice line a e)
       no-digit h =
           let b = not-a-digit (getD line i 0) (subst (λ (k : ℕ). 9 < k) same h) in
-          sym (badly-written (most + 1) (part line a e)
-          (well (part line a e) ∙ and-false (startsWell (part line a e)) _ (inv .digits ∙ digits-first line i e l within false b)))
+          sym (badly-written (most + 1) (slice line a e)
+          (well (slice line a e) ∙ and-false (startsWell (slice line a e)) _ (inv .digits ∙ digits-first line i e l within false b)))
 
       module _ (h : d ≤ 9) where
         digit : (isDigit (getD line i 0) ≡ true) × (digitValue (getD line i 0) ≡ getD line i 0 - 48)
         digit = a-digit (getD line i 0) (subst (λ (k : ℕ). k ≤ 9) same h)
 
-        next : valueFrom 0 (part line a e) ≡ valueFrom (n * 10 + d) (part line (i + 1) e)
-        next = inv .value ∙ value-next line i e l within n ∙ ap (λ (k : ℕ). valueFrom (n * 10 + k) (part line (i + 1) e)) (sym (same ∙ digit .1))
+        next : valueFrom 0 (slice line a e) ≡ valueFrom (n * 10 + d) (slice line (i + 1) e)
+        next = inv .value ∙ value-next line i e l within n ∙ ap (λ (k : ℕ). valueFrom (n * 10 + k) (slice line (i + 1) e)) (sym (same ∙ digit .1))
 
-        pub over-most : (most - d) / 10 < n → none ≡ numberBelow (most + 1) (part line a e)
+        pub over-most : (most - d) / 10 < n → none ≡ numberBelow (most + 1) (slice line a e)
         over-most m =
-            let grown = value-grows (n * 10 + d) (part line (i + 1) e) in
+            let grown = value-grows (n * 10 + d) (slice line (i + 1) e) in
             let z = next in
-            sym (too-large (most + 1) (part line a e) (omega arith))
+            sym (too-large (most + 1) (slice line a e) (omega arith))
 
         -- no sum passes `most`
         pub reading-turn : 9 ≤ most → n ≤ (most - d) / 10 → Reading (n * 10 + d) (i + 1)

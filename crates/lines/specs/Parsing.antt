@@ -19,10 +19,10 @@ use Rattle.lines.specs.declared.parsing.SortRead.{SortRead}
 use Rattle.lines.specs.declared.parsing.SortRead.the-variants.{At as SortAt, Bad as NoSort}
 use Rattle.lines.specs.declared.parsing.OwnerRead.{OwnerRead}
 use Rattle.lines.specs.declared.parsing.OwnerRead.the-variants.{At as OwnerAt, Bad as NoOwner}
-use Rattle.lines.specs.declared.parsing.Head.{Head}
-use Rattle.lines.specs.declared.parsing.Head.the-variants.{At as HeadAt, Bad as NoHead}
-use Rattle.lines.specs.declared.parsing.Lists.{Lists}
-use Rattle.lines.specs.declared.parsing.Lists.the-variants.{Are, Bad as NoLists}
+use Rattle.lines.specs.declared.parsing.OpFieldsRead.{OpFieldsRead}
+use Rattle.lines.specs.declared.parsing.OpFieldsRead.the-variants.{At as OpFieldsAt, Bad as NoOpFields}
+use Rattle.lines.specs.declared.parsing.OpListsRead.{OpListsRead}
+use Rattle.lines.specs.declared.parsing.OpListsRead.the-variants.{Are, Bad as NoLists}
 use Rattle.lines.specs.declared.parsing.BlockLine.{BlockLine}
 use Rattle.lines.specs.declared.parsing.BlockLine.the-variants.{Is as BlockIs, Bad as NoBlockLine}
 use Rattle.lines.specs.declared.parsing.AttributeLine.{AttributeLine}
@@ -33,7 +33,7 @@ use Rattle.lines.specs.declared.parsing.Query.{Query}
 use Rattle.lines.specs.declared.parsing.QueryLine.{QueryLine}
 use Rattle.lines.specs.declared.parsing.QueryLine.the-variants.{Is as QueryIs, Bad as NoQueryLine}
 
--- ---- parts of a line
+-- ---- fields of a line
 
 unfoldable pub threeOf : List ℕ → Three → Answer (List ℕ)
 threeOf line (At a b c p) = some (a ∷ b ∷ c ∷ [], fieldsLeft line p)
@@ -44,8 +44,8 @@ sortRead line (SortAt f p) = some (sortOf f, fieldsLeft line p)
 sortRead line NoSort = none
 
 -- an owner: its letter and its number
-unfoldable pub ownerNumber : Reader rules.Owner
-ownerNumber = do
+unfoldable pub ownerFields : Reader rules.Owner
+ownerFields = do
   of ← owner
   n ← number
   giving (of n)
@@ -55,24 +55,24 @@ ownerRead line (OwnerAt w p) = some (ownerOf w, fieldsLeft line p)
 ownerRead line NoOwner = none
 
 -- what stands in an operation's line before its lists
-pub record OpHead : Type 0 where
+pub record OpFields : Type 0 where
   pub kind : ℕ
   pub parent : Option ℕ
   pub location : ℕ
   pub regions : ℕ
 
-unfoldable pub operationHead : Reader OpHead
-operationHead = do
+unfoldable pub operationFields : Reader OpFields
+operationFields = do
   kind ← number
   parent ← parentBlock
   location ← number
   regions ← number
   giving (record { kind = kind; parent = parent; location = location; regions = regions })
 
-unfoldable pub headOf : List ℕ → Head → Answer OpHead
-headOf line (HeadAt kind parent location regions p) =
+unfoldable pub opFieldsOf : List ℕ → OpFieldsRead → Answer OpFields
+opFieldsOf line (OpFieldsAt kind parent location regions p) =
     some (record { kind = kind; parent = parentOf parent; location = location; regions = regions }, fieldsLeft line p)
-headOf line NoHead = none
+opFieldsOf line NoOpFields = none
 
 -- an operation's lists
 pub record OpLists : Type 0 where
@@ -88,22 +88,22 @@ operationLists = do
   giving (record { types = types; operands = operands; successors = successors })
 
 -- each is the first words of its own list
-unfoldable pub listsOf : List ℕ → List ℕ → List ℕ → Lists → Option OpLists
+unfoldable pub listsOf : List ℕ → List ℕ → List ℕ → OpListsRead → Option OpLists
 listsOf types operands successors (Are a b c) =
     some (record { types = take a types; operands = take b operands; successors = take c successors })
 listsOf types operands successors NoLists = none
 
 -- so many words are there
-unfoldable pub ListsFit : List ℕ → List ℕ → List ℕ → Lists → Type 0
+unfoldable pub ListsFit : List ℕ → List ℕ → List ℕ → OpListsRead → Type 0
 ListsFit types operands successors (Are a b c) = (a ≤ length types) × (b ≤ length operands) × (c ≤ length successors)
 ListsFit types operands successors NoLists = Unit {0}
 
-pub record ReadLists (line : List ℕ) (at : ℕ) (types operands successors : List ℕ) (r : Lists) : Type 0 where
+pub record ReadLists (line : List ℕ) (at : ℕ) (types operands successors : List ℕ) (r : OpListsRead) : Type 0 where
   pub same : listsOf types operands successors r ≡ wholly (operationLists (fieldsLeft line at))
   pub fit : ListsFit types operands successors r
 
 -- the line that the two make
-unfoldable pub operationOf : OpHead → OpLists → Line
+unfoldable pub operationOf : OpFields → OpLists → Line
 operationOf h l = building (newOperation (h .kind) (h .parent) (h .location) (h .regions) (l .types) (l .operands) (l .successors))
 
 -- ---- lines
@@ -112,13 +112,13 @@ unfoldable pub blockLineOf : List ℕ → BlockLine → Option Line
 blockLineOf types (BlockIs region label location n) = some (building (newBlock region label location (take n types)))
 blockLineOf types NoBlockLine = none
 
-unfoldable pub BlockFits : List ℕ → BlockLine → Type 0
-BlockFits types (BlockIs region label location n) = n ≤ length types
-BlockFits types NoBlockLine = Unit {0}
+unfoldable pub ArgumentsFit : List ℕ → BlockLine → Type 0
+ArgumentsFit types (BlockIs region label location n) = n ≤ length types
+ArgumentsFit types NoBlockLine = Unit {0}
 
 pub record ReadBlock (line : List ℕ) (at : ℕ) (types : List ℕ) (r : BlockLine) : Type 0 where
   pub same : blockLineOf types r ≡ wholly (blockLine (fieldsLeft line at))
-  pub fit : BlockFits types r
+  pub fit : ArgumentsFit types r
 
 unfoldable pub attributeLineOf : AttributeLine → Option Line
 attributeLineOf (AttributeIs w a) = some (building (setAttribute (ownerOf w) (attributeOf a)))

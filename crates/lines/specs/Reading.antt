@@ -8,7 +8,7 @@ use lib.Dec.{eqb, leb}
 use lib.ListN.{length, take, drop}
 use Rattle.rules.specs.Bytes.{isDigit, numberBelow}
 use Rattle.rules.specs.Lines.{fieldsOf, number, items}
-use Rattle.layout.specs.Reading.{part}
+use Rattle.layout.specs.Reading.{slice}
 use Rattle.building.specs.Types.{parentOf}
 use Rattle.lines.specs.declared.reading.Number.{Number}
 use Rattle.lines.specs.declared.reading.Number.the-variants.{Is, Bad as NoNumber}
@@ -31,7 +31,7 @@ fieldsLeft line at = cond (leb at (length line)) (fieldsOf (drop at line)) []
 pub record FieldEnd (line : List ℕ) (at e : ℕ) : Type 0 where
   pub from : at ≤ e
   pub within : e ≤ length line
-  pub fields : fieldsOf (drop at line) ≡ part line at e ∷ fieldsLeft line (e + 1)
+  pub fields : fieldsOf (drop at line) ≡ slice line at e ∷ fieldsLeft line (e + 1)
 
 -- no field is left
 unfoldable pub nothingLeft : List (List ℕ) → Bool

@@ -1,4 +1,4 @@
--- What a writing function does: bytes stand in a list from a place on, and the place behind them is told.
+-- What a writing function does: bytes are written into a buffer from a position on, and the position behind them is returned.
 use Prim.Native.Nat.{ℕ, _+_, _≤_}
 use mathlib.Core.List.{List}
 use mathlib.Core.Path.{_≡_}

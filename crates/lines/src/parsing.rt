@@ -1,4 +1,4 @@
-// The lines behind their letters. Nothing may be left of a line behind its last field.
+// The lines of a listing, from behind their first letter on. A line that has more fields than it may have is bad.
 use crate::reader::bits_at;
 use crate::reader::ended_at;
 use crate::reader::items_at;
@@ -20,7 +20,7 @@ ghost use Prim.Native.Nat.{_≤_};
 ghost use lib.ListN.{length};
 ghost use Rattle.rules.specs.Lines.{numbers, sort, attributeLine, operandLine, queryLine, wholly};
 ghost use Rattle.lines.specs.Reading.{fieldsLeft};
-ghost use Rattle.lines.specs.Parsing.{threeOf, sortRead, ownerRead, ownerNumber, headOf, operationHead, attributeLineOf, operandLineOf, queryLineOf, ReadBlock, ReadLists};
+ghost use Rattle.lines.specs.Parsing.{threeOf, sortRead, ownerRead, ownerFields, opFieldsOf, operationFields, attributeLineOf, operandLineOf, queryLineOf, ReadBlock, ReadLists};
 
 // Three numbers, and where the next field begins.
 pub enum Three {
@@ -41,13 +41,13 @@ pub enum OwnerRead {
 }
 
 // An operation's kind, parent, location and number of regions, and where its lists begin.
-pub enum Head {
+pub enum OpFieldsRead {
     At(u32, Parent, u32, u32, usize),
     Bad,
 }
 
 // How many results, operands and successors there are.
-pub enum Lists {
+pub enum OpListsRead {
     Are(usize, usize, usize),
     Bad,
 }
@@ -115,7 +115,7 @@ fn read_sort(line: &[u8], at: usize) -> SortRead
 
 // `o` or `b`, and a number.
 fn read_owner(line: &[u8], at: usize) -> OwnerRead
-    ensures { λ r. ⌜ ownerRead (now (line .entry)) r ≡ ownerNumber (fieldsLeft (now (line .entry)) at) ⌝ }
+    ensures { λ r. ⌜ ownerRead (now (line .entry)) r ≡ ownerFields (fieldsLeft (now (line .entry)) at) ⌝ }
 {
     let Word::At(letter, p) = word_at(line, at) else {
         return OwnerRead::Bad;
@@ -131,53 +131,53 @@ fn read_owner(line: &[u8], at: usize) -> OwnerRead
 }
 
 // What stands in an operation's line before its lists.
-pub fn read_head(line: &[u8], at: usize) -> Head
-    ensures { λ r. ⌜ headOf (now (line .entry)) r ≡ operationHead (fieldsLeft (now (line .entry)) at) ⌝ }
+pub fn read_op_fields(line: &[u8], at: usize) -> OpFieldsRead
+    ensures { λ r. ⌜ opFieldsOf (now (line .entry)) r ≡ operationFields (fieldsLeft (now (line .entry)) at) ⌝ }
 {
     let Read::At(kind, p) = number_at(line, at) else {
-        return Head::Bad;
+        return OpFieldsRead::Bad;
     };
     let ParentRead::At(parent, q) = parent_at(line, p) else {
-        return Head::Bad;
+        return OpFieldsRead::Bad;
     };
     let Read::At(location, r) = number_at(line, q) else {
-        return Head::Bad;
+        return OpFieldsRead::Bad;
     };
     let Read::At(regions, next) = number_at(line, r) else {
-        return Head::Bad;
+        return OpFieldsRead::Bad;
     };
-    Head::At(kind, parent, location, regions, next)
+    OpFieldsRead::At(kind, parent, location, regions, next)
 }
 
-// An operation's lists, each written to the begin of its own.
+// An operation's lists, each written to the start of the buffer for it.
 pub fn read_lists(
     line: &[u8],
     at: usize,
     types: &mut [u32],
     operands: &mut [u32],
     successors: &mut [u32],
-) -> Lists
+) -> OpListsRead
     requires { ⌜ length (now line) ≤ length (now types) ⌝ }
     requires { ⌜ length (now line) ≤ length (now operands) ⌝ }
     requires { ⌜ length (now line) ≤ length (now successors) ⌝ }
     ensures { λ r. ⌜ ReadLists (now (line .entry)) at (now (types .exit)) (now (operands .exit)) (now (successors .exit)) r ⌝ }
 {
     let Items::At(a, p) = items_at(line, at, types) else {
-        return Lists::Bad;
+        return OpListsRead::Bad;
     };
     let Items::At(b, q) = items_at(line, p, operands) else {
-        return Lists::Bad;
+        return OpListsRead::Bad;
     };
     let Items::At(c, next) = items_at(line, q, successors) else {
-        return Lists::Bad;
+        return OpListsRead::Bad;
     };
     if !ended_at(line, next) {
-        return Lists::Bad;
+        return OpListsRead::Bad;
     }
-    Lists::Are(a, b, c)
+    OpListsRead::Are(a, b, c)
 }
 
-// `b` region, label, location, arguments, whose types are written to the begin of `types`.
+// `b` region, label, location, arguments, whose types are written to the start of `types`.
 pub fn block_line(line: &[u8], at: usize, types: &mut [u32]) -> BlockLine
     requires { ⌜ length (now line) ≤ length (now types) ⌝ }
     ensures { λ r. ⌜ ReadBlock (now (line .entry)) at (now (types .exit)) r ⌝ }

@@ -36,7 +36,7 @@ fn put_last(out: &mut [u8], at: usize, n: u32) -> usize
     put_byte(out, end, LINE_FEED)
 }
 
-// That a line is refused, and for which cause.
+// The line that says that a line of the listing is refused, and for which cause.
 pub fn put_refusal(out: &mut [u8], at: usize, line: u32, cause: u32) -> usize
     requires { ⌜ at + 30 ≤ length (now out) ⌝ }
     ensures { λ r. ⌜ Wrote 30 (now (out .entry)) (now (out .exit)) at (refusal line cause) r ⌝ }
@@ -46,7 +46,7 @@ pub fn put_refusal(out: &mut [u8], at: usize, line: u32, cause: u32) -> usize
     put_last(out, last, cause)
 }
 
-// That two fragments are equal.
+// The line of two equal fragments.
 pub fn put_equal(out: &mut [u8], at: usize, paired: u32) -> usize
     requires { ⌜ at + 18 ≤ length (now out) ⌝ }
     ensures { λ r. ⌜ Wrote 18 (now (out .entry)) (now (out .exit)) at (equalLine paired) r ⌝ }
@@ -67,7 +67,7 @@ fn put_sort(out: &mut [u8], at: usize, sort: Sort) -> usize
     }
 }
 
-// The first pair that differs.
+// The line of two unequal fragments: the first unequal pair.
 pub fn put_unequal(out: &mut [u8], at: usize, sort: Sort, l: u32, r: u32, paired: u32) -> usize
     requires { ⌜ at + 40 ≤ length (now out) ⌝ }
     ensures { λ q. ⌜ Wrote 40 (now (out .entry)) (now (out .exit)) at (unequalLine (pairOf (sortOf sort) l r) paired) q ⌝ }
@@ -78,7 +78,7 @@ pub fn put_unequal(out: &mut [u8], at: usize, sort: Sort, l: u32, r: u32, paired
     put_last(out, last, paired)
 }
 
-// Two hashes.
+// The line of two hashes.
 pub fn put_hashes(out: &mut [u8], at: usize, l: u64, r: u64) -> usize
     requires { ⌜ at + 34 ≤ length (now out) ⌝ }
     ensures { λ q. ⌜ Wrote 34 (now (out .entry)) (now (out .exit)) at (hashesLine l r) q ⌝ }
@@ -89,7 +89,7 @@ pub fn put_hashes(out: &mut [u8], at: usize, l: u64, r: u64) -> usize
     put_byte(out, end, LINE_FEED)
 }
 
-// A part in whole per cent, rounded down; 0 over nothing.
+// How many per cent `part` is of `whole`, rounded down; 0 if there is nothing.
 fn per_cent(part: u64, whole: u64) -> u32
     requires { ⌜ part ≤ whole ⌝ }
     requires { ⌜ whole ≤ 1125899906842624 ⌝ }
@@ -101,7 +101,7 @@ fn per_cent(part: u64, whole: u64) -> u32
     (part * 100 / whole) as u32
 }
 
-// The operations that were found equal, of all.
+// The line of the share: how many per cent of all operations were found equal.
 pub fn put_share(out: &mut [u8], at: usize, equal: u64, all: u64) -> usize
     requires { ⌜ at + 17 ≤ length (now out) ⌝ }
     requires { ⌜ equal ≤ all ⌝ }

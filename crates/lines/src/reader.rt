@@ -1,6 +1,6 @@
-// A line's fields are read by a small record that refers to that line and holds the position at which the next field begins. What reads by
-// it is thin: each such function takes the record apart, and hands line and position to the function of `reading` for that sort of field.
-// Above them stand functions with plain parameters: each makes the record and passes it on. All that a line tells is read through them.
+// A reader of a line's fields: a record that refers to the line, and holds the position at which the next field begins. Each function on it
+// only passes line and position on to the function of `reading` for that sort of field. The functions whose names end in `_at` have plain
+// parameters: each makes the record and passes it on. All fields are read through these.
 use crate::reading::Bits;
 use crate::reading::Items;
 use crate::reading::ParentRead;
@@ -58,7 +58,7 @@ fn ended<'a>(reader: Reader<'a>) -> bool
     at_end(reader.line, reader.at)
 }
 
-// A list, whose items are written to the begin of `list`.
+// A list, whose items are written to the start of `list`.
 fn items<'a, 'b>(reader: Reader<'a>, list: &'b mut [u32]) -> Items
     requires { ⌜ length (now (reader .line)) ≤ length (now list) ⌝ }
     ensures { λ r. ⌜ ReadItems (now (reader .entry .line)) (reader .entry .at) (now (list .exit)) r ⌝ }

@@ -1,5 +1,5 @@
-// The fields of one line, read by position: each reader takes the field that begins there, and tells where the next one does. A line is
-// its bytes before the line feed. A position one past its end says that no field is left.
+// The fields of one line, read by position: each function reads the field that begins at `at`, and tells where the next one begins. A line
+// is its bytes before the line feed. A position one past its end says that no field is left.
 use crate::pieces::piece_end;
 use building::types::Parent;
 ghost use mathlib.Core.Path.{_≡_};
@@ -7,7 +7,7 @@ ghost use Prim.Native.Nat.{_+_, _≤_};
 ghost use lib.ListN.{length};
 ghost use Rattle.rules.specs.Bytes.{numberBelow};
 ghost use Rattle.rules.specs.Lines.{field, ignoreBits, parentBlock};
-ghost use Rattle.layout.specs.Reading.{part};
+ghost use Rattle.layout.specs.Reading.{slice};
 ghost use Rattle.lines.specs.Reading.{fieldsLeft, FieldEnd, nothingLeft, oneByte, blockMeaning, digitValue, startsWell, numberOf, bitsOf, parentRead, wordOf, ReadNumber, ReadItems};
 
 // A number, or bytes that are none.
@@ -74,11 +74,11 @@ fn digit_value(b: u8) -> u64
     (b - b'0') as u64
 }
 
-// There are bytes from a on up to e, and the first of several is not `0`.
+// The bytes from a up to e may be a number, by how they start: there is at least one, and no leading `0`.
 fn starts_well(line: &[u8], a: usize, e: usize) -> bool
     requires { ⌜ a ≤ e ⌝ }
     requires { ⌜ e ≤ length (now line) ⌝ }
-    ensures { λ r. ⌜ r ≡ startsWell (part (now (line .entry)) a e) ⌝ }
+    ensures { λ r. ⌜ r ≡ startsWell (slice (now (line .entry)) a e) ⌝ }
 {
     let n = e - a;
     if n == 0 {
@@ -95,7 +95,7 @@ fn number_to(line: &[u8], a: usize, e: usize, most: u64) -> Number
     requires { ⌜ a ≤ e ⌝ }
     requires { ⌜ e ≤ length (now line) ⌝ }
     requires { ⌜ 9 ≤ most ⌝ }
-    ensures { λ r. ⌜ numberOf r ≡ numberBelow (most + 1) (part (now (line .entry)) a e) ⌝ }
+    ensures { λ r. ⌜ numberOf r ≡ numberBelow (most + 1) (slice (now (line .entry)) a e) ⌝ }
 {
     if !starts_well(line, a, e) {
         return Number::Bad;
@@ -181,7 +181,7 @@ pub fn read_parent(line: &[u8], at: usize) -> ParentRead
     ParentRead::At(Parent::None, next)
 }
 
-// A list: how many items, then the items, written to the begin of `list`. A line has no room for more than fit.
+// A list: how many items, then the items, written to the start of `list`. They fit: a line has more bytes than items.
 pub fn read_items(line: &[u8], at: usize, list: &mut [u32]) -> Items
     requires { ⌜ length (now line) ≤ length (now list) ⌝ }
     ensures { λ r. ⌜ ReadItems (now (line .entry)) at (now (list .exit)) r ⌝ }

@@ -1,4 +1,4 @@
-// Bytes held to others.
+// Comparison of texts.
 ghost use mathlib.Core.Path.{_≡_};
 ghost use lib.Dec.{eqb};
 ghost use Rattle.rules.specs.Lists.{sameList};

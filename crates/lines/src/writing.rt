@@ -1,4 +1,4 @@
-// Bytes, texts and numbers written into a list, from a place on: each tells the place behind what it wrote.
+// Bytes, texts and numbers are written into `out`, from position `at` on. Each function returns the position behind what it wrote.
 ghost use mathlib.Core.Path.{_≡_};
 ghost use mathlib.Core.List.{[], _∷_};
 ghost use Prim.Native.Nat.{_+_, _<_, _≤_};
@@ -37,7 +37,7 @@ fn digit(d: u8) -> u8
     87 + d
 }
 
-// The last digits of a number, so many of them, the lowest at the last place: they are written from there down.
+// The last `count` digits of a number; they are written from the last one back.
 fn put_digits(out: &mut [u8], at: usize, base: u64, count: usize, n: u64) -> usize
     requires { ⌜ at + count ≤ length (now out) ⌝ }
     requires { ⌜ 0 < base ⌝ }

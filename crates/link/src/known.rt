@@ -16,7 +16,7 @@ ghost use mathlib.Core.Bool.{true};
 ghost use mathlib.Core.Path.{_≡_};
 ghost use Rattle.rules.specs.Mapping.{allowed};
 ghost use Rattle.layout.specs.Reading.{storeIn};
-ghost use Rattle.equivalence.specs.Lent.{mappingOf};
+ghost use Rattle.equivalence.specs.MappingWords.{mappingOf};
 ghost use Rattle.rules.specs.Building.{newOperation, newBlock, setAttribute, setOperand};
 ghost use Rattle.rules.specs.Fragments.{op};
 ghost use Rattle.layout.specs.Soundness.{IsSound};

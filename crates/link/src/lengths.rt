@@ -2,7 +2,7 @@
 ghost use mathlib.Core.Path.{_≡_};
 ghost use Rattle.rules.specs.Listings.{maxOutput};
 ghost use Rattle.layout.specs.Columns.{bufferLength};
-ghost use Rattle.equivalence.specs.Lent.{mappingLength};
+ghost use Rattle.equivalence.specs.MappingWords.{mappingLength};
 
 // The words of a store; all 0 is an empty one.
 #[no_mangle]

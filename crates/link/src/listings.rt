@@ -2,8 +2,8 @@
 use crate::answers::Output;
 use crate::answers::of_listed;
 ghost use Rattle.rules.specs.Listings.{twinsProgram, sumsProgram};
-ghost use Rattle.equivalence.specs.Lent.{emptyWords};
-ghost use Rattle.listing.specs.Calls.{Answered, lent};
+ghost use Rattle.equivalence.specs.MappingWords.{emptyWords};
+ghost use Rattle.listing.specs.Calls.{Answered, buffers};
 ghost use Rattle.link.specs.Codes.{outputMeans};
 
 #[no_mangle]
@@ -13,14 +13,14 @@ pub extern "C" fn wz_twins(
     mapping: &mut [u32],
     out: &mut [u8],
 ) -> Output
-    ensures { λ r. ⌜ Answered twinsProgram (now (listing .entry)) (lent (now (store .entry)) (now (mapping .entry)) (now (out .entry))) (lent (now (store .exit)) (now (mapping .exit)) (now (out .exit))) (outputMeans r) ⌝ }
+    ensures { λ r. ⌜ Answered twinsProgram (now (listing .entry)) (buffers (now (store .entry)) (now (mapping .entry)) (now (out .entry))) (buffers (now (store .exit)) (now (mapping .exit)) (now (out .exit))) (outputMeans r) ⌝ }
 {
     of_listed(listing::calls::twins(listing, store, mapping, out))
 }
 
 #[no_mangle]
 pub extern "C" fn wz_sums(listing: &[u8], store: &mut [u32], out: &mut [u8]) -> Output
-    ensures { λ r. ⌜ Answered sumsProgram (now (listing .entry)) (lent (now (store .entry)) emptyWords (now (out .entry))) (lent (now (store .exit)) emptyWords (now (out .exit))) (outputMeans r) ⌝ }
+    ensures { λ r. ⌜ Answered sumsProgram (now (listing .entry)) (buffers (now (store .entry)) emptyWords (now (out .entry))) (buffers (now (store .exit)) emptyWords (now (out .exit))) (outputMeans r) ⌝ }
 {
     of_listed(listing::calls::sums(listing, store, out))
 }

@@ -24,7 +24,7 @@ unread entry line e h =
     record {
       does = λ p t. sym (ap (lineDoes p (record { store = storeIn entry; tally = t })) e);
       sound = h;
-      kept = λ cause q. refl;
+      unchanged = λ cause q. refl;
     }
 
 outcome : (b : Built) (s s′ : Store) (t : Tally) → buildingDoes b s′ (record { store = s; tally = t }) ≡ ledTo (record { store = s′; tally = t }) (refusalIn b)
@@ -51,7 +51,7 @@ module _ (entry exit : List ℕ) (c : Call) (b : code.Built) (r : Cause) (did : 
             ∙ outcome (builtOf b) (storeIn entry) (storeIn exit) t
             ∙ ap (ledTo (record { store = storeIn exit; tally = t })) (sym cause);
         sound = did .sound;
-        kept = λ k q. did .kept k (refused-is (builtOf b) k (sym cause ∙ ap causeOf q));
+        unchanged = λ k q. did .unchanged k (refused-is (builtOf b) k (sym cause ∙ ap causeOf q));
       }
 
 -- the same line, said in another way

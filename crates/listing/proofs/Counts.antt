@@ -12,7 +12,7 @@ use Rattle.equivalence.specs.declared.types.EqResult.{EqResult}
 use Rattle.equivalence.specs.declared.types.EqResult.the-variants.{Eq, FirstNEQOps, FirstNEQRegions, FirstNEQBlocks, Refused}
 use Rattle.equivalence.proofs.Telling.{NotEq}
 use Rattle.listing.specs.declared.types.Progress.{Progress}
-use Rattle.listing.specs.Progress.{Counted, Further}
+use Rattle.listing.specs.Progress.{TallyFits, Further}
 use Rattle.listing.specs.Asking.{isEq, CountedMore}
 
 -- ---- the operations inside a fragment
@@ -60,7 +60,7 @@ part-of : (found : Bool) (ops : ℕ) → cond found ops 0 ≤ ops
 part-of true ops = omega arith
 part-of false ops = omega arith
 
-pub further : {now next : Progress} {at ops : ℕ} {found : Bool} → Counted now → CountedMore now at found ops next → Further now next
+pub further : {now next : Progress} {at ops : ℕ} {found : Bool} → TallyFits now → CountedMore now at found ops next → Further now next
 further {now} {next} {at} {ops} {found} h m =
     let a : next .equal ≡ now .equal + cond found ops 0 = m .equal in
     let b : next .all ≡ now .all + ops = m .all in

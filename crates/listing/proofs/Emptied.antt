@@ -9,20 +9,20 @@ use lib.ListN.{length, drop, replicate, length-replicate, getD-replicate, List·
 use Rattle.rules.specs.Store.{Store, emptyStore, sound}
 use Rattle.rules.specs.Mapping.{noImage}
 use Rattle.rules.proofs.Soundness.Kept.{empty-sound}
-use Rattle.layout.specs.Columns.{Cols, columns, counts, at, pour, pasted, bufferLength}
+use Rattle.layout.specs.Columns.{Cols, columns, counts, at, writeRange, pasted, bufferLength}
 use Rattle.layout.specs.Reading.{storeIn}
 use Rattle.layout.specs.Soundness.{IsSound}
 use Rattle.layout.proofs.Laid.{laid-of}
 use Rattle.layout.proofs.Empty.{empty-reads, empty-laid}
-use Rattle.equivalence.specs.Lent.{mappingLength, emptyWords}
+use Rattle.equivalence.specs.MappingWords.{mappingLength, emptyWords}
 
 -- ---- the store
 
-cleared : (C : Cols) (i : ℕ) → i < 8 → at (pour C counts 0 (replicate 8 0)) counts i ≡ 0
-unfolding at pour
+cleared : (C : Cols) (i : ℕ) → i < 8 → at (writeRange C counts 0 (replicate 8 0)) counts i ≡ 0
+unfolding at writeRange
 cleared C i h = List·getD-append (replicate 8 0) (drop 8 (C counts)) 0 i h ∙ getD-replicate 8 i 0 0 h
 
-module _ (b after : List ℕ) (long : length after ≡ bufferLength) (e : columns after ≡ pour (columns b) counts 0 (replicate 8 0)) where
+module _ (b after : List ℕ) (long : length after ≡ bufferLength) (e : columns after ≡ writeRange (columns b) counts 0 (replicate 8 0)) where
   no-counts : (i : ℕ) → i < 8 → at (columns after) counts i ≡ 0
   no-counts i h = ap (λ (C : Cols). at C counts i) e ∙ cleared (columns b) i h
 

@@ -15,9 +15,9 @@ use Rattle.rules.specs.Building.{firstFailed}
 use Rattle.rules.specs.Listings.{headerTests, headerCause, listingCause, behindFirst, maxLine, maxListing}
 use Rattle.rules.proofs.Basics.Tests.{numbers-same}
 use Rattle.layout.specs.Causes.{causeOf}
-use Rattle.layout.specs.Reading.{part}
+use Rattle.layout.specs.Reading.{slice}
 use Rattle.layout.specs.declared.causes.Cause.the-variants.{None, Is}
-use Rattle.layout.proofs.Scans.{part-length}
+use Rattle.layout.proofs.Scans.{slice-length}
 use Rattle.lines.specs.Pieces.{piecesFrom, PieceEnd}
 use Rattle.listing.specs.Stepping.{Headed}
 
@@ -60,21 +60,21 @@ module _ (listing : List ℕ) (short : length listing ≤ maxListing) where
       ended : e < length listing
       ended = let w : e ≤ length listing = end .within in omega arith
 
-      tested : listingCause listing ≡ firstFailed (headerTests (part listing 0 e))
+      tested : listingCause listing ≡ firstFailed (headerTests (slice listing 0 e))
       unfolding headerCause
       tested = by-pieces _ (end .ended ended)
 
-      line-length : length (part listing 0 e) ≡ e
-      line-length = part-length listing 0 e (end .within) ∙ (let z : e - 0 ≡ e = omega arith in z)
+      line-length : length (slice listing 0 e) ≡ e
+      line-length = slice-length listing 0 e (end .within) ∙ (let z : e - 0 ≡ e = omega arith in z)
 
       pub line-too-long : maxLine < e → Headed listing (Is 11)
       unfolding headerTests firstFailed
       line-too-long h =
-          refused listing 11 (tested ∙ ap (λ (t : Bool). firstFailed ((t, 11) ∷ (isText "opstore,1" (part listing 0 e), 9) ∷ [])) (lt-leb _ maxLine (subst (λ (n : ℕ). maxLine < n) (sym line-length) h)))
+          refused listing 11 (tested ∙ ap (λ (t : Bool). firstFailed ((t, 11) ∷ (isText "opstore,1" (slice listing 0 e), 9) ∷ [])) (lt-leb _ maxLine (subst (λ (n : ℕ). maxLine < n) (sym line-length) h)))
 
       module _ (fits : e ≤ maxLine) where
-        whole-line : part listing 0 e ≡ take e listing
-        unfolding part
+        whole-line : slice listing 0 e ≡ take e listing
+        unfolding slice
         whole-line = ap (λ (n : ℕ). take n listing) (let z : e - 0 ≡ e = omega arith in z)
 
         compared : (t : Bool) → sameList eqb (take e listing) (text "opstore,1") ≡ t → listingCause listing ≡ firstFailed ((true, 11) ∷ (t, 9) ∷ [])

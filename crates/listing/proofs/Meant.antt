@@ -10,11 +10,11 @@ use Rattle.rules.specs.Lines.{building, operationLine, blockLine, wholly}
 use Rattle.building.specs.Types.{parentOf}
 use Rattle.building.specs.declared.types.Parent.{Parent}
 use Rattle.lines.specs.Reading.{fieldsLeft}
-use Rattle.lines.specs.Parsing.{operationHead, headOf, listsOf, operationOf, ListsFit, ReadLists, blockLineOf, BlockFits, ReadBlock}
-use Rattle.lines.specs.declared.parsing.Head.{Head}
-use Rattle.lines.specs.declared.parsing.Head.the-variants.{At, Bad}
-use Rattle.lines.specs.declared.parsing.Lists.{Lists}
-use Rattle.lines.specs.declared.parsing.Lists.the-variants.{Are, Bad as NoLists}
+use Rattle.lines.specs.Parsing.{operationFields, opFieldsOf, listsOf, operationOf, ListsFit, ReadLists, blockLineOf, ArgumentsFit, ReadBlock}
+use Rattle.lines.specs.declared.parsing.OpFieldsRead.{OpFieldsRead}
+use Rattle.lines.specs.declared.parsing.OpFieldsRead.the-variants.{At, Bad}
+use Rattle.lines.specs.declared.parsing.OpListsRead.{OpListsRead}
+use Rattle.lines.specs.declared.parsing.OpListsRead.the-variants.{Are, Bad as NoLists}
 use Rattle.lines.specs.declared.parsing.BlockLine.{BlockLine}
 use Rattle.lines.specs.declared.parsing.BlockLine.the-variants.{Is, Bad as NoBlockLine}
 use Rattle.lines.proofs.Answers.{told}
@@ -23,23 +23,23 @@ use Rattle.listing.specs.Building.{buildingLine}
 
 -- ---- the line of an operation
 
-module _ (line : List ℕ) (at : ℕ) (head : Head) (h : headOf line head ≡ operationHead (fieldsLeft line at)) where
+module _ (line : List ℕ) (at : ℕ) (head : OpFieldsRead) (h : opFieldsOf line head ≡ operationFields (fieldsLeft line at)) where
   pub headless : head ≡ Bad → none ≡ wholly (operationLine (fieldsLeft line at))
-  unfolding headOf
-  headless e = operation-headless (fieldsLeft line at) (told (headOf line) h e)
+  unfolding opFieldsOf
+  headless e = operation-headless (fieldsLeft line at) (told (opFieldsOf line) h e)
 
-  module _ (kind : ℕ) (parent : Parent) (location regions next : ℕ) (e : head ≡ At kind parent location regions next) (types operands successors : List ℕ) (lists : Lists) (r : ReadLists line next types operands successors lists) where
+  module _ (kind : ℕ) (parent : Parent) (location regions next : ℕ) (e : head ≡ At kind parent location regions next) (types operands successors : List ℕ) (lists : OpListsRead) (r : ReadLists line next types operands successors lists) where
     pub listless : lists ≡ NoLists → none ≡ wholly (operationLine (fieldsLeft line at))
-    unfolding headOf listsOf
-    listless q = operation-bad (fieldsLeft line at) _ (fieldsLeft line next) (told (headOf line) h e) (told (listsOf types operands successors) (r .same) q)
+    unfolding opFieldsOf listsOf
+    listless q = operation-bad (fieldsLeft line at) _ (fieldsLeft line next) (told (opFieldsOf line) h e) (told (listsOf types operands successors) (r .same) q)
 
     pub operation-meant : (a b c : ℕ) → lists ≡ Are a b c
         → some (building (newOperation kind (parentOf parent) location regions (take a types) (take b operands) (take c successors))) ≡ wholly (operationLine (fieldsLeft line at))
-    unfolding headOf listsOf operationOf
+    unfolding opFieldsOf listsOf operationOf
     operation-meant a b c q =
-        operation-good (fieldsLeft line at) _ (fieldsLeft line next) (told (headOf line) h e) _ (told (listsOf types operands successors) (r .same) q)
+        operation-good (fieldsLeft line at) _ (fieldsLeft line next) (told (opFieldsOf line) h e) _ (told (listsOf types operands successors) (r .same) q)
 
-module _ {line : List ℕ} {at : ℕ} {types operands successors : List ℕ} {lists : Lists} (r : ReadLists line at types operands successors lists) {a b c : ℕ} (q : lists ≡ Are a b c) where
+module _ {line : List ℕ} {at : ℕ} {types operands successors : List ℕ} {lists : OpListsRead} (r : ReadLists line at types operands successors lists) {a b c : ℕ} (q : lists ≡ Are a b c) where
   lists-fit : (a ≤ length types) × (b ≤ length operands) × (c ≤ length successors)
   unfolding ListsFit
   lists-fit = subst (ListsFit types operands successors) q (r .fit)
@@ -66,8 +66,8 @@ module _ {line : List ℕ} {at : ℕ} {types : List ℕ} {read : BlockLine} (r :
     block-meant = sym (ap (blockLineOf types) q) ∙ r .same
 
     pub arguments-fit : n ≤ length types
-    unfolding BlockFits
-    arguments-fit = subst (BlockFits types) q (r .fit)
+    unfolding ArgumentsFit
+    arguments-fit = subst (ArgumentsFit types) q (r .fit)
 
 -- ---- the line of a letter
 

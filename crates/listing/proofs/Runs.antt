@@ -12,19 +12,19 @@ use Rattle.rules.specs.Bytes.{lineFeed, Pieces, cutAt}
 use Rattle.rules.specs.Listings as rules
 use Rattle.rules.specs.Listings.{Outcome, prints, stops, refusal, does, proceed, atEnd, run, atStart, keeps, leaves, noTally, twinsProgram, sumsProgram, maxListing, maxOutput}
 use Rattle.rules.proofs.Listings.Short.{Within, Terse, does-within, twins-terse, sums-terse}
-use Rattle.layout.specs.Reading.{part, storeIn}
+use Rattle.layout.specs.Reading.{slice, storeIn}
 use Rattle.layout.specs.Soundness.{IsSound}
-use Rattle.layout.proofs.Scans.{part-length}
-use Rattle.equivalence.specs.Lent.{emptyWords}
+use Rattle.layout.proofs.Scans.{slice-length}
+use Rattle.equivalence.specs.MappingWords.{emptyWords}
 use Rattle.lines.specs.Pieces.{piecesFrom, PieceEnd}
 use Rattle.lines.specs.Wrote.{Wrote}
 use Rattle.lines.proofs.Joined.{then, said, within, nothing}
 use Rattle.listing.specs.declared.types.Program.{Program}
 use Rattle.listing.specs.declared.types.Program.the-variants.{Twins, Sums}
 use Rattle.listing.specs.declared.types.Progress.{Progress}
-use Rattle.listing.specs.declared.types.Step.{Step}
-use Rattle.listing.specs.declared.types.Step.the-variants.{On, Stopped}
-use Rattle.listing.specs.Progress.{programOf, tallyOf, progressOf, Counted, Further}
+use Rattle.listing.specs.declared.types.LineResult.{LineResult}
+use Rattle.listing.specs.declared.types.LineResult.the-variants.{On, Stopped}
+use Rattle.listing.specs.Progress.{programOf, tallyOf, progressOf, TallyFits, Further}
 use Rattle.listing.specs.Asking.{outcomeOf, Goes}
 use Rattle.listing.specs.Stepping.{secondLine, closes, LineDoes, Ran}
 
@@ -48,39 +48,39 @@ module _ (p : Program) (listing : List ℕ) where
   -- ---- a line, and the lines behind it
 
   module _ (n start e : ℕ) (end : PieceEnd listing start lineFeed e) (now : rules.Progress) where
-    line-first : e < length listing → printsFrom n start now ≡ proceed (does (programOf p) now (part listing start e)) n (λ next. printsFrom (suc n) (e + 1) next)
+    line-first : e < length listing → printsFrom n start now ≡ proceed (does (programOf p) now (slice listing start e)) n (λ next. printsFrom (suc n) (e + 1) next)
     unfolding run
     line-first l = ap (λ (q : Pieces). run (programOf p) n now (q .whole) (q .rest)) (end .ended l)
 
-    line-leaves : e < length listing → leavesFrom start now ≡ keeps (does (programOf p) now (part listing start e)) now (λ next. leavesFrom (e + 1) next)
+    line-leaves : e < length listing → leavesFrom start now ≡ keeps (does (programOf p) now (slice listing start e)) now (λ next. leavesFrom (e + 1) next)
     unfolding leaves
     line-leaves l = ap (λ (q : Pieces). leaves (programOf p) now (q .whole)) (end .ended l)
 
     module _ (l : e < length listing) where
-      printed-on : (b : List ℕ) (next : rules.Progress) → does (programOf p) now (part listing start e) ≡ prints b next → printsFrom n start now ≡ b ++ printsFrom (n + 1) (e + 1) next
+      printed-on : (b : List ℕ) (next : rules.Progress) → does (programOf p) now (slice listing start e) ≡ prints b next → printsFrom n start now ≡ b ++ printsFrom (n + 1) (e + 1) next
       unfolding proceed
       printed-on b next d =
           line-first l
           ∙ ap (λ (o : Outcome). proceed o n (λ next′. printsFrom (suc n) (e + 1) next′)) d
           ∙ ap (λ (k : ℕ). b ++ printsFrom k (e + 1) next) (sym (add-one n))
 
-      left-on : (b : List ℕ) (next : rules.Progress) → does (programOf p) now (part listing start e) ≡ prints b next → leavesFrom start now ≡ leavesFrom (e + 1) next
+      left-on : (b : List ℕ) (next : rules.Progress) → does (programOf p) now (slice listing start e) ≡ prints b next → leavesFrom start now ≡ leavesFrom (e + 1) next
       unfolding keeps
       left-on b next d = line-leaves l ∙ ap (λ (o : Outcome). keeps o now (λ next′. leavesFrom (e + 1) next′)) d
 
-      stops-here : (k : ℕ) → does (programOf p) now (part listing start e) ≡ stops k → printsFrom n start now ≡ refusal n k
+      stops-here : (k : ℕ) → does (programOf p) now (slice listing start e) ≡ stops k → printsFrom n start now ≡ refusal n k
       unfolding proceed
       stops-here k d = line-first l ∙ ap (λ (o : Outcome). proceed o n (λ next′. printsFrom (suc n) (e + 1) next′)) d
 
-      left-here : (k : ℕ) → does (programOf p) now (part listing start e) ≡ stops k → leavesFrom start now ≡ now .store
+      left-here : (k : ℕ) → does (programOf p) now (slice listing start e) ≡ stops k → leavesFrom start now ≡ now .store
       unfolding keeps
       left-here k d = line-leaves l ∙ ap (λ (o : Outcome). keeps o now (λ next′. leavesFrom (e + 1) next′)) d
 
       -- five bytes for each byte of the line, its line feed included
-      line-short : (b : List ℕ) (next : rules.Progress) → does (programOf p) now (part listing start e) ≡ prints b next → length b + 5 * start ≤ 5 * (e + 1)
+      line-short : (b : List ℕ) (next : rules.Progress) → does (programOf p) now (slice listing start e) ≡ prints b next → length b + 5 * start ≤ 5 * (e + 1)
       line-short b next d =
-          let w : length b ≤ 5 * suc (length (part listing start e)) = subst (Within (5 * suc (length (part listing start e)))) d (does-within (programOf p) (terse p) now (part listing start e)) in
-          let m : length (part listing start e) ≡ e - start = part-length listing start e (end .within) in
+          let w : length b ≤ 5 * suc (length (slice listing start e)) = subst (Within (5 * suc (length (slice listing start e)))) d (does-within (programOf p) (terse p) now (slice listing start e)) in
+          let m : length (slice listing start e) ≡ e - start = slice-length listing start e (end .within) in
           let f : start ≤ e = end .behind in
           omega arith
 
@@ -122,7 +122,7 @@ closing Sums store now = refl
 
 -- ---- the loop
 
-pub as-known : {p : Program} {line store store′ out out′ : List ℕ} {now : Progress} {r q : Step} → r ≡ q → LineDoes p line store store′ out out′ now r → LineDoes p line store store′ out out′ now q
+pub as-known : {p : Program} {line store store′ out out′ : List ℕ} {now : Progress} {r q : LineResult} → r ≡ q → LineDoes p line store store′ out out′ now r → LineDoes p line store store′ out out′ now q
 as-known {p} {line} {store} {store′} {out} {out′} {now} e d = subst (LineDoes p line store store′ out out′ now) e d
 
 module _ (p : Program) (listing : List ℕ) (from : ℕ) (before : List ℕ) where
@@ -158,7 +158,7 @@ module _ (p : Program) (listing : List ℕ) (from : ℕ) (before : List ℕ) whe
         }
 
     module _ (store mapping out : List ℕ) (now : Progress) (n start : ℕ) (inv : Running store mapping out now n start) where
-      pub counts : Counted now
+      pub counts : TallyFits now
       counts =
           let a = inv .few in
           let b = inv .within in
@@ -214,8 +214,8 @@ module _ (p : Program) (listing : List ℕ) (from : ℕ) (before : List ℕ) whe
           ended : e < length listing
           ended = let w : e ≤ length listing = end .within in omega arith
 
-          module _ (k : ℕ) (did : LineDoes p (part listing start e) store store′ out out′ now (Stopped k)) where
-            stops-there : does (programOf p) (progressOf store now) (part listing start e) ≡ stops k
+          module _ (k : ℕ) (did : LineDoes p (slice listing start e) store store′ out out′ now (Stopped k)) where
+            stops-there : does (programOf p) (progressOf store now) (slice listing start e) ≡ stops k
             unfolding outcomeOf
             stops-there = did .step .does
 
@@ -226,13 +226,13 @@ module _ (p : Program) (listing : List ℕ) (from : ℕ) (before : List ℕ) whe
             pub ran-stopped : (mapping′ after : List ℕ) (r : ℕ) → mapping′ ≡ emptyWords → Wrote 30 out′ after (now .at) (refusal n k) r → Ran p listing from store′ mapping′ before after r
             unfolding progressOf
             ran-stopped mapping′ after r q w =
-                ran (refusal n k) 30 store′ after r (did .kept k refl) (omega arith) (subst (λ (xs : List ℕ). Wrote 30 xs after (now .at) (refusal n k) r) same-out w)
+                ran (refusal n k) 30 store′ after r (did .unchanged k refl) (omega arith) (subst (λ (xs : List ℕ). Wrote 30 xs after (now .at) (refusal n k) r) same-out w)
                 (stops-here p listing n start e end (progressOf store now) ended k stops-there)
                 (left-here p listing n start e end (progressOf store now) ended k stops-there)
                 mapping′ q
 
-          module _ (next : Progress) (did : LineDoes p (part listing start e) store store′ out out′ now (On next)) where
-            goes-there : does (programOf p) (progressOf store now) (part listing start e) ≡ prints (did .step .bytes) (progressOf store′ next)
+          module _ (next : Progress) (did : LineDoes p (slice listing start e) store store′ out out′ now (On next)) where
+            goes-there : does (programOf p) (progressOf store now) (slice listing start e) ≡ prints (did .step .bytes) (progressOf store′ next)
             unfolding outcomeOf
             goes-there = did .step .does
 

@@ -21,9 +21,9 @@ use Rattle.lines.specs.Reading.{fieldsLeft, oneByte}
 use Rattle.lines.proofs.Letters.{no-letter, letter-is, other-letter}
 use Rattle.listing.specs.declared.types.Program.{Program}
 use Rattle.listing.specs.declared.types.Progress.{Progress}
-use Rattle.listing.specs.declared.types.Step.{Step}
-use Rattle.listing.specs.declared.types.Step.the-variants.{On, Stopped}
-use Rattle.listing.specs.Progress.{programOf, tallyOf, progressOf, Counted, Further}
+use Rattle.listing.specs.declared.types.LineResult.{LineResult}
+use Rattle.listing.specs.declared.types.LineResult.the-variants.{On, Stopped}
+use Rattle.listing.specs.Progress.{programOf, tallyOf, progressOf, TallyFits, Further}
 use Rattle.listing.specs.Building.{buildingLine, ledTo, LineDid}
 use Rattle.listing.specs.Asking.{outcomeOf, Goes, Stepped}
 use Rattle.listing.specs.Stepping.{LineDoes}
@@ -35,14 +35,14 @@ pub stopped : (o : Outcome) (store out : List ℕ) (now : Progress) (k : ℕ) �
 unfolding outcomeOf Goes
 stopped o store out now k e = record { bytes = []; does = e; goes = refl }
 
-pub same-outcome : {o p : Outcome} {store before after : List ℕ} {now : Progress} {r : Step} → o ≡ p → Stepped p store before after now r → Stepped o store before after now r
+pub same-outcome : {o p : Outcome} {store before after : List ℕ} {now : Progress} {r : LineResult} → o ≡ p → Stepped p store before after now r → Stepped o store before after now r
 same-outcome e s = record { bytes = s .bytes; does = e ∙ s .does; goes = s .goes }
 
 -- nothing is counted
-same-count : (now : Progress) → Counted now → Further now now
+same-count : (now : Progress) → TallyFits now → Further now now
 same-count now h = record { part = h .part; few = omega arith }
 
-abbrev isOn : Step → Bool
+abbrev isOn : LineResult → Bool
 isOn (On next) = true
 isOn (Stopped k) = false
 
@@ -88,10 +88,10 @@ module _ (p : rules.Program) (now : rules.Progress) (line : List ℕ) where
 
 module _ (p : Program) (line store out : List ℕ) (now : Progress) (sound : IsSound store) where
   pub line-stopped : (k : ℕ) → does (programOf p) (progressOf store now) line ≡ stops k → LineDoes p line store store out out now (Stopped k)
-  line-stopped k e = record { step = stopped _ store out now k e; sound = sound; kept = λ cause q. refl }
+  line-stopped k e = record { step = stopped _ store out now k e; sound = sound; unchanged = λ cause q. refl }
 
-  pub line-asked : (after : List ℕ) (r : Step) (o : Outcome) → does (programOf p) (progressOf store now) line ≡ o → Stepped o store out after now r → LineDoes p line store store out after now r
-  line-asked after r o e s = record { step = same-outcome e s; sound = sound; kept = λ cause q. refl }
+  pub line-asked : (after : List ℕ) (r : LineResult) (o : Outcome) → does (programOf p) (progressOf store now) line ≡ o → Stepped o store out after now r → LineDoes p line store store out after now r
+  line-asked after r o e s = record { step = same-outcome e s; sound = sound; unchanged = λ cause q. refl }
 
   module _ (exit : List ℕ) (meant : Option Line) (r : Cause) (e : does (programOf p) (progressOf store now) line ≡ lineDoes (programOf p) (progressOf store now) meant) (did : LineDid store exit meant r) where
     led : does (programOf p) (progressOf store now) line ≡ ledTo (progressOf exit now) (causeOf r)
@@ -104,10 +104,10 @@ module _ (p : Program) (line store out : List ℕ) (now : Progress) (sound : IsS
         record {
           step = stopped _ exit out now k (led ∙ ap (λ (x : Cause). ledTo (progressOf exit now) (causeOf x)) q);
           sound = did .sound;
-          kept = λ cause z. did .kept k q;
+          unchanged = λ cause z. did .unchanged k q;
         }
 
-    pub line-built : Counted now → r ≡ None → LineDoes p line store exit out out now (On now)
+    pub line-built : TallyFits now → r ≡ None → LineDoes p line store exit out out now (On now)
     unfolding ledTo causeOf outcomeOf Goes
     line-built h q =
         record {
@@ -118,5 +118,5 @@ module _ (p : Program) (line store out : List ℕ) (now : Progress) (sound : IsS
                 goes = (nothing 40 out (now .at), same-count now h);
               };
           sound = did .sound;
-          kept = λ cause z. absurd (goes-on z);
+          unchanged = λ cause z. absurd (goes-on z);
         }

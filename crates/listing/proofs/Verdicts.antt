@@ -24,7 +24,7 @@ use Rattle.layout.specs.Soundness.{IsSound}
 use Rattle.layout.proofs.Empty.{sound-of}
 use Rattle.fragments.specs.Sorts.{sortOf}
 use Rattle.fragments.specs.Ignoring.{ignoreOf}
-use Rattle.equivalence.specs.Lent.{mappingLength, mappingOf, emptyWords}
+use Rattle.equivalence.specs.MappingWords.{mappingLength, mappingOf, emptyWords}
 use Rattle.equivalence.specs.Walked.{answerOf}
 use Rattle.equivalence.specs.Calls.{Answered}
 use Rattle.equivalence.specs.declared.types.EqResult.{EqResult}
@@ -35,9 +35,9 @@ use Rattle.lines.specs.Parsing.{queryOf}
 use Rattle.lines.specs.Wrote.{Wrote}
 use Rattle.lines.specs.declared.parsing.Query.{Query}
 use Rattle.listing.specs.declared.types.Progress.{Progress}
-use Rattle.listing.specs.declared.types.Step.the-variants.{On, Stopped}
-use Rattle.listing.specs.Progress.{progressOf, tallyOf, Counted}
-use Rattle.listing.specs.Asking.{isEq, verdictLine, answerTo, Compares, CountedMore, outcomeOf, Goes, Stepped}
+use Rattle.listing.specs.declared.types.LineResult.the-variants.{On, Stopped}
+use Rattle.listing.specs.Progress.{progressOf, tallyOf, TallyFits}
+use Rattle.listing.specs.Asking.{isEq, verdictLine, answerTo, QueryCompared, CountedMore, outcomeOf, Goes, Stepped}
 use Rattle.listing.proofs.Counts.{further}
 use Rattle.listing.proofs.Emptied.{empty-length}
 
@@ -66,7 +66,7 @@ module _ (b m after left : List ℕ) (q : Query) (r : EqResult) (sound : IsSound
       (subst (λ (t : Bool). comparison t (storeIn b) (mappingOf m) ig f (q .left) (q .right) .answer ≡ answerOf r) (sound-of b sound) (ap (λ (c : Comparison). c .answer) (h .told))))
 
   pub compares : Answered b m after (ignoreOf (q .ignore)) (sortOf (q .sort)) (q .left) (q .right) r
-      → left ≡ emptyWords → Compares b left q r
+      → left ≡ emptyWords → QueryCompared b left q r
   compares h w = record { same = answered h; empty = w }
 
 -- ---- an answer that is not refused: both fragments exist
@@ -130,7 +130,7 @@ prints-on b now next q (FirstNEQBlocks x y n) at k m = rw (m .equal, m .all) ref
 prints-on b now next q (Refused c) at k m = absurd (answers (Refused c) k c refl)
 
 pub twins-goes : (b out out′ : List ℕ) (now next : Progress) (q : Query) (r : EqResult) (at : ℕ) → answerOf r ≡ answerTo b q → NotRefused r
-    → Counted now → Wrote 40 out out′ (now .at) (verdictLine (answerOf r)) at
+    → TallyFits now → Wrote 40 out out′ (now .at) (verdictLine (answerOf r)) at
     → CountedMore now at (isEq (answerOf r)) (opsIn (storeIn b) (sortOf (q .sort)) (q .right)) next
     → Stepped (lineDoes twinsProgram (progressOf b now) (some (queryOf q))) b out out′ now (On next)
 unfolding outcomeOf Goes

@@ -19,12 +19,12 @@ use Rattle.layout.specs.declared.causes.Cause.the-variants.{None, Is}
 use Rattle.lines.specs.Pieces.{piecesFrom}
 use Rattle.lines.specs.Wrote.{Wrote}
 use Rattle.lines.proofs.Joined.{said, within}
-use Rattle.equivalence.specs.Lent.{mappingLength, emptyWords}
+use Rattle.equivalence.specs.MappingWords.{mappingLength, emptyWords}
 use Rattle.listing.specs.declared.types.Program.{Program}
 use Rattle.listing.specs.declared.types.Listed.the-variants.{Printed, Refused, NoRoom}
 use Rattle.listing.specs.Progress.{programOf}
 use Rattle.listing.specs.Stepping.{secondLine, Headed, Ran}
-use Rattle.listing.specs.Calls.{Lent, lentTests, Prints, Answered, lent}
+use Rattle.listing.specs.Calls.{Buffers, bufferTests, PrintsListing, Answered, buffers}
 
 -- ---- the first line
 
@@ -34,8 +34,8 @@ module _ (p : Program) (listing store mapping out after : List ℕ) (n k : ℕ) 
   unfolding causeOf
   refused-for = sym (h .same) ∙ ap causeOf e
 
-  pub first-refused : Wrote 30 out after 0 (refusal 1 k) n → Prints (programOf p) listing (lent store mapping out) (lent store mapping after) n
-  unfolding lent rules.listed unless
+  pub first-refused : Wrote 30 out after 0 (refusal 1 k) n → PrintsListing (programOf p) listing (buffers store mapping out) (buffers store mapping after) n
+  unfolding buffers rules.listed unless
   first-refused w =
       let clash : listingCause listing ≡ none → ⊥ = λ q. Option·none-ne-some k (sym q ∙ refused-for) in
       record {
@@ -61,8 +61,8 @@ module _ (p : Program) (listing store mapping out store′ mapping′ out′ : L
       ap (λ (c : Option ℕ). unless c (run (programOf p) 2 atStart (behindFirst (cutAt lineFeed listing .whole)) (cutAt lineFeed listing .rest))) accepted
       ∙ ap₂ (λ (ls : List (List ℕ)) (rest : List ℕ). run (programOf p) 2 atStart ls rest) (h .begun e .lines) (h .begun e .rest)
 
-  pub all-ran : Prints (programOf p) listing (lent store mapping out) (lent store′ mapping′ out′) n
-  unfolding lent storeAfter
+  pub all-ran : PrintsListing (programOf p) listing (buffers store mapping out) (buffers store′ mapping′ out′) n
+  unfolding buffers storeAfter
   all-ran =
       record {
         wrote = said (ran .wrote) (sym printed);
@@ -78,38 +78,38 @@ module _ (p : Program) (listing store mapping out store′ mapping′ out′ : L
 -- ---- the lent buffers
 
 module _ (p : rules.Program) (listing store mapping out : List ℕ) where
-  tested : (a b : Bool) → eqb (length store) bufferLength ≡ a → eqb (length mapping) mappingLength ≡ b → firstFailed (lentTests (lent store mapping out)) ≡ firstFailed ((a, 1) ∷ (b, 8) ∷ [])
-  unfolding lent lentTests
+  tested : (a b : Bool) → eqb (length store) bufferLength ≡ a → eqb (length mapping) mappingLength ≡ b → firstFailed (bufferTests (buffers store mapping out)) ≡ firstFailed ((a, 1) ∷ (b, 8) ∷ [])
+  unfolding buffers bufferTests
   tested a b e f = ap₂ (λ (x y : Bool). firstFailed ((x, 1) ∷ (y, 8) ∷ [])) e f
 
-  pub wrong-store : (length store ≡ bufferLength → ⊥) → Answered p listing (lent store mapping out) (lent store mapping out) (Refused 1)
+  pub wrong-store : (length store ≡ bufferLength → ⊥) → Answered p listing (buffers store mapping out) (buffers store mapping out) (Refused 1)
   unfolding Answered firstFailed
   wrong-store h = (tested false (eqb (length mapping) mappingLength) (ne-eqb _ _ h) refl, refl)
 
   module _ (s : length store ≡ bufferLength) where
-    pub wrong-mapping : (length mapping ≡ mappingLength → ⊥) → Answered p listing (lent store mapping out) (lent store mapping out) (Refused 8)
+    pub wrong-mapping : (length mapping ≡ mappingLength → ⊥) → Answered p listing (buffers store mapping out) (buffers store mapping out) (Refused 8)
     unfolding Answered firstFailed
     wrong-mapping h = (tested true false (eq-eqb _ _ s) (ne-eqb _ _ h), refl)
 
     module _ (m : length mapping ≡ mappingLength) where
-      right-lengths : firstFailed (lentTests (lent store mapping out)) ≡ none
+      right-lengths : firstFailed (bufferTests (buffers store mapping out)) ≡ none
       unfolding firstFailed
       right-lengths = tested true true (eq-eqb _ _ s) (eq-eqb _ _ m)
 
-      pub no-room : length out < maxOutput → Answered p listing (lent store mapping out) (lent store mapping out) NoRoom
-      unfolding Answered lent
+      pub no-room : length out < maxOutput → Answered p listing (buffers store mapping out) (buffers store mapping out) NoRoom
+      unfolding Answered buffers
       no-room h = (right-lengths, h, refl)
 
-      pub answered : (after : Lent) (n : ℕ) → maxOutput ≤ length out → Prints p listing (lent store mapping out) after n → Answered p listing (lent store mapping out) after (Printed n)
-      unfolding Answered lent
+      pub answered : (after : Buffers) (n : ℕ) → maxOutput ≤ length out → PrintsListing p listing (buffers store mapping out) after n → Answered p listing (buffers store mapping out) after (Printed n)
+      unfolding Answered buffers
       answered after n h pr = (right-lengths, h, pr)
 
 -- a mapping with no entry stays one
-module _ (p : rules.Program) (listing store out store′ mapping′ out′ : List ℕ) (n : ℕ) (pr : Prints p listing (lent store emptyWords out) (lent store′ mapping′ out′) n) where
+module _ (p : rules.Program) (listing store out store′ mapping′ out′ : List ℕ) (n : ℕ) (pr : PrintsListing p listing (buffers store emptyWords out) (buffers store′ mapping′ out′) n) where
   still-none : (c : Option ℕ) → listingCause listing ≡ c → mapping′ ≡ emptyWords
-  unfolding lent
+  unfolding buffers
   still-none none e = pr .leaves .empty e
   still-none (some k) e = pr .leaves .refused k e .1
 
-  pub unmapped : Prints p listing (lent store emptyWords out) (lent store′ emptyWords out′) n
-  unmapped = subst (λ (m : List ℕ). Prints p listing (lent store emptyWords out) (lent store′ m out′) n) (still-none (listingCause listing) refl) pr
+  pub unmapped : PrintsListing p listing (buffers store emptyWords out) (buffers store′ emptyWords out′) n
+  unmapped = subst (λ (m : List ℕ). PrintsListing p listing (buffers store emptyWords out) (buffers store′ m out′) n) (still-none (listingCause listing) refl) pr

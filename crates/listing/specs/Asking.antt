@@ -9,14 +9,14 @@ use Rattle.rules.specs.Listings.{Outcome, prints, stops, equalLine, unequalLine
 use Rattle.layout.specs.Reading.{storeIn}
 use Rattle.fragments.specs.Sorts.{sortOf}
 use Rattle.fragments.specs.Ignoring.{ignoreOf}
-use Rattle.equivalence.specs.Lent.{emptyWords}
+use Rattle.equivalence.specs.MappingWords.{emptyWords}
 use Rattle.equivalence.specs.Walked.{answerOf}
 use Rattle.equivalence.specs.declared.types.EqResult.{EqResult}
 use Rattle.lines.specs.Wrote.{Wrote}
 use Rattle.lines.specs.declared.parsing.Query.{Query}
 use Rattle.listing.specs.declared.types.Progress.{Progress}
-use Rattle.listing.specs.declared.types.Step.{Step}
-use Rattle.listing.specs.declared.types.Step.the-variants.{On, Stopped}
+use Rattle.listing.specs.declared.types.LineResult.{LineResult}
+use Rattle.listing.specs.declared.types.LineResult.the-variants.{On, Stopped}
 use Rattle.listing.specs.Progress.{progressOf, Further}
 
 -- ---- a comparison
@@ -37,7 +37,7 @@ unfoldable pub answerTo : List ℕ → Query → Compared
 answerTo store q = comparison true (storeIn store) emptyMapping (ignoreOf (q .ignore)) (sortOf (q .sort)) (q .left) (q .right) .answer
 
 -- it is answered, and the mapping is empty again
-pub record Compares (store mapping : List ℕ) (q : Query) (r : EqResult) : Type 0 where
+pub record QueryCompared (store mapping : List ℕ) (q : Query) (r : EqResult) : Type 0 where
   pub same : answerOf r ≡ answerTo store q
   pub empty : mapping ≡ emptyWords
 
@@ -51,16 +51,16 @@ pub record CountedMore (now : Progress) (at : ℕ) (found : Bool) (ops : ℕ) (n
 
 -- ---- a step: what is printed goes behind what was printed, and the rules' outcome is this
 
-unfoldable pub outcomeOf : List ℕ → List ℕ → Step → Outcome
+unfoldable pub outcomeOf : List ℕ → List ℕ → LineResult → Outcome
 outcomeOf store bytes (On next) = prints bytes (progressOf store next)
 outcomeOf store bytes (Stopped cause) = stops cause
 
-unfoldable pub Goes : List ℕ → List ℕ → Progress → List ℕ → Step → Type 0
+unfoldable pub Goes : List ℕ → List ℕ → Progress → List ℕ → LineResult → Type 0
 Goes before after now bytes (On next) = Wrote 40 before after (now .at) bytes (next .at) × Further now next
 Goes before after now bytes (Stopped cause) = after ≡ before
 
 -- of a step that leaves this store
-pub record Stepped (outcome : Outcome) (store : List ℕ) (before after : List ℕ) (now : Progress) (r : Step) : Type 0 where
+pub record Stepped (outcome : Outcome) (store : List ℕ) (before after : List ℕ) (now : Progress) (r : LineResult) : Type 0 where
   pub bytes : List ℕ
   pub does : outcome ≡ outcomeOf store bytes r
   pub goes : Goes before after now bytes r

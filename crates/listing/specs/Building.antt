@@ -34,4 +34,4 @@ ledTo next (some cause) = stops cause
 pub record LineDid (entry exit : List ℕ) (line : Option Line) (r : Cause) : Type 0 where
   pub does : (p : Program) (t : Tally) → lineDoes p (record { store = storeIn entry; tally = t }) line ≡ ledTo (record { store = storeIn exit; tally = t }) (causeOf r)
   pub sound : IsSound exit
-  pub kept : (cause : ℕ) → r ≡ Is cause → exit ≡ entry
+  pub unchanged : (cause : ℕ) → r ≡ Is cause → exit ≡ entry

@@ -12,40 +12,40 @@ use Rattle.layout.specs.Reading.{storeIn}
 use Rattle.layout.specs.Columns.{bufferLength}
 use Rattle.layout.specs.Soundness.{IsSound}
 use Rattle.lines.specs.Wrote.{Wrote}
-use Rattle.equivalence.specs.Lent.{mappingLength, emptyWords}
+use Rattle.equivalence.specs.MappingWords.{mappingLength, emptyWords}
 use Rattle.listing.specs.declared.types.Listed.{Listed}
 use Rattle.listing.specs.declared.types.Listed.the-variants.{Printed, Refused, NoRoom}
 
 -- the lent buffers and what they are afterwards
-pub record Lent : Type 0 where
+pub record Buffers : Type 0 where
   pub store : List ℕ
   pub mapping : List ℕ
   pub out : List ℕ
 
 -- "store of wrong length", "mapping of wrong length"
-unfoldable pub lentTests : Lent → List (Bool × ℕ)
-lentTests b = (eqb (length (b .store)) bufferLength, 1) ∷ (eqb (length (b .mapping)) mappingLength, 8) ∷ []
+unfoldable pub bufferTests : Buffers → List (Bool × ℕ)
+bufferTests b = (eqb (length (b .store)) bufferLength, 1) ∷ (eqb (length (b .mapping)) mappingLength, 8) ∷ []
 
 -- the store and the mapping afterwards: as they were where the first line is refused; else the store is what the lines have built, up
 -- to a refused one, and the mapping is empty
-pub record Leaves (p : Program) (listing : List ℕ) (before after : Lent) : Type 0 where
+pub record LeavesBuffers (p : Program) (listing : List ℕ) (before after : Buffers) : Type 0 where
   pub refused : (cause : ℕ) → listingCause listing ≡ some cause → (after .store ≡ before .store) × (after .mapping ≡ before .mapping)
   pub reads : listingCause listing ≡ none → storeIn (after .store) ≡ storeAfter p listing
   pub sound : listingCause listing ≡ none → IsSound (after .store)
   pub empty : listingCause listing ≡ none → after .mapping ≡ emptyWords
 
--- exactly what the rules print is written, from the begin of the lent bytes on, and n is how many bytes that are
-pub record Prints (p : Program) (listing : List ℕ) (before after : Lent) (n : ℕ) : Type 0 where
+-- exactly what the rules print is written, from the start of the lent bytes on, and n is how many bytes that are
+pub record PrintsListing (p : Program) (listing : List ℕ) (before after : Buffers) (n : ℕ) : Type 0 where
   pub wrote : Wrote maxOutput (before .out) (after .out) 0 (listed p listing) n
-  pub leaves : Leaves p listing before after
+  pub leaves : LeavesBuffers p listing before after
 
 -- buffers of their lengths and room enough: the listing is printed; else every word and byte is as it was
-unfoldable pub Answered : Program → List ℕ → Lent → Lent → Listed → Type 0
+unfoldable pub Answered : Program → List ℕ → Buffers → Buffers → Listed → Type 0
 Answered p listing before after (Printed n) =
-    (firstFailed (lentTests before) ≡ none) × (maxOutput ≤ length (before .out)) × Prints p listing before after n
-Answered p listing before after (Refused cause) = (firstFailed (lentTests before) ≡ some cause) × (after ≡ before)
-Answered p listing before after NoRoom = (firstFailed (lentTests before) ≡ none) × (length (before .out) < maxOutput) × (after ≡ before)
+    (firstFailed (bufferTests before) ≡ none) × (maxOutput ≤ length (before .out)) × PrintsListing p listing before after n
+Answered p listing before after (Refused cause) = (firstFailed (bufferTests before) ≡ some cause) × (after ≡ before)
+Answered p listing before after NoRoom = (firstFailed (bufferTests before) ≡ none) × (length (before .out) < maxOutput) × (after ≡ before)
 
 -- buffers by name
-unfoldable pub lent : List ℕ → List ℕ → List ℕ → Lent
-lent store mapping out = record { store = store; mapping = mapping; out = out }
+unfoldable pub buffers : List ℕ → List ℕ → List ℕ → Buffers
+buffers store mapping out = record { store = store; mapping = mapping; out = out }

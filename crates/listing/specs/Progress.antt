@@ -20,7 +20,7 @@ unfoldable pub progressOf : List ℕ → Progress → rules.Progress
 progressOf store now = record { store = storeIn store; tally = tallyOf now }
 
 -- every count fits, and so does a right fragment more
-pub record Counted (now : Progress) : Type 0 where
+pub record TallyFits (now : Progress) : Type 0 where
   pub part : now .equal ≤ now .all
   pub few : now .all ≤ 562949953421312
 

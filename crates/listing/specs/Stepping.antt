@@ -10,14 +10,14 @@ use Rattle.layout.specs.Causes.{causeOf}
 use Rattle.layout.specs.Soundness.{IsSound}
 use Rattle.layout.specs.declared.causes.Cause.{Cause}
 use Rattle.layout.specs.declared.causes.Cause.the-variants.{None}
-use Rattle.equivalence.specs.Lent.{emptyWords}
+use Rattle.equivalence.specs.MappingWords.{emptyWords}
 use Rattle.lines.specs.Pieces.{piecesFrom}
 use Rattle.lines.specs.Wrote.{Wrote}
 use Rattle.listing.specs.declared.types.Program.{Program}
 use Rattle.listing.specs.declared.types.Program.the-variants.{Twins, Sums}
 use Rattle.listing.specs.declared.types.Progress.{Progress}
-use Rattle.listing.specs.declared.types.Step.{Step}
-use Rattle.listing.specs.declared.types.Step.the-variants.{Stopped}
+use Rattle.listing.specs.declared.types.LineResult.{LineResult}
+use Rattle.listing.specs.declared.types.LineResult.the-variants.{Stopped}
 use Rattle.listing.specs.Asking.{Stepped}
 use Rattle.listing.specs.Progress.{programOf, tallyOf, progressOf}
 
@@ -28,7 +28,7 @@ abbrev pub secondLine : ℕ
 secondLine = 10
 
 -- the first line is the header, and the lines behind it begin there
-pub record Begun (listing : List ℕ) : Type 0 where
+pub record StartsWithHeader (listing : List ℕ) : Type 0 where
   pub long : secondLine ≤ length listing
   pub short : length listing ≤ maxListing
   pub lines : behindFirst (cutAt lineFeed listing .whole) ≡ piecesFrom lineFeed listing secondLine .whole
@@ -37,7 +37,7 @@ pub record Begun (listing : List ℕ) : Type 0 where
 -- why no line behind the first is read; else it is the header
 pub record Headed (listing : List ℕ) (r : Cause) : Type 0 where
   pub same : causeOf r ≡ listingCause listing
-  pub begun : r ≡ None → Begun listing
+  pub begun : r ≡ None → StartsWithHeader listing
 
 -- what is printed behind the last line
 unfoldable pub closes : Program → Progress → List ℕ
@@ -47,12 +47,12 @@ closes Sums now = []
 -- ---- one line
 
 -- what the code does for a line, as what the rules' program does
-pub record LineDoes (p : Program) (line store store′ out out′ : List ℕ) (now : Progress) (r : Step) : Type 0 where
+pub record LineDoes (p : Program) (line store store′ out out′ : List ℕ) (now : Progress) (r : LineResult) : Type 0 where
   pub step : Stepped (does (programOf p) (progressOf store now) line) store′ out out′ now r
   pub sound : IsSound store′
-  pub kept : (cause : ℕ) → r ≡ Stopped cause → store′ ≡ store
+  pub unchanged : (cause : ℕ) → r ≡ Stopped cause → store′ ≡ store
 
--- ---- the lines from a place on, at which the second line begins
+-- ---- the lines from a position on, at which the second line begins
 
 -- all that they print is written, and the store is what they leave
 pub record Ran (p : Program) (listing : List ℕ) (from : ℕ) (store mapping out out′ : List ℕ) (r : ℕ) : Type 0 where

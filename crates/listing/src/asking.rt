@@ -1,9 +1,9 @@
-// Queries, by program.
+// Queries, which each program answers in its own way.
 use crate::comparing::twins_does;
 use crate::summing::sums_does;
+use crate::types::LineResult;
 use crate::types::Program;
 use crate::types::Progress;
-use crate::types::Step;
 use lines::parsing::QueryLine;
 use lines::parsing::query_line;
 ghost use mathlib.Core.Path.{_≡_};
@@ -12,12 +12,12 @@ ghost use lib.ListN.{length};
 ghost use Rattle.rules.specs.Lines.{queryLine, wholly};
 ghost use Rattle.rules.specs.Listings.{lineDoes};
 ghost use Rattle.layout.specs.Soundness.{IsSound};
-ghost use Rattle.equivalence.specs.Lent.{emptyWords};
+ghost use Rattle.equivalence.specs.MappingWords.{emptyWords};
 ghost use Rattle.lines.specs.Reading.{fieldsLeft};
-ghost use Rattle.listing.specs.Progress.{programOf, progressOf, Counted};
+ghost use Rattle.listing.specs.Progress.{programOf, progressOf, TallyFits};
 ghost use Rattle.listing.specs.Asking.{Stepped};
 
-// A `q`, from behind its letter on.
+// A line `q`, which is read from `at` on, behind its letter.
 pub fn query_does(
     program: Program,
     store: &[u32],
@@ -26,16 +26,16 @@ pub fn query_does(
     progress: Progress,
     line: &[u8],
     at: usize,
-) -> Step
+) -> LineResult
     requires { ⌜ IsSound (now store) ⌝ }
     requires { ⌜ now mapping ≡ emptyWords ⌝ }
     requires { ⌜ (progress .at) + 40 ≤ length (now out) ⌝ }
-    requires { ⌜ Counted progress ⌝ }
+    requires { ⌜ TallyFits progress ⌝ }
     ensures { λ r. ⌜ Stepped (lineDoes (programOf program) (progressOf (now (store .entry)) progress) (wholly (queryLine (fieldsLeft (now (line .entry)) at)))) (now (store .entry)) (now (out .entry)) (now (out .exit)) progress r ⌝ }
     ensures { λ r. ⌜ now (mapping .exit) ≡ emptyWords ⌝ }
 {
     let QueryLine::Is(query) = query_line(line, at) else {
-        return Step::Stopped(10);
+        return LineResult::Stopped(10);
     };
     match program {
         Program::Twins => twins_does(store, mapping, out, progress, query),

@@ -4,14 +4,14 @@ use building::types::Built;
 use layout::causes::Cause;
 use lines::parsing::AttributeLine;
 use lines::parsing::BlockLine;
-use lines::parsing::Head;
-use lines::parsing::Lists;
+use lines::parsing::OpFieldsRead;
+use lines::parsing::OpListsRead;
 use lines::parsing::OperandLine;
 use lines::parsing::attribute_line;
 use lines::parsing::block_line;
 use lines::parsing::operand_line;
-use lines::parsing::read_head;
 use lines::parsing::read_lists;
+use lines::parsing::read_op_fields;
 ghost use mathlib.Core.Path.{_≡_};
 ghost use Prim.Native.Nat.{_≤_};
 ghost use lib.ListN.{length};
@@ -39,14 +39,14 @@ fn operation_does(store: &mut [u32], line: &[u8], at: usize) -> Cause
     requires { ⌜ length (now line) ≤ maxLine ⌝ }
     ensures { λ r. ⌜ LineDid (now (store .entry)) (now (store .exit)) (wholly (operationLine (fieldsLeft (now (line .entry)) at))) r ⌝ }
 {
-    let Head::At(kind, parent, location, regions, next) = read_head(line, at) else {
+    let OpFieldsRead::At(kind, parent, location, regions, next) = read_op_fields(line, at) else {
         return Cause::Is(10);
     };
     let mut types = [0; MAX_LINE];
     let mut operands = [0; MAX_LINE];
     let mut successors = [0; MAX_LINE];
     let lists = read_lists(line, next, &mut types, &mut operands, &mut successors);
-    let Lists::Are(a, b, c) = lists else {
+    let OpListsRead::Are(a, b, c) = lists else {
         return Cause::Is(10);
     };
     refusal_in(building::operations::new_operation(
@@ -93,7 +93,7 @@ fn operand_does(store: &mut [u32], line: &[u8], at: usize) -> Cause
     refusal_in(building::operands::set_operand(store, n, index, value))
 }
 
-// A line that builds, from behind its letter on; any other letter is unknown.
+// A line that builds, which is read from `at` on, behind its letter; any other letter is unknown.
 pub fn building_does(store: &mut [u32], line: &[u8], letter: u8, at: usize) -> Cause
     requires { ⌜ IsSound (now store) ⌝ }
     requires { ⌜ length (now line) ≤ maxLine ⌝ }

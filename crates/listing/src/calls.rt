@@ -3,20 +3,20 @@
 use crate::running::listed;
 use crate::types::Listed;
 use crate::types::Program;
-use equivalence::mapping::NONE;
+use equivalence::mapping::NO_IMAGE;
 ghost use Rattle.rules.specs.Listings.{twinsProgram, sumsProgram};
-ghost use Rattle.equivalence.specs.Lent.{emptyWords};
-ghost use Rattle.listing.specs.Calls.{Answered, lent};
+ghost use Rattle.equivalence.specs.MappingWords.{emptyWords};
+ghost use Rattle.listing.specs.Calls.{Answered, buffers};
 
-// The words of a store, the words of a mapping, and the bytes that no output passes.
-pub const STORE: usize = layout::columns::LENGTH;
+// How many words a store has, how many words a mapping has, and how many bytes are enough for all that may be printed.
+pub const STORE: usize = layout::columns::STORE_LENGTH;
 
-pub const MAPPING: usize = equivalence::mapping::LENGTH;
+pub const MAPPING: usize = equivalence::mapping::MAPPING_LENGTH;
 
 pub const ROOM: usize = 327680;
 
 pub fn twins(listing: &[u8], store: &mut [u32], mapping: &mut [u32], out: &mut [u8]) -> Listed
-    ensures { λ r. ⌜ Answered twinsProgram (now (listing .entry)) (lent (now (store .entry)) (now (mapping .entry)) (now (out .entry))) (lent (now (store .exit)) (now (mapping .exit)) (now (out .exit))) r ⌝ }
+    ensures { λ r. ⌜ Answered twinsProgram (now (listing .entry)) (buffers (now (store .entry)) (now (mapping .entry)) (now (out .entry))) (buffers (now (store .exit)) (now (mapping .exit)) (now (out .exit))) r ⌝ }
 {
     if store.len() != STORE {
         return Listed::Refused(1);
@@ -32,7 +32,7 @@ pub fn twins(listing: &[u8], store: &mut [u32], mapping: &mut [u32], out: &mut [
 
 // It compares nothing, and so is lent no mapping.
 pub fn sums(listing: &[u8], store: &mut [u32], out: &mut [u8]) -> Listed
-    ensures { λ r. ⌜ Answered sumsProgram (now (listing .entry)) (lent (now (store .entry)) emptyWords (now (out .entry))) (lent (now (store .exit)) emptyWords (now (out .exit))) r ⌝ }
+    ensures { λ r. ⌜ Answered sumsProgram (now (listing .entry)) (buffers (now (store .entry)) emptyWords (now (out .entry))) (buffers (now (store .exit)) emptyWords (now (out .exit))) r ⌝ }
 {
     if store.len() != STORE {
         return Listed::Refused(1);
@@ -40,6 +40,6 @@ pub fn sums(listing: &[u8], store: &mut [u32], out: &mut [u8]) -> Listed
     if out.len() < ROOM {
         return Listed::NoRoom;
     }
-    let mut mapping = [NONE; MAPPING];
+    let mut mapping = [NO_IMAGE; MAPPING];
     Listed::Printed(listed(Program::Sums, listing, store, &mut mapping, out))
 }

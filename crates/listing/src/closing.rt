@@ -5,13 +5,13 @@ use lines::printing::put_share;
 ghost use Prim.Native.Nat.{_+_, _≤_};
 ghost use lib.ListN.{length};
 ghost use Rattle.lines.specs.Wrote.{Wrote};
-ghost use Rattle.listing.specs.Progress.{Counted};
+ghost use Rattle.listing.specs.Progress.{TallyFits};
 ghost use Rattle.listing.specs.Stepping.{closes};
 
 // `twins` prints the share, `sums` nothing.
 pub fn close(program: Program, out: &mut [u8], progress: Progress) -> usize
     requires { ⌜ (progress .at) + 17 ≤ length (now out) ⌝ }
-    requires { ⌜ Counted progress ⌝ }
+    requires { ⌜ TallyFits progress ⌝ }
     ensures { λ r. ⌜ Wrote 17 (now (out .entry)) (now (out .exit)) (progress .at) (closes program progress) r ⌝ }
 {
     match program {

@@ -1,8 +1,8 @@
 // A `q` of `twins`: its fragments are compared, begun with an empty mapping, which is left empty.
 use crate::counting::counted;
 use crate::emptying::empty_mapping;
+use crate::types::LineResult;
 use crate::types::Progress;
-use crate::types::Step;
 use equivalence::comparison::fragments_eq;
 use equivalence::types::EqResult;
 use fragments::types::Sort;
@@ -15,18 +15,18 @@ ghost use Prim.Native.Nat.{_+_, _≤_};
 ghost use lib.ListN.{length};
 ghost use Rattle.rules.specs.Listings.{twinsProgram, lineDoes};
 ghost use Rattle.layout.specs.Soundness.{IsSound};
-ghost use Rattle.equivalence.specs.Lent.{emptyWords};
+ghost use Rattle.equivalence.specs.MappingWords.{emptyWords};
 ghost use Rattle.equivalence.specs.Walked.{answerOf};
 ghost use Rattle.lines.specs.Parsing.{queryOf};
 ghost use Rattle.lines.specs.Wrote.{Wrote};
-ghost use Rattle.listing.specs.Progress.{progressOf, Counted};
-ghost use Rattle.listing.specs.Asking.{verdictLine, Compares, Stepped};
+ghost use Rattle.listing.specs.Progress.{progressOf, TallyFits};
+ghost use Rattle.listing.specs.Asking.{verdictLine, QueryCompared, Stepped};
 
-// Begun with an empty mapping, which is empty again afterwards.
+// Compares the fragments of a query. The mapping is empty before, and is emptied again afterwards.
 fn compare(store: &[u32], mapping: &mut [u32], query: Query) -> EqResult
     requires { ⌜ IsSound (now store) ⌝ }
     requires { ⌜ now mapping ≡ emptyWords ⌝ }
-    ensures { λ q. ⌜ Compares (now (store .entry)) (now (mapping .exit)) query q ⌝ }
+    ensures { λ q. ⌜ QueryCompared (now (store .entry)) (now (mapping .exit)) query q ⌝ }
 {
     let sort = query.sort;
     let ignore = query.ignore;
@@ -56,19 +56,19 @@ pub fn twins_does(
     out: &mut [u8],
     progress: Progress,
     query: Query,
-) -> Step
+) -> LineResult
     requires { ⌜ IsSound (now store) ⌝ }
     requires { ⌜ now mapping ≡ emptyWords ⌝ }
     requires { ⌜ (progress .at) + 40 ≤ length (now out) ⌝ }
-    requires { ⌜ Counted progress ⌝ }
+    requires { ⌜ TallyFits progress ⌝ }
     ensures { λ r. ⌜ Stepped (lineDoes twinsProgram (progressOf (now (store .entry)) progress) (some (queryOf query))) (now (store .entry)) (now (out .entry)) (now (out .exit)) progress r ⌝ }
     ensures { λ r. ⌜ now (mapping .exit) ≡ emptyWords ⌝ }
 {
     let result = compare(store, mapping, query);
     if let EqResult::Refused(cause) = result {
-        return Step::Stopped(cause);
+        return LineResult::Stopped(cause);
     }
     let at = put_verdict(out, progress.at, result);
     let sort = query.sort;
-    Step::On(counted(store, progress, at, sort, query.right, result))
+    LineResult::On(counted(store, progress, at, sort, query.right, result))
 }

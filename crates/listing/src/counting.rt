@@ -1,4 +1,4 @@
-// The share: the operations inside right fragments, those found equal among them.
+// What the share is computed from: the operations inside right fragments, and how many of these are in fragments that were found equal.
 use crate::types::Progress;
 use equivalence::types::EqResult;
 use fragments::sorts::size;
@@ -12,7 +12,7 @@ ghost use Rattle.layout.specs.Reading.{storeIn};
 ghost use Rattle.layout.specs.Soundness.{IsSound};
 ghost use Rattle.fragments.specs.Sorts.{sortOf};
 ghost use Rattle.equivalence.specs.Walked.{answerOf};
-ghost use Rattle.listing.specs.Progress.{Counted};
+ghost use Rattle.listing.specs.Progress.{TallyFits};
 ghost use Rattle.listing.specs.Asking.{isEq, CountedMore};
 
 // The operations inside a fragment.
@@ -36,9 +36,9 @@ fn is_eq(result: EqResult) -> bool
     }
 }
 
-// A right fragment more, found equal or not, and so many bytes printed.
+// The progress with one more right fragment, of `ops` operations and found equal or not, when `at` bytes are printed.
 fn count(progress: Progress, at: usize, found: bool, ops: u32) -> Progress
-    requires { ⌜ Counted progress ⌝ }
+    requires { ⌜ TallyFits progress ⌝ }
     ensures { λ r. ⌜ CountedMore progress at found ops r ⌝ }
 {
     let all = progress.all + ops as u64;
@@ -56,7 +56,7 @@ fn count(progress: Progress, at: usize, found: bool, ops: u32) -> Progress
     }
 }
 
-// The right fragment of a comparison more.
+// The progress with the right fragment of a comparison.
 pub fn counted(
     store: &[u32],
     progress: Progress,
@@ -67,7 +67,7 @@ pub fn counted(
 ) -> Progress
     requires { ⌜ IsSound (now store) ⌝ }
     requires { ⌜ exists (storeIn (now store)) (sortOf sort) r ≡ true ⌝ }
-    requires { ⌜ Counted progress ⌝ }
+    requires { ⌜ TallyFits progress ⌝ }
     ensures { λ q. ⌜ CountedMore progress at (isEq (answerOf result)) (opsIn (storeIn (now (store .entry))) (sortOf sort) r) q ⌝ }
 {
     count(progress, at, is_eq(result), ops_in(store, sort, r))

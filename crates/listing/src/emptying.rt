@@ -1,6 +1,6 @@
-// Lent buffers of their lengths and of any content, emptied.
-use equivalence::mapping::LENGTH;
-use equivalence::mapping::NONE;
+// Emptying buffers of the right lengths, whatever they hold.
+use equivalence::mapping::MAPPING_LENGTH;
+use equivalence::mapping::NO_IMAGE;
 use layout::columns::COUNTS;
 use layout::columns::put_same;
 use layout::lists::fill_at;
@@ -10,9 +10,9 @@ ghost use Rattle.rules.specs.Store.{emptyStore};
 ghost use Rattle.layout.specs.Columns.{bufferLength};
 ghost use Rattle.layout.specs.Reading.{storeIn};
 ghost use Rattle.layout.specs.Soundness.{IsSound};
-ghost use Rattle.equivalence.specs.Lent.{mappingLength, emptyWords};
+ghost use Rattle.equivalence.specs.MappingWords.{mappingLength, emptyWords};
 
-// The eight counts alone decide what a store is read as: words behind them stay.
+// A store is empty when its counts are 0: no other word is read then, and so they stay as they are.
 pub fn empty_store(store: &mut [u32])
     requires { ⌜ length (now store) ≡ bufferLength ⌝ }
     ensures { λ _. ⌜ IsSound (now (store .exit)) ⌝ }
@@ -25,5 +25,5 @@ pub fn empty_mapping(mapping: &mut [u32])
     requires { ⌜ length (now mapping) ≡ mappingLength ⌝ }
     ensures { λ _. ⌜ now (mapping .exit) ≡ emptyWords ⌝ }
 {
-    fill_at(mapping, 0, LENGTH, NONE);
+    fill_at(mapping, 0, MAPPING_LENGTH, NO_IMAGE);
 }

@@ -1,4 +1,4 @@
-// The first line.
+// The first line of a listing, which must be the header.
 use layout::causes::Cause;
 use lines::pieces::piece_end;
 use lines::texts::same_bytes;
@@ -12,7 +12,7 @@ pub const MAX_LINE: usize = 512;
 // Where the second line begins: behind the header's nine bytes and their line feed.
 pub const SECOND_LINE: usize = 10;
 
-// Why no line behind the first is read.
+// Why the first line is refused, if it is.
 pub fn header_cause(listing: &[u8]) -> Cause
     ensures { λ r. ⌜ Headed (now (listing .entry)) r ⌝ }
 {

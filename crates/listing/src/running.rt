@@ -7,9 +7,9 @@ use crate::emptying::empty_store;
 use crate::header::MAX_LINE;
 use crate::header::SECOND_LINE;
 use crate::header::header_cause;
+use crate::types::LineResult;
 use crate::types::Program;
 use crate::types::Progress;
-use crate::types::Step;
 use layout::causes::Cause;
 use lines::pieces::piece_end;
 use lines::printing::put_refusal;
@@ -23,10 +23,10 @@ ghost use Rattle.rules.specs.Listings.{maxListing, maxOutput};
 ghost use Rattle.layout.specs.Columns.{bufferLength};
 ghost use Rattle.layout.specs.Reading.{storeIn};
 ghost use Rattle.layout.specs.Soundness.{IsSound};
-ghost use Rattle.equivalence.specs.Lent.{mappingLength, emptyWords};
-ghost use Rattle.listing.specs.Progress.{programOf, Counted};
+ghost use Rattle.equivalence.specs.MappingWords.{mappingLength, emptyWords};
+ghost use Rattle.listing.specs.Progress.{programOf, TallyFits};
 ghost use Rattle.listing.specs.Stepping.{secondLine, LineDoes, Ran};
-ghost use Rattle.listing.specs.Calls.{Prints, lent};
+ghost use Rattle.listing.specs.Calls.{PrintsListing, buffers};
 
 // One line: its length, its letter, and then what it does.
 fn line_does(
@@ -36,26 +36,26 @@ fn line_does(
     out: &mut [u8],
     progress: Progress,
     line: &[u8],
-) -> Step
+) -> LineResult
     requires { ⌜ IsSound (now store) ⌝ }
     requires { ⌜ now mapping ≡ emptyWords ⌝ }
     requires { ⌜ (progress .at) + 40 ≤ length (now out) ⌝ }
-    requires { ⌜ Counted progress ⌝ }
+    requires { ⌜ TallyFits progress ⌝ }
     ensures { λ r. ⌜ LineDoes program (now (line .entry)) (now (store .entry)) (now (store .exit)) (now (out .entry)) (now (out .exit)) progress r ⌝ }
     ensures { λ r. ⌜ now (mapping .exit) ≡ emptyWords ⌝ }
 {
     if line.len() > MAX_LINE {
-        return Step::Stopped(11);
+        return LineResult::Stopped(11);
     }
     let Word::At(letter, at) = word_at(line, 0) else {
-        return Step::Stopped(10);
+        return LineResult::Stopped(10);
     };
     if letter == b'q' {
         return query_does(program, store, mapping, out, progress, line, at);
     }
     match building_does(store, line, letter, at) {
-        Cause::Is(cause) => Step::Stopped(cause),
-        Cause::None => Step::On(progress),
+        Cause::Is(cause) => LineResult::Stopped(cause),
+        Cause::None => LineResult::On(progress),
     }
 }
 
@@ -91,8 +91,8 @@ fn run(
         }
         let step = line_does(program, store, mapping, out, progress, &listing[start..end]);
         match step {
-            Step::Stopped(cause) => return put_refusal(out, progress.at, number, cause),
-            Step::On(next) => progress = next,
+            LineResult::Stopped(cause) => return put_refusal(out, progress.at, number, cause),
+            LineResult::On(next) => progress = next,
         }
         start = end + 1;
         number += 1;
@@ -100,7 +100,7 @@ fn run(
     close(program, out, progress)
 }
 
-// A listing from its first line on, in buffers of their lengths and with room enough.
+// A whole listing, in buffers of the right lengths and with room enough.
 pub fn listed(
     program: Program,
     listing: &[u8],
@@ -111,7 +111,7 @@ pub fn listed(
     requires { ⌜ length (now store) ≡ bufferLength ⌝ }
     requires { ⌜ length (now mapping) ≡ mappingLength ⌝ }
     requires { ⌜ maxOutput ≤ length (now out) ⌝ }
-    ensures { λ r. ⌜ Prints (programOf program) (now (listing .entry)) (lent (now (store .entry)) (now (mapping .entry)) (now (out .entry))) (lent (now (store .exit)) (now (mapping .exit)) (now (out .exit))) r ⌝ }
+    ensures { λ r. ⌜ PrintsListing (programOf program) (now (listing .entry)) (buffers (now (store .entry)) (now (mapping .entry)) (now (out .entry))) (buffers (now (store .exit)) (now (mapping .exit)) (now (out .exit))) r ⌝ }
 {
     let cause = header_cause(listing);
     if let Cause::Is(number) = cause {

@@ -1,6 +1,6 @@
-// A `q` of `sums`: both hashes are there before any is printed.
+// A `q` of `sums`: both hashes are computed before anything is printed, since the right one may be refused.
+use crate::types::LineResult;
 use crate::types::Progress;
-use crate::types::Step;
 use hashing::hashes::fragment_hash;
 use hashing::types::Hashed;
 use lines::parsing::Query;
@@ -11,13 +11,13 @@ ghost use lib.ListN.{length};
 ghost use Rattle.rules.specs.Listings.{sumsProgram, lineDoes};
 ghost use Rattle.layout.specs.Soundness.{IsSound};
 ghost use Rattle.lines.specs.Parsing.{queryOf};
-ghost use Rattle.listing.specs.Progress.{progressOf, Counted};
+ghost use Rattle.listing.specs.Progress.{progressOf, TallyFits};
 ghost use Rattle.listing.specs.Asking.{Stepped};
 
-pub fn sums_does(store: &[u32], out: &mut [u8], progress: Progress, query: Query) -> Step
+pub fn sums_does(store: &[u32], out: &mut [u8], progress: Progress, query: Query) -> LineResult
     requires { ⌜ IsSound (now store) ⌝ }
     requires { ⌜ (progress .at) + 40 ≤ length (now out) ⌝ }
-    requires { ⌜ Counted progress ⌝ }
+    requires { ⌜ TallyFits progress ⌝ }
     ensures { λ r. ⌜ Stepped (lineDoes sumsProgram (progressOf (now (store .entry)) progress) (some (queryOf query))) (now (store .entry)) (now (out .entry)) (now (out .exit)) progress r ⌝ }
 {
     let sort = query.sort;
@@ -25,12 +25,12 @@ pub fn sums_does(store: &[u32], out: &mut [u8], progress: Progress, query: Query
     let left = fragment_hash(store, sort, query.left, ignore);
     let right = fragment_hash(store, sort, query.right, ignore);
     match left {
-        Hashed::Refused(cause) => Step::Stopped(cause),
+        Hashed::Refused(cause) => LineResult::Stopped(cause),
         Hashed::Hash(l) => match right {
-            Hashed::Refused(cause) => Step::Stopped(cause),
+            Hashed::Refused(cause) => LineResult::Stopped(cause),
             Hashed::Hash(r) => {
                 let at = put_hashes(out, progress.at, l, r);
-                Step::On(Progress {
+                LineResult::On(Progress {
                     at,
                     equal: progress.equal,
                     all: progress.all,

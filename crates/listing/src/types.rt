@@ -12,8 +12,8 @@ pub struct Progress {
     pub all: u64,
 }
 
-// What a line leaves, or the cause for which it is refused.
-pub enum Step {
+// What a line results in: the progress behind it, or the cause for which it is refused.
+pub enum LineResult {
     On(Progress),
     Stopped(u32),
 }

@@ -11,15 +11,15 @@ use borrow.Author.Tests.{eq-eqb}
 use Rattle.rules.specs.Building.{firstFailed}
 use Rattle.rules.specs.Listings.{Program, listed, maxOutput}
 use Rattle.layout.specs.Columns.{bufferLength}
-use Rattle.equivalence.specs.Lent.{mappingLength}
+use Rattle.equivalence.specs.MappingWords.{mappingLength}
 use Rattle.lines.specs.Wrote.{Wrote}
 use Rattle.listing.specs.declared.types.Program as types
 use Rattle.listing.specs.declared.types.Listed.{Listed}
 use Rattle.listing.specs.declared.types.Listed.the-variants.{Printed, Refused, NoRoom}
 use Rattle.listing.specs.Progress.{programOf}
-use Rattle.listing.specs.Calls.{Lent, lentTests, Answered}
+use Rattle.listing.specs.Calls.{Buffers, bufferTests, Answered}
 
-module _ (p : Program) (listing : List ℕ) (before after : Lent) (r : Listed) (answer : Answered p listing before after r) where
+module _ (p : Program) (listing : List ℕ) (before after : Buffers) (r : Listed) (answer : Answered p listing before after r) where
   -- an answer that something is printed says what
   pub all-printed : (n : ℕ) → r ≡ Printed n → Wrote maxOutput (before .out) (after .out) 0 (listed p listing) n
   unfolding Answered
@@ -27,8 +27,8 @@ module _ (p : Program) (listing : List ℕ) (before after : Lent) (r : Listed) (
 
   module _ (store : length (before .store) ≡ bufferLength) (mapping : length (before .mapping) ≡ mappingLength) where
     -- no lent buffer is refused
-    passes : firstFailed (lentTests before) ≡ none
-    unfolding firstFailed lentTests
+    passes : firstFailed (bufferTests before) ≡ none
+    unfolding firstFailed bufferTests
     passes = rw (eq-eqb _ bufferLength store, eq-eqb _ mappingLength mapping)
 
     pub never-refused : {A : Type 0} (cause : ℕ) → r ≡ Refused cause → A

@@ -1,2 +1,2 @@
--- What a contract of this crate says.
-pub mod Within
+-- What was read fits into its buffer: said by the contracts of this crate.
+pub mod InputFits

@@ -5,7 +5,7 @@ use crate::input::read_to_end;
 use listing::calls::ROOM;
 use listing::types::Program;
 
-// A byte more than the longest listing shows that it is too long.
+// One byte more than the longest listing has, so that a longer one is seen to be too long.
 const BYTES: usize = 65537;
 
 // Writes what the program prints for a listing.
@@ -17,7 +17,7 @@ fn answer(program: Program, listing: &[u8]) {
     }
 }
 
-// Nothing is printed where standard input can't be read whole.
+// Runs a program. Nothing is printed where standard input can't be read whole.
 pub fn run(program: Program) {
     let mut bytes = [0; BYTES];
     let Input::Read(n) = read_to_end(0, &mut bytes) else {

@@ -9,16 +9,13 @@ use mathlib.Core.Path.{_≡_, refl, ap, subst}
 use borrow.Author.Tests.{ltb-true, lt-ltb}
 use lib.Dec.{ltb}
 use lib.ListN.{length}
-use Rattle.rules.specs.Lists.{all, any, keep, sameList}
+use Rattle.rules.specs.Lists.{any, filter, sameList}
 use Rattle.rules.specs.Store.{Attribute, keysRise, keysRiseAfter}
-use Rattle.rules.specs.Shells.{Ignore, unignored, sameAttribute}
+use Rattle.rules.specs.Shells.{unignored, sameAttribute}
+use Rattle.rules.specs.Statements.{SameByKey, UnignoredSame}
 use Rattle.rules.proofs.Basics.Tests.{and-left, and-right, and-both, or-cases, or-left, or-right, all-at, all-of, clash}
 use Rattle.rules.proofs.Soundness.KeptAttributes.{rises-behind}
 use Rattle.rules.proofs.Form.SameShells.{attribute-same, attributes-same}
-
--- the reading by keys, of 01 and of the Rust's `attributes_eq`: as many, and each key of the one with an equal attribute in the other
-abbrev pub SameByKey : List Attribute → List Attribute → Type 0
-SameByKey xs ys = (length xs ≡ length ys) × (all (λ (a : Attribute). any (sameAttribute a) ys) xs ≡ true)
 
 module _ {A : Type 0} (p : A → A → Bool) (same : (a b : A) → (p a b ≡ true) ↔ (a ≡ b)) where
   any-same : (a : A) (ys : List A) → (any (p a) ys ≡ true) ↔ List·Memᴰ a ys
@@ -52,23 +49,23 @@ rise-at k (x ∷ xs) h a m =
     (λ m′. omega (arith, c .0, rise-at (x .key) xs (c .1) a m′)) (List·Memᴰ·cases-cons m)
 
 module _ (p : Attribute → Bool) where
-  keep-after : (k : ℕ) (xs : List Attribute) → keysRiseAfter k xs ≡ true → keysRiseAfter k (keep p xs) ≡ true
-  unfolding keysRiseAfter keep
-  keep-after k [] h = refl
-  keep-after k (x ∷ xs) h = go (p x) (keep-after (x .key) xs (rise-cons k x xs .0 h .1))
+  filter-after : (k : ℕ) (xs : List Attribute) → keysRiseAfter k xs ≡ true → keysRiseAfter k (filter p xs) ≡ true
+  unfolding keysRiseAfter filter
+  filter-after k [] h = refl
+  filter-after k (x ∷ xs) h = go (p x) (filter-after (x .key) xs (rise-cons k x xs .0 h .1))
     where
-      go : (b : Bool) → keysRiseAfter (x .key) (keep p xs) ≡ true → keysRiseAfter k (cond b (x ∷ keep p xs) (keep p xs)) ≡ true
-      go true rest = rise-cons k x (keep p xs) .1 (rise-cons k x xs .0 h .0, rest)
-      go false rest = rise-below k (x .key) (omega (arith, rise-cons k x xs .0 h .0)) (keep p xs) rest
+      go : (b : Bool) → keysRiseAfter (x .key) (filter p xs) ≡ true → keysRiseAfter k (cond b (x ∷ filter p xs) (filter p xs)) ≡ true
+      go true rest = rise-cons k x (filter p xs) .1 (rise-cons k x xs .0 h .0, rest)
+      go false rest = rise-below k (x .key) (omega (arith, rise-cons k x xs .0 h .0)) (filter p xs) rest
 
-  keep-rises : (xs : List Attribute) → keysRise xs ≡ true → keysRise (keep p xs) ≡ true
-  unfolding keysRise keep
-  keep-rises [] h = refl
-  keep-rises (x ∷ xs) h = go (p x) (keep-after (x .key) xs h)
+  pub filter-rises : (xs : List Attribute) → keysRise xs ≡ true → keysRise (filter p xs) ≡ true
+  unfolding keysRise filter
+  filter-rises [] h = refl
+  filter-rises (x ∷ xs) h = go (p x) (filter-after (x .key) xs h)
     where
-      go : (b : Bool) → keysRiseAfter (x .key) (keep p xs) ≡ true → keysRise (cond b (x ∷ keep p xs) (keep p xs)) ≡ true
+      go : (b : Bool) → keysRiseAfter (x .key) (filter p xs) ≡ true → keysRise (cond b (x ∷ filter p xs) (filter p xs)) ≡ true
       go true rest = rest
-      go false rest = rises-behind (x .key) (keep p xs) rest
+      go false rest = rises-behind (x .key) (filter p xs) rest
 
 -- ---- a rising list inside a rising list
 
@@ -107,7 +104,7 @@ fits (y ∷ ys) hy (x ∷ xs) hx sub = go (fits ys (rises-behind (y .key) ys hy)
 
 same-by-key : (xs ys : List Attribute) → keysRise xs ≡ true → keysRise ys ≡ true
     → (sameList sameAttribute xs ys ≡ true) ↔ SameByKey xs ys
-unfolding Within Fits
+unfolding Within Fits SameByKey
 same-by-key xs ys hx hy = (
   λ h. let e : xs ≡ ys = attributes-same xs ys .0 h in
       (ap length e, all-of _ xs (λ a m. any-same sameAttribute attribute-same a ys .1 (subst (λ (zs : List Attribute). List·Memᴰ a zs) e m))),
@@ -115,7 +112,6 @@ same-by-key xs ys hx hy = (
       (fits ys hy xs hx (λ a m. any-same sameAttribute attribute-same a ys .0 (all-at _ xs (h .1) m)) .1 (h .0)),
 )
 
-pub unignored-same : (ig : Ignore) (xs ys : List Attribute) → keysRise xs ≡ true → keysRise ys ≡ true
-    → (sameList sameAttribute (unignored ig xs) (unignored ig ys) ≡ true) ↔ SameByKey (unignored ig xs) (unignored ig ys)
-unfolding unignored
-unignored-same ig xs ys hx hy = same-by-key _ _ (keep-rises _ xs hx) (keep-rises _ ys hy)
+pub unignored-same : UnignoredSame
+unfolding UnignoredSame unignored
+unignored-same ig xs ys hx hy = same-by-key _ _ (filter-rises _ xs hx) (filter-rises _ ys hy)

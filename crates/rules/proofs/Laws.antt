@@ -8,7 +8,8 @@ use Rattle.rules.specs.Store.{Store, emptyStore}
 use Rattle.rules.specs.Fragments.{Sort, Premise, NamesNothingOf}
 use Rattle.rules.specs.Building.{after}
 use Rattle.rules.specs.Laws.{Equal, In, LawsOfSound, Demand3}
-use Rattle.rules.proofs.Form.Canonical.{canonical, canonical→equal, equal→canonical, canonical→hash}
+use Rattle.rules.specs.Form.{canonical}
+use Rattle.rules.proofs.Form.Canonical.{canonical→equal, equal→canonical, canonical→hash}
 use Rattle.rules.proofs.Soundness.Kept.{empty-sound, after-sound}
 
 -- of the premise only this is used

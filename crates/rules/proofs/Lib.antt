@@ -5,7 +5,9 @@ pub mod Walking
 pub mod Form
 pub mod Laws
 pub mod Attributes
+pub mod Rust
 pub mod Starred
 pub mod Listings
 pub mod Listed
 pub mod Needed
+pub mod Stated

@@ -5,6 +5,5 @@ pub mod Deep
 pub mod Enough
 pub mod EnoughSteps
 pub mod Answered
-pub mod Rust
 pub mod Paired
 pub mod Sizes

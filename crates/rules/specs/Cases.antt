@@ -122,6 +122,14 @@ namesInner =
     ∷ setOperand 2 0 2
     ∷ []
 
+-- an operation with a result, and two of one kind, the first with that result as operand and the second with the first's
+unfoldable pub chained : List Call
+chained =
+    newOperation 1 none 0 0 (3 ∷ []) [] []
+    ∷ newOperation 2 none 0 0 (3 ∷ []) (0 ∷ []) []
+    ∷ newOperation 2 none 0 0 (3 ∷ []) (1 ∷ []) []
+    ∷ []
+
 -- "Mistakes a porter makes", and one of each kind of builder's mistake
 unfoldable pub mistakes : List Case
 mistakes =
@@ -129,8 +137,11 @@ mistakes =
     maps (twoRegions 2 1) (ignoring false 0) region 0 1 0 2
     -- a twin that names its own inner value early is unequal
     ∷ compares namesInner (ignoring false 0) op 1 2 (neq (pairOf op 1 2) 1)
-    -- an entry that was lent counts; one whose image or value does not exist is found before a fragment that does not
+    -- an entry that was lent counts
     ∷ begun (twoUsers 1) 0 1 (ignoring false 0) op 1 2 (eq 1)
+    -- a name's image is looked up once: that of value 0 is value 1, though value 1 has an image of its own by then
+    ∷ begun chained 0 1 (ignoring false 0) op 1 2 (eq 1)
+    -- a lent entry whose image or value does not exist is found before a fragment that does not
     ∷ begun (twoUsers 1) 0 2 (ignoring false 0) op 1 2 (refusedCompared 8)
     ∷ begun (twoUsers 1) 2 0 (ignoring false 0) op 1 3 (refusedCompared 8)
     ∷ begun (twoUsers 1) 1 0 (ignoring false 0) op 1 3 (refusedCompared 2)

@@ -1,6 +1,6 @@
 -- 01, "Pairing and checking". A walk goes on, or has ended at its first failure; either way with the entries made so far.
--- A reading says what happens to a list that is exactly one longer on the left where lengths are tested: 01 finds it, and the Rust's
--- `zip` swallows it. Both are written by the same definitions, so that they differ in that and in nothing else.
+-- The Rust's own walk is in `Rust`; a list that is exactly one longer on the left, which its `zip` swallows, ends the walk here by a stop of
+-- its own.
 use Prim.Native.Nat.{ℕ, zero, suc, _+_}
 use mathlib.Core.Bool.{Bool, cond, _&&_}
 use mathlib.Core.List.{List, [], _∷_}
@@ -45,22 +45,13 @@ abbrev pub _>>=_ : Walk → (State → Walk) → Walk
 on st >>= f = f st
 ended why st >>= f = ended why st
 
-pub data Reading : Type 0 where
-  paper : Reading
-  rust : Reading
-
--- the left list is exactly one longer: 01 finds it, the Rust's `zip` has taken the item and misses it
-unfoldable pub oneMore : Reading → Pair → State → Walk
-oneMore paper p st = ended (oneLonger p) st
-oneMore rust p st = on st
-
 -- pair by pair "up to the shorter end, then unequal lengths name" the pair p
-unfoldable pub pairwise : Reading → (ℕ → ℕ → State → Walk) → Pair → List ℕ → List ℕ → State → Walk
-pairwise z f p [] [] st = on st
-pairwise z f p [] (r ∷ rs) st = ended (unequal p) st
-pairwise z f p (l ∷ []) [] st = oneMore z p st
-pairwise z f p (l ∷ m ∷ ls) [] st = ended (unequal p) st
-pairwise z f p (l ∷ ls) (r ∷ rs) st = f l r st >>= pairwise z f p ls rs
+unfoldable pub pairwise : (ℕ → ℕ → State → Walk) → Pair → List ℕ → List ℕ → State → Walk
+pairwise f p [] [] st = on st
+pairwise f p [] (r ∷ rs) st = ended (unequal p) st
+pairwise f p (l ∷ []) [] st = ended (oneLonger p) st
+pairwise f p (l ∷ m ∷ ls) [] st = ended (unequal p) st
+pairwise f p (l ∷ ls) (r ∷ rs) st = f l r st >>= pairwise f p ls rs
 
 -- pair by pair up to the shorter end, lengths not tested
 unfoldable pub eachPair : (ℕ → ℕ → State → Walk) → List ℕ → List ℕ → State → Walk
@@ -131,40 +122,36 @@ checkOps s regions l r st = checkNames s l r st >>= eachPair regions (regionsOf 
 -- ---- "Compare two lists of blocks" (`blocks_eq`)
 
 -- "pass 1 pairs blocks up to the shorter end, then unequal lengths name the regions"
-unfoldable pub pass1 : Reading → Store → Ignore → Pair → List ℕ → List ℕ → State → Walk
-pass1 z s ig p ls rs = pairwise z (pairBlocks s ig) p ls rs
+unfoldable pub pass1 : Store → Ignore → Pair → List ℕ → List ℕ → State → Walk
+pass1 s ig p ls rs = pairwise (pairBlocks s ig) p ls rs
 
 -- "Pass 2, block by block, pairs operations up to the shorter end, then unequal lengths name the blocks."
-unfoldable pub pass2 : Reading → Store → Ignore → List ℕ → List ℕ → State → Walk
-pass2 z s ig ls rs = eachPair (λ (l r : ℕ). pairwise z (pairOps s ig) (pairOf block l r) (opsOf s l) (opsOf s r)) ls rs
+unfoldable pub pass2 : Store → Ignore → List ℕ → List ℕ → State → Walk
+pass2 s ig ls rs = eachPair (λ (l r : ℕ). pairwise (pairOps s ig) (pairOf block l r) (opsOf s l) (opsOf s r)) ls rs
 
 -- "Pass 3 checks every operation pair."
 unfoldable pub pass3 : Store → (ℕ → ℕ → State → Walk) → List ℕ → List ℕ → State → Walk
 pass3 s check ls rs = eachPair (λ (l r : ℕ). eachPair check (opsOf s l) (opsOf s r)) ls rs
 
-unfoldable pub compareLists : Reading → Store → Ignore → (ℕ → ℕ → State → Walk) → Pair → List ℕ → List ℕ → State → Walk
-compareLists z s ig check p ls rs st = pass1 z s ig p ls rs st >>= pass2 z s ig ls rs >>= pass3 s check ls rs
+unfoldable pub compareLists : Store → Ignore → (ℕ → ℕ → State → Walk) → Pair → List ℕ → List ℕ → State → Walk
+compareLists s ig check p ls rs st = pass1 s ig p ls rs st >>= pass2 s ig ls rs >>= pass3 s check ls rs
 
 -- two regions (`region_eq`); the first number is that of regions, one in another, that may still be entered
-unfoldable pub compareRegions : ℕ → Reading → Store → Ignore → ℕ → ℕ → State → Walk
-compareRegions zero z s ig l r st = ended tooDeep st
-compareRegions (suc k) z s ig l r st =
-    compareLists z s ig (checkOps s (compareRegions k z s ig)) (pairOf region l r) (blocksOf s l) (blocksOf s r) st
+unfoldable pub compareRegions : ℕ → Store → Ignore → ℕ → ℕ → State → Walk
+compareRegions zero s ig l r st = ended tooDeep st
+compareRegions (suc k) s ig l r st =
+    compareLists s ig (checkOps s (compareRegions k s ig)) (pairOf region l r) (blocksOf s l) (blocksOf s r) st
 
 -- "Comparing operations pairs, then checks. A block is a list of one." (`operation_eq`, `basic_block_eq`, `region_eq`)
-unfoldable pub compareBy : Reading → Store → Ignore → Sort → ℕ → ℕ → State → Walk
-compareBy z s ig op l r st = pairOps s ig l r st >>= checkOps s (compareRegions levels z s ig) l r
-compareBy z s ig block l r st =
-    compareLists z s ig (checkOps s (compareRegions levels z s ig)) (pairOf block l r) (l ∷ []) (r ∷ []) st
-compareBy z s ig region l r st = compareRegions levels z s ig l r st
+unfoldable pub compareBy : Store → Ignore → Sort → ℕ → ℕ → State → Walk
+compareBy s ig op l r st = pairOps s ig l r st >>= checkOps s (compareRegions levels s ig) l r
+compareBy s ig block l r st =
+    compareLists s ig (checkOps s (compareRegions levels s ig)) (pairOf block l r) (l ∷ []) (r ∷ []) st
+compareBy s ig region l r st = compareRegions levels s ig l r st
 
 -- a call's walk begins with the lent mapping, and with nothing entered
 unfoldable pub start : Mapping → State
 start m = record { mapping = m; paired = 0 }
 
 unfoldable pub compare : Store → Ignore → Sort → ℕ → ℕ → Mapping → Walk
-compare s ig f l r m = compareBy paper s ig f l r (start m)
-
--- the same walk as the Rust makes it
-unfoldable pub rustCompare : Store → Ignore → Sort → ℕ → ℕ → Mapping → Walk
-rustCompare s ig f l r m = compareBy rust s ig f l r (start m)
+compare s ig f l r m = compareBy s ig f l r (start m)

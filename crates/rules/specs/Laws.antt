@@ -12,13 +12,13 @@ use Rattle.rules.specs.Mapping.{emptyMapping}
 use Rattle.rules.specs.Comparison.{Walk, on, ended, compare}
 use Rattle.rules.specs.Hash.{hash}
 
-unfoldable pub goesOn : Walk → Bool
-goesOn (on st) = true
-goesOn (ended why st) = false
+unfoldable pub succeeds : Walk → Bool
+succeeds (on st) = true
+succeeds (ended why st) = false
 
 -- "Two fragments are equal when their comparison ends without a failure": here begun with an empty mapping
 unfoldable pub equal : Store → Ignore → Sort → ℕ → ℕ → Bool
-equal s ig f a b = goesOn (compare s ig f a b emptyMapping)
+equal s ig f a b = succeeds (compare s ig f a b emptyMapping)
 
 abbrev pub Equal : Store → Ignore → Sort → ℕ → ℕ → Type 0
 Equal s ig f a b = equal s ig f a b ≡ true

@@ -1,4 +1,5 @@
--- Document 01 as definitions that compute, in its order, apart from any layout in memory. Read from top to bottom beside the paper.
+-- The rules: the order ("document 01", "01") as definitions that compute, in its order and with its sentences quoted, apart from any layout
+-- in memory. Read from top to bottom; docs/LISTING.md and docs/CAUSES.md say the same in words.
 pub mod Lists
 pub mod Store
 pub mod Fragments
@@ -11,6 +12,10 @@ pub mod Answers
 pub mod Bytes
 pub mod Lines
 pub mod Listings
+pub mod Rust
+pub mod Agreement
 pub mod Laws
+pub mod Form
+pub mod Statements
 pub mod Cases
 pub mod ListingCases

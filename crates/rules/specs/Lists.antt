@@ -33,9 +33,9 @@ module _ {ℓ} {A : Type ℓ} where
   any p (x ∷ xs) = p x || any p xs
 
   -- the entries that pass the test, in their order
-  unfoldable pub keep : (A → Bool) → List A → List A
-  keep p [] = []
-  keep p (x ∷ xs) = cond (p x) (x ∷ keep p xs) (keep p xs)
+  unfoldable pub filter : (A → Bool) → List A → List A
+  filter p [] = []
+  filter p (x ∷ xs) = cond (p x) (x ∷ filter p xs) (filter p xs)
 
   -- the places of the entries that pass the test, by rising number, the first place being n
   unfoldable pub numbersFrom : ℕ → (A → Bool) → List A → List ℕ

@@ -6,7 +6,7 @@ use mathlib.Core.Option.{Option, none, some}
 use mathlib.Core.List.{List, [], _∷_, map}
 use lib.Dec.{eqb}
 use lib.ListN.{length}
-use Rattle.rules.specs.Lists.{every, keep, sameList}
+use Rattle.rules.specs.Lists.{every, filter, sameList}
 use Rattle.rules.specs.Store.{Store, Attribute, Owner, ofOp, ofBlock, opAt, blockAt, typeOf, regionsOf, valuesOf}
 
 -- "An ignore rule is a yes or no for locations and 64 bits"
@@ -20,7 +20,7 @@ ignored ig a = eqb ((ig .bits / 2 ^ (a .kind)) % 2) 1
 
 -- "Ignored attributes are neither counted nor compared."
 unfoldable pub unignored : Ignore → List Attribute → List Attribute
-unignored ig as′ = keep (λ (a : Attribute). not (ignored ig a)) as′
+unignored ig as′ = filter (λ (a : Attribute). not (ignored ig a)) as′
 
 unfoldable pub unignoredLocation : Ignore → ℕ → Option ℕ
 unignoredLocation ig l = cond (ig .locations) none (some l)

@@ -1,1 +1,1 @@
-// The rules hold no code: specs/ states document 01, proofs/ the laws over it.
+// The rules hold no code: specs/ states the order, proofs/ the laws over it.

@@ -1,8 +1,8 @@
-// What a program prints for a case, held to what it must print.
-use crate::making::Case;
+// What a program prints for a case is compared with what it must print.
+use crate::making::CaseLengths;
 use crate::text::byte_at;
+use crate::text::clamp;
 use crate::text::next;
-use crate::text::within;
 use lines::texts::same_bytes;
 use listing::calls::ROOM;
 use listing::types::Program;
@@ -20,7 +20,7 @@ fn print(program: Program, listing: &[u8], out: &mut [u8]) -> usize
 }
 
 // The program prints all that it must, and nothing else.
-fn holds(program: Program, listing: &[u8], wanted: &[u8], out: &mut [u8]) -> bool {
+fn prints_wanted(program: Program, listing: &[u8], wanted: &[u8], out: &mut [u8]) -> bool {
     let n = print(program, listing, out);
     same_bytes(&out[..n], wanted)
 }
@@ -33,18 +33,18 @@ fn show(name: &[u8], program: Program, listing: &[u8], out: &mut [u8]) {
     io::write_all(1, &out[..n]);
 }
 
-// The programs that a line names by its first letter. One that is not known never holds.
+// The programs that a line `=` names, by the first letter, print all that they must. A name that is not known never holds.
 fn all_hold(letter: u8, listing: &[u8], wanted: &[u8], out: &mut [u8]) -> bool {
     match letter {
-        b't' => holds(Program::Twins, listing, wanted, out),
-        b's' => holds(Program::Sums, listing, wanted, out),
-        b'b' => holds(Program::Twins, listing, wanted, out)
-            && holds(Program::Sums, listing, wanted, out),
+        b't' => prints_wanted(Program::Twins, listing, wanted, out),
+        b's' => prints_wanted(Program::Sums, listing, wanted, out),
+        b'b' => prints_wanted(Program::Twins, listing, wanted, out)
+            && prints_wanted(Program::Sums, listing, wanted, out),
         _ => false,
     }
 }
 
-// What they print, where it is not what they must.
+// Shows what they print, where it is not what they must.
 fn show_all(letter: u8, listing: &[u8], out: &mut [u8]) {
     match letter {
         b't' => show(b"twins", Program::Twins, listing, out),
@@ -56,7 +56,7 @@ fn show_all(letter: u8, listing: &[u8], out: &mut [u8]) {
     }
 }
 
-// The verdict's line.
+// Runs the programs that the line names, and prints the line with the verdict.
 fn judge(line: &[u8], name: &[u8], listing: &[u8], wanted: &[u8]) {
     let mut out = [0; ROOM];
     let letter = byte_at(line, 1);
@@ -72,11 +72,17 @@ fn judge(line: &[u8], name: &[u8], listing: &[u8], wanted: &[u8]) {
     show_all(letter, listing, &mut out);
 }
 
-// The case keeps its listing: another program may be run on it.
-pub fn judged(case: Case, line: &[u8], name: &[u8], listing: &[u8], wanted: &[u8]) -> Case {
-    let a = within(name, case.name);
-    let b = within(listing, case.listing);
-    let c = within(wanted, case.wanted);
+// Judges a case, which keeps its listing: another program may be run on it.
+pub fn judged(
+    case: CaseLengths,
+    line: &[u8],
+    name: &[u8],
+    listing: &[u8],
+    wanted: &[u8],
+) -> CaseLengths {
+    let a = clamp(name, case.name);
+    let b = clamp(listing, case.listing);
+    let c = clamp(wanted, case.wanted);
     judge(line, &name[..a], &listing[..b], &wanted[..c]);
     let mut done = case;
     done.wanted = 0;

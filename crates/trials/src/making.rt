@@ -1,40 +1,40 @@
 // The lines that make a listing and what must be printed for it.
 use crate::text::byte_at;
 use crate::text::next;
-use crate::text::put_byte;
-use crate::text::put_decimal;
+use crate::text::put_byte_if_room;
+use crate::text::put_decimal_if_room;
 use lines::reader::number_at;
 use lines::reading::Read;
 
-// The case that is made: how many bytes its name, its group's begin, its listing and what must be printed have.
-pub struct Case {
+// The case that is being made: how many bytes its name, the start that its group has in common, its listing and what must be printed have.
+pub struct CaseLengths {
     pub name: usize,
     pub kept: usize,
     pub listing: usize,
     pub wanted: usize,
 }
 
-// The turns of a line, by number, and where it begins behind them.
+// A line that is repeated: the numbers of its turns, from `from` up to `until`, and where the line to repeat begins.
 struct Turns {
     from: u32,
     until: u32,
     behind: usize,
 }
 
-// A line that is none of a case file is shown, so that no case is passed over unseen.
-pub fn unknown(case: Case, line: &[u8]) -> Case {
+// A line that no case file may have is shown, so that no case is passed over unseen.
+pub fn unknown(case: CaseLengths, line: &[u8]) -> CaseLengths {
     io::write_all(1, b"unknown line: ");
     io::write_all(1, line);
     io::write_all(1, b"\n");
     case
 }
 
-// A byte of a line in one of its turns.
+// A byte of a line in one of its turns: `#` stands for the number of the turn, and `/` for a line feed.
 fn put_made(to: &mut [u8], at: usize, byte: u8, turn: u32) -> usize {
     match byte {
-        b'#' => put_decimal(to, at, turn),
-        b'/' => put_byte(to, at, b'\n'),
-        _ => put_byte(to, at, byte),
+        b'#' => put_decimal_if_room(to, at, turn),
+        b'/' => put_byte_if_room(to, at, b'\n'),
+        _ => put_byte_if_room(to, at, byte),
     }
 }
 
@@ -52,7 +52,7 @@ fn put_turn(to: &mut [u8], at: usize, text: &[u8], turn: u32) -> usize {
 fn put_line(to: &mut [u8], at: usize, text: &[u8], turn: u32, whole: bool) -> usize {
     let behind = put_turn(to, at, text, turn);
     if whole {
-        return put_byte(to, behind, b'\n');
+        return put_byte_if_room(to, behind, b'\n');
     }
     behind
 }
@@ -69,7 +69,13 @@ fn put_turns(to: &mut [u8], at: usize, text: &[u8], turns: Turns, whole: bool) -
 }
 
 // A line in all its turns, behind the listing or behind what must be printed.
-fn with_line(case: Case, line: &[u8], turns: Turns, listing: &mut [u8], wanted: &mut [u8]) -> Case {
+fn with_line(
+    case: CaseLengths,
+    line: &[u8],
+    turns: Turns,
+    listing: &mut [u8],
+    wanted: &mut [u8],
+) -> CaseLengths {
     let mark = byte_at(line, turns.behind);
     let at = next(line, turns.behind);
     let mut made = case;
@@ -82,7 +88,12 @@ fn with_line(case: Case, line: &[u8], turns: Turns, listing: &mut [u8], wanted: 
 }
 
 // A line of the listing, or one that must be printed.
-pub fn with_text(case: Case, line: &[u8], listing: &mut [u8], wanted: &mut [u8]) -> Case {
+pub fn with_text(
+    case: CaseLengths,
+    line: &[u8],
+    listing: &mut [u8],
+    wanted: &mut [u8],
+) -> CaseLengths {
     let once = Turns {
         from: 0,
         until: 1,
@@ -92,7 +103,12 @@ pub fn with_text(case: Case, line: &[u8], listing: &mut [u8], wanted: &mut [u8])
 }
 
 // The same in turns.
-pub fn with_turns(case: Case, line: &[u8], listing: &mut [u8], wanted: &mut [u8]) -> Case {
+pub fn with_turns(
+    case: CaseLengths,
+    line: &[u8],
+    listing: &mut [u8],
+    wanted: &mut [u8],
+) -> CaseLengths {
     let Read::At(from, p) = number_at(line, 1) else {
         return unknown(case, line);
     };
@@ -108,11 +124,11 @@ pub fn with_turns(case: Case, line: &[u8], listing: &mut [u8], wanted: &mut [u8]
 }
 
 // One byte more of the listing.
-pub fn with_byte(case: Case, line: &[u8], listing: &mut [u8]) -> Case {
+pub fn with_byte(case: CaseLengths, line: &[u8], listing: &mut [u8]) -> CaseLengths {
     let Read::At(n, _) = number_at(line, 1) else {
         return unknown(case, line);
     };
     let mut made = case;
-    made.listing = put_byte(listing, case.listing, (n % 256) as u8);
+    made.listing = put_byte_if_room(listing, case.listing, (n % 256) as u8);
     made
 }

@@ -1,6 +1,6 @@
 // A case file, line by line.
 use crate::judging::judged;
-use crate::making::Case;
+use crate::making::CaseLengths;
 use crate::making::unknown;
 use crate::making::with_byte;
 use crate::making::with_text;
@@ -29,9 +29,9 @@ fn put_name(name: &mut [u8], text: &[u8]) -> usize {
 }
 
 // A case begins with what its group has kept.
-fn begun(case: Case, line: &[u8], name: &mut [u8]) -> Case {
+fn new_case(case: CaseLengths, line: &[u8], name: &mut [u8]) -> CaseLengths {
     let at = next(line, 0);
-    Case {
+    CaseLengths {
         name: put_name(name, &line[at..]),
         kept: case.kept,
         listing: case.kept,
@@ -39,8 +39,8 @@ fn begun(case: Case, line: &[u8], name: &mut [u8]) -> Case {
     }
 }
 
-fn new_group() -> Case {
-    Case {
+fn new_group() -> CaseLengths {
+    CaseLengths {
         name: 0,
         kept: 0,
         listing: 0,
@@ -48,7 +48,7 @@ fn new_group() -> Case {
     }
 }
 
-fn keeping(case: Case) -> Case {
+fn keeping(case: CaseLengths) -> CaseLengths {
     let mut kept = case;
     kept.kept = case.listing;
     kept
@@ -56,17 +56,17 @@ fn keeping(case: Case) -> Case {
 
 // One line, by its first byte.
 fn with_any(
-    case: Case,
+    case: CaseLengths,
     line: &[u8],
     name: &mut [u8],
     listing: &mut [u8],
     wanted: &mut [u8],
-) -> Case {
+) -> CaseLengths {
     match byte_at(line, 0) {
         0 | b'#' => case,
         b'-' => new_group(),
         b'+' => keeping(case),
-        b':' => begun(case, line, name),
+        b':' => new_case(case, line, name),
         b'<' | b'~' | b'>' => with_text(case, line, listing, wanted),
         b'*' => with_turns(case, line, listing, wanted),
         b'%' => with_byte(case, line, listing),

@@ -1,4 +1,4 @@
-// Bytes written one behind the other into lent ones, and read from them. What finds no room is dropped, so that any numbers may be given.
+// Writing into a buffer and reading from it, at any position: what finds no room is dropped, and behind the end there is a 0.
 ghost use Prim.Native.Nat.{ℕ, _<_, _≤_};
 ghost use lib.ListN.{length};
 ghost use Rattle.io.specs.Counts.{Counts};
@@ -6,7 +6,7 @@ ghost use Rattle.io.specs.Counts.{Counts};
 // The most digits of a number within 32 bits.
 const DIGITS: usize = 10;
 
-pub fn put_byte(to: &mut [u8], at: usize, byte: u8) -> usize {
+pub fn put_byte_if_room(to: &mut [u8], at: usize, byte: u8) -> usize {
     if at < to.len() {
         to[at] = byte;
         return at + 1;
@@ -14,7 +14,7 @@ pub fn put_byte(to: &mut [u8], at: usize, byte: u8) -> usize {
     at
 }
 
-pub fn put_decimal(to: &mut [u8], at: usize, n: u32) -> usize {
+pub fn put_decimal_if_room(to: &mut [u8], at: usize, n: u32) -> usize {
     if at < to.len() {
         if to.len() - at >= DIGITS {
             return lines::writing::put_decimal(to, at, n);
@@ -24,7 +24,7 @@ pub fn put_decimal(to: &mut [u8], at: usize, n: u32) -> usize {
 }
 
 // `n`, or the number of bytes where that is less.
-pub fn within(bytes: &[u8], n: usize) -> usize
+pub fn clamp(bytes: &[u8], n: usize) -> usize
     ensures { λ r. ⌜ Counts r (now (bytes .entry)) ⌝ }
 {
     if n < bytes.len() {

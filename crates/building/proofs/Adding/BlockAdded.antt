@@ -14,7 +14,7 @@ use Rattle.rules.proofs.Basics.Tests.{and-both}
 use Rattle.layout.specs.Columns.{Cols, at, opOperandEnd, opSuccessorEnd, opAttributes, regionOp, regionBlockFirst, regionBlockEnd, blockRegion, blockLabel, blockLocation, blockArgumentFirst, blockArgumentEnd, blockOpEnd, blockAttributes}
 use Rattle.layout.specs.Reading.{tabulate, opCount, blockCount, regionCount, valueCount, operandCount, successorCount, attributeCount, slotsOf, opOf, blockOf, valueOf, storeOf}
 use Rattle.layout.specs.Soundness.{endBefore, inOwner, attributeSum}
-use Rattle.layout.proofs.Laid.{Within, BlockLaid, Laid, within-of}
+use Rattle.layout.proofs.Laid.{InRange, BlockLaid, Laid, within-of}
 use Rattle.layout.proofs.Tabulate.{blocks-length}
 use Rattle.building.proofs.Adding.Grew.{Grew, op-same, block-same, end-kept, op-kept, block-kept, region-kept}
 use Rattle.building.proofs.Adding.Rows.{ValuesAdded, values-read, values-laid, no-attributes, new-owned, old-or-last, rows-last, rows-kept, sum-last}
@@ -63,10 +63,10 @@ module _ (C D : Cols) (region label location : ℕ) (types : List ℕ) (h : Laid
   -- ---- the layout
 
   -- its region's range holds it
-  abbrev Place : Type 0
-  Place = Within (at D regionBlockFirst region) (at D regionBlockEnd region) (blockCount C)
+  abbrev InRegionRange : Type 0
+  InRegionRange = InRange (at D regionBlockFirst region) (at D regionBlockEnd region) (blockCount C)
 
-  new-block : Place → region < regionCount C → BlockLaid D (blockCount C)
+  new-block : InRegionRange → region < regionCount C → BlockLaid D (blockCount C)
   new-block place l =
       let er = a .regionWord in
       let ec = a .regionCounted in
@@ -74,13 +74,13 @@ module _ (C D : Cols) (region label location : ℕ) (types : List ℕ) (h : Laid
       let ek = a .keys in
       record {
         regionIn = omega arith;
-        place = subst (λ (r : ℕ). Within (at D regionBlockFirst r) (at D regionBlockEnd r) (blockCount C)) (sym er) place;
+        place = subst (λ (r : ℕ). InRange (at D regionBlockFirst r) (at D regionBlockEnd r) (blockCount C)) (sym er) place;
         arguments = new-owned D _ _ _ (valueCount C) (length types) _ _ (a .argumentFirst) (a .argumentEnd) (omega arith) (a .values .owner);
         ops = omega arith;
         keys = omega arith;
       }
 
-  blocks-laid : Place → region < regionCount C → (m : ℕ) → m < blockCount D → BlockLaid D m
+  blocks-laid : InRegionRange → region < regionCount C → (m : ℕ) → m < blockCount D → BlockLaid D m
   blocks-laid place r m l = go (old-or-last m (blockCount C) (subst (λ (n : ℕ). m < n) (a .blockCounted) l))
     where
       go : (m < blockCount C) ⊎ (m ≡ blockCount C) → BlockLaid D m
@@ -106,7 +106,7 @@ module _ (C D : Cols) (region label location : ℕ) (types : List ℕ) (h : Laid
       (ap sum (rows-last (blockCount D) (blockCount C) (at D blockAttributes) (at C blockAttributes) (a .grew .blockKeys) 0 (a .blockCounted) (a .keys)) ∙ sum-last _)
       ∙ h .attributes ∙ sym (a .attributeCounted)
 
-  pub added-laid : BlockRoom C types → Place → region < regionCount C → Laid D
+  pub added-laid : BlockRoom C types → InRegionRange → region < regionCount C → Laid D
   added-laid room place r =
       let c = h .counts in
       let e1 = a .opCounted in

@@ -6,8 +6,8 @@ use mathlib.Core.Path.{_≡_, ap, _∙_}
 use lib.ListN.{length, getD, set}
 use lib.Seq.{getD-set-same, getD-set-other}
 use Rattle.layout.specs.Columns.{Cols, at, pasted}
-use Rattle.layout.specs.Reading.{part}
-use Rattle.layout.proofs.Pasted.{pasted-old, pasted-new, part-old, part-new}
+use Rattle.layout.specs.Reading.{slice}
+use Rattle.layout.proofs.Pasted.{pasted-old, pasted-new, slice-old, slice-new}
 
 -- D is C with a word, or a run of words, of column k written at n
 
@@ -26,8 +26,8 @@ put C D k n v e h =
 pub record Run (C D : Cols) (k n : ℕ) (vs : List ℕ) : Type 0 where
   pub old : (i : ℕ) → i < n → at D k i ≡ at C k i
   pub new : (i : ℕ) → i < length vs → at D k (n + i) ≡ getD vs i 0
-  pub parts : (a e : ℕ) → e ≤ n → part (D k) a e ≡ part (C k) a e
-  pub last : part (D k) n (n + length vs) ≡ vs
+  pub slices : (a e : ℕ) → e ≤ n → slice (D k) a e ≡ slice (C k) a e
+  pub last : slice (D k) n (n + length vs) ≡ vs
 
 pub run : (C D : Cols) (k n : ℕ) (vs : List ℕ) → D k ≡ pasted (C k) n vs → n + length vs ≤ length (C k) → Run C D k n vs
 unfolding at
@@ -35,8 +35,8 @@ run C D k n vs e h =
     record {
       old = λ i l. ap (λ (xs : List ℕ). getD xs i 0) e ∙ pasted-old (C k) n vs h i l;
       new = λ i l. ap (λ (xs : List ℕ). getD xs (n + i) 0) e ∙ pasted-new (C k) n vs h i l;
-      parts = λ a b m. ap (λ (xs : List ℕ). part xs a b) e ∙ part-old (C k) n vs h a b m;
-      last = ap (λ (xs : List ℕ). part xs n (n + length vs)) e ∙ part-new (C k) n vs h;
+      slices = λ a b m. ap (λ (xs : List ℕ). slice xs a b) e ∙ slice-old (C k) n vs h a b m;
+      last = ap (λ (xs : List ℕ). slice xs n (n + length vs)) e ∙ slice-new (C k) n vs h;
     }
 
 -- a column that was not written

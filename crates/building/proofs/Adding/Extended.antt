@@ -11,13 +11,13 @@ use lib.Dec.{eqb, leb}
 use lib.ListN.{length, getD, set}
 use lib.Seq.{getD-set-same, getD-set-other}
 use Rattle.layout.specs.Columns.{Cols, at, write}
-use Rattle.layout.proofs.Laid.{Shaped, Within}
+use Rattle.layout.proofs.Laid.{Shaped, InRange}
 use Rattle.building.specs.Raw.{begun, extended}
 use Rattle.layout.proofs.Buffer.{write-at, write-other, write-shaped}
 
 -- what an owner's range becomes, for a child n: it holds what it held, and ends no later than behind n
 pub record Wider (f e f′ e′ n : ℕ) : Type 0 where
-  pub holds : (i : ℕ) → Within f e i → Within f′ e′ i
+  pub holds : (i : ℕ) → InRange f e i → InRange f′ e′ i
   pub ends : e′ ≤ n + 1
 
 pub wider-same : (f e f′ e′ n : ℕ) → f′ ≡ f → e′ ≡ e → e ≤ n → Wider f e f′ e′ n
@@ -40,7 +40,7 @@ unfolding Begun
 wider-own f e f′ e′ n (inl p) q l = let z = p .0 in let b = p .1 in record { holds = λ i w. record { from = omega arith; below = omega arith }; ends = omega arith }
 wider-own f e f′ e′ n (inr p) q l = let z = p .0 in let b = p .1 in record { holds = λ i w. record { from = omega arith; below = omega arith }; ends = omega arith }
 
-within-own : (f e f′ e′ n : ℕ) → Begun f e n f′ → e′ ≡ n + 1 → e ≤ n → Within f′ e′ n
+within-own : (f e f′ e′ n : ℕ) → Begun f e n f′ → e′ ≡ n + 1 → e ≤ n → InRange f′ e′ n
 unfolding Begun
 within-own f e f′ e′ n (inl p) q l = let b = p .1 in record { from = omega arith; below = omega arith }
 within-own f e f′ e′ n (inr p) q l = let z = p .0 in let b = p .1 in record { from = omega arith; below = omega arith }
@@ -96,5 +96,5 @@ module _ (C : Cols) (first end owner n : ℕ) where
             subst (λ (k : ℕ). Wider (at C first k) (at C end k) (at (extended C first end owner n) first k) (at (extended C first end owner n) end k) n) (sym e)
             (wider-own _ _ _ _ n (first-own (omega arith)) (end-own (omega arith)) (subst (λ (k : ℕ). at C end k ≤ n) e l))
 
-    pub extended-place : owner < length (C first) → owner < length (C end) → at C end owner ≤ n → Within (at (extended C first end owner n) first owner) (at (extended C first end owner n) end owner) n
+    pub extended-place : owner < length (C first) → owner < length (C end) → at C end owner ≤ n → InRange (at (extended C first end owner n) first owner) (at (extended C first end owner n) end owner) n
     extended-place lf le l = within-own _ _ _ _ n (first-own lf) (end-own le) l

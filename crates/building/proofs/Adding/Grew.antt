@@ -10,14 +10,14 @@ use lib.ListN.{getD}
 use Rattle.rules.specs.Store.{Owner, ofOp, ofBlock}
 use Rattle.rules.proofs.Basics.Tests.{and-left, and-right, and-both}
 use Rattle.layout.specs.Columns.{Cols, at, opKind, opParent, opLocation, opDepth, opRegionFirst, opRegionEnd, opResultFirst, opResultEnd, opOperandFirst, opOperandEnd, opSuccessorFirst, opSuccessorEnd, opAttributes, regionOp, regionBlockFirst, regionBlockEnd, blockRegion, blockLabel, blockLocation, blockArgumentFirst, blockArgumentEnd, blockOpFirst, blockOpEnd, blockAttributes, valueType, valueOwner, operandWords, successorWords, slotKey, slotKind, slotContent}
-use Rattle.layout.specs.Reading.{tabulate, part, opCount, blockCount, regionCount, valueCount, operandCount, successorCount, around, parentFrom, ownerFrom, slotsOf, attributeAt, attributesFrom, opOf, blockOf, valueOf}
+use Rattle.layout.specs.Reading.{tabulate, slice, opCount, blockCount, regionCount, valueCount, operandCount, successorCount, around, parentFrom, ownerFrom, slotsOf, attributeAt, attributesFrom, opOf, blockOf, valueOf}
 use Rattle.layout.specs.Soundness.{within, placed, endBefore, inOwner, valueLaid}
-use Rattle.layout.proofs.Laid.{Within, Owned, Tiled, OpLaid, BlockLaid, RegionLaid, Laid, within-facts, within-of}
+use Rattle.layout.proofs.Laid.{InRange, Owned, Tiled, OpLaid, BlockLaid, RegionLaid, Laid, within-facts, within-of}
 use Rattle.layout.proofs.Nesting.{placed-facts, placed-of}
 
 -- the entries of column k below n are those of before
-abbrev pub Kept : Cols → Cols → ℕ → ℕ → Type 0
-Kept C D k n = (i : ℕ) → i < n → at D k i ≡ at C k i
+abbrev pub EntriesKept : Cols → Cols → ℕ → ℕ → Type 0
+EntriesKept C D k n = (i : ℕ) → i < n → at D k i ≡ at C k i
 
 pub record Grew (C D : Cols) : Type 0 where
   pub ops : opCount C ≤ opCount D
@@ -26,40 +26,40 @@ pub record Grew (C D : Cols) : Type 0 where
   pub values : valueCount C ≤ valueCount D
   pub operands : operandCount C ≤ operandCount D
   pub successors : successorCount C ≤ successorCount D
-  pub kind : Kept C D opKind (opCount C)
-  pub parent : Kept C D opParent (opCount C)
-  pub location : Kept C D opLocation (opCount C)
-  pub depth : Kept C D opDepth (opCount C)
-  pub regionFirst : Kept C D opRegionFirst (opCount C)
-  pub regionEnd : Kept C D opRegionEnd (opCount C)
-  pub resultFirst : Kept C D opResultFirst (opCount C)
-  pub resultEnd : Kept C D opResultEnd (opCount C)
-  pub operandFirst : Kept C D opOperandFirst (opCount C)
-  pub operandEnd : Kept C D opOperandEnd (opCount C)
-  pub successorFirst : Kept C D opSuccessorFirst (opCount C)
-  pub successorEnd : Kept C D opSuccessorEnd (opCount C)
-  pub keys : Kept C D opAttributes (opCount C)
-  pub around : Kept C D regionOp (regionCount C)
-  pub region : Kept C D blockRegion (blockCount C)
-  pub label : Kept C D blockLabel (blockCount C)
-  pub blockPlace : Kept C D blockLocation (blockCount C)
-  pub argumentFirst : Kept C D blockArgumentFirst (blockCount C)
-  pub argumentEnd : Kept C D blockArgumentEnd (blockCount C)
-  pub blockKeys : Kept C D blockAttributes (blockCount C)
-  pub type : Kept C D valueType (valueCount C)
-  pub owner : Kept C D valueOwner (valueCount C)
-  pub operandParts : (a e : ℕ) → e ≤ operandCount C → part (D operandWords) a e ≡ part (C operandWords) a e
-  pub successorParts : (a e : ℕ) → e ≤ successorCount C → part (D successorWords) a e ≡ part (C successorWords) a e
+  pub kind : EntriesKept C D opKind (opCount C)
+  pub parent : EntriesKept C D opParent (opCount C)
+  pub location : EntriesKept C D opLocation (opCount C)
+  pub depth : EntriesKept C D opDepth (opCount C)
+  pub regionFirst : EntriesKept C D opRegionFirst (opCount C)
+  pub regionEnd : EntriesKept C D opRegionEnd (opCount C)
+  pub resultFirst : EntriesKept C D opResultFirst (opCount C)
+  pub resultEnd : EntriesKept C D opResultEnd (opCount C)
+  pub operandFirst : EntriesKept C D opOperandFirst (opCount C)
+  pub operandEnd : EntriesKept C D opOperandEnd (opCount C)
+  pub successorFirst : EntriesKept C D opSuccessorFirst (opCount C)
+  pub successorEnd : EntriesKept C D opSuccessorEnd (opCount C)
+  pub keys : EntriesKept C D opAttributes (opCount C)
+  pub around : EntriesKept C D regionOp (regionCount C)
+  pub region : EntriesKept C D blockRegion (blockCount C)
+  pub label : EntriesKept C D blockLabel (blockCount C)
+  pub blockPlace : EntriesKept C D blockLocation (blockCount C)
+  pub argumentFirst : EntriesKept C D blockArgumentFirst (blockCount C)
+  pub argumentEnd : EntriesKept C D blockArgumentEnd (blockCount C)
+  pub blockKeys : EntriesKept C D blockAttributes (blockCount C)
+  pub type : EntriesKept C D valueType (valueCount C)
+  pub owner : EntriesKept C D valueOwner (valueCount C)
+  pub operandParts : (a e : ℕ) → e ≤ operandCount C → slice (D operandWords) a e ≡ slice (C operandWords) a e
+  pub successorParts : (a e : ℕ) → e ≤ successorCount C → slice (D successorWords) a e ≡ slice (C successorWords) a e
   pub slotKeys : D slotKey ≡ C slotKey
   pub slotKinds : D slotKind ≡ C slotKind
   pub slotContents : D slotContent ≡ C slotContent
   -- the ranges of children hold what they held
-  pub opsIn : (m n : ℕ) → m < blockCount C → Within (at C blockOpFirst m) (at C blockOpEnd m) n → Within (at D blockOpFirst m) (at D blockOpEnd m) n
-  pub blocksIn : (r m : ℕ) → r < regionCount C → Within (at C regionBlockFirst r) (at C regionBlockEnd r) m → Within (at D regionBlockFirst r) (at D regionBlockEnd r) m
+  pub opsIn : (m n : ℕ) → m < blockCount C → InRange (at C blockOpFirst m) (at C blockOpEnd m) n → InRange (at D blockOpFirst m) (at D blockOpEnd m) n
+  pub blocksIn : (r m : ℕ) → r < regionCount C → InRange (at C regionBlockFirst r) (at C regionBlockEnd r) m → InRange (at D regionBlockFirst r) (at D regionBlockEnd r) m
   pub opEnds : (m : ℕ) → m < blockCount C → at D blockOpEnd m ≤ opCount D
   pub blockEnds : (r : ℕ) → r < regionCount C → at D regionBlockEnd r ≤ blockCount D
 
-owned-kept : (C D : Cols) (k a e a′ e′ n n′ w : ℕ) → a′ ≡ a → e′ ≡ e → n ≤ n′ → Kept C D k n → Owned C k a e n w → Owned D k a′ e′ n′ w
+owned-kept : (C D : Cols) (k a e a′ e′ n n′ w : ℕ) → a′ ≡ a → e′ ≡ e → n ≤ n′ → EntriesKept C D k n → Owned C k a e n w → Owned D k a′ e′ n′ w
 owned-kept C D k a e a′ e′ n n′ w ea ee l kept h =
     let r = h .range in
     record {
@@ -67,12 +67,12 @@ owned-kept C D k a e a′ e′ n n′ w ea ee l kept h =
       words = λ i b. ap (λ (x : ℕ). at D k (x + i)) ea ∙ kept (a + i) (omega arith) ∙ h .words i (omega arith);
     }
 
-pub end-kept : (C D : Cols) (k n N : ℕ) → n ≤ N → Kept C D k N → endBefore D k n ≡ endBefore C k n
+pub end-kept : (C D : Cols) (k n N : ℕ) → n ≤ N → EntriesKept C D k N → endBefore D k n ≡ endBefore C k n
 unfolding endBefore
 end-kept C D k zero N l kept = refl
 end-kept C D k (suc n) N l kept = kept n (omega arith)
 
-tiled-kept : (C D : Cols) (first end n N total total′ : ℕ) → n < N → total ≤ total′ → Kept C D first N → Kept C D end N → Tiled C first end n total → Tiled D first end n total′
+tiled-kept : (C D : Cols) (first end n N total total′ : ℕ) → n < N → total ≤ total′ → EntriesKept C D first N → EntriesKept C D end N → Tiled C first end n total → Tiled D first end n total′
 tiled-kept C D first end n N total total′ l t kf ke h =
     let r = h .range in
     let ef = kf n l in
@@ -93,10 +93,10 @@ module _ (C D : Cols) (h : Laid C) (g : Grew C D) where
   unfolding opOf
   op-same n l =
       let o = h .op n l in
-      let operands : part (D operandWords) (at D opOperandFirst n) (at D opOperandEnd n) ≡ part (C operandWords) (at C opOperandFirst n) (at C opOperandEnd n)
-      = ap₂ (part (D operandWords)) (g .operandFirst n l) (g .operandEnd n l) ∙ g .operandParts _ _ (o .operands .range .fits) in
-      let successors : part (D successorWords) (at D opSuccessorFirst n) (at D opSuccessorEnd n) ≡ part (C successorWords) (at C opSuccessorFirst n) (at C opSuccessorEnd n)
-      = ap₂ (part (D successorWords)) (g .successorFirst n l) (g .successorEnd n l) ∙ g .successorParts _ _ (o .successors .range .fits) in
+      let operands : slice (D operandWords) (at D opOperandFirst n) (at D opOperandEnd n) ≡ slice (C operandWords) (at C opOperandFirst n) (at C opOperandEnd n)
+      = ap₂ (slice (D operandWords)) (g .operandFirst n l) (g .operandEnd n l) ∙ g .operandParts _ _ (o .operands .range .fits) in
+      let successors : slice (D successorWords) (at D opSuccessorFirst n) (at D opSuccessorEnd n) ≡ slice (C successorWords) (at C opSuccessorFirst n) (at C opSuccessorEnd n)
+      = ap₂ (slice (D successorWords)) (g .successorFirst n l) (g .successorEnd n l) ∙ g .successorParts _ _ (o .successors .range .fits) in
       λ i.
       record {
         kind = g .kind n l i;
@@ -125,7 +125,7 @@ module _ (C D : Cols) (h : Laid C) (g : Grew C D) where
   -- ---- the old rows are laid out still
 
   -- an operation in a block of before: the ranges are wider, and its depth tells as before
-  pub placed-under : (n b : ℕ) → b < blockCount C → around C b < n → at D opDepth n ≡ at C opDepth (around C b) + 1 → Within (at D blockOpFirst b) (at D blockOpEnd b) n
+  pub placed-under : (n b : ℕ) → b < blockCount C → around C b < n → at D opDepth n ≡ at C opDepth (around C b) + 1 → InRange (at D blockOpFirst b) (at D blockOpEnd b) n
       → placed D n (some b) ≡ true
   placed-under n b lb later deep place =
       let lr = h .block b lb .regionIn in
@@ -167,7 +167,7 @@ module _ (C D : Cols) (h : Laid C) (g : Grew C D) where
       let gr = g .regions in
       record {
         regionIn = omega arith;
-        place = subst (λ (r : ℕ). Within (at D regionBlockFirst r) (at D regionBlockEnd r) m) (sym er) (g .blocksIn _ m (o .regionIn) (o .place));
+        place = subst (λ (r : ℕ). InRange (at D regionBlockFirst r) (at D regionBlockEnd r) m) (sym er) (g .blocksIn _ m (o .regionIn) (o .place));
         arguments = owned-kept C D _ _ _ _ _ _ _ _ (g .argumentFirst m l) (g .argumentEnd m l) (g .values) (g .owner) (o .arguments);
         ops = g .opEnds m l;
         keys = omega arith;

@@ -8,9 +8,10 @@ use lib.Dec.{eqb}
 use lib.ListN.{length, getD, set, replicate, length-replicate, getD-replicate}
 use Rattle.rules.specs.Store.{ofBlock}
 use Rattle.rules.specs.Building.{newBlock, applied}
-use Rattle.layout.specs.Columns.{Cols, at, pasted, write, pour, counts, opKind, opParent, opLocation, opDepth, opRegionFirst, opRegionEnd, opResultFirst, opResultEnd, opOperandFirst, opOperandEnd, opSuccessorFirst, opSuccessorEnd, opAttributes, regionOp, regionBlockFirst, regionBlockEnd, blockRegion, blockLabel, blockLocation, blockArgumentFirst, blockArgumentEnd, blockOpFirst, blockOpEnd, blockAttributes, valueType, valueOwner, operandWords, successorWords, slotKey, slotKind, slotContent}
-use Rattle.layout.specs.Reading.{part, opCount, blockCount, regionCount, valueCount, operandCount, successorCount, attributeCount, ownerCode, storeOf}
-use Rattle.layout.proofs.Laid.{Shaped, Within, Laid}
+use Rattle.layout.specs.Columns.{Cols, at, pasted, write, writeRange, counts, opKind, opParent, opLocation, opDepth, opRegionFirst, opRegionEnd, opResultFirst, opResultEnd, opOperandFirst, opOperandEnd, opSuccessorFirst, opSuccessorEnd, opAttributes, regionOp, regionBlockFirst, regionBlockEnd, blockRegion, blockLabel, blockLocation, blockArgumentFirst, blockArgumentEnd, blockOpFirst, blockOpEnd, blockAttributes, valueType, valueOwner, operandWords, successorWords, slotKey, slotKind, slotContent}
+use Rattle.layout.specs.Reading.{slice, opCount, blockCount, regionCount, valueCount, operandCount, successorCount, attributeCount, ownerCode, storeOf}
+use Rattle.layout.proofs.Buffer.{write-shaped}
+use Rattle.layout.proofs.Laid.{Shaped, InRange, Laid}
 use Rattle.building.specs.Raw.{withValues, extended, withRow, blockWritten, withBlock}
 use Rattle.building.proofs.Adding.Entries.{Put, put, Run, run, same}
 use Rattle.building.proofs.Adding.RowWritten.{row-shaped}
@@ -50,6 +51,10 @@ module _ (C : Cols) (region label location : ℕ) (types : List ℕ) where
     filled-shaped : Shaped (withValues placed (ofBlock (blockCount C)) types)
     filled-shaped = values-shaped placed (ofBlock (blockCount C)) types placed-shaped values-room
 
+    pub block-shaped : Shaped (withBlock C region label location types)
+    unfolding withBlock
+    block-shaped = write-shaped _ counts 1 _ filled-shaped
+
     -- ---- the counts
 
     counts-else : (j : ℕ) → (j ≡ 1 → ⊥) → (j ≡ 3 → ⊥) → at made counts j ≡ at C counts j
@@ -76,14 +81,14 @@ module _ (C : Cols) (region label location : ℕ) (types : List ℕ) where
     row-put k v long e = let l = room .blocks in put C made k (blockCount C) v e (omega arith)
 
     type-run : Run C made valueType (valueCount C) types
-    unfolding withBlock withValues blockWritten withRow write pour valueCount
+    unfolding withBlock withValues blockWritten withRow write writeRange valueCount
     type-run =
         run C made valueType (valueCount C) types
         (ap₂ (λ (l : List ℕ) (n : ℕ). pasted l n types) (placed-other valueType refl refl) (counts-placed 3))
         (let e : length (C valueType) ≡ 2048 = sh valueType in let l = room .values in omega arith)
 
     owner-run : Run C made valueOwner (valueCount C) (replicate (length types) (ownerCode (ofBlock (blockCount C))))
-    unfolding withBlock withValues blockWritten withRow write pour valueCount
+    unfolding withBlock withValues blockWritten withRow write writeRange valueCount
     owner-run =
         let vs = replicate (length types) (ownerCode (ofBlock (blockCount C))) in
         run C made valueOwner (valueCount C) vs
@@ -101,15 +106,15 @@ module _ (C : Cols) (region label location : ℕ) (types : List ℕ) where
 
     module _ (h : Laid C) where
       range-wider : (r : ℕ) → r < regionCount C → Wider (at C regionBlockFirst r) (at C regionBlockEnd r) (at made regionBlockFirst r) (at made regionBlockEnd r) (blockCount C)
-      unfolding withBlock withValues blockWritten withRow write pour at
+      unfolding withBlock withValues blockWritten withRow write writeRange at
       range-wider r l =
           let c = h .counts .regions in
           let f : length (C regionBlockFirst) ≡ 256 = sh regionBlockFirst in
           let e : length (C regionBlockEnd) ≡ 256 = sh regionBlockEnd in
           extended-wider row regionBlockFirst regionBlockEnd region (blockCount C) refl refl r (omega arith) (omega arith) (h .region r l .blocks)
 
-      range-place : region < regionCount C → Within (at made regionBlockFirst region) (at made regionBlockEnd region) (blockCount C)
-      unfolding withBlock withValues blockWritten withRow write pour at
+      range-place : region < regionCount C → InRange (at made regionBlockFirst region) (at made regionBlockEnd region) (blockCount C)
+      unfolding withBlock withValues blockWritten withRow write writeRange at
       range-place l =
           let c = h .counts .regions in
           let f : length (C regionBlockFirst) ≡ 256 = sh regionBlockFirst in
@@ -117,15 +122,15 @@ module _ (C : Cols) (region label location : ℕ) (types : List ℕ) where
           extended-place row regionBlockFirst regionBlockEnd region (blockCount C) refl refl (omega arith) (omega arith) (h .region region l .blocks)
 
       first-put : Put C made blockOpFirst (blockCount C) 0
-      unfolding withBlock withValues blockWritten withRow write pour
+      unfolding withBlock withValues blockWritten withRow write writeRange
       first-put = row-put blockOpFirst 0 (sh blockOpFirst) (placed-other blockOpFirst refl refl)
 
       end-put : Put C made blockOpEnd (blockCount C) 0
-      unfolding withBlock withValues blockWritten withRow write pour
+      unfolding withBlock withValues blockWritten withRow write writeRange
       end-put = row-put blockOpEnd 0 (sh blockOpEnd) (placed-other blockOpEnd refl refl)
 
       block-grew : Grew C made
-      unfolding withBlock withValues blockWritten withRow write pour opCount blockCount regionCount valueCount operandCount successorCount
+      unfolding withBlock withValues blockWritten withRow write writeRange opCount blockCount regionCount valueCount operandCount successorCount
       block-grew =
           let e0 = counts-else 0 (λ e. omega arith) (λ e. omega arith) in
           let e1 = blocks-count in
@@ -162,8 +167,8 @@ module _ (C : Cols) (region label location : ℕ) (types : List ℕ) where
             blockKeys = row-put blockAttributes 0 (sh blockAttributes) (placed-other blockAttributes refl refl) .old;
             type = type-run .old;
             owner = owner-run .old;
-            operandParts = λ a b m. ap (λ (xs : List ℕ). part xs a b) (placed-other operandWords refl refl);
-            successorParts = λ a b m. ap (λ (xs : List ℕ). part xs a b) (placed-other successorWords refl refl);
+            operandParts = λ a b m. ap (λ (xs : List ℕ). slice xs a b) (placed-other operandWords refl refl);
+            successorParts = λ a b m. ap (λ (xs : List ℕ). slice xs a b) (placed-other successorWords refl refl);
             slotKeys = placed-other slotKey refl refl;
             slotKinds = placed-other slotKind refl refl;
             slotContents = placed-other slotContent refl refl;
@@ -174,7 +179,7 @@ module _ (C : Cols) (region label location : ℕ) (types : List ℕ) where
           }
 
       block-added : BlockAdded C made region label location types
-      unfolding withBlock withValues blockWritten withRow write pour opCount blockCount regionCount operandCount successorCount attributeCount
+      unfolding withBlock withValues blockWritten withRow write writeRange opCount blockCount regionCount operandCount successorCount attributeCount
       block-added =
           record {
             grew = block-grew;

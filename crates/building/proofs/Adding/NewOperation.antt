@@ -8,16 +8,16 @@ use mathlib.Core.Path.{_≡_, refl, sym, subst, _∙_}
 use lib.Dec.{eqb}
 use lib.ListN.{length, replicate, length-replicate, getD-replicate}
 use Rattle.rules.specs.Building.{newOperation, applied}
-use Rattle.layout.specs.Columns.{Cols, at, write, pour, counts, regionBlockEnd, blockRegion, blockLabel, blockLocation, blockArgumentFirst, blockArgumentEnd, blockOpFirst, blockOpEnd, blockAttributes, slotKey, slotKind, slotContent}
+use Rattle.layout.specs.Columns.{Cols, at, write, writeRange, counts, regionBlockEnd, blockRegion, blockLabel, blockLocation, blockArgumentFirst, blockArgumentEnd, blockOpFirst, blockOpEnd, blockAttributes, slotKey, slotKind, slotContent}
 use Rattle.layout.specs.Reading.{opCount, blockCount, regionCount, valueCount, operandCount, successorCount, attributeCount, storeOf}
-use Rattle.layout.proofs.Laid.{Shaped, Within, Laid}
-use Rattle.building.specs.Raw.{withRow, withValues, parentBelow, opPlaced, withRegions, withPart, opRow, opWritten, withOperation}
+use Rattle.layout.proofs.Laid.{Shaped, InRange, Laid}
+use Rattle.building.specs.Raw.{withRow, withValues, parentBelow, opPlaced, withRegions, withSlice, opRow, opWritten, withOperation}
 use Rattle.building.proofs.Adding.Entries.{Run, same}
 use Rattle.building.proofs.Adding.Grew.{Grew}
 use Rattle.building.proofs.Adding.OperationAdded.{OperationAdded, added-reads}
 use Rattle.building.proofs.Adding.OperationLaid.{RoomFor, added-laid}
 use Rattle.building.proofs.Adding.Extended.{Wider, wider-same, extended-wider, extended-place}
-use Rattle.building.proofs.Adding.OperationColumns.{Row, row-puts, around-run, first-run, end-run, type-run, owner-run, operand-run, successor-run, values-added}
+use Rattle.building.proofs.Adding.OperationColumns.{OpRowPut, row-puts, around-run, first-run, end-run, type-run, owner-run, operand-run, successor-run, values-added}
 use Rattle.building.proofs.Adding.OperationWritten.{row, placed, made, placed-other, counts-else, ops-count, regions-counted, values-counted, operands-counted, successors-counted}
 
 -- ---- the parent's range
@@ -29,10 +29,10 @@ wider-under C none n m lf le l = wider-same _ _ _ _ n refl refl l
 wider-under C (some b) n m lf le l = extended-wider C blockOpFirst blockOpEnd b n refl refl m lf le l
 
 place-under : (C : Cols) (parent : Option ℕ) (n b : ℕ) → parent ≡ some b → b < length (C blockOpFirst) → b < length (C blockOpEnd) → at C blockOpEnd b ≤ n
-    → Within (at (opPlaced C parent n) blockOpFirst b) (at (opPlaced C parent n) blockOpEnd b) n
+    → InRange (at (opPlaced C parent n) blockOpFirst b) (at (opPlaced C parent n) blockOpEnd b) n
 unfolding opPlaced
 place-under C parent n b e lf le l =
-    subst (λ (p : Option ℕ). Within (at (opPlaced C p n) blockOpFirst b) (at (opPlaced C p n) blockOpEnd b) n) (sym e)
+    subst (λ (p : Option ℕ). InRange (at (opPlaced C p n) blockOpFirst b) (at (opPlaced C p n) blockOpEnd b) n) (sym e)
     (extended-place C blockOpFirst blockOpEnd b n refl refl lf le l)
 
 module _ (C : Cols) (kind : ℕ) (parent : Option ℕ) (location regions : ℕ) (types operands successors : List ℕ) (sh : Shaped C) (room : RoomFor C regions types operands successors) where
@@ -43,7 +43,7 @@ module _ (C : Cols) (kind : ℕ) (parent : Option ℕ) (location regions : ℕ) 
   counts-kept = counts-else C kind parent location regions types operands successors sh room
 
   -- what the columns hold
-  puts : Row C D kind parent location regions types operands successors
+  puts : OpRowPut C D kind parent location regions types operands successors
   puts = row-puts C kind parent location regions types operands successors sh room
 
   ends : Run C D regionBlockEnd (regionCount C) (replicate regions 0)
@@ -54,15 +54,15 @@ module _ (C : Cols) (kind : ℕ) (parent : Option ℕ) (location regions : ℕ) 
 
   module _ (h : Laid C) where
     range-wider : (m : ℕ) → m < blockCount C → Wider (at C blockOpFirst m) (at C blockOpEnd m) (at D blockOpFirst m) (at D blockOpEnd m) (opCount C)
-    unfolding withOperation opWritten withRegions withValues withPart opRow withRow write pour at
+    unfolding withOperation opWritten withRegions withValues withSlice opRow withRow write writeRange at
     range-wider m l =
         let c = h .counts .blocks in
         let f : length (C blockOpFirst) ≡ 256 = sh blockOpFirst in
         let e : length (C blockOpEnd) ≡ 256 = sh blockOpEnd in
         wider-under (row C kind parent location regions types operands successors) parent (opCount C) m (omega arith) (omega arith) (h .block m l .ops)
 
-    range-place : (b : ℕ) → parent ≡ some b → b < blockCount C → Within (at D blockOpFirst b) (at D blockOpEnd b) (opCount C)
-    unfolding withOperation opWritten withRegions withValues withPart opRow withRow write pour at
+    range-place : (b : ℕ) → parent ≡ some b → b < blockCount C → InRange (at D blockOpFirst b) (at D blockOpEnd b) (opCount C)
+    unfolding withOperation opWritten withRegions withValues withSlice opRow withRow write writeRange at
     range-place b q l =
         let c = h .counts .blocks in
         let f : length (C blockOpFirst) ≡ 256 = sh blockOpFirst in
@@ -70,7 +70,7 @@ module _ (C : Cols) (kind : ℕ) (parent : Option ℕ) (location regions : ℕ) 
         place-under (row C kind parent location regions types operands successors) parent (opCount C) b q (omega arith) (omega arith) (h .block b l .ops)
 
     operation-grew : Grew C D
-    unfolding withOperation opWritten withRegions withValues withPart opRow withRow write pour opCount blockCount regionCount valueCount operandCount successorCount
+    unfolding withOperation opWritten withRegions withValues withSlice opRow withRow write writeRange opCount blockCount regionCount valueCount operandCount successorCount
     operation-grew =
         let e0 = ops-count C kind parent location regions types operands successors sh room in
         let e1 = counts-kept 1 (λ q. omega arith) (λ q. omega arith) (λ q. omega arith) (λ q. omega arith) (λ q. omega arith) in
@@ -107,8 +107,8 @@ module _ (C : Cols) (kind : ℕ) (parent : Option ℕ) (location regions : ℕ) 
           blockKeys = λ i l. same C D blockAttributes (unwritten blockAttributes refl refl) i;
           type = type-run C kind parent location regions types operands successors sh room .old;
           owner = owner-run C kind parent location regions types operands successors sh room .old;
-          operandParts = operand-run C kind parent location regions types operands successors sh room .parts;
-          successorParts = successor-run C kind parent location regions types operands successors sh room .parts;
+          operandParts = operand-run C kind parent location regions types operands successors sh room .slices;
+          successorParts = successor-run C kind parent location regions types operands successors sh room .slices;
           slotKeys = unwritten slotKey refl refl;
           slotKinds = unwritten slotKind refl refl;
           slotContents = unwritten slotContent refl refl;
@@ -119,7 +119,7 @@ module _ (C : Cols) (kind : ℕ) (parent : Option ℕ) (location regions : ℕ) 
         }
 
     operation-added : OperationAdded C D kind parent location regions types operands successors
-    unfolding withOperation opWritten withRegions withValues withPart opRow withRow write pour opCount blockCount regionCount valueCount operandCount successorCount attributeCount
+    unfolding withOperation opWritten withRegions withValues withSlice opRow withRow write writeRange opCount blockCount regionCount valueCount operandCount successorCount attributeCount
     operation-added =
         record {
           grew = operation-grew;

@@ -8,7 +8,7 @@ use lib.ListN.{length, replicate, length-replicate, getD-replicate}
 use Rattle.rules.specs.Store.{Op, ofOp}
 use Rattle.rules.specs.Building.{newOperation, applied, valuesFor}
 use Rattle.layout.specs.Columns.{Cols, at, opKind, opParent, opLocation, opDepth, opRegionFirst, opRegionEnd, opResultFirst, opResultEnd, opOperandFirst, opOperandEnd, opSuccessorFirst, opSuccessorEnd, opAttributes, regionOp, regionBlockEnd, operandWords, successorWords}
-use Rattle.layout.specs.Reading.{tabulate, part, opCount, blockCount, regionCount, valueCount, operandCount, successorCount, attributeCount, parentFrom, slotsOf, opOf, blockOf, valueOf, storeOf}
+use Rattle.layout.specs.Reading.{tabulate, slice, opCount, blockCount, regionCount, valueCount, operandCount, successorCount, attributeCount, parentFrom, slotsOf, opOf, blockOf, valueOf, storeOf}
 use Rattle.layout.proofs.Laid.{Laid}
 use Rattle.layout.proofs.Tabulate.{ops-length}
 use Rattle.building.specs.Raw.{parentCode, depthUnder}
@@ -40,8 +40,8 @@ pub record OperationAdded (C D : Cols) (kind : ℕ) (parent : Option ℕ) (locat
   pub keys : at D opAttributes (opCount C) ≡ 0
   pub around : (i : ℕ) → i < regions → at D regionOp (regionCount C + i) ≡ opCount C
   pub blockless : (i : ℕ) → i < regions → at D regionBlockEnd (regionCount C + i) ≡ 0
-  pub operandPart : part (D operandWords) (operandCount C) (operandCount C + length operands) ≡ operands
-  pub successorPart : part (D successorWords) (successorCount C) (successorCount C + length successors) ≡ successors
+  pub operandPart : slice (D operandWords) (operandCount C) (operandCount C + length operands) ≡ operands
+  pub successorPart : slice (D successorWords) (successorCount C) (successorCount C + length successors) ≡ successors
 
 pub parent-read : (parent : Option ℕ) → parentFrom (parentCode parent) ≡ parent
 unfolding parentFrom parentCode
@@ -52,8 +52,8 @@ module _ (C D : Cols) (kind : ℕ) (parent : Option ℕ) (location regions : ℕ
   row-read : _≡_ {A = Op} (opOf D (opCount C)) (record { kind = kind; parent = parent; location = location; operands = operands; successors = successors; attributes = [] })
   unfolding opOf
   row-read =
-      let first = ap₂ (part (D operandWords)) (a .operandFirst) (a .operandEnd) ∙ a .operandPart in
-      let second = ap₂ (part (D successorWords)) (a .successorFirst) (a .successorEnd) ∙ a .successorPart in
+      let first = ap₂ (slice (D operandWords)) (a .operandFirst) (a .operandEnd) ∙ a .operandPart in
+      let second = ap₂ (slice (D successorWords)) (a .successorFirst) (a .successorEnd) ∙ a .successorPart in
       λ i.
       record {
         kind = a .kindWord i;

@@ -8,17 +8,17 @@ use mathlib.Core.Path.{_≡_, refl, ap₂, _∙_}
 use lib.Dec.{eqb}
 use lib.ListN.{length, set, replicate, length-replicate, getD-replicate}
 use Rattle.rules.specs.Store.{ofOp}
-use Rattle.layout.specs.Columns.{Cols, at, pasted, write, pour, opKind, opParent, opLocation, opDepth, opRegionFirst, opRegionEnd, opResultFirst, opResultEnd, opOperandFirst, opOperandEnd, opSuccessorFirst, opSuccessorEnd, opAttributes, regionOp, regionBlockFirst, regionBlockEnd, blockOpFirst, blockOpEnd, valueType, valueOwner, operandWords, successorWords}
+use Rattle.layout.specs.Columns.{Cols, at, pasted, write, writeRange, opKind, opParent, opLocation, opDepth, opRegionFirst, opRegionEnd, opResultFirst, opResultEnd, opOperandFirst, opOperandEnd, opSuccessorFirst, opSuccessorEnd, opAttributes, regionOp, regionBlockFirst, regionBlockEnd, blockOpFirst, blockOpEnd, valueType, valueOwner, operandWords, successorWords}
 use Rattle.layout.specs.Reading.{opCount, regionCount, valueCount, operandCount, successorCount, ownerCode}
 use Rattle.layout.proofs.Laid.{Shaped}
-use Rattle.building.specs.Raw.{withRow, withValues, parentCode, depthUnder, withRegions, withPart, opRow, opWritten, withOperation}
+use Rattle.building.specs.Raw.{withRow, withValues, parentCode, depthUnder, withRegions, withSlice, opRow, opWritten, withOperation}
 use Rattle.building.proofs.Adding.Entries.{Put, put, Run, run}
 use Rattle.building.proofs.Adding.Rows.{ValuesAdded}
 use Rattle.building.proofs.Adding.OperationLaid.{RoomFor}
 use Rattle.building.proofs.Adding.OperationWritten.{row, placed, made, placed-other, counts-placed, k₁, k₂, k₃, values-counted}
 
 -- the operation's row in D
-pub record Row (C D : Cols) (kind : ℕ) (parent : Option ℕ) (location regions : ℕ) (types operands successors : List ℕ) : Type 0 where
+pub record OpRowPut (C D : Cols) (kind : ℕ) (parent : Option ℕ) (location regions : ℕ) (types operands successors : List ℕ) : Type 0 where
   pub kindPut : Put C D opKind (opCount C) kind
   pub parentPut : Put C D opParent (opCount C) (parentCode parent)
   pub locationPut : Put C D opLocation (opCount C) location
@@ -43,8 +43,8 @@ module _ (C : Cols) (kind : ℕ) (parent : Option ℕ) (location regions : ℕ) 
   row-put : (k v : ℕ) → length (C k) ≡ 512 → D k ≡ set (C k) (opCount C) v → Put C D k (opCount C) v
   row-put k v long e = let l = room .ops in put C D k (opCount C) v e (omega arith)
 
-  pub row-puts : Row C D kind parent location regions types operands successors
-  unfolding withOperation opWritten withRegions withValues withPart opRow withRow write pour at regionCount valueCount operandCount successorCount
+  pub row-puts : OpRowPut C D kind parent location regions types operands successors
+  unfolding withOperation opWritten withRegions withValues withSlice opRow withRow write writeRange at regionCount valueCount operandCount successorCount
   row-puts =
       record {
         kindPut = row-put opKind kind (sh opKind) (other opKind refl refl);
@@ -74,26 +74,26 @@ module _ (C : Cols) (kind : ℕ) (parent : Option ℕ) (location regions : ℕ) 
       (let l = room .regions in rw length-replicate (omega arith))
 
   pub around-run : Run C D regionOp (regionCount C) (replicate regions (opCount C))
-  unfolding withOperation opWritten withRegions withValues withPart opRow withRow write pour
+  unfolding withOperation opWritten withRegions withValues withSlice opRow withRow write writeRange
   around-run = region-run regionOp (opCount C) (sh regionOp) refl (other regionOp refl refl)
 
   pub first-run : Run C D regionBlockFirst (regionCount C) (replicate regions 0)
-  unfolding withOperation opWritten withRegions withValues withPart opRow withRow write pour
+  unfolding withOperation opWritten withRegions withValues withSlice opRow withRow write writeRange
   first-run = region-run regionBlockFirst 0 (sh regionBlockFirst) refl (other regionBlockFirst refl refl)
 
   pub end-run : Run C D regionBlockEnd (regionCount C) (replicate regions 0)
-  unfolding withOperation opWritten withRegions withValues withPart opRow withRow write pour
+  unfolding withOperation opWritten withRegions withValues withSlice opRow withRow write writeRange
   end-run = region-run regionBlockEnd 0 (sh regionBlockEnd) refl (other regionBlockEnd refl refl)
 
   pub type-run : Run C D valueType (valueCount C) types
-  unfolding withOperation opWritten withRegions withValues withPart opRow withRow write pour valueCount
+  unfolding withOperation opWritten withRegions withValues withSlice opRow withRow write writeRange valueCount
   type-run =
       run C D valueType (valueCount C) types
       (ap₂ (λ (l : List ℕ) (n : ℕ). pasted l n types) (other valueType refl refl) (k₁ C kind parent location regions types operands successors sh room 3 (λ q. omega arith)))
       (let e : length (C valueType) ≡ 2048 = sh valueType in let l = room .values in omega arith)
 
   pub owner-run : Run C D valueOwner (valueCount C) (replicate (length types) (ownerCode (ofOp (opCount C))))
-  unfolding withOperation opWritten withRegions withValues withPart opRow withRow write pour valueCount
+  unfolding withOperation opWritten withRegions withValues withSlice opRow withRow write writeRange valueCount
   owner-run =
       let vs = replicate (length types) (ownerCode (ofOp (opCount C))) in
       run C D valueOwner (valueCount C) vs
@@ -101,14 +101,14 @@ module _ (C : Cols) (kind : ℕ) (parent : Option ℕ) (location regions : ℕ) 
       (let e : length (C valueOwner) ≡ 2048 = sh valueOwner in let l = room .values in rw length-replicate (omega arith))
 
   pub operand-run : Run C D operandWords (operandCount C) operands
-  unfolding withOperation opWritten withRegions withValues withPart opRow withRow write pour operandCount
+  unfolding withOperation opWritten withRegions withValues withSlice opRow withRow write writeRange operandCount
   operand-run =
       run C D operandWords (operandCount C) operands
       (ap₂ (λ (l : List ℕ) (n : ℕ). pasted l n operands) (other operandWords refl refl) (k₂ C kind parent location regions types operands successors sh room 4 (λ q. omega arith) (λ q. omega arith)))
       (let e : length (C operandWords) ≡ 2048 = sh operandWords in let l = room .operands in omega arith)
 
   pub successor-run : Run C D successorWords (successorCount C) successors
-  unfolding withOperation opWritten withRegions withValues withPart opRow withRow write pour successorCount
+  unfolding withOperation opWritten withRegions withValues withSlice opRow withRow write writeRange successorCount
   successor-run =
       run C D successorWords (successorCount C) successors
       (ap₂ (λ (l : List ℕ) (n : ℕ). pasted l n successors) (other successorWords refl refl) (k₃ C kind parent location regions types operands successors sh room 5 (λ q. omega arith) (λ q. omega arith) (λ q. omega arith)))

@@ -15,7 +15,7 @@ use Rattle.rules.proofs.Basics.Tests.{and-both}
 use Rattle.layout.specs.Columns.{Cols, at, opRegionFirst, opRegionEnd, opResultFirst, opResultEnd, opOperandEnd, opSuccessorEnd, opAttributes, regionOp, blockOpFirst, blockOpEnd, blockAttributes}
 use Rattle.layout.specs.Reading.{opCount, blockCount, regionCount, valueCount, attributeCount, parentFrom}
 use Rattle.layout.specs.Soundness.{endBefore, placed, inOwner, attributeSum}
-use Rattle.layout.proofs.Laid.{Within, OpLaid, RegionLaid, Laid, within-of}
+use Rattle.layout.proofs.Laid.{InRange, OpLaid, RegionLaid, Laid, within-of}
 use Rattle.building.specs.Raw.{OpRoom, parentBelow, depthUnder}
 use Rattle.building.proofs.Adding.Grew.{placed-under, end-kept, op-kept, block-kept, region-kept}
 use Rattle.building.proofs.Adding.Rows.{values-laid, new-owned, old-or-last, old-or-new, rows-last, rows-kept, sum-last}
@@ -29,16 +29,16 @@ module _ (C D : Cols) (kind : ℕ) (parent : Option ℕ) (location regions : ℕ
   -- ---- the new operation
 
   -- its parent's range holds it
-  abbrev Place : Type 0
-  Place = (b : ℕ) → parent ≡ some b → Within (at D blockOpFirst b) (at D blockOpEnd b) (opCount C)
+  abbrev InBlockRange : Type 0
+  InBlockRange = (b : ℕ) → parent ≡ some b → InRange (at D blockOpFirst b) (at D blockOpEnd b) (opCount C)
 
-  new-placed : Place → (p : Option ℕ) → parent ≡ p → parentBelow (blockCount C) p → placed D (opCount C) p ≡ true
+  new-placed : InBlockRange → (p : Option ℕ) → parent ≡ p → parentBelow (blockCount C) p → placed D (opCount C) p ≡ true
   unfolding placed depthUnder parentBelow
   new-placed place none e i = eq-eqb _ _ (a .depthWord ∙ ap (depthUnder C) e)
   new-placed place (some b) e i =
       placed-under C D h (a .grew) (opCount C) b i (h .region _ (h .block b i .regionIn) .opIn) (a .depthWord ∙ ap (depthUnder C) e) (place b e)
 
-  new-op : Place → parentBelow (blockCount C) parent → OpLaid D (opCount C)
+  new-op : InBlockRange → parentBelow (blockCount C) parent → OpLaid D (opCount C)
   new-op place i =
       let g = a .grew in
       let er = a .regionCounted in
@@ -60,7 +60,7 @@ module _ (C D : Cols) (kind : ℕ) (parent : Option ℕ) (location regions : ℕ
 
   -- ---- the rows
 
-  ops-laid : Place → parentBelow (blockCount C) parent → (n : ℕ) → n < opCount D → OpLaid D n
+  ops-laid : InBlockRange → parentBelow (blockCount C) parent → (n : ℕ) → n < opCount D → OpLaid D n
   ops-laid place p n l = go (old-or-last n (opCount C) (subst (λ (m : ℕ). n < m) (a .opCounted) l))
     where
       go : (n < opCount C) ⊎ (n ≡ opCount C) → OpLaid D n
@@ -105,7 +105,7 @@ module _ (C D : Cols) (kind : ℕ) (parent : Option ℕ) (location regions : ℕ
       (ap sum (rows-kept (blockCount D) (blockCount C) (at D blockAttributes) (at C blockAttributes) (a .grew .blockKeys) (a .blockCounted)))
       ∙ h .attributes ∙ sym (a .attributeCounted)
 
-  pub added-laid : RoomFor C regions types operands successors → Place → parentBelow (blockCount C) parent → Laid D
+  pub added-laid : RoomFor C regions types operands successors → InBlockRange → parentBelow (blockCount C) parent → Laid D
   added-laid room place p =
       let c = h .counts in
       let e1 = a .opCounted in

@@ -8,14 +8,15 @@ use mathlib.Core.Path.{_≡_, refl, ap, _∙_}
 use lib.Dec.{eqb}
 use lib.ListN.{length, getD}
 use Rattle.rules.specs.Store.{ofOp}
-use Rattle.layout.specs.Columns.{Cols, size, at, write, counts, opKind, blockOpFirst, blockOpEnd, operandWords, successorWords}
+use Rattle.layout.specs.Columns.{Cols, columnSize, at, write, counts, opKind, blockOpFirst, blockOpEnd, operandWords, successorWords}
 use Rattle.layout.specs.Reading.{opCount, regionCount, valueCount, operandCount, successorCount}
+use Rattle.layout.proofs.Buffer.{write-shaped}
 use Rattle.layout.proofs.Laid.{Shaped}
-use Rattle.building.specs.Raw.{withRow, withValues, parentCode, depthUnder, opPlaced, withRegions, withPart, opRow, opWritten, withOperation}
+use Rattle.building.specs.Raw.{withRow, withValues, parentCode, depthUnder, opPlaced, withRegions, withSlice, opRow, opWritten, withOperation}
 use Rattle.building.proofs.Adding.RowWritten.{row-shaped}
 use Rattle.building.proofs.Adding.OperationLaid.{RoomFor}
 use Rattle.building.proofs.Adding.Extended.{extended-shaped, extended-other}
-use Rattle.building.proofs.Adding.Layers.{count-same, count-other, regions-shaped, regions-count, regions-counts, values-shaped, values-count, values-counts, part-shaped, part-count, part-counts}
+use Rattle.building.proofs.Adding.Layers.{count-same, count-other, regions-shaped, regions-count, regions-counts, values-shaped, values-count, values-counts, slice-shaped, slice-count, slice-counts}
 
 other-under : (C : Cols) (parent : Option ℕ) (n j : ℕ) → eqb j blockOpFirst ≡ false → eqb j blockOpEnd ≡ false → opPlaced C parent n j ≡ C j
 unfolding opPlaced
@@ -43,10 +44,10 @@ module _ (C : Cols) (kind : ℕ) (parent : Option ℕ) (location regions : ℕ) 
   c₂ = withValues c₁ (ofOp (opCount C)) types
 
   abbrev pub c₃ : Cols
-  c₃ = withPart c₂ operandWords 4 operands
+  c₃ = withSlice c₂ operandWords 4 operands
 
   abbrev c₄ : Cols
-  c₄ = withPart c₃ successorWords 5 successors
+  c₄ = withSlice c₃ successorWords 5 successors
 
   abbrev pub made : Cols
   made = withOperation C kind parent location regions types operands successors
@@ -84,28 +85,32 @@ module _ (C : Cols) (kind : ℕ) (parent : Option ℕ) (location regions : ℕ) 
     pub k₂ : (j : ℕ) → (j ≡ 2 → ⊥) → (j ≡ 3 → ⊥) → at c₂ counts j ≡ at C counts j
     k₂ j n2 n3 = values-counts c₁ (ofOp (opCount C)) types s₁ r₂ j n3 ∙ k₁ j n2
 
-    pub r₃ : at c₂ counts 4 + length operands ≤ size operandWords
+    pub r₃ : at c₂ counts 4 + length operands ≤ columnSize operandWords
     unfolding operandCount
     r₃ = let e = k₂ 4 (λ q. omega arith) (λ q. omega arith) in let r = room .operands in omega arith
 
     s₃ : Shaped c₃
-    s₃ = part-shaped c₂ operandWords 4 operands s₂ r₃
+    s₃ = slice-shaped c₂ operandWords 4 operands s₂ r₃
 
     pub k₃ : (j : ℕ) → (j ≡ 2 → ⊥) → (j ≡ 3 → ⊥) → (j ≡ 4 → ⊥) → at c₃ counts j ≡ at C counts j
-    k₃ j n2 n3 n4 = part-counts c₂ operandWords 4 operands s₂ r₃ refl j n4 ∙ k₂ j n2 n3
+    k₃ j n2 n3 n4 = slice-counts c₂ operandWords 4 operands s₂ r₃ refl j n4 ∙ k₂ j n2 n3
 
-    pub r₄ : at c₃ counts 5 + length successors ≤ size successorWords
+    pub r₄ : at c₃ counts 5 + length successors ≤ columnSize successorWords
     unfolding successorCount
     r₄ = let e = k₃ 5 (λ q. omega arith) (λ q. omega arith) (λ q. omega arith) in let r = room .successors in omega arith
 
     s₄ : Shaped c₄
-    s₄ = part-shaped c₃ successorWords 5 successors s₃ r₄
+    s₄ = slice-shaped c₃ successorWords 5 successors s₃ r₄
+
+    pub made-shaped : Shaped made
+    unfolding withOperation opWritten
+    made-shaped = write-shaped c₄ counts 0 (opCount C + 1) s₄
 
     -- ---- the counts
 
     after₃ : (j : ℕ) → (j ≡ 0 → ⊥) → (j ≡ 5 → ⊥) → at made counts j ≡ at c₃ counts j
     unfolding withOperation opWritten
-    after₃ j n0 n5 = count-other c₄ 0 (opCount C + 1) j n0 ∙ part-counts c₃ successorWords 5 successors s₃ r₄ refl j n5
+    after₃ j n0 n5 = count-other c₄ 0 (opCount C + 1) j n0 ∙ slice-counts c₃ successorWords 5 successors s₃ r₄ refl j n5
 
     pub counts-else : (j : ℕ) → (j ≡ 0 → ⊥) → (j ≡ 2 → ⊥) → (j ≡ 3 → ⊥) → (j ≡ 4 → ⊥) → (j ≡ 5 → ⊥) → at made counts j ≡ at C counts j
     counts-else j n0 n2 n3 n4 n5 = after₃ j n0 n5 ∙ k₃ j n2 n3 n4
@@ -118,7 +123,7 @@ module _ (C : Cols) (kind : ℕ) (parent : Option ℕ) (location regions : ℕ) 
     unfolding regionCount
     regions-counted =
         after₃ 2 (λ q. omega arith) (λ q. omega arith)
-        ∙ part-counts c₂ operandWords 4 operands s₂ r₃ refl 2 (λ q. omega arith)
+        ∙ slice-counts c₂ operandWords 4 operands s₂ r₃ refl 2 (λ q. omega arith)
         ∙ values-counts c₁ (ofOp (opCount C)) types s₁ r₂ 2 (λ q. omega arith)
         ∙ regions-count placed (opCount C) regions s₀ r₁
         ∙ ap (λ (n : ℕ). n + regions) (counts-placed 2)
@@ -127,7 +132,7 @@ module _ (C : Cols) (kind : ℕ) (parent : Option ℕ) (location regions : ℕ) 
     unfolding valueCount
     values-counted =
         after₃ 3 (λ q. omega arith) (λ q. omega arith)
-        ∙ part-counts c₂ operandWords 4 operands s₂ r₃ refl 3 (λ q. omega arith)
+        ∙ slice-counts c₂ operandWords 4 operands s₂ r₃ refl 3 (λ q. omega arith)
         ∙ values-count c₁ (ofOp (opCount C)) types s₁ r₂
         ∙ ap (λ (n : ℕ). n + length types) (k₁ 3 (λ q. omega arith))
 
@@ -135,12 +140,12 @@ module _ (C : Cols) (kind : ℕ) (parent : Option ℕ) (location regions : ℕ) 
     unfolding operandCount
     operands-counted =
         after₃ 4 (λ q. omega arith) (λ q. omega arith)
-        ∙ part-count c₂ operandWords 4 operands s₂ r₃ (omega arith)
+        ∙ slice-count c₂ operandWords 4 operands s₂ r₃ (omega arith)
         ∙ ap (λ (n : ℕ). n + length operands) (k₂ 4 (λ q. omega arith) (λ q. omega arith))
 
     pub successors-counted : at made counts 5 ≡ successorCount C + length successors
     unfolding withOperation opWritten successorCount
     successors-counted =
         count-other c₄ 0 (opCount C + 1) 5 (λ q. omega arith)
-        ∙ part-count c₃ successorWords 5 successors s₃ r₄ (omega arith)
+        ∙ slice-count c₃ successorWords 5 successors s₃ r₄ (omega arith)
         ∙ ap (λ (n : ℕ). n + length successors) (k₃ 5 (λ q. omega arith) (λ q. omega arith) (λ q. omega arith))

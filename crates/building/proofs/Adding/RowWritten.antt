@@ -10,7 +10,7 @@ use lib.ListN.{length, getD, drop, drop-of-length-le}
 use lib.Seq.{drop-cons}
 use Rattle.rules.specs.Lists.{allBelow}
 use Rattle.rules.proofs.Basics.Tests.{allBelow-at}
-use Rattle.layout.specs.Columns.{Cols, size, write}
+use Rattle.layout.specs.Columns.{Cols, columnSize, write}
 use Rattle.layout.proofs.Laid.{Shaped}
 use Rattle.layout.proofs.Buffer.{write-shaped}
 use Rattle.building.specs.Raw.{withRow}
@@ -21,9 +21,9 @@ row-shaped C k n [] sh = sh
 row-shaped C k n (v ∷ vs) sh = row-shaped (write C k n v) (suc k) n vs (write-shaped C k n v sh)
 
 -- the columns of a row are long enough
-pub row-fits : (first count most n : ℕ) → allBelow count (λ (j : ℕ). leb most (size (first + j))) ≡ true → n < most → (j : ℕ) → j < count → n < size (first + j)
+pub row-fits : (first count most n : ℕ) → allBelow count (λ (j : ℕ). leb most (columnSize (first + j))) ≡ true → n < most → (j : ℕ) → j < count → n < columnSize (first + j)
 row-fits first count most n long l j b =
-    let m : most ≤ size (first + j) = leb-true most (size (first + j)) (allBelow-at count (λ (i : ℕ). leb most (size (first + i))) long j b) in omega arith
+    let m : most ≤ columnSize (first + j) = leb-true most (columnSize (first + j)) (allBelow-at count (λ (i : ℕ). leb most (columnSize (first + i))) long j b) in omega arith
 
 -- ---- turn by turn
 

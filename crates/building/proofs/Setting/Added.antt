@@ -12,17 +12,17 @@ use lib.Seq.{getD-set-same, getD-set-other}
 use Rattle.rules.specs.Lists.{any}
 use Rattle.rules.specs.Store.{Attribute, Owner, ofOp, ofBlock, maxOwnKeys, maxAttributes}
 use Rattle.rules.specs.Building.{putAttribute}
-use Rattle.layout.specs.Columns.{Cols, at, write, pour, size, counts, opAttributes, blockAttributes, operandWords, slotKey, slotKind, slotContent}
+use Rattle.layout.specs.Columns.{Cols, at, write, writeRange, columnSize, counts, opAttributes, blockAttributes, operandWords, slotKey, slotKind, slotContent}
 use Rattle.layout.specs.Reading.{slotsOf, attributeCount, attributeAt, attributesFrom}
 use Rattle.layout.specs.Owners.{keyCount, countColumn, ownerNumber}
 use Rattle.layout.proofs.Laid.{Shaped, Laid}
-use Rattle.layout.proofs.Buffer.{write-other, pour-other}
+use Rattle.layout.proofs.Buffer.{write-other, writeRange-other}
 use Rattle.layout.proofs.OwnerKeys.{ownerIn, slots-fit}
 use Rattle.building.specs.Raw.{slotFor, keyThere, inserted, added}
 use Rattle.building.proofs.Setting.Changed.{attribute-same}
 use Rattle.building.proofs.Setting.Inserted.{insert-tabulate, grown, grown-before, grown-there, grown-behind, grown-past}
-use Rattle.building.proofs.Setting.Patched.{Kept, touched, untouched}
-use Rattle.building.proofs.Setting.Place.{own, place, place-found, slot-found, slot-low, new-put}
+use Rattle.building.proofs.Setting.Patched.{OnlyTouched, touched, untouched}
+use Rattle.building.proofs.Setting.KeySlot.{own, place, place-found, slot-found, slot-low, new-put}
 use Rattle.building.proofs.Setting.Written.{Written}
 
 -- ---- the columns after it
@@ -43,27 +43,27 @@ column-touched (ofBlock m) = refl
 
 module _ (C : Cols) (s : ℕ) (a : Attribute) where
   added-at : (w : Owner) (j : ℕ) → attributeAt (added C w s a) j ≡ grownAt C s (slotsOf w + keyCount C w) a j
-  unfolding attributeAt added inserted write pour at countColumn
+  unfolding attributeAt added inserted write writeRange at countColumn
   added-at (ofOp n) j = refl
   added-at (ofBlock m) j = refl
 
   added-counts : (w : Owner) → added C w s a counts ≡ set (C counts) 6 (attributeCount C + 1)
-  unfolding added inserted write pour at countColumn
+  unfolding added inserted write writeRange at countColumn
   added-counts (ofOp n) = refl
   added-counts (ofBlock m) = refl
 
   added-operands : (w : Owner) → added C w s a operandWords ≡ C operandWords
-  unfolding added inserted write pour at countColumn
+  unfolding added inserted write writeRange at countColumn
   added-operands (ofOp n) = refl
   added-operands (ofBlock m) = refl
 
   added-keys : (w : Owner) → Shaped C → Laid C → ownerIn C w → keyCount (added C w s a) w ≡ keyCount C w + 1
-  unfolding keyCount added inserted write pour at countColumn ownerNumber
+  unfolding keyCount added inserted write writeRange at countColumn ownerNumber
   added-keys (ofOp n) sh h l = getD-set-same (C opAttributes) n _ 0 (omega (arith, sh opAttributes, h .counts .ops))
   added-keys (ofBlock m) sh h l = getD-set-same (C blockAttributes) m _ 0 (omega (arith, sh blockAttributes, h .counts .blocks))
 
   keys-other : (w u : Owner) → (u ≡ w → ⊥) → keyCount (added C w s a) u ≡ keyCount C u
-  unfolding keyCount added inserted write pour at countColumn ownerNumber
+  unfolding keyCount added inserted write writeRange at countColumn ownerNumber
   keys-other (ofOp n) (ofOp m) ne = getD-set-other (C opAttributes) n m _ 0 (λ e. ne (ap ofOp e))
   keys-other (ofOp n) (ofBlock m) ne = refl
   keys-other (ofBlock n) (ofOp m) ne = refl
@@ -73,8 +73,8 @@ module _ (C : Cols) (s : ℕ) (a : Attribute) where
   unfolding added inserted touched any
   added-same w j e u =
       write-other _ counts 6 _ j e ∙ write-other _ (countColumn w) _ _ j (untouched j (countColumn w) (column-touched w) u)
-      ∙ pour-other _ slotContent s _ j (untouched j slotContent refl u) ∙ pour-other _ slotKind s _ j (untouched j slotKind refl u)
-      ∙ pour-other C slotKey s _ j (untouched j slotKey refl u)
+      ∙ writeRange-other _ slotContent s _ j (untouched j slotContent refl u) ∙ writeRange-other _ slotKind s _ j (untouched j slotKind refl u)
+      ∙ writeRange-other C slotKey s _ j (untouched j slotKey refl u)
 
 -- ---- what they are read as
 
@@ -91,7 +91,7 @@ module _ (C : Cols) (w : Owner) (a : Attribute) (sh : Shaped C) (h : Laid C) (l 
   low : s ≤ e
   low = slot-low C w (a .key)
 
-  high : (k : ℕ) → size k ≡ 6144 → e < length (C k)
+  high : (k : ℕ) → columnSize k ≡ 6144 → e < length (C k)
   high k z = omega (arith, sh k, z, slots-fit C w h l)
 
   -- the three columns go alike
@@ -126,7 +126,7 @@ module _ (C : Cols) (w : Owner) (a : Attribute) (sh : Shaped C) (h : Laid C) (l 
   outside j (inl b) = alike j j (λ xs v m. grown-before xs s e v low m j (omega (arith, slot-found C w (a .key))))
   outside j (inr b) = alike j j (λ xs v m. grown-past xs s e v low m j (omega arith))
 
-  kept : Kept C D
+  kept : OnlyTouched C D
   unfolding at
   kept =
       record {

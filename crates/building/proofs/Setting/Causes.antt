@@ -15,12 +15,12 @@ use Rattle.layout.specs.Columns.{columns}
 use Rattle.layout.specs.Reading.{attributeCount, storeIn}
 use Rattle.layout.specs.Soundness.{IsSound}
 use Rattle.layout.specs.Owners.{keyCount}
-use Rattle.building.specs.declared.attributes.Place.{Place}
-use Rattle.building.specs.declared.attributes.Place.the-variants as Places
+use Rattle.building.specs.declared.attributes.AttributePlace.{AttributePlace}
+use Rattle.building.specs.declared.attributes.AttributePlace.the-variants as Places
 use Rattle.building.specs.Raw.{slotFor, keyThere, placeFor}
 use Rattle.building.proofs.Facts.{attributes-counted}
 use Rattle.building.proofs.Setting.Owners.{key-test, keys-counted}
-use Rattle.building.proofs.Setting.SetAttribute.{Room}
+use Rattle.building.proofs.Setting.SetAttribute.{KeyRoom}
 
 module _ (b : List ℕ) (h : IsSound b) (w : Owner) (a : Attribute) where
   abbrev failing : Option ℕ
@@ -32,7 +32,7 @@ module _ (b : List ℕ) (h : IsSound b) (w : Owner) (a : Attribute) where
   abbrev slot : ℕ
   slot = slotFor (columns b) w (a .key)
 
-  abbrev goes : Place
+  abbrev goes : AttributePlace
   goes = placeFor (columns b) w a failing
 
   pub kind-over : maxAttributeKind < a .kind → Places.Refused 6 ≡ goes
@@ -85,7 +85,7 @@ module _ (b : List ℕ) (h : IsSound b) (w : Owner) (a : Attribute) where
     passed-new : there ≡ false → (test : Bool) → (hasKey (a .key) (attributesOf (storeIn b) w) || test) ≡ true → test ≡ true
     passed-new t test p = subst (λ (x : Bool). (x || test) ≡ true) (key-test b h w owner-there (a .key) ∙ t) p
 
-    pub room-there : Room (columns b) w (a .key)
+    pub room-there : KeyRoom (columns b) w (a .key)
     unfolding tests
     room-there t =
         let p = firstFailed-none (tests (storeIn b) (setAttribute w a)) e .1 .1 in (

@@ -11,7 +11,7 @@ use Rattle.rules.specs.Lists.{sum, updateAt}
 use Rattle.rules.specs.Store.{Op, Block, Attribute}
 use Rattle.rules.proofs.Basics.Appended.{length-update, getD-update, sum-update}
 use Rattle.rules.proofs.Soundness.Room.{update-there}
-use Rattle.layout.specs.Reading.{tabulate, part}
+use Rattle.layout.specs.Reading.{tabulate, slice}
 use Rattle.layout.proofs.Tabulate.{length-tabulate, getD-tabulate}
 
 module _ {A : Type 0} where
@@ -55,19 +55,19 @@ blockWith o bs = record { region = o .region; label = o .label; location = o .lo
 pub attribute-same : (a b : Attribute) → a .key ≡ b .key → a .kind ≡ b .kind → a .content ≡ b .content → a ≡ b
 attribute-same a b p q r = λ i. record { key = p i; kind = q i; content = r i }
 
--- ---- a part of a list in which one word is written
+-- ---- a slice of a list in which one word is written
 
-pub part-other : (xs : List ℕ) (a e p v : ℕ) → (p < a) ⊎ (e ≤ p) → part (set xs p v) a e ≡ part xs a e
-unfolding part
-part-other xs a e p v (inl l) = ap (λ (l : List ℕ). take (e - a) l) (drop-set-lt a xs p v l)
-part-other xs a e p v (inr l) = go (decLe a p)
+pub slice-other : (xs : List ℕ) (a e p v : ℕ) → (p < a) ⊎ (e ≤ p) → slice (set xs p v) a e ≡ slice xs a e
+unfolding slice
+slice-other xs a e p v (inl l) = ap (λ (l : List ℕ). take (e - a) l) (drop-set-lt a xs p v l)
+slice-other xs a e p v (inr l) = go (decLe a p)
   where
-    go : Dec (a ≤ p) → part (set xs p v) a e ≡ part xs a e
+    go : Dec (a ≤ p) → slice (set xs p v) a e ≡ slice xs a e
     go (yes u) =
         ap (λ (k : ℕ). take (e - a) (drop a (set xs k v))) (omega arith) ∙ ap (λ (l : List ℕ). take (e - a) l) (drop-set-add a xs (p - a) v)
         ∙ take-set-le (e - a) (drop a xs) (p - a) v (omega arith)
     go (no u) = ap (λ (l : List ℕ). take (e - a) l) (drop-set-lt a xs p v (omega arith))
 
-pub part-same : (xs : List ℕ) (a e i v : ℕ) → i < e - a → part (set xs (a + i) v) a e ≡ set (part xs a e) i v
-unfolding part
-part-same xs a e i v l = ap (λ (l : List ℕ). take (e - a) l) (drop-set-add a xs i v) ∙ take-set-lt (e - a) (drop a xs) i v l
+pub slice-same : (xs : List ℕ) (a e i v : ℕ) → i < e - a → slice (set xs (a + i) v) a e ≡ set (slice xs a e) i v
+unfolding slice
+slice-same xs a e i v l = ap (λ (l : List ℕ). take (e - a) l) (drop-set-add a xs i v) ∙ take-set-lt (e - a) (drop a xs) i v l

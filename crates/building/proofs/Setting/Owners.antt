@@ -17,7 +17,7 @@ use Rattle.layout.proofs.Tabulate.{length-tabulate, op-read, block-read}
 use Rattle.layout.proofs.OwnerKeys.{Reachable, owner-in, owner-reached}
 use Rattle.building.specs.Raw.{keyThere}
 use Rattle.building.proofs.Facts.{laid}
-use Rattle.building.proofs.Setting.Place.{own, key-there}
+use Rattle.building.proofs.Setting.KeySlot.{own, key-there}
 
 module _ (b : List ℕ) (h : IsSound b) where
   pub reachable : (w : Owner) → ownerExists (storeIn b) w ≡ true → Reachable (columns b) w

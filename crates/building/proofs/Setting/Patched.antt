@@ -30,7 +30,7 @@ unfoldable pub patched : Cols → Cols → Cols
 patched C D j = cond (eqb j counts) (patchedCounts C D) (cond (touched j) (D j) (C j))
 
 -- D differs from C only where it may
-pub record Kept (C D : Cols) : Type 0 where
+pub record OnlyTouched (C D : Cols) : Type 0 where
   pub same : (j : ℕ) → eqb j counts ≡ false → touched j ≡ false → D j ≡ C j
   pub words : length (D counts) ≡ 8
   pub countsSame : (i : ℕ) → i < 6 → at D counts i ≡ at C counts i
@@ -48,7 +48,7 @@ spelled l n e =
     ext-getD 0 l (tabulate n (λ (i : ℕ). getD l i 0)) (e ∙ sym (length-tabulate n (λ (i : ℕ). getD l i 0)))
     (λ i h. sym (getD-tabulate n (λ (j : ℕ). getD l j 0) i 0 (subst (λ (k : ℕ). i < k) e h)))
 
-pub kept-path : (C D : Cols) → Kept C D → D ≡ patched C D
+pub kept-path : (C D : Cols) → OnlyTouched C D → D ≡ patched C D
 unfolding patched patchedCounts tabulate tabulateFrom opCount blockCount regionCount valueCount operandCount successorCount attributeCount at
 kept-path C D h = λ i j. go j (eqb j counts) (touched j) refl refl i
   where

@@ -1,4 +1,4 @@
--- What the place of a set attribute tells: the cause of a refusal, or that no test fails, that its slot can be written, and that what is
+-- What becomes of a set attribute, and what follows from it: the cause of a refusal, or that no test fails, that its slot can be written, and that what is
 -- written there is what the call writes. Assumes nothing.
 use Prim.Native.Nat.{ℕ, _+_, _<_, _≤_}
 use native.Mathlib.Omega.{arith}
@@ -14,8 +14,8 @@ use Rattle.layout.specs.Reading.{slotsOf, storeOf, storeIn}
 use Rattle.layout.specs.Soundness.{IsSound}
 use Rattle.layout.specs.Owners.{keyCount}
 use Rattle.layout.proofs.Laid.{Laid}
-use Rattle.building.specs.declared.attributes.Place.{Place}
-use Rattle.building.specs.declared.attributes.Place.the-variants as Places
+use Rattle.building.specs.declared.attributes.AttributePlace.{AttributePlace}
+use Rattle.building.specs.declared.attributes.AttributePlace.the-variants as Places
 use Rattle.building.specs.declared.types.Built.the-variants as Builts
 use Rattle.building.specs.Types.{builtOf}
 use Rattle.building.specs.Raw.{slotFor, keyThere, placeFor, replaced, added, withAttribute}
@@ -23,7 +23,7 @@ use Rattle.building.specs.Calls.{Did}
 use Rattle.building.proofs.Facts.{shaped, laid}
 use Rattle.building.proofs.Doing.{did-work}
 use Rattle.building.proofs.Setting.Owners.{reachable}
-use Rattle.building.proofs.Setting.Place.{slot-low, slot-among}
+use Rattle.building.proofs.Setting.KeySlot.{slot-low, slot-among}
 use Rattle.building.proofs.Setting.SetAttribute.{attribute-reads, attribute-laid}
 use Rattle.building.proofs.Setting.Causes.{owner-there, room-there}
 
@@ -42,10 +42,10 @@ pub record Adding (b : List ℕ) (w : Owner) (a : Attribute) (slot : ℕ) : Type
   pub room : keyCount (columns b) w < maxOwnKeys
   pub written : added (columns b) w slot a ≡ withAttribute (columns b) w a
 
-unfoldable pub Told : List ℕ → Owner → Attribute → Place → Type 0
-Told b w a (Places.Refused cause) = failing b w a ≡ some cause
-Told b w a (Places.Replaces slot) = Replacing b w a slot
-Told b w a (Places.Adds slot) = Adding b w a slot
+unfoldable pub PlaceMeans : List ℕ → Owner → Attribute → AttributePlace → Type 0
+PlaceMeans b w a (Places.Refused cause) = failing b w a ≡ some cause
+PlaceMeans b w a (Places.Replaces slot) = Replacing b w a slot
+PlaceMeans b w a (Places.Adds slot) = Adding b w a slot
 
 module _ (b : List ℕ) (h : IsSound b) (w : Owner) (a : Attribute) where
   abbrev C : Cols
@@ -54,8 +54,8 @@ module _ (b : List ℕ) (h : IsSound b) (w : Owner) (a : Attribute) where
   abbrev s : ℕ
   s = slotFor C w (a .key)
 
-  told-clear : failing b w a ≡ none → (t : Bool) → keyThere C w (a .key) ≡ t → Told b w a (cond t (Places.Replaces s) (Places.Adds s))
-  unfolding Told withAttribute
+  told-clear : failing b w a ≡ none → (t : Bool) → keyThere C w (a .key) ≡ t → PlaceMeans b w a (cond t (Places.Replaces s) (Places.Adds s))
+  unfolding PlaceMeans withAttribute
   told-clear e true k =
       let r = reachable b h w (owner-there b h w a e) in
       record {
@@ -72,13 +72,13 @@ module _ (b : List ℕ) (h : IsSound b) (w : Owner) (a : Attribute) where
         written = sym (ap (λ (t : Bool). cond t (replaced C s a) (added C w s a)) k);
       }
 
-  told-by : (o : Option ℕ) → failing b w a ≡ o → Told b w a (placeFor C w a o)
-  unfolding Told placeFor
+  told-by : (o : Option ℕ) → failing b w a ≡ o → PlaceMeans b w a (placeFor C w a o)
+  unfolding PlaceMeans placeFor
   told-by (some cause) e = e
   told-by none e = told-clear e (keyThere C w (a .key)) refl
 
-  pub told : (p : Place) → p ≡ placeFor C w a (failing b w a) → Told b w a p
-  told p e = subst (Told b w a) (sym e) (told-by (failing b w a) refl)
+  pub told : (p : AttributePlace) → p ≡ placeFor C w a (failing b w a) → PlaceMeans b w a p
+  told p e = subst (PlaceMeans b w a) (sym e) (told-by (failing b w a) refl)
 
   -- and where it is written, the call is done
   pub attribute-done : (exit : List ℕ) → failing b w a ≡ none → length exit ≡ length b → columns exit ≡ withAttribute C w a → Did b exit (setAttribute w a) Builts.Accepted

@@ -16,8 +16,8 @@ use Rattle.layout.proofs.Buffer.{write-other}
 use Rattle.layout.proofs.OwnerKeys.{ownerIn, owner-keys, slots-fit}
 use Rattle.building.specs.Raw.{slotFor, keyThere, replaced}
 use Rattle.building.proofs.Setting.Changed.{update-tabulate, attribute-same, set-update}
-use Rattle.building.proofs.Setting.Patched.{Kept, touched, untouched}
-use Rattle.building.proofs.Setting.Place.{own, place, slot-found, there-within, there-key, there-put}
+use Rattle.building.proofs.Setting.Patched.{OnlyTouched, touched, untouched}
+use Rattle.building.proofs.Setting.KeySlot.{own, place, slot-found, there-within, there-key, there-put}
 use Rattle.building.proofs.Setting.Written.{Written}
 
 module _ (C : Cols) (w : Owner) (a : Attribute) (sh : Shaped C) (h : Laid C) (l : ownerIn C w) (t : keyThere C w (a .key) ≡ true) where
@@ -65,7 +65,7 @@ module _ (C : Cols) (w : Owner) (a : Attribute) (sh : Shaped C) (h : Laid C) (l 
   outside j (inl b) = slot-other j (omega (arith, slot-from))
   outside j (inr b) = slot-other j (omega (arith, slot-high))
 
-  kept : Kept C D
+  kept : OnlyTouched C D
   unfolding replaced write touched any at
   kept =
       record {

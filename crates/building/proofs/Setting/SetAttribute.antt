@@ -9,7 +9,7 @@ use Rattle.rules.specs.Lists.{any, sum}
 use Rattle.rules.specs.Store.{Attribute, Owner, ofOp, ofBlock, maxOwnKeys, maxAttributes}
 use Rattle.rules.specs.Building.{setAttribute, opWithAttribute, blockWithAttribute, applied}
 use Rattle.layout.specs.Columns.{Cols, at, opAttributes, opOperandFirst, opOperandEnd, blockAttributes}
-use Rattle.layout.specs.Reading.{part, opCount, blockCount, regionCount, valueCount, attributeCount, slotsOf, attributeAt, attributesFrom, opOf, blockOf, valueOf, storeOf}
+use Rattle.layout.specs.Reading.{slice, opCount, blockCount, regionCount, valueCount, attributeCount, slotsOf, attributeAt, attributesFrom, opOf, blockOf, valueOf, storeOf}
 use Rattle.layout.specs.Soundness.{attributeSum}
 use Rattle.layout.specs.Owners.{keyCount, countColumn, ownerNumber}
 use Rattle.layout.proofs.Laid.{Shaped, Laid}
@@ -36,7 +36,7 @@ module _ (C D : Cols) (w : Owner) (a : Attribute) (h : Laid C) (l : ownerIn C w)
 
   op-same : (k : ℕ) → k < opCount C → (ofOp k ≡ w → ⊥) → opOf (patched C D) k ≡ opOf C k
   unfolding opOf patched touched any at attributeAt attributesFrom keyCount countColumn ownerNumber
-  op-same k b ne = ap₂ (opWith (opOf C k)) (ap (λ (xs : List ℕ). part xs (at C opOperandFirst k) (at C opOperandEnd k)) (p .operands)) (listed (ofOp k) b ne)
+  op-same k b ne = ap₂ (opWith (opOf C k)) (ap (λ (xs : List ℕ). slice xs (at C opOperandFirst k) (at C opOperandEnd k)) (p .operands)) (listed (ofOp k) b ne)
 
   block-same : (m : ℕ) → m < blockCount C → (ofBlock m ≡ w → ⊥) → blockOf (patched C D) m ≡ blockOf C m
   unfolding blockOf patched touched any at attributeAt attributesFrom keyCount countColumn ownerNumber
@@ -51,7 +51,7 @@ module _ (C D : Cols) (w : Owner) (a : Attribute) (h : Laid C) (l : ownerIn C w)
 
 op-mine : (C D : Cols) (n : ℕ) (a : Attribute) → Written C D (ofOp n) a → opOf (patched C D) n ≡ opWithAttribute a (opOf C n)
 unfolding opOf opWithAttribute patched touched any at attributeAt attributesFrom keyCount countColumn ownerNumber
-op-mine C D n a p = ap₂ (opWith (opOf C n)) (ap (λ (xs : List ℕ). part xs (at C opOperandFirst n) (at C opOperandEnd n)) (p .operands)) (p .mine)
+op-mine C D n a p = ap₂ (opWith (opOf C n)) (ap (λ (xs : List ℕ). slice xs (at C opOperandFirst n) (at C opOperandEnd n)) (p .operands)) (p .mine)
 
 block-mine : (C D : Cols) (m : ℕ) (a : Attribute) → Written C D (ofBlock m) a → blockOf (patched C D) m ≡ blockWithAttribute a (blockOf C m)
 unfolding blockOf blockWithAttribute patched touched any at attributeAt attributesFrom keyCount countColumn ownerNumber
@@ -105,10 +105,10 @@ written-laid C D w a h l p =
 -- ---- the call
 
 -- a new key finds room with its owner and in the total
-abbrev pub Room : Cols → Owner → ℕ → Type 0
-Room C w key = keyThere C w key ≡ false → (keyCount C w + 1 ≤ maxOwnKeys) × (attributeCount C + 1 ≤ maxAttributes)
+abbrev pub KeyRoom : Cols → Owner → ℕ → Type 0
+KeyRoom C w key = keyThere C w key ≡ false → (keyCount C w + 1 ≤ maxOwnKeys) × (attributeCount C + 1 ≤ maxAttributes)
 
-module _ (C : Cols) (w : Owner) (a : Attribute) (sh : Shaped C) (h : Laid C) (l : ownerIn C w) (room : Room C w (a .key)) where
+module _ (C : Cols) (w : Owner) (a : Attribute) (sh : Shaped C) (h : Laid C) (l : ownerIn C w) (room : KeyRoom C w (a .key)) where
   attribute-written : Written C (withAttribute C w a) w a
   unfolding withAttribute
   attribute-written = go (keyThere C w (a .key)) refl

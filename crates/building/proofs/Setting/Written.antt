@@ -11,11 +11,11 @@ use Rattle.layout.specs.Reading.{attributeCount, slotsOf, attributeAt, attribut
 use Rattle.layout.specs.Owners.{keyCount}
 use Rattle.layout.proofs.Laid.{Laid}
 use Rattle.layout.proofs.OwnerKeys.{ownerIn}
-use Rattle.building.proofs.Setting.Patched.{Kept}
-use Rattle.building.proofs.Setting.Place.{own}
+use Rattle.building.proofs.Setting.Patched.{OnlyTouched}
+use Rattle.building.proofs.Setting.KeySlot.{own}
 
 pub record Written (C D : Cols) (w : Owner) (a : Attribute) : Type 0 where
-  pub kept : Kept C D
+  pub kept : OnlyTouched C D
   pub operands : D operandWords ≡ C operandWords
   pub mine : attributesFrom D (slotsOf w) (keyCount D w) ≡ putAttribute a (own C w)
   pub theirs : (j : ℕ) → (j < slotsOf w) ⊎ (slotsOf w + 8 ≤ j) → attributeAt D j ≡ attributeAt C j

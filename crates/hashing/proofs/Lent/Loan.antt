@@ -35,13 +35,13 @@ use denote.Triple.Clauses.{Ended, Clauses, closing, ensured, lasts}
 use denote.Triple.Spec.{tripleOf}
 use denote.Triple.Statement.{Contract, Triple}
 use Rattle.rules.specs.Hash.{fnvFrom}
-use Rattle.hashing.specs.declared.state.State.{State}
-use Rattle.hashing.proofs.state.State as T
-use Rattle.hashing.proofs.state.State.Laws as T′
+use Rattle.hashing.specs.declared.state.RunningHash.{RunningHash}
+use Rattle.hashing.proofs.state.RunningHash as T
+use Rattle.hashing.proofs.state.RunningHash.Laws as T′
 
 -- ---- the record of a word, and its machine value
 
-abbrev pub new : ℕ → State
+abbrev pub new : ℕ → RunningHash
 new x = record { word = x }
 
 abbrev pub mach : ℕ → Val
@@ -52,11 +52,11 @@ abbrev pub held : ℕ → ℕ → Fml
 held l x = fat fullShare T′.mir l 0 (mach x)
 
 -- a reference to it under the name δ, and what it owns when it is lent for ν
-abbrev loan : GName → ℕ → ℕ → RefT State
+abbrev loan : GName → ℕ → ℕ → RefT RunningHash
 loan δ l x = record { ptr = (l, 0); name = δ; now = new x }
 
-abbrev lent : ℕ → GName → ℕ → ℕ → Fml
-lent ν δ l x = MutRef (named 0) (ν ∷ []) T.the-row .own (loan δ l x) (vptr l 0 ∷ [])
+abbrev lentRecord : ℕ → GName → ℕ → ℕ → Fml
+lentRecord ν δ l x = MutRef (named 0) (ν ∷ []) T.the-row .own (loan δ l x) (vptr l 0 ∷ [])
 
 -- ---- contracts, for a number of width w that is fed as those bytes
 
@@ -85,11 +85,11 @@ module _ (w : Width) (fed : ℕ → List ℕ) where
   changes 𝓤 κs a = record { ghost = Unit {0}; requires = λ _. emp 𝓤; ensures = λ _ _ e. fact 𝓤 (e .0 .now .word ≡ fnvFrom (a .0 .now .word) (fed (a .1 .0))) }
 
   module _ {M : Type 1} (𝓤 : URA M) (H : Heap 𝓤) (A : Atoms 𝓤) where
-    abbrev pub Step : Contract 𝓤
-    Step = tripleOf 𝓤 H A (stepped .signature) (closing 𝓤 H A stepped (changes 𝓤))
+    abbrev pub FeedLent : Contract 𝓤
+    FeedLent = tripleOf 𝓤 H A (stepped .signature) (closing 𝓤 H A stepped (changes 𝓤))
 
     -- what a call of such a step binds: the record at l with the word x, lent for ν under the name δ, and the number n
-    abbrev pub to : ℕ → GName → ℕ → ℕ → ℕ → Step .Ghost
+    abbrev pub to : ℕ → GName → ℕ → ℕ → ℕ → FeedLent .Ghost
     to ν δ l x n = (((ν ∷ [], tt), (fullShare, tt), tt, (loan δ l x, (n, tt)), (vptr l 0 ∷ [], (vint w n ∷ [], tt))), tt)
 
 -- ---- the loan
@@ -112,7 +112,7 @@ module _ {M : Type 1} (𝓤 : URA M) (H : Heap 𝓤) (A : Atoms 𝓤) (W : Given
       owned ! T.the-row (Is T.the-row) (LL.makes T.the-type T′.the-plain 𝓤 H A) (new x) (mach x ∷ []) (LL.owes T.the-type T′.the-laws (new x) ((refl, fits), tt)) $
       move ! (1 ∷ 0 ∷ []) $ fjoin ! $ fpack ! (List Val) (λ vs. fsep (cellAt fullShare (T.the-row .mir) vs l 0) (T.the-row .own (new x) vs)) (mach x ∷ []) $ done !
 
-  lies-out : (l : ℕ) (h : State) → ent 𝓤 (sem 𝓤 H A (mem T.the-row .lies h l 0)) (guard 𝓤 (h .word < 2 ^ 64) (sem 𝓤 H A (held l (h .word))))
+  lies-out : (l : ℕ) (h : RunningHash) → ent 𝓤 (sem 𝓤 H A (mem T.the-row .lies h l 0)) (guard 𝓤 (h .word < 2 ^ 64) (sem 𝓤 H A (held l (h .word))))
   unfolding partOf
   lies-out l h =
       qed W (‵ (mem T.the-row .lies h l 0) ∷ []) ∵ fpick ! (λ vs. fsplit ! $ move ! (1 ∷ []) $ peeks ! T.the-row (Is T.the-row) (shows 𝓤 H A T.the-row) h vs (λ g. drop ! $
@@ -122,27 +122,27 @@ module _ {M : Type 1} (𝓤 : URA M) (H : Heap 𝓤) (A : Atoms 𝓤) (W : Given
   module _ (w : Width) (fed : ℕ → List ℕ) where
     -- what a call of a step asks
     goes : (ν : ℕ) (δ : GName) (l x n : ℕ) → n < 2 ^ bits w
-        → ent 𝓤 (sep 𝓤 (A .lft (ν ∷ []) fullShare) (sem 𝓤 H A (lent ν δ l x))) (Step w fed 𝓤 H A .pre (to w fed 𝓤 H A ν δ l x n))
+        → ent 𝓤 (sep 𝓤 (A .lft (ν ∷ []) fullShare) (sem 𝓤 H A (lentRecord ν δ l x))) (FeedLent w fed 𝓤 H A .pre (to w fed 𝓤 H A ν δ l x n))
     goes ν δ l x n fits =
-        qed W (‵ (flft (ν ∷ []) fullShare) ∷ ‵ (lent ν δ l x) ∷ []) ∵
+        qed W (‵ (flft (ν ∷ []) fullShare) ∷ ‵ (lentRecord ν δ l x) ∷ []) ∵
         nothing ! $ move ! (1 ∷ 0 ∷ []) $ join ! $ nothing ! $ number ! w n fits $ fjoin ! $ move ! (2 ∷ 0 ∷ []) $ fjoin ! $ move ! (1 ∷ 0 ∷ []) $ join ! $ frame ! $ done !
 
 module _ {M : Type 1} {𝓤 : URA M} {H : Heap 𝓤} {A : Atoms 𝓤} {K : Type 0} {W : Given 𝓤 H A} {Γ : List (Item 𝓤)} where
   -- the record is lent for one call
   lend : {G : Goal 𝓤 H} → K → Soaks G → (w : Width) (fed : ℕ → List ℕ) (l x n : ℕ) → x < 2 ^ 64 → n < 2 ^ bits w
-      → ((ν : ℕ) (δ : GName) → Seq K W (raw (Step w fed 𝓤 H A .pre (to w fed 𝓤 H A ν δ l x n)) ∷ ‵ (kept ν δ l) ∷ Γ) G) → Seq K W (‵ (held l x) ∷ Γ) G
+      → ((ν : ℕ) (δ : GName) → Seq K W (raw (FeedLent w fed 𝓤 H A .pre (to w fed 𝓤 H A ν δ l x n)) ∷ ‵ (kept ν δ l) ∷ Γ) G) → Seq K W (‵ (held l x) ∷ Γ) G
   lend t z w fed l x n x-fits n-fits k =
       use1 W (‵ (mem T.the-row .lies (new x) l 0)) (lies-in 𝓤 H A W l x x-fits) $ lft-new t z (λ ν. move t (1 ∷ []) $
-      use1 W (later (some (λ (δ : GName). ‵ (lent ν δ l x) ⊛ ‵ (kept ν δ l)))) (lends-ref 𝓤 H A W T.the-row (named 0) (ν ∷ []) (new x) l 0) $
-      await t z $ pick t (λ δ. split t $ move t (2 ∷ 0 ∷ []) $ use2 W (raw (Step w fed 𝓤 H A .pre (to w fed 𝓤 H A ν δ l x n))) (goes 𝓤 H A W w fed ν δ l x n n-fits) $ k ν δ))
+      use1 W (later (some (λ (δ : GName). ‵ (lentRecord ν δ l x) ⊛ ‵ (kept ν δ l)))) (lends-ref 𝓤 H A W T.the-row (named 0) (ν ∷ []) (new x) l 0) $
+      await t z $ pick t (λ δ. split t $ move t (2 ∷ 0 ∷ []) $ use2 W (raw (FeedLent w fed 𝓤 H A .pre (to w fed 𝓤 H A ν δ l x n))) (goes 𝓤 H A W w fed ν δ l x n n-fits) $ k ν δ))
 
   -- it comes back with what the step made of the word
   back : {G : Goal 𝓤 H} → K → Soaks G → (w : Width) (fed : ℕ → List ℕ) (ν : ℕ) (δ : GName) (l x n : ℕ) (v : Val)
-      → ((r : ℕ) → r ≡ fnvFrom x (fed n) → r < 2 ^ 64 → Holds (hasTy tyUnit v) × WT v → Seq K W (‵ (held l r) ∷ Γ) G) → Seq K W (raw (Step w fed 𝓤 H A .post (to w fed 𝓤 H A ν δ l x n) v) ∷ ‵ (kept ν δ l) ∷ Γ) G
+      → ((r : ℕ) → r ≡ fnvFrom x (fed n) → r < 2 ^ 64 → Holds (hasTy tyUnit v) × WT v → Seq K W (‵ (held l r) ∷ Γ) G) → Seq K W (raw (FeedLent w fed 𝓤 H A .post (to w fed 𝓤 H A ν δ l x n) v) ∷ ‵ (kept ν δ l) ∷ Γ) G
   back t z w fed ν δ l x n v k =
       use1 W (later (some (λ (r : Unit {0}). ((‵ (flft (ν ∷ []) fullShare) ⊛ ‵ ftrue) ⊛ ‵ (Nothing .own r (v ∷ []))) ⊛ raw (ensured 𝓤 H A (stepped w fed) (changes w fed 𝓤) (ν ∷ [], tt) (loan δ l x, (n, tt)) tt r)))) (id⊢ 𝓤 _) $
       await t z $ pick t (λ r. split t $ move t (1 ∷ []) $
-      use1 W (some (λ (ws : State × (Unit {0} × Unit {0})). ‵ (lasts (stepped w fed) (ν ∷ [], tt) (loan δ l x, (n, tt)) ws) ⊛ raw (fact 𝓤 (ws .0 .word ≡ fnvFrom x (fed n))))) (id⊢ 𝓤 _) $ pick t (λ ws.
+      use1 W (some (λ (ws : RunningHash × (Unit {0} × Unit {0})). ‵ (lasts (stepped w fed) (ν ∷ [], tt) (loan δ l x, (n, tt)) ws) ⊛ raw (fact 𝓤 (ws .0 .word ≡ fnvFrom x (fed n))))) (id⊢ 𝓤 _) $ pick t (λ ws.
       split t $ move t (1 ∷ []) $ heard t (ws .0 .word ≡ fnvFrom x (fed n)) (λ e. fsplit t $ move t (2 ∷ []) $ split t $ move t (1 ∷ []) $ feqL t (λ u. split t $ lft-end t z $
       -- [the lifetime is over; true; the record's last value; true; what the lender keeps]
       move t (0 ∷ 4 ∷ 2 ∷ []) $ use3 W (later (‵ (mem T.the-row .lies (ws .0) l 0))) (ref-back 𝓤 H A W T.the-row (ν ∷ []) δ (ws .0) l 0) $ await t z $
@@ -151,9 +151,9 @@ module _ {M : Type 1} {𝓤 : URA M} {H : Heap 𝓤} {A : Atoms 𝓤} {K : Type 
 
   -- both, around the call of a step; what it returns, which says nothing, is still to be stored
   pub feeds : {C : Calls 𝓤 H} {Λ : Loops 𝓤 H} {E : Env 𝓤 H} {q : Post 𝓤 H} {f : Name} {xs : List Operand} {d : Place} {rest : Code}
-      → K → FmC 𝓤 H (W .laws) C → (w : Width) (fed : ℕ → List ℕ) → Triple 𝓤 (C f) (Step w fed 𝓤 H A) → (l x n : ℕ) → x < 2 ^ 64 → n < 2 ^ bits w
-      → ((ν : ℕ) (δ : GName) → Opds K W (raw (Step w fed 𝓤 H A .pre (to w fed 𝓤 H A ν δ l x n)) ∷ ‵ (kept ν δ l) ∷ Γ) E xs (vptr l 0 ∷ vint w n ∷ []))
+      → K → FmC 𝓤 H (W .laws) C → (w : Width) (fed : ℕ → List ℕ) → Triple 𝓤 (C f) (FeedLent w fed 𝓤 H A) → (l x n : ℕ) → x < 2 ^ 64 → n < 2 ^ bits w
+      → ((ν : ℕ) (δ : GName) → Opds K W (raw (FeedLent w fed 𝓤 H A .pre (to w fed 𝓤 H A ν δ l x n)) ∷ ‵ (kept ν δ l) ∷ Γ) E xs (vptr l 0 ∷ vint w n ∷ []))
       → ((v : Val) → Holds (hasTy tyUnit v) × WT v → (r : ℕ) → r ≡ fnvFrom x (fed n) → r < 2 ^ 64 → Seq K W (‵ (held l r) ∷ Γ) (lands C Λ E d v rest q))
       → Seq K W (‵ (held l x) ∷ Γ) (runs C Λ E (seq (call f xs d) rest) q)
   feeds t fm w fed known l x n x-fits n-fits read k =
-      lend t tt w fed l x n x-fits n-fits (λ ν δ. calls-at t fm (Step w fed 𝓤 H A) known (to w fed 𝓤 H A ν δ l x n) (read ν δ) (λ v. back t tt w fed ν δ l x n v (λ r e fits u. k v u r e fits)))
+      lend t tt w fed l x n x-fits n-fits (λ ν δ. calls-at t fm (FeedLent w fed 𝓤 H A) known (to w fed 𝓤 H A ν δ l x n) (read ν δ) (λ v. back t tt w fed ν δ l x n v (λ r e fits u. k v u r e fits)))

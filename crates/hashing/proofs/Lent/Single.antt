@@ -26,9 +26,9 @@ use denote.Triple.Entry.{onEntry}
 use denote.Triple.Spec.{Meets}
 use denote.Triple.Walked.{says, Stays, stay-none, walkOf, goes-none, Walks, ends-at, walked, walk-meets}
 use Rattle.rules.specs.Hash.{fnvFrom}
-use Rattle.hashing.proofs.state.State as T
-use Rattle.hashing.proofs.state.State.Laws as T′
-use Rattle.hashing.proofs.Lent.Loan.{numeric, gives, Step, feeds, number}
+use Rattle.hashing.proofs.state.RunningHash as T
+use Rattle.hashing.proofs.state.RunningHash.Laws as T′
+use Rattle.hashing.proofs.Lent.Loan.{numeric, gives, FeedLent, feeds, number}
 
 -- the code
 abbrev pub function : Width → Name → Fn
@@ -61,7 +61,7 @@ module _ (w : Width) (fed : ℕ → List ℕ) where
         qed W [] ∵ suffices ! _ (ends-at 𝓤 H A (numeric w fed) stayed (gives w fed 𝓤) W ((tt, tt, tt, (x, (n, tt)), at), tt) (vint w64 r) r (tt, (tt, tt)) (tt, (tt, tt))) $ says ! e $
         number ! w64 r r-fits $ nothing ! $ number ! w n n-fits $ fjoin ! $ number ! w64 x x-fits $ fjoin ! $ nothing ! $ done !
 
-    module _ (C : Calls 𝓤 H) (Λ : Loops 𝓤 H) (fm : FmC 𝓤 H (W .laws) C) (f : Name) (known : Triple 𝓤 (C f) (Step w fed 𝓤 H A)) where
+    module _ (C : Calls 𝓤 H) (Λ : Loops 𝓤 H) (fm : FmC 𝓤 H (W .laws) C) (f : Name) (known : Triple 𝓤 (C f) (FeedLent w fed 𝓤 H A)) where
       walk : ent 𝓤 (onEntry 𝓤 H A (numeric w fed .signature) tt tt (x, (n, tt)) at) (WpFn 𝓤 H C Λ (function w f) (vint w64 x ∷ vint w n ∷ []) Post)
       walk =
           qed W (‵ ftrue ∷ ‵ (owns (u64 ∷ UInt w ∷ []) (x, (n, tt)) at) ∷ []) ∵ enter ! C Λ (function w f) (vint w64 x ∷ vint w n ∷ []) _ $
@@ -79,12 +79,12 @@ module _ (w : Width) (fed : ℕ → List ℕ) where
           keep ! [] $ by ! (exits r r-fits e))))))))
 
   module _ {M : Type 1} (𝓤 : URA M) (H : Heap 𝓤) (A : Atoms 𝓤) (W : Given 𝓤 H A) (f : Name) where
-    walks : (C : Calls 𝓤 H) (Λ : Loops 𝓤 H) → FmC 𝓤 H (W .laws) C → Triple 𝓤 (C f) (Step w fed 𝓤 H A) → Walks 𝓤 H A (numeric w fed) stayed (WpFn 𝓤 H C Λ (function w f)) (gives w fed 𝓤)
+    walks : (C : Calls 𝓤 H) (Λ : Loops 𝓤 H) → FmC 𝓤 H (W .laws) C → Triple 𝓤 (C f) (FeedLent w fed 𝓤 H A) → Walks 𝓤 H A (numeric w fed) stayed (WpFn 𝓤 H C Λ (function w f)) (gives w fed 𝓤)
     walks C Λ fm known =
         walked 𝓤 H A (numeric w fed) stayed (gives w fed 𝓤) (WpFn 𝓤 H C Λ (function w f)) (λ κs. (uint-vals w64, (uint-vals w, tt))) (λ κs. (uint-tells w64, (uint-tells w, tt)))
         (λ κs qs bounds a g are. via 𝓤 _ (fst∗ 𝓤 _ (emp 𝓤)) (walk 𝓤 H A W (a .0) (a .1 .0) (are .0 .1) (are .1 .0 .1) C Λ fm f known))
 
-    pub meets : (𝓣 : Tables 𝓤 H) → Triple 𝓤 (𝓣 .C f) (Step w fed 𝓤 H A) → Meets 𝓤 H A (numeric w fed .signature) (WpFn 𝓤 H (𝓣 .C) (𝓣 .Λ) (function w f)) (closing 𝓤 H A (numeric w fed) (gives w fed 𝓤))
+    pub meets : (𝓣 : Tables 𝓤 H) → Triple 𝓤 (𝓣 .C f) (FeedLent w fed 𝓤 H A) → Meets 𝓤 H A (numeric w fed .signature) (WpFn 𝓤 H (𝓣 .C) (𝓣 .Λ) (function w f)) (closing 𝓤 H A (numeric w fed) (gives w fed 𝓤))
     meets 𝓣 known =
         walk-meets 𝓤 H A (numeric w fed) stayed W (goes-none 𝓤 H A W 0 (λ _. u64) yes (λ κs x f. refl), (goes-none 𝓤 H A W 0 (λ _. UInt w) yes (λ κs x f. refl), tt)) (gives w fed 𝓤)
         (WpFn 𝓤 H (𝓣 .C) (𝓣 .Λ) (function w f)) (WpFn-mono 𝓤 H (W .laws) 𝓣 (function w f)) (walks (𝓣 .C) (𝓣 .Λ) (fmOf 𝓤 H (W .laws) 𝓣) known)

@@ -28,9 +28,9 @@ use denote.Triple.Spec.{Meets}
 use denote.Triple.Walked.{says, Stays, stay-none, walkOf, goes-none, Walks, ends-at, walked, walk-meets}
 use Rattle.rules.specs.Hash.{fnvFrom, tag}
 use Rattle.hashing.proofs.Bytes.{fed-after}
-use Rattle.hashing.proofs.state.State as T
-use Rattle.hashing.proofs.state.State.Laws as T′
-use Rattle.hashing.proofs.Lent.Loan.{numeric, gives, Step, feeds, number}
+use Rattle.hashing.proofs.state.RunningHash as T
+use Rattle.hashing.proofs.state.RunningHash.Laws as T′
+use Rattle.hashing.proofs.Lent.Loan.{numeric, gives, FeedLent, feeds, number}
 
 -- the code
 abbrev pub function : ℕ → Width → Name → Name → Fn
@@ -71,7 +71,7 @@ module _ (c : ℕ) (c-fits : Holds (ltb c (2 ^ 8))) (w : Width) (fed : ℕ → L
         qed W [] ∵ suffices ! _ (ends-at 𝓤 H A (numeric w both) stayed (gives w both 𝓤) W ((tt, tt, tt, (x, (n, tt)), at), tt) (vint w64 r) r (tt, (tt, tt)) (tt, (tt, tt))) $ says ! e $
         number ! w64 r r-fits $ nothing ! $ number ! w n n-fits $ fjoin ! $ number ! w64 x x-fits $ fjoin ! $ nothing ! $ done !
 
-    module _ (C : Calls 𝓤 H) (Λ : Loops 𝓤 H) (fm : FmC 𝓤 H (W .laws) C) (f g : Name) (f-known : Triple 𝓤 (C f) (Step w8 tag 𝓤 H A)) (g-known : Triple 𝓤 (C g) (Step w fed 𝓤 H A)) where
+    module _ (C : Calls 𝓤 H) (Λ : Loops 𝓤 H) (fm : FmC 𝓤 H (W .laws) C) (f g : Name) (f-known : Triple 𝓤 (C f) (FeedLent w8 tag 𝓤 H A)) (g-known : Triple 𝓤 (C g) (FeedLent w fed 𝓤 H A)) where
       walk : ent 𝓤 (onEntry 𝓤 H A (numeric w both .signature) tt tt (x, (n, tt)) at) (WpFn 𝓤 H C Λ (function c w f g) (vint w64 x ∷ vint w n ∷ []) Post)
       walk =
           qed W (‵ ftrue ∷ ‵ (owns (u64 ∷ UInt w ∷ []) (x, (n, tt)) at) ∷ []) ∵ enter ! C Λ (function c w f g) (vint w64 x ∷ vint w n ∷ []) _ $
@@ -94,13 +94,13 @@ module _ (c : ℕ) (c-fits : Holds (ltb c (2 ^ 8))) (w : Width) (fed : ℕ → L
           keep ! [] $ by ! (exits r′ r′-fits (fed-after x (tag c) (fed n) e e′)))))))))))
 
   module _ {M : Type 1} (𝓤 : URA M) (H : Heap 𝓤) (A : Atoms 𝓤) (W : Given 𝓤 H A) (f g : Name) where
-    walks : (C : Calls 𝓤 H) (Λ : Loops 𝓤 H) → FmC 𝓤 H (W .laws) C → Triple 𝓤 (C f) (Step w8 tag 𝓤 H A) → Triple 𝓤 (C g) (Step w fed 𝓤 H A)
+    walks : (C : Calls 𝓤 H) (Λ : Loops 𝓤 H) → FmC 𝓤 H (W .laws) C → Triple 𝓤 (C f) (FeedLent w8 tag 𝓤 H A) → Triple 𝓤 (C g) (FeedLent w fed 𝓤 H A)
         → Walks 𝓤 H A (numeric w both) stayed (WpFn 𝓤 H C Λ (function c w f g)) (gives w both 𝓤)
     walks C Λ fm f-known g-known =
         walked 𝓤 H A (numeric w both) stayed (gives w both 𝓤) (WpFn 𝓤 H C Λ (function c w f g)) (λ κs. (uint-vals w64, (uint-vals w, tt))) (λ κs. (uint-tells w64, (uint-tells w, tt)))
         (λ κs qs bounds a _ are. via 𝓤 _ (fst∗ 𝓤 _ (emp 𝓤)) (walk 𝓤 H A W (a .0) (a .1 .0) (are .0 .1) (are .1 .0 .1) C Λ fm f g f-known g-known))
 
-    pub meets : (𝓣 : Tables 𝓤 H) → Triple 𝓤 (𝓣 .C f) (Step w8 tag 𝓤 H A) → Triple 𝓤 (𝓣 .C g) (Step w fed 𝓤 H A)
+    pub meets : (𝓣 : Tables 𝓤 H) → Triple 𝓤 (𝓣 .C f) (FeedLent w8 tag 𝓤 H A) → Triple 𝓤 (𝓣 .C g) (FeedLent w fed 𝓤 H A)
         → Meets 𝓤 H A (numeric w both .signature) (WpFn 𝓤 H (𝓣 .C) (𝓣 .Λ) (function c w f g)) (closing 𝓤 H A (numeric w both) (gives w both 𝓤))
     meets 𝓣 f-known g-known =
         walk-meets 𝓤 H A (numeric w both) stayed W (goes-none 𝓤 H A W 0 (λ _. u64) yes (λ κs x f. refl), (goes-none 𝓤 H A W 0 (λ _. UInt w) yes (λ κs x f. refl), tt)) (gives w both 𝓤)

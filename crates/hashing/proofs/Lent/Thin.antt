@@ -36,9 +36,9 @@ use denote.Triple.Entry.{onEntry}
 use denote.Triple.Spec.{Meets}
 use denote.Triple.Walked.{says, Stays, stay-ref, stay-none, walkOf, goes-none, goes-ref, Walks, ends-at, walked, walk-meets}
 use Rattle.rules.specs.Hash.{fnvFrom}
-use Rattle.hashing.specs.declared.state.State.{State}
-use Rattle.hashing.proofs.state.State as T
-use Rattle.hashing.proofs.state.State.Laws as T′
+use Rattle.hashing.specs.declared.state.RunningHash.{RunningHash}
+use Rattle.hashing.proofs.state.RunningHash as T
+use Rattle.hashing.proofs.state.RunningHash.Laws as T′
 use Rattle.hashing.proofs.Lent.Loan.{new, mach, stepped, changes, numeric, gives, Feed, number}
 
 -- the code
@@ -60,9 +60,9 @@ module _ (w : Width) (fed : ℕ → List ℕ) where
   abbrev stayed : Stays (stepped w fed .signature .params) (stepped w fed .kept)
   stayed = (stay-ref (0 ∷ []) tt (plain (λ _. T.the-row)), (stay-none (λ _. UInt w) yes, tt))
 
-  module _ {M : Type 1} (𝓤 : URA M) (H : Heap 𝓤) (A : Atoms 𝓤) (W : Given 𝓤 H A) (κ : Lft) (q : Share) (b o : ℕ) (γ : GName) (h : State) (n : ℕ) (n-fits : n < 2 ^ bits w) where
+  module _ {M : Type 1} (𝓤 : URA M) (H : Heap 𝓤) (A : Atoms 𝓤) (W : Given 𝓤 H A) (κ : Lft) (q : Share) (b o : ℕ) (γ : GName) (h : RunningHash) (n : ℕ) (n-fits : n < 2 ^ bits w) where
     abbrev Arg : Type 0
-    Arg = RefT State × (ℕ × Unit {0})
+    Arg = RefT RunningHash × (ℕ × Unit {0})
 
     abbrev x : Arg
     x = (record { ptr = (b, o); name = γ; now = h }, (n, tt))

@@ -18,14 +18,15 @@ use Rattle.rules.specs.Shells.{Ignore}
 use Rattle.rules.specs.Mapping.{noImage, orSelf, emptyMapping, image, enterAll}
 use Rattle.rules.specs.Comparison.{State, Walk, on, ended, start, compare}
 use Rattle.rules.specs.Hash.{Numbering, noNumbers, fnv, hash, allBytes}
-use Rattle.rules.specs.Laws.{goesOn, equal, Equal, In}
+use Rattle.rules.specs.Laws.{succeeds, equal, Equal, In}
+use Rattle.rules.specs.Form.{Event, step, more, done, events, tokens, canonical}
 use Rattle.rules.proofs.Soundness.Sound.{facts}
 use Rattle.rules.proofs.Basics.Tests.{clash}
 use Rattle.rules.proofs.Basics.Distinct.{concatMap-concatMap}
 use Rattle.rules.proofs.Form.Images.{Empty}
-use Rattle.rules.proofs.Form.Events.{Event, step, more, done, events, unmarked, unmarked-events, lock}
+use Rattle.rules.proofs.Form.Events.{unmarked, unmarked-events, lock}
 use Rattle.rules.proofs.Form.LockStep.{going, lock-step}
-use Rattle.rules.proofs.Form.Tokens.{Token, tokens, eventValues, eventBlocks, eventOperands, eventSuccessors, Rest, Whole, Related, Apart, tokens-equal, lock-goes-on}
+use Rattle.rules.proofs.Form.Tokens.{eventValues, eventBlocks, eventOperands, eventSuccessors, Rest, Whole, Related, Apart, tokens-equal, lock-goes-on}
 use Rattle.rules.proofs.Form.Hashes.{tokenBytes, tokens-bytes}
 use Rattle.rules.proofs.Form.Once.{values-once, values-here, blocks-once, blocks-here}
 use Rattle.rules.proofs.Walking.Deep.{compare-not-deep}
@@ -114,10 +115,6 @@ blocks-size : length EB ≡ maxBlocks
 unfolding emptyMapping
 blocks-size = length-replicate maxBlocks noImage
 
--- the canonical form of a fragment
-unfoldable pub canonical : Store → Ignore → Sort → ℕ → List Token
-canonical s ig f n = tokens s ig (events s f n) noNumbers
-
 module _ (s : Store) (sd : sound s ≡ true) where
   whole : (f : Sort) (n : ℕ) → In s f n → Whole EV EB (all-defined s f n)
   unfolding all-defined
@@ -142,8 +139,8 @@ module _ (s : Store) (sd : sound s ≡ true) where
     unfolding start noNumbers enterAll
     begun a b wa wb = record { values = record { made = refl; lengths = refl }; blocks = record { made = refl; lengths = refl } }
 
-    goes : (w : Walk) → goesOn w ≡ true → (st : State) × (w ≡ on st)
-    unfolding goesOn
+    goes : (w : Walk) → succeeds w ≡ true → (st : State) × (w ≡ on st)
+    unfolding succeeds
     goes (on st) h = (st, refl)
     goes (ended why st) h = clash h refl
 
@@ -153,13 +150,13 @@ module _ (s : Store) (sd : sound s ≡ true) where
     pass a b h = ⊎-elim (λ d. absurd (compare-not-deep s sd ig f a b h emptyMapping (d .0) (d .1))) (λ e. e) (lock-step s ig f a b (start emptyMapping))
 
     pub canonical→equal : (a b : ℕ) → In s f a → In s f b → canonical s ig f a ≡ canonical s ig f b → Equal s ig f a b
-    unfolding canonical equal goesOn
+    unfolding canonical equal succeeds
     canonical→equal a b ha hb e =
         let w = lock-goes-on s ig EV EB empty-values empty-blocks (all-defined s f a) (all-defined s f b) (whole f a ha) (whole f b hb)
         (events s f a) (events s f b) noNumbers noNumbers (start emptyMapping) (events-rest s f a) (events-rest s f b) (begun a b ha hb) e in
         go (compare s ig f a b emptyMapping) (pass a b ha ∙ w .1)
       where
-        go : {st : State} (w : Walk) → going w ≡ some st → goesOn w ≡ true
+        go : {st : State} (w : Walk) → going w ≡ some st → succeeds w ≡ true
         go (on st) k = refl
         go {st} (ended why st′) k = absurd (Option·none-ne-some st k)
 

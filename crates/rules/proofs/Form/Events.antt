@@ -11,41 +11,8 @@ use Rattle.rules.specs.Fragments.{Sort, op, block, region, levels, Step,
 use Rattle.rules.specs.Shells.{Ignore, sameShells}
 use Rattle.rules.specs.Mapping.{enterAll}
 use Rattle.rules.specs.Comparison.{State}
+use Rattle.rules.specs.Form.{Event, step, more, done, listEvents, one, opEvents, blocksEvents, regionEvents, events}
 use Rattle.rules.proofs.Form.Tested.{namesAgree}
-
-pub data Event : Type 0 where
-  step : Step → Event
-  more : Event
-  done : Event
-
--- ---- the events of a fragment
-
-unfoldable pub listEvents : (ℕ → List Event) → List ℕ → List Event
-listEvents f [] = done ∷ []
-listEvents f (x ∷ xs) = more ∷ (f x ++ listEvents f xs)
-
--- one step alone
-abbrev pub one : (ℕ → Step) → ℕ → List Event
-one f n = step (f n) ∷ []
-
-module _ (s : Store) where
-  unfoldable pub opEvents : (ℕ → List Event) → ℕ → List Event
-  opEvents inRegion n = step (names n) ∷ listEvents inRegion (regionsOf s n)
-
-  unfoldable pub blocksEvents : (ℕ → List Event) → List ℕ → List Event
-  blocksEvents full bs =
-      listEvents (one (λ (b : ℕ). shell (ofBlock b))) bs
-      ++ listEvents (λ (b : ℕ). listEvents (one (λ (n : ℕ). shell (ofOp n))) (opsOf s b)) bs
-      ++ listEvents (λ (b : ℕ). listEvents full (opsOf s b)) bs
-
-  unfoldable pub regionEvents : ℕ → ℕ → List Event
-  regionEvents zero r = []
-  regionEvents (suc k) r = blocksEvents (opEvents (regionEvents k)) (blocksOf s r)
-
-  unfoldable pub events : Sort → ℕ → List Event
-  events op n = step (shell (ofOp n)) ∷ opEvents (regionEvents levels) n
-  events block n = blocksEvents (opEvents (regionEvents levels)) (n ∷ [])
-  events region n = regionEvents levels n
 
 -- ---- without their marks they are the steps of the walk
 

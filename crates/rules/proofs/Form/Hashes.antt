@@ -7,8 +7,8 @@ use Rattle.rules.specs.Store.{Store, Owner, ofOp, ofBlock, opAt, typeOf}
 use Rattle.rules.specs.Fragments.{Step, shell, names}
 use Rattle.rules.specs.Shells.{Ignore, countsOf, shellOf}
 use Rattle.rules.specs.Hash.{fnvByte, fnvFrom, Numbering, numbered, Name, nameOf, nameBytes, leaf, count, headBytes, shellBytes, feeds, allBytes}
-use Rattle.rules.proofs.Form.Events.{Event, step, more, done, unmarked}
-use Rattle.rules.proofs.Form.Tokens.{Token, shellToken, namesToken, moreToken, doneToken, next, token, tokens}
+use Rattle.rules.specs.Form.{Event, step, more, done, Token, shellToken, namesToken, moreToken, doneToken, numberedBy, token, tokens}
+use Rattle.rules.proofs.Form.Events.{unmarked}
 
 -- what is fed in two parts goes into the word one after the other
 pub fnv-append : (w : ℕ) (xs ys : List ℕ) → fnvFrom w (xs ++ ys) ≡ fnvFrom (fnvFrom w xs) ys
@@ -48,7 +48,7 @@ module _ (s : Store) (ig : Ignore) where
       (concatMap-map nameBytes (nameOf (N .blocks)) (opAt s n .successors))
 
   pub tokens-bytes : (es : List Event) (N : Numbering) → concatMap tokenBytes (tokens s ig es N) ≡ allBytes s ig (unmarked es) N
-  unfolding concatMap tokens allBytes unmarked next tokenBytes token
+  unfolding concatMap tokens allBytes unmarked numberedBy tokenBytes token
   tokens-bytes [] N = refl
   tokens-bytes (step x ∷ es) N = ap₂ _++_ (step-bytes x N) (tokens-bytes es (numbered s x N))
   tokens-bytes (more ∷ es) N = tokens-bytes es N

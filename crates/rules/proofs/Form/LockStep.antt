@@ -10,9 +10,10 @@ use Rattle.rules.specs.Store.{Store, ofOp, ofBlock, opsOf, blocksOf, reg
 use Rattle.rules.specs.Fragments.{Sort, op, block, region, levels, shell, names, blockOwner}
 use Rattle.rules.specs.Shells.{Ignore, sameShells}
 use Rattle.rules.specs.Mapping.{enterAll}
-use Rattle.rules.specs.Comparison.{State, Pair, Walk, on, ended, tooDeep, _>>=_, paper, oneMore, pairwise, pairOf, expect, pairOps, enterOps, pairBlocks, enterBlocks, pass1, compareBy}
+use Rattle.rules.specs.Comparison.{State, Pair, Walk, on, ended, tooDeep, _>>=_, pairwise, pairOf, expect, pairOps, enterOps, pairBlocks, enterBlocks, pass1, compareBy}
+use Rattle.rules.specs.Form.{Event, listEvents, one, opEvents, blocksEvents, regionEvents, events}
 use Rattle.rules.proofs.Form.Tested.{namesAgree, testedNames, testedOps, tested2, tested3, testedLists, testedRegions, testedBy, compare-tested}
-use Rattle.rules.proofs.Form.Events.{Event, listEvents, one, opEvents, blocksEvents, regionEvents, events, opOwner, andThen, enterOwners, meet, lock}
+use Rattle.rules.proofs.Form.Events.{opOwner, andThen, enterOwners, meet, lock}
 
 abbrev pub going : Walk → Option State
 going (on st) = some st
@@ -65,33 +66,33 @@ module _ (s : Store) (ig : Ignore) where
   names-mirror l r K E E′ k st = tested (namesAgree s l r st) (pairOf op l r) st st K (lock s ig E E′) (k st)
 
   list-mirror : (f : ℕ → ℕ → State → Walk) (p : Pair) (ev : ℕ → List Event) → ((l r : ℕ) → Mirrors (f l r) (ev l) (ev r))
-      → (ls rs : List ℕ) → Mirrors (pairwise paper f p ls rs) (listEvents ev ls) (listEvents ev rs)
-  unfolding Mirrors pairwise oneMore listEvents lock meet
+      → (ls rs : List ℕ) → Mirrors (pairwise f p ls rs) (listEvents ev ls) (listEvents ev rs)
+  unfolding Mirrors pairwise listEvents lock meet
   list-mirror f p ev m [] [] K E E′ k st = k st
   list-mirror f p ev m [] (r ∷ rs) K E E′ k st = inr refl
   list-mirror f p ev m (l ∷ []) [] K E E′ k st = inr refl
   list-mirror f p ev m (l ∷ l′ ∷ ls) [] K E E′ k st = inr refl
   list-mirror f p ev m (l ∷ ls) (r ∷ rs) K E E′ k st =
-      both (f l r) (pairwise paper f p ls rs) (ev l) (ev r) (listEvents ev ls) (listEvents ev rs) (m l r) (list-mirror f p ev m ls rs) K E E′ k st
+      both (f l r) (pairwise f p ls rs) (ev l) (ev r) (listEvents ev ls) (listEvents ev rs) (m l r) (list-mirror f p ev m ls rs) K E E′ k st
 
   op-mirror : (f : ℕ → ℕ → State → Walk) (ev : ℕ → List Event) → ((l r : ℕ) → Mirrors (f l r) (ev l) (ev r))
       → (l r : ℕ) → Mirrors (testedOps s f l r) (opEvents s ev l) (opEvents s ev r)
   unfolding testedOps opEvents
   op-mirror f ev m l r =
-      both (testedNames s l r) (pairwise paper f (pairOf op l r) (regionsOf s l) (regionsOf s r)) (one names l) (one names r)
+      both (testedNames s l r) (pairwise f (pairOf op l r) (regionsOf s l) (regionsOf s r)) (one names l) (one names r)
       (listEvents ev (regionsOf s l)) (listEvents ev (regionsOf s r)) (names-mirror l r) (list-mirror f (pairOf op l r) ev m (regionsOf s l) (regionsOf s r))
 
   lists-mirror : (f : ℕ → ℕ → State → Walk) (ev : ℕ → List Event) → ((l r : ℕ) → Mirrors (f l r) (ev l) (ev r))
       → (p : Pair) (ls rs : List ℕ) → Mirrors (testedLists s ig f p ls rs) (blocksEvents s ev ls) (blocksEvents s ev rs)
   unfolding testedLists blocksEvents pass1 tested2 tested3
   lists-mirror f ev m p ls rs =
-      both (λ (st : State). pass1 paper s ig p ls rs st >>= tested2 s ig p ls rs) (tested3 s ig f p ls rs)
+      both (λ (st : State). pass1 s ig p ls rs st >>= tested2 s ig p ls rs) (tested3 s ig f p ls rs)
       (listEvents blocks ls ++ listEvents ops ls) (listEvents blocks rs ++ listEvents ops rs) (listEvents fulls ls) (listEvents fulls rs)
-      (both (pass1 paper s ig p ls rs) (tested2 s ig p ls rs) (listEvents blocks ls) (listEvents blocks rs) (listEvents ops ls) (listEvents ops rs)
+      (both (pass1 s ig p ls rs) (tested2 s ig p ls rs) (listEvents blocks ls) (listEvents blocks rs) (listEvents ops ls) (listEvents ops rs)
       (list-mirror (pairBlocks s ig) p blocks blocks-mirror ls rs)
-      (list-mirror (λ (l r : ℕ). pairwise paper (pairOps s ig) (pairOf block l r) (opsOf s l) (opsOf s r)) p ops
+      (list-mirror (λ (l r : ℕ). pairwise (pairOps s ig) (pairOf block l r) (opsOf s l) (opsOf s r)) p ops
       (λ l r. list-mirror (pairOps s ig) (pairOf block l r) (one (λ (n : ℕ). shell (ofOp n))) ops-mirror (opsOf s l) (opsOf s r)) ls rs))
-      (list-mirror (λ (l r : ℕ). pairwise paper f p (opsOf s l) (opsOf s r)) p fulls (λ l r. list-mirror f p ev m (opsOf s l) (opsOf s r)) ls rs)
+      (list-mirror (λ (l r : ℕ). pairwise f p (opsOf s l) (opsOf s r)) p fulls (λ l r. list-mirror f p ev m (opsOf s l) (opsOf s r)) ls rs)
     where
       blocks : ℕ → List Event
       blocks = one (λ (b : ℕ). shell (ofBlock b))
@@ -120,7 +121,7 @@ module _ (s : Store) (ig : Ignore) where
   mirror block l r = lists-mirror (testedOps s (testedRegions s ig levels)) (opEvents s (regionEvents s levels)) full-mirror (pairOf block l r) (l ∷ []) (r ∷ [])
   mirror region l r = regions-mirror levels l r
 
-  pub lock-step : (f : Sort) (l r : ℕ) (st : State) → Alike (compareBy paper s ig f l r st) (lock s ig (events s f l) (events s f r) st)
+  pub lock-step : (f : Sort) (l r : ℕ) (st : State) → Alike (compareBy s ig f l r st) (lock s ig (events s f l) (events s f r) st)
   unfolding Mirrors lock
   lock-step f l r st =
       rw (compare-tested s ig f l r st)

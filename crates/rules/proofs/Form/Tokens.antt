@@ -3,7 +3,7 @@
 -- Assumes nothing.
 use Prim.Native.Nat.{ℕ}
 use mathlib.Core.Bool.{Bool, true, false, cond, _&&_}
-use mathlib.Core.List.{List, [], _∷_, _++_, map, append-assoc, List·Memᴰ, Memᴰ·append-left, Memᴰ·append-right, head-eq-of-cons-eq, tail-eq-of-cons-eq, nil≢cons, cons≢nil}
+use mathlib.Core.List.{List, [], _∷_, _++_, append-assoc, List·Memᴰ, Memᴰ·append-left, Memᴰ·append-right, head-eq-of-cons-eq, tail-eq-of-cons-eq, nil≢cons, cons≢nil}
 use mathlib.Core.Option.{Option, none, some, Option·some-injective, Option·none-ne-some}
 use mathlib.Core.Path.{_≡_, refl, ap, ap₂, subst, _∙_}
 use borrow.Author.Tests.{eqb-true, eq-eqb}
@@ -12,22 +12,16 @@ use lib.ListN.{length, getD}
 use Rattle.rules.specs.Lists.{concatMap, sameList}
 use Rattle.rules.specs.Store.{Store, Owner, ofOp, opAt, typeOf, valuesOf}
 use Rattle.rules.specs.Fragments.{shell, names, blockOwner, stepOperands, stepSuccessors, Disjoint}
-use Rattle.rules.specs.Shells.{Ignore, Shell, shellOf, countsOf, sameShells}
+use Rattle.rules.specs.Shells.{Ignore, shellOf, countsOf, sameShells}
 use Rattle.rules.specs.Mapping.{image}
 use Rattle.rules.specs.Comparison.{State, operandsAgree, successorsAgree}
 use Rattle.rules.specs.Hash.{Numbering, numbered, Name, nameOf}
+use Rattle.rules.specs.Form.{Event, step, more, done, shellToken, namesToken, numberedBy, token, tokens}
 use Rattle.rules.proofs.Basics.Tests.{and-left, and-right, and-both, impossible, numbers-same}
 use Rattle.rules.proofs.Form.Images.{Empty, Once, Entered, entered-more, name-forth, name-back}
 use Rattle.rules.proofs.Form.Tested.{namesAgree}
-use Rattle.rules.proofs.Form.Events.{Event, step, more, done, andThen, enterOwners, meet, lock}
+use Rattle.rules.proofs.Form.Events.{andThen, enterOwners, meet, lock}
 use Rattle.rules.proofs.Form.SameShells.{shells→≡, ≡→shells, values-count, blocks-count, pairs-forth, pairs-back}
-
-pub data Token : Type 0 where
-  shellToken : List ℕ → Shell → Token
-  -- the counts, each operand with its type, each successor
-  namesToken : List ℕ → List (Name × ℕ) → List Name → Token
-  moreToken : Token
-  doneToken : Token
 
 module _ (s : Store) where
   -- what an event defines and names
@@ -53,30 +47,13 @@ module _ (s : Store) where
   eventSuccessors more = []
   eventSuccessors done = []
 
-  unfoldable pub next : Event → Numbering → Numbering
-  next (step x) N = numbered s x N
-  next more N = N
-  next done N = N
-
-  module _ (ig : Ignore) where
-    unfoldable pub token : Event → Numbering → Token
-    token (step (shell w)) N = shellToken (countsOf s w) (shellOf s ig w)
-    token (step (names n)) N =
-        namesToken (countsOf s (ofOp n)) (map (λ (v : ℕ). (nameOf (N .values) v, typeOf s v)) (opAt s n .operands)) (map (nameOf (N .blocks)) (opAt s n .successors))
-    token more N = moreToken
-    token done N = doneToken
-
-    unfoldable pub tokens : List Event → Numbering → List Token
-    tokens [] N = []
-    tokens (e ∷ es) N = token e N ∷ tokens es (next e N)
-
   -- what is numbered, and what the events still define, is all that the fragment defines
   pub record Rest (N : Numbering) (es : List Event) (D : Numbering) : Type 0 where
     pub values : N .values ++ concatMap eventValues es ≡ D .values
     pub blocks : N .blocks ++ concatMap eventBlocks es ≡ D .blocks
 
-  rest-next : (N D : Numbering) (e : Event) (es : List Event) → Rest N (e ∷ es) D → Rest (next e N) es D
-  unfolding next numbered concatMap eventValues eventBlocks
+  rest-next : (N D : Numbering) (e : Event) (es : List Event) → Rest N (e ∷ es) D → Rest (numberedBy s e N) es D
+  unfolding numberedBy numbered concatMap eventValues eventBlocks
   rest-next N D (step (shell w)) es r =
       record {
         values = append-assoc (N .values) (valuesOf s w) (concatMap eventValues es) ∙ r .values;
@@ -112,8 +89,8 @@ module _ (s : Store) (ig : Ignore) (EV EB : List ℕ) (emptyV : Empty EV) (empty
 
   -- two shells that are equal, entered
   entered : (l r : Owner) (L R : Numbering) (st : State) → countsOf s l ≡ countsOf s r → shellOf s ig l ≡ shellOf s ig r → Related st L R
-      → Related (enterOwners s l r st) (next s (step (shell l)) L) (next s (step (shell r)) R)
-  unfolding enterOwners next numbered
+      → Related (enterOwners s l r st) (numberedBy s (step (shell l)) L) (numberedBy s (step (shell r)) R)
+  unfolding enterOwners numberedBy numbered
   entered l r L R st c h rel =
       record {
         values = entered-more EV (st .mapping .values) (L .values) (R .values) (valuesOf s l) (valuesOf s r) (rel .values) (values-count s ig l r h);
@@ -182,16 +159,16 @@ module _ (s : Store) (ig : Ignore) (EV EB : List ℕ) (emptyV : Empty EV) (empty
     same-state st′ h = subst (λ (x : State). Related x L R) (Option·some-injective st st′ h) rel
 
     step-forth : (e e′ : Event) (st′ : State) (tail : List Event) → Apart (e ∷ tail) → meet s ig e e′ st ≡ some st′
-        → (token s ig e L ≡ token s ig e′ R) × Related st′ (next s e L) (next s e′ R)
-    unfolding meet token next numbered concatMap eventOperands eventSuccessors stepOperands stepSuccessors
+        → (token s ig e L ≡ token s ig e′ R) × Related st′ (numberedBy s e L) (numberedBy s e′ R)
+    unfolding meet token numberedBy numbered concatMap eventOperands eventSuccessors stepOperands stepSuccessors
     step-forth (step (shell l)) (step (shell r)) st′ tail a h = go (sameShells s ig l r) refl h
       where
         go : (b : Bool) → sameShells s ig l r ≡ b → cond b (some (enterOwners s l r st)) none ≡ some st′
-            → (token s ig (step (shell l)) L ≡ token s ig (step (shell r)) R) × Related st′ (next s (step (shell l)) L) (next s (step (shell r)) R)
+            → (token s ig (step (shell l)) L ≡ token s ig (step (shell r)) R) × Related st′ (numberedBy s (step (shell l)) L) (numberedBy s (step (shell r)) R)
         go true e k =
             let p = shells→≡ s ig l r e in (
               λ i. shellToken (p .0 i) (p .1 i),
-              subst (λ (x : State). Related x (next s (step (shell l)) L) (next s (step (shell r)) R)) (Option·some-injective (enterOwners s l r st) st′ k) (entered l r L R st (p .0) (p .1) rel),
+              subst (λ (x : State). Related x (numberedBy s (step (shell l)) L) (numberedBy s (step (shell r)) R)) (Option·some-injective (enterOwners s l r st) st′ k) (entered l r L R st (p .0) (p .1) rel),
             )
         go false e k = absurd (Option·none-ne-some st′ k)
     step-forth (step (shell l)) (step (names r)) st′ tail a h = absurd (Option·none-ne-some st′ h)
@@ -218,10 +195,10 @@ module _ (s : Store) (ig : Ignore) (EV EB : List ℕ) (emptyV : Empty EV) (empty
     record Met (e e′ : Event) : Type 0 where
       state : State
       met : meet s ig e e′ st ≡ some state
-      related : Related state (next s e L) (next s e′ R)
+      related : Related state (numberedBy s e L) (numberedBy s e′ R)
 
     step-back : (e e′ : Event) → token s ig e L ≡ token s ig e′ R → Met e e′
-    unfolding meet token next numbered
+    unfolding meet token numberedBy numbered
     step-back (step (shell l)) (step (shell r)) h =
         let c : countsOf s l ≡ countsOf s r = cc in
         let k : shellOf s ig l ≡ shellOf s ig r = cc in
@@ -251,12 +228,12 @@ module _ (s : Store) (ig : Ignore) (EV EB : List ℕ) (emptyV : Empty EV) (empty
   tokens-equal [] (e′ ∷ es′) L R st st′ restL restR rel a h = absurd (Option·none-ne-some st′ h)
   tokens-equal (e ∷ es) [] L R st st′ restL restR rel a h = absurd (Option·none-ne-some st′ h)
   tokens-equal (e ∷ es) (e′ ∷ es′) L R st st′ restL restR rel a h =
-      go (meet s ig e e′ st) refl (λ st₁ rel₁ k. tokens-equal es es′ (next s e L) (next s e′ R) st₁ st′ (rest-next s L DL e es restL) (rest-next s R DR e′ es′ restR) rel₁ (apart-next e es a) k) h
+      go (meet s ig e e′ st) refl (λ st₁ rel₁ k. tokens-equal es es′ (numberedBy s e L) (numberedBy s e′ R) st₁ st′ (rest-next s L DL e es restL) (rest-next s R DR e′ es′ restR) rel₁ (apart-next e es a) k) h
     where
       go : (o : Option State) → meet s ig e e′ st ≡ o
-          → ((st₁ : State) → Related st₁ (next s e L) (next s e′ R) → lock s ig es es′ st₁ ≡ some st′ → tokens s ig es (next s e L) ≡ tokens s ig es′ (next s e′ R))
+          → ((st₁ : State) → Related st₁ (numberedBy s e L) (numberedBy s e′ R) → lock s ig es es′ st₁ ≡ some st′ → tokens s ig es (numberedBy s e L) ≡ tokens s ig es′ (numberedBy s e′ R))
           → andThen o (lock s ig es es′) ≡ some st′
-          → token s ig e L ∷ tokens s ig es (next s e L) ≡ token s ig e′ R ∷ tokens s ig es′ (next s e′ R)
+          → token s ig e L ∷ tokens s ig es (numberedBy s e L) ≡ token s ig e′ R ∷ tokens s ig es′ (numberedBy s e′ R)
       go none m rest k = absurd (Option·none-ne-some st′ k)
       go (some st₁) m rest k =
           let q = step-forth L R (e ∷ es) (e′ ∷ es′) restL restR st rel e e′ st₁ es a m in
@@ -270,5 +247,5 @@ module _ (s : Store) (ig : Ignore) (EV EB : List ℕ) (emptyV : Empty EV) (empty
   lock-goes-on (e ∷ es) [] L R st restL restR rel h = absurd (cons≢nil h)
   lock-goes-on (e ∷ es) (e′ ∷ es′) L R st restL restR rel h =
       let m = step-back L R (e ∷ es) (e′ ∷ es′) restL restR st rel e e′ (head-eq-of-cons-eq h) in
-      let w = lock-goes-on es es′ (next s e L) (next s e′ R) (m .state) (rest-next s L DL e es restL) (rest-next s R DR e′ es′ restR) (m .related) (tail-eq-of-cons-eq h) in
+      let w = lock-goes-on es es′ (numberedBy s e L) (numberedBy s e′ R) (m .state) (rest-next s L DL e es restL) (rest-next s R DR e′ es′ restR) (m .related) (tail-eq-of-cons-eq h) in
       (w .0, ap (λ (o : Option State). andThen o (lock s ig es es′)) (m .met) ∙ w .1)

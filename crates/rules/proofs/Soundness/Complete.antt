@@ -1,18 +1,15 @@
 -- The limit tests of a call, causes 4, 5 and 3, ask only what soundness asks of the store with the call done, so a call whose names exist
 -- is refused only where that store would not be sound. Assumes nothing.
-use Prim.Native.Nat.{ℕ, _<_}
+use Prim.Native.Nat.{_<_}
 use native.Mathlib.Omega.{arith}
-use mathlib.Core.Bool.{Bool, true}
-use mathlib.Core.Option.{none}
-use mathlib.Core.List.{[], _∷_, map}
-use mathlib.Core.Logic.{_↔_}
+use mathlib.Core.Bool.{true}
 use mathlib.Core.Path.{_≡_, refl}
 use borrow.Author.Tests.{ltb-true, le-leb}
-use lib.Dec.{eqb}
 use lib.ListN.{length}
-use Rattle.rules.specs.Lists.{every, any, keep}
-use Rattle.rules.specs.Store.{Store, Op, Block, ofOp, ofBlock, noOp, noBlock, opAt, blockAt, opExists, blockExists, ownerExists, attributeTotal, maxAttributes, sound}
-use Rattle.rules.specs.Building.{Call, newOperation, newBlock, setAttribute, setOperand, attributesOf, tests, operationNames, operationFits, operationRoom, blockRoom, firstFailed, opWithAttribute, blockWithAttribute, applied}
+use Rattle.rules.specs.Lists.{any, filter}
+use Rattle.rules.specs.Store.{Store, Op, Block, ofOp, ofBlock, noOp, noBlock, opAt, blockAt, opExists, blockExists, ownerExists, attributeTotal, maxAttributes}
+use Rattle.rules.specs.Building.{Call, newOperation, newBlock, setAttribute, setOperand, attributesOf, tests, operationNames, operationFits, operationRoom, blockRoom, opWithAttribute, blockWithAttribute, applied}
+use Rattle.rules.specs.Statements.{ofNames, namesHold, AcceptedExactly}
 use Rattle.rules.proofs.Basics.Tests.{passed, every-of}
 use Rattle.rules.proofs.Soundness.Sound.{Sound, facts, sound-of}
 use Rattle.rules.proofs.Basics.Appended.{length-update, sum-update}
@@ -22,16 +19,8 @@ use Rattle.rules.proofs.Soundness.KeptNewBlock.{BlockAllowed}
 use Rattle.rules.proofs.Soundness.Kept.{applied-sound}
 use Rattle.rules.proofs.Soundness.Room.{operation-allowed, block-allowed, update-there, put-allowed, keys-allowed}
 
--- a cause that is no limit: an attribute kind above 63, a named thing that does not exist, an operand index past the end
-unfoldable pub ofNames : Bool × ℕ → Bool
-ofNames t = any (eqb (t .1)) (6 ∷ 2 ∷ 7 ∷ [])
-
--- the call's tests of these causes pass
-unfoldable pub namesHold : Store → Call → Bool
-namesHold s c = every (map (λ (t : Bool × ℕ). t .0) (keep ofNames (tests s c)))
-
 limits-hold : (s : Store) (c : Call) → Sound s → namesHold s c ≡ true → Sound (applied s c) → AllPassed (tests s c)
-unfolding namesHold ofNames any keep applied tests operationNames operationFits operationRoom blockRoom attributesOf attributeTotal opAt blockAt ownerExists opExists blockExists opWithAttribute blockWithAttribute
+unfolding namesHold ofNames any filter applied tests operationNames operationFits operationRoom blockRoom attributesOf attributeTotal opAt blockAt ownerExists opExists blockExists opWithAttribute blockWithAttribute
 limits-hold s (newOperation kind parent location regions types operands successors) h p u =
     let names = passed _ (passed _ p .0) in
     let c : OpAllowed s _ regions types = operation-allowed s _ regions types h u (names .0) (names .1 .0) (names .1 .1 .0) refl in (
@@ -84,6 +73,7 @@ limits-hold s (setAttribute (ofBlock b) a) h p u =
     )
 limits-hold s (setOperand n i v) h p u = passed _ p
 
-pub accepted-exactly : (s : Store) (c : Call) → sound s ≡ true → namesHold s c ≡ true → (firstFailed (tests s c) ≡ none) ↔ (sound (applied s c) ≡ true)
+pub accepted-exactly : AcceptedExactly
+unfolding AcceptedExactly
 accepted-exactly s c h p =
     (λ e. sound-of _ (applied-sound s c (facts s h) (firstFailed-none _ e)), λ u. all-passed _ (limits-hold s c (facts s h) p (facts _ u)))

@@ -18,7 +18,7 @@ use Rattle.rules.specs.Mapping.{Mapping, noImage, emptyMapping, entriesA
 use Rattle.rules.specs.Comparison.{unequal, oneLonger, tooDeep, Walk, on, ended, compare}
 use Rattle.rules.specs.Hash.{hash}
 use Rattle.rules.specs.Answers.{eq, neq, refused, shallow, compareTests, comparisonOf, comparisonBy, comparison, hashIs, hashTests, hashedBy, hashed}
-use Rattle.rules.specs.Laws.{goesOn, equal}
+use Rattle.rules.specs.Laws.{succeeds, equal}
 use Rattle.rules.proofs.Basics.Tests.{and-both, every-of, clash, impossible}
 use Rattle.rules.proofs.Soundness.Children.{ops-in}
 use Rattle.rules.proofs.Soundness.Accepted.{all-passed}
@@ -119,8 +119,8 @@ pub empty-allowed : (s : Store) → allowed s emptyMapping ≡ true
 unfolding allowed emptyMapping
 empty-allowed s = every-of _ (table-allowed _ _, (table-allowed _ _, (table-allowed _ _, tt)))
 
-eq-answer : (w : Walk) (m : Mapping) → (goesOn w ≡ true) ↔ ((p : ℕ) × (comparisonOf w m .answer ≡ eq p))
-unfolding goesOn comparisonOf
+eq-answer : (w : Walk) (m : Mapping) → (succeeds w ≡ true) ↔ ((p : ℕ) × (comparisonOf w m .answer ≡ eq p))
+unfolding succeeds comparisonOf
 eq-answer (on st) m = (λ h. (st .paired, refl), λ h. refl)
 eq-answer (ended (unequal p) st) m = (λ h. clash h refl, λ h. let e : neq p (st .paired) ≡ eq (h .0) = h .1 in cc)
 eq-answer (ended (oneLonger p) st) m = (λ h. clash h refl, λ h. let e : neq p (st .paired) ≡ eq (h .0) = h .1 in cc)

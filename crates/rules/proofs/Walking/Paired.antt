@@ -11,7 +11,7 @@ use Rattle.rules.specs.Lists.{concatMap}
 use Rattle.rules.specs.Store.{Store, ofOp, ofBlock, blocksOf, sound}
 use Rattle.rules.specs.Fragments.{Sort, op, block, region, exists, levels, Step, shell, fullOp, regionSteps, steps, stepDefines, definesOwners}
 use Rattle.rules.specs.Shells.{Ignore}
-use Rattle.rules.specs.Comparison.{State, Pair, Walk, on, ended, standing, _>>=_, Reading, pairwise, eachPair, pairOf, enterOps, enterBlocks, pairOps, pairBlocks, checkOps, pass2, pass3, compareRegions, compareBy}
+use Rattle.rules.specs.Comparison.{State, Pair, Walk, on, ended, standing, _>>=_, pairwise, eachPair, pairOf, enterOps, enterBlocks, pairOps, pairBlocks, checkOps, pass2, pass3, compareRegions, compareBy}
 use Rattle.rules.proofs.Basics.Distinct.{concatMap-append}
 use Rattle.rules.proofs.Form.OnceInLists.{defined}
 use Rattle.rules.proofs.Form.Counted.{owners-most}
@@ -40,8 +40,8 @@ adding =
       behind = λ xs ys st w f a b. le-trans a (grows-bind w f b);
     }
 
-pub grows-pairwise : (z : Reading) (f : ℕ → ℕ → State → Walk) → ((l r : ℕ) → Grows (f l r)) → (p : Pair) (ls rs : List ℕ) → Grows (pairwise z f p ls rs)
-grows-pairwise z f h = always-pairwise Adding adding z f ofOp h
+pub grows-pairwise : (f : ℕ → ℕ → State → Walk) → ((l r : ℕ) → Grows (f l r)) → (p : Pair) (ls rs : List ℕ) → Grows (pairwise f p ls rs)
+grows-pairwise f h = always-pairwise Adding adding f ofOp h
 
 pub grows-each : (f : ℕ → ℕ → State → Walk) → ((l r : ℕ) → Grows (f l r)) → (ls rs : List ℕ) → Grows (eachPair f ls rs)
 grows-each f h ls rs = always-each Adding adding f noSteps ls rs (λ l m. h l)
@@ -62,16 +62,16 @@ module _ (s : Store) (ig : Ignore) where
   unfolding pairBlocks enterBlocks standing
   grows-pair-blocks l r st = always-expect Adding adding [] _ (pairOf block l r) st (enterBlocks s l r st) (omega arith)
 
-module _ (z : Reading) (s : Store) (ig : Ignore) where
-  pub grows-pass2 : (ls rs : List ℕ) → Grows (pass2 z s ig ls rs)
-  grows-pass2 = always-pass2 Adding adding z s ig (grows-pair-ops s ig)
+module _ (s : Store) (ig : Ignore) where
+  pub grows-pass2 : (ls rs : List ℕ) → Grows (pass2 s ig ls rs)
+  grows-pass2 = always-pass2 Adding adding s ig (grows-pair-ops s ig)
 
-  pub grows-regions : (k : ℕ) (l r : ℕ) → Grows (compareRegions k z s ig l r)
+  pub grows-regions : (k : ℕ) (l r : ℕ) → Grows (compareRegions k s ig l r)
   unfolding standing compareRegions
   grows-regions zero l r st = le-refl (st .paired)
   grows-regions (suc k) l r st =
-      always-lists Adding adding z s ig (grows-pair-ops s ig) (grows-pair-blocks s ig) _ noSteps (pairOf region l r) (blocksOf s l) (blocksOf s r)
-      (λ b m n i. grows-ops s (compareRegions k z s ig) (grows-regions k) n)
+      always-lists Adding adding s ig (grows-pair-ops s ig) (grows-pair-blocks s ig) _ noSteps (pairOf region l r) (blocksOf s l) (blocksOf s r)
+      (λ b m n i. grows-ops s (compareRegions k s ig) (grows-regions k) n)
       st
 
 -- ---- and no more than there are shells among the steps on the left
@@ -98,7 +98,7 @@ at-most =
       behind = λ xs ys st w f a b. omega (arith, bind-most ys w f b, defined-append xs ys);
     }
 
-module _ (z : Reading) (s : Store) (ig : Ignore) where
+module _ (s : Store) (ig : Ignore) where
   ops-most : (l r : ℕ) → Always AtMost (shell (ofOp l) ∷ []) (pairOps s ig l r)
   unfolding pairOps enterOps standing defined concatMap stepDefines
   ops-most l r st = always-expect AtMost at-most (shell (ofOp l) ∷ []) _ (pairOf op l r) st (enterOps s l r st) (omega arith)
@@ -107,25 +107,25 @@ module _ (z : Reading) (s : Store) (ig : Ignore) where
   unfolding pairBlocks enterBlocks standing defined concatMap stepDefines
   blocks-most l r st = always-expect AtMost at-most (shell (ofBlock l) ∷ []) _ (pairOf block l r) st (enterBlocks s l r st) (omega arith)
 
-  regions-most : (k : ℕ) (l r : ℕ) → Always AtMost (regionSteps k s l) (compareRegions k z s ig l r)
+  regions-most : (k : ℕ) (l r : ℕ) → Always AtMost (regionSteps k s l) (compareRegions k s ig l r)
   unfolding standing compareRegions regionSteps
   regions-most zero l r = λ st. omega arith
   regions-most (suc k) l r =
-      always-lists AtMost at-most z s ig ops-most blocks-most _ _ (pairOf region l r) (blocksOf s l) (blocksOf s r)
+      always-lists AtMost at-most s ig ops-most blocks-most _ _ (pairOf region l r) (blocksOf s l) (blocksOf s r)
       (λ b m n i q. always-ops AtMost at-most s _ _ n q (λ x j. regions-most k x))
 
-  full-most : (l r : ℕ) → Always AtMost (fullOp s (regionSteps levels s) l) (checkOps s (compareRegions levels z s ig) l r)
+  full-most : (l r : ℕ) → Always AtMost (fullOp s (regionSteps levels s) l) (checkOps s (compareRegions levels s ig) l r)
   full-most l r = always-ops AtMost at-most s _ _ l r (λ x m. regions-most levels x)
 
-  fragments-most : (f : Sort) (l r : ℕ) → Always AtMost (steps s f l) (compareBy z s ig f l r)
+  fragments-most : (f : Sort) (l r : ℕ) → Always AtMost (steps s f l) (compareBy s ig f l r)
   unfolding compareBy steps
   fragments-most op l r = always-then AtMost at-most (shell (ofOp l) ∷ []) _ (pairOps s ig l r) _ (ops-most l r) (full-most l r)
-  fragments-most block l r = always-lists AtMost at-most z s ig ops-most blocks-most _ _ (pairOf block l r) (l ∷ []) (r ∷ []) (λ b m n i. full-most n)
+  fragments-most block l r = always-lists AtMost at-most s ig ops-most blocks-most _ _ (pairOf block l r) (l ∷ []) (r ∷ []) (λ b m n i. full-most n)
   fragments-most region l r = regions-most levels l r
 
-pub paired-most : (s : Store) → sound s ≡ true → (z : Reading) (ig : Ignore) (f : Sort) (l r : ℕ) → exists s f l ≡ true → (st : State)
-    → standing (compareBy z s ig f l r st) .paired ≤ st .paired + 768
+pub paired-most : (s : Store) → sound s ≡ true → (ig : Ignore) (f : Sort) (l r : ℕ) → exists s f l ≡ true → (st : State)
+    → standing (compareBy s ig f l r st) .paired ≤ st .paired + 768
 unfolding definesOwners defined
-paired-most s sd z ig f l r e st =
-    let most : standing (compareBy z s ig f l r st) .paired ≤ st .paired + length (definesOwners s f l) = fragments-most z s ig f l r st in
+paired-most s sd ig f l r e st =
+    let most : standing (compareBy s ig f l r st) .paired ≤ st .paired + length (definesOwners s f l) = fragments-most s ig f l r st in
     omega (arith, owners-most s sd f l e)

@@ -9,7 +9,7 @@ use Rattle.rules.specs.Lists.{concatMap}
 use Rattle.rules.specs.Store.{Store, Owner, ofOp, ofBlock, opsOf, regionsOf}
 use Rattle.rules.specs.Fragments.{op, block, Step, shell, names, fullOp, listSteps}
 use Rattle.rules.specs.Shells.{Ignore}
-use Rattle.rules.specs.Comparison.{State, Pair, Stop, unequal, oneLonger, Walk, on, ended, _>>=_, Reading, oneMore, pairwise, eachPair, pairOf, expect, pairOps, pairBlocks, checkNames, checkOps, pass1, pass2, pass3, compareLists}
+use Rattle.rules.specs.Comparison.{State, Pair, Stop, unequal, oneLonger, Walk, on, ended, _>>=_, pairwise, eachPair, pairOf, expect, pairOps, pairBlocks, checkNames, checkOps, pass1, pass2, pass3, compareLists}
 
 -- the walk has ended, and by such a stop
 abbrev pub EndedBy : (Stop → Type 0) → Walk → Type 0
@@ -38,25 +38,23 @@ module _ (P : Stop → Type 0) where
   agree-each f g h (l ∷ ls) [] st = inr refl
   agree-each f g h (l ∷ ls) (r ∷ rs) st = agree-bind (f l r st) (g l r st) _ _ (h l r st) (agree-each f g h ls rs)
 
-  -- two readings that agree on a list which is one longer on the left
-  module _ (z y : Reading) (one : (p : Pair) (st : State) → Agree P (oneMore z p st) (oneMore y p st)) where
-    agree-pairwise : (f g : ℕ → ℕ → State → Walk) → Agreeing P f g → (p : Pair) (ls rs : List ℕ) (st : State)
-        → Agree P (pairwise z f p ls rs st) (pairwise y g p ls rs st)
-    unfolding pairwise
-    agree-pairwise f g h p [] [] st = inr refl
-    agree-pairwise f g h p [] (r ∷ rs) st = inr refl
-    agree-pairwise f g h p (l ∷ []) [] st = one p st
-    agree-pairwise f g h p (l ∷ m ∷ ls) [] st = inr refl
-    agree-pairwise f g h p (l ∷ ls) (r ∷ rs) st = agree-bind (f l r st) (g l r st) _ _ (h l r st) (agree-pairwise f g h p ls rs)
+  agree-pairwise : (f g : ℕ → ℕ → State → Walk) → Agreeing P f g → (p : Pair) (ls rs : List ℕ) (st : State)
+      → Agree P (pairwise f p ls rs st) (pairwise g p ls rs st)
+  unfolding pairwise
+  agree-pairwise f g h p [] [] st = inr refl
+  agree-pairwise f g h p [] (r ∷ rs) st = inr refl
+  agree-pairwise f g h p (l ∷ []) [] st = inr refl
+  agree-pairwise f g h p (l ∷ m ∷ ls) [] st = inr refl
+  agree-pairwise f g h p (l ∷ ls) (r ∷ rs) st = agree-bind (f l r st) (g l r st) _ _ (h l r st) (agree-pairwise f g h p ls rs)
 
-    pub agree-lists : (s : Store) (ig : Ignore) (f g : ℕ → ℕ → State → Walk) → Agreeing P f g → (p : Pair) (ls rs : List ℕ) (st : State)
-        → Agree P (compareLists z s ig f p ls rs st) (compareLists y s ig g p ls rs st)
-    unfolding compareLists pass1 pass2 pass3
-    agree-lists s ig f g h p ls rs st =
-        agree-bind _ _ _ _
-        (agree-bind _ _ _ _ (agree-pairwise _ _ (λ l r t. inr refl) p ls rs st)
-        (agree-each _ _ (λ l r. agree-pairwise _ _ (λ a b t. inr refl) (pairOf block l r) (opsOf s l) (opsOf s r)) ls rs))
-        (agree-each _ _ (λ l r. agree-each f g h (opsOf s l) (opsOf s r)) ls rs)
+  pub agree-lists : (s : Store) (ig : Ignore) (f g : ℕ → ℕ → State → Walk) → Agreeing P f g → (p : Pair) (ls rs : List ℕ) (st : State)
+      → Agree P (compareLists s ig f p ls rs st) (compareLists s ig g p ls rs st)
+  unfolding compareLists pass1 pass2 pass3
+  agree-lists s ig f g h p ls rs st =
+      agree-bind _ _ _ _
+      (agree-bind _ _ _ _ (agree-pairwise _ _ (λ l r t. inr refl) p ls rs st)
+      (agree-each _ _ (λ l r. agree-pairwise _ _ (λ a b t. inr refl) (pairOf block l r) (opsOf s l) (opsOf s r)) ls rs))
+      (agree-each _ _ (λ l r. agree-each f g h (opsOf s l) (opsOf s r)) ls rs)
 
   pub agree-ops : (s : Store) (f g : ℕ → ℕ → State → Walk) → Agreeing P f g → Agreeing P (checkOps s f) (checkOps s g)
   unfolding checkOps
@@ -88,21 +86,16 @@ module _ (R : List Step → State → Walk → Type 0) (h : Passes R) where
   always-expect xs true p st t a = a
   always-expect xs false p st t a = h .named xs st p
 
-  always-one : (xs : List Step) (z : Reading) (p : Pair) → Always R xs (oneMore z p)
-  unfolding oneMore
-  always-one xs Reading.paper p st = h .longer xs st p
-  always-one xs Reading.rust p st = h .stays xs st
-
   -- pair by pair, each with a shell
-  pub always-pairwise : (z : Reading) (f : ℕ → ℕ → State → Walk) (w : ℕ → Owner) → ((l r : ℕ) → Always R (shell (w l) ∷ []) (f l r))
-      → (p : Pair) (ls rs : List ℕ) → Always R (map (λ (l : ℕ). shell (w l)) ls) (pairwise z f p ls rs)
+  pub always-pairwise : (f : ℕ → ℕ → State → Walk) (w : ℕ → Owner) → ((l r : ℕ) → Always R (shell (w l) ∷ []) (f l r))
+      → (p : Pair) (ls rs : List ℕ) → Always R (map (λ (l : ℕ). shell (w l)) ls) (pairwise f p ls rs)
   unfolding pairwise
-  always-pairwise z f w a p [] [] st = h .stays _ st
-  always-pairwise z f w a p [] (r ∷ rs) st = h .named _ st p
-  always-pairwise z f w a p (l ∷ []) [] st = always-one _ z p st
-  always-pairwise z f w a p (l ∷ m ∷ ls) [] st = h .named _ st p
-  always-pairwise z f w a p (l ∷ ls) (r ∷ rs) st =
-      always-then (shell (w l) ∷ []) (map (λ (n : ℕ). shell (w n)) ls) (f l r) (pairwise z f p ls rs) (a l r) (always-pairwise z f w a p ls rs) st
+  always-pairwise f w a p [] [] st = h .stays _ st
+  always-pairwise f w a p [] (r ∷ rs) st = h .named _ st p
+  always-pairwise f w a p (l ∷ []) [] st = h .longer _ st p
+  always-pairwise f w a p (l ∷ m ∷ ls) [] st = h .named _ st p
+  always-pairwise f w a p (l ∷ ls) (r ∷ rs) st =
+      always-then (shell (w l) ∷ []) (map (λ (n : ℕ). shell (w n)) ls) (f l r) (pairwise f p ls rs) (a l r) (always-pairwise f w a p ls rs) st
 
   -- pair by pair, each with steps
   pub always-each : (f : ℕ → ℕ → State → Walk) (g : ℕ → List Step) (ls rs : List ℕ) → ((l : ℕ) → List·Memᴰ l ls → (r : ℕ) → Always R (g l) (f l r))
@@ -127,16 +120,16 @@ module _ (R : List Step → State → Walk → Type 0) (h : Passes R) where
     always-pass3 ls rs a = always-each _ _ ls rs (λ l m r. always-each f g (opsOf s l) (opsOf s r) (a l m))
 
   -- where it holds of pairs
-  module _ (z : Reading) (s : Store) (ig : Ignore) (ops : (l r : ℕ) → Always R (shell (ofOp l) ∷ []) (pairOps s ig l r)) where
-    pub always-pass2 : (ls rs : List ℕ) → Always R (concatMap (λ (b : ℕ). map (λ (n : ℕ). shell (ofOp n)) (opsOf s b)) ls) (pass2 z s ig ls rs)
+  module _ (s : Store) (ig : Ignore) (ops : (l r : ℕ) → Always R (shell (ofOp l) ∷ []) (pairOps s ig l r)) where
+    pub always-pass2 : (ls rs : List ℕ) → Always R (concatMap (λ (b : ℕ). map (λ (n : ℕ). shell (ofOp n)) (opsOf s b)) ls) (pass2 s ig ls rs)
     unfolding pass2
-    always-pass2 ls rs = always-each _ _ ls rs (λ l m r. always-pairwise z (pairOps s ig) ofOp ops (pairOf block l r) (opsOf s l) (opsOf s r))
+    always-pass2 ls rs = always-each _ _ ls rs (λ l m r. always-pairwise (pairOps s ig) ofOp ops (pairOf block l r) (opsOf s l) (opsOf s r))
 
     pub always-lists : ((l r : ℕ) → Always R (shell (ofBlock l) ∷ []) (pairBlocks s ig l r)) → (f : ℕ → ℕ → State → Walk) (g : ℕ → List Step)
         → (p : Pair) (ls rs : List ℕ) → ((b : ℕ) → List·Memᴰ b ls → (n : ℕ) → List·Memᴰ n (opsOf s b) → (r : ℕ) → Always R (g n) (f n r))
-        → Always R (listSteps s g ls) (compareLists z s ig f p ls rs)
+        → Always R (listSteps s g ls) (compareLists s ig f p ls rs)
     unfolding compareLists pass1 listSteps
     always-lists blocks f g p ls rs a =
         always-then _ _ _ (pass3 s f ls rs)
-        (always-then _ _ (pass1 z s ig p ls rs) (pass2 z s ig ls rs) (always-pairwise z (pairBlocks s ig) ofBlock blocks p ls rs) (always-pass2 ls rs))
+        (always-then _ _ (pass1 s ig p ls rs) (pass2 s ig ls rs) (always-pairwise (pairBlocks s ig) ofBlock blocks p ls rs) (always-pass2 ls rs))
         (always-pass3 s f g ls rs a)

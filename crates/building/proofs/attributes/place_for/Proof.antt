@@ -8,7 +8,7 @@ use Rattle.layout.specs.Reading.{attributeCount, storeIn}
 use Rattle.layout.specs.Owners.{ownerOf}
 use Rattle.layout.proofs.Scans.{failed, held}
 use Rattle.building.specs.Types.{attributeOf}
-use Rattle.building.specs.declared.attributes.Place.the-variants as Places
+use Rattle.building.specs.declared.attributes.AttributePlace.the-variants as Places
 use Rattle.building.specs.Raw.{keyThere}
 use Rattle.building.proofs.Setting.Causes.{kind-over, no-owner, key-set, many-keys, many-attributes, room-left}
 use borrow.Author.Needs.{needs}

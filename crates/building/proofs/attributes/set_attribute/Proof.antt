@@ -4,7 +4,7 @@ use Rattle.rules.specs.Building.{setAttribute}
 use Rattle.layout.specs.Owners.{ownerOf}
 use Rattle.building.specs.Types.{attributeOf, builtOf}
 use Rattle.building.proofs.Doing.{did-refuse}
-use Rattle.building.proofs.Setting.Placed.{Told, told, attribute-done}
+use Rattle.building.proofs.Setting.Placed.{PlaceMeans, told, attribute-done}
 use borrow.Author.Needs.{needs}
 use Rattle.building.proofs.attributes.set_attribute.Statement.{statement}
 use Rattle.building.proofs.attributes.set_attribute.Tie as tie
@@ -19,7 +19,7 @@ enum-known-slot : tie.Need-enum-known-slot
 enum-known-slot c = search needs
 
 put-replaced-requires : tie.Need-put-replaced-requires
-unfolding Told
+unfolding PlaceMeans
 put-replaced-requires c κs =
     let s = c .before .before .before .before .before .before .before in
     let a = s .args in
@@ -30,7 +30,7 @@ enum-known-slot-2 : tie.Need-enum-known-slot-2
 enum-known-slot-2 c = search needs
 
 put-added-requires : tie.Need-put-added-requires
-unfolding Told
+unfolding PlaceMeans
 put-added-requires c κs =
     let s = c .before .before .before .before .before .before .before in
     let a = s .args in
@@ -41,7 +41,7 @@ same-length : tie.Need-same-length
 same-length c = search needs
 
 returns : tie.Need-returns
-unfolding Told builtOf
+unfolding PlaceMeans builtOf
 returns c =
     let s = c .before .before .before .before .before .before in
     let a = s .args in
@@ -55,7 +55,7 @@ same-length-2 : tie.Need-same-length-2
 same-length-2 c = search needs
 
 returns-2 : tie.Need-returns-2
-unfolding Told
+unfolding PlaceMeans
 returns-2 c =
     let s = c .before .before .before .before .before .before .before .before .before .before in
     let a = s .args in
@@ -69,7 +69,7 @@ same-length-3 : tie.Need-same-length-3
 same-length-3 c = search needs
 
 returns-3 : tie.Need-returns-3
-unfolding Told
+unfolding PlaceMeans
 returns-3 c =
     let s = c .before .before .before .before .before .before .before .before .before .before in
     let a = s .args in

@@ -6,7 +6,7 @@ use lib.ListN.{length}
 use Rattle.layout.specs.Columns.{Cols, columns, at, write}
 use Rattle.layout.specs.Reading.{opCount, regionCount, valueCount, ownerCode}
 use Rattle.building.specs.Types.{parentOf}
-use Rattle.building.specs.Raw.{opWritten, withRegions, withValues, withValuesBy, withPart, withOperation}
+use Rattle.building.specs.Raw.{opWritten, withRegions, withValues, withValuesBy, withSlice, withOperation}
 use Rattle.building.proofs.Facts.{shaped}
 use Rattle.building.proofs.Adding.OperationWritten.{r₁, r₂, r₃, r₄}
 use borrow.Author.Needs.{needs}
@@ -74,9 +74,9 @@ put-values-requires c κs =
       subst (λ (X : Cols). valueCount X + length ty ≤ 2048) (sym e1) (r₂ C (a .kind) p (a .location) (a .regions) ty os ss sh room),
     )
 
-put-part-requires : tie.Need-put-part-requires
+put-slice-requires : tie.Need-put-slice-requires
 unfolding opWritten opCount withValues ownerCode
-put-part-requires c κs =
+put-slice-requires c κs =
     let v = c .before .before .before in
     let r = v .before .before .before .before in
     let o = r .before .before .before .before in
@@ -104,9 +104,9 @@ put-part-requires c κs =
       (omega arith, (omega arith, (subst (λ (X : Cols). at X 0 4 + length os ≤ 2048) (sym e2) (r₃ C (a .kind) p (a .location) (a .regions) ty os ss sh room), omega arith))),
     )
 
-put-part-requires-2 : tie.Need-put-part-requires-2
+put-slice-requires-2 : tie.Need-put-slice-requires-2
 unfolding opWritten opCount withValues ownerCode
-put-part-requires-2 c κs =
+put-slice-requires-2 c κs =
     let q₁ = c .before .before .before in
     let v = q₁ .before .before .before .before in
     let r = v .before .before .before .before in
@@ -125,14 +125,14 @@ put-part-requires-2 c κs =
     let e0 = o .put-op .ensures in
     let e1 = r .put-regions .ensures ∙ ap₂ (λ (X : Cols) (k : ℕ). withRegions X k (a .regions)) e0 en in
     let e2 = v .put-values .ensures ∙ ap₂ (λ (X : Cols) (k : ℕ). withValuesBy X (2 * k) ty) e1 en in
-    let e3 = q₁ .put-part .ensures ∙ ap (λ (X : Cols). withPart X 27 4 os) e2 in (
+    let e3 = q₁ .put-slice .ensures ∙ ap (λ (X : Cols). withSlice X 27 4 os) e2 in (
       omega (
         arith,
         s .pre .0 .sized,
         o .put-op .kept .0,
         r .put-regions .kept .0,
         v .put-values .kept .0,
-        q₁ .put-part .kept .0,
+        q₁ .put-slice .kept .0,
       ),
       (omega arith, (omega arith, (subst (λ (X : Cols). at X 0 5 + length ss ≤ 512) (sym e3) (r₄ C (a .kind) p (a .location) (a .regions) ty os ss sh room), omega arith))),
     )
@@ -165,8 +165,8 @@ put-requires c κs =
         o .put-op .kept .0,
         r .put-regions .kept .0,
         v .put-values .kept .0,
-        q₁ .put-part .kept .0,
-        q₂ .put-part2 .kept .0,
+        q₁ .put-slice .kept .0,
+        q₂ .put-slice2 .kept .0,
       ),
       (omega arith, omega arith),
     )
@@ -192,8 +192,8 @@ returns c =
     let e0 = o .put-op .ensures in
     let e1 = r .put-regions .ensures ∙ ap₂ (λ (X : Cols) (k : ℕ). withRegions X k (a .regions)) e0 en in
     let e2 = v .put-values .ensures ∙ ap₂ (λ (X : Cols) (k : ℕ). withValuesBy X (2 * k) ty) e1 en in
-    let e3 = q₁ .put-part .ensures ∙ ap (λ (X : Cols). withPart X 27 4 os) e2 in
-    let e4 = q₂ .put-part2 .ensures ∙ ap (λ (X : Cols). withPart X 28 5 ss) e3 in
+    let e3 = q₁ .put-slice .ensures ∙ ap (λ (X : Cols). withSlice X 27 4 os) e2 in
+    let e4 = q₂ .put-slice2 .ensures ∙ ap (λ (X : Cols). withSlice X 28 5 ss) e3 in
     c .before .before .put .ensures ∙ ap₂ (λ (X : Cols) (k : ℕ). write X 0 0 (k + 1)) e4 en
 
 pub put-operation-spec : {M : Type 1} → statement M
@@ -206,8 +206,8 @@ put-operation-spec =
     mul-put-values
     cast-put-values
     put-values-requires
-    put-part-requires
-    put-part-requires-2
+    put-slice-requires
+    put-slice-requires-2
     add-put
     cast-put
     put-requires

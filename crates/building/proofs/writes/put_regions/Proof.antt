@@ -3,7 +3,7 @@ use Prim.Native.Nat.{ℕ, _+_}
 use native.Mathlib.Omega.{arith}
 use mathlib.Core.Path.{ap, ap₂, _∙_}
 use lib.ListN.{replicate}
-use Rattle.layout.specs.Columns.{Cols, columns, write, pour}
+use Rattle.layout.specs.Columns.{Cols, columns, write, writeRange}
 use Rattle.layout.specs.Reading.{regionCount}
 use Rattle.building.specs.Raw.{withRegions}
 use borrow.Author.Needs.{needs}
@@ -51,10 +51,10 @@ returns c =
     c .before .before .put .ensures
     ∙ ap₂ (λ (X : Cols) (v : ℕ). write X 0 2 (v + a .regions))
     (c .before .before .before .before .before .before .put-same3 .ensures
-    ∙ ap₂ (λ (X : Cols) (v : ℕ). pour X 16 v (replicate (a .regions) 0))
+    ∙ ap₂ (λ (X : Cols) (v : ℕ). writeRange X 16 v (replicate (a .regions) 0))
     (c .before .before .before .before .before .before .before .before .before .before .put-same2 .ensures
-    ∙ ap₂ (λ (X : Cols) (v : ℕ). pour X 15 v (replicate (a .regions) 0))
-    (c .before .before .before .before .before .before .before .before .before .before .before .before .before .before .put-same .ensures ∙ ap (λ (v : ℕ). pour C 14 v (replicate (a .regions) (a .n))) n) n) n) n
+    ∙ ap₂ (λ (X : Cols) (v : ℕ). writeRange X 15 v (replicate (a .regions) 0))
+    (c .before .before .before .before .before .before .before .before .before .before .before .before .before .before .put-same .ensures ∙ ap (λ (v : ℕ). writeRange C 14 v (replicate (a .regions) (a .n))) n) n) n) n
 
 pub put-regions-spec : {M : Type 1} → statement M
 put-regions-spec =

@@ -3,7 +3,7 @@ use Prim.Native.Nat.{ℕ, _+_}
 use native.Mathlib.Omega.{arith}
 use mathlib.Core.Path.{ap, ap₂, _∙_}
 use lib.ListN.{length, replicate}
-use Rattle.layout.specs.Columns.{Cols, columns, write, pour}
+use Rattle.layout.specs.Columns.{Cols, columns, write, writeRange}
 use Rattle.layout.specs.Reading.{valueCount}
 use Rattle.building.specs.Raw.{withValuesBy}
 use borrow.Author.Needs.{needs}
@@ -44,8 +44,8 @@ returns c =
     c .before .before .put .ensures
     ∙ ap₂ (λ (X : Cols) (v : ℕ). write X 0 3 (v + length (a .types .now)))
     (c .before .before .before .before .before .before .put-same .ensures
-    ∙ ap₂ (λ (X : Cols) (v : ℕ). pour X 26 v (replicate (length (a .types .now)) (a .owner)))
-    (c .before .before .before .before .before .before .before .before .before .before .put-all .ensures ∙ ap (λ (v : ℕ). pour C 25 v (a .types .now)) n) n) n
+    ∙ ap₂ (λ (X : Cols) (v : ℕ). writeRange X 26 v (replicate (length (a .types .now)) (a .owner)))
+    (c .before .before .before .before .before .before .before .before .before .before .put-all .ensures ∙ ap (λ (v : ℕ). writeRange C 25 v (a .types .now)) n) n) n
 
 pub put-values-spec : {M : Type 1} → statement M
 put-values-spec =

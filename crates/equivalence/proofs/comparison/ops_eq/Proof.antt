@@ -4,7 +4,7 @@ use mathlib.Core.Path.{sym, subst, _∙_}
 use Rattle.rules.specs.Comparison.{Walk, pairOps}
 use Rattle.layout.specs.Reading.{storeIn}
 use Rattle.fragments.specs.Ignoring.{ignoreOf}
-use Rattle.equivalence.specs.Walked.{lent, Told, Few, opWalk}
+use Rattle.equivalence.specs.Walked.{stateOf, Told, PairedFits, opWalk}
 use Rattle.equivalence.proofs.Telling.{told-ended, told-bind}
 use Rattle.equivalence.proofs.Answering.{op-walk}
 use borrow.Author.Needs.{needs}
@@ -27,7 +27,7 @@ returns c =
     let a = c .before .before .before .before .before .before .before .args in
     let S = storeIn (a .store .now) in
     let ig = ignoreOf (a .ignore) in
-    let st = lent (a .mapping .now) 0 in
+    let st = stateOf (a .mapping .now) 0 in
     let m = c .before .before .before .op-eq-map in
     subst (λ (w : Walk). Told w (m .result) (m .last .1 .0)) (sym (op-walk S ig (a .lhs) (a .rhs) st)) (told-ended (pairOps S ig (a .lhs) (a .rhs) st) (opWalk S ig (a .lhs) (a .rhs)) (m .result) (m .last .1 .0) (c .match .keys2) (m .ensures))
 
@@ -38,10 +38,10 @@ op-eq-mapped-requires c κs =
     let p = s .pre in
     let S = storeIn (a .store .now) in
     let ig = ignoreOf (a .ignore) in
-    let st = lent (a .mapping .now) 0 in
+    let st = stateOf (a .mapping .now) 0 in
     let m = c .before .before .before .before .before .before .op-eq-map in
     let next = op-walk S ig (a .lhs) (a .rhs) st ∙ told-bind (pairOps S ig (a .lhs) (a .rhs) st) (opWalk S ig (a .lhs) (a .rhs)) (m .last .1 .0) (c .before .before .mapped .given .1) (m .ensures) in
-    (record { sound = p .0 .sound; long = m .kept .1 .0 ∙ p .0 .long }, (p .1 .0, (p .1 .1 .0, subst (λ (w : Walk). Few w) next (p .1 .1 .1))))
+    (record { sound = p .0 .sound; long = m .kept .1 .0 ∙ p .0 .long }, (p .1 .0, (p .1 .1 .0, subst (λ (w : Walk). PairedFits w) next (p .1 .1 .1))))
 
 same-length-2 : tie.Need-same-length-2
 same-length-2 c = c .before .before .op-eq-mapped .kept .1 .0 ∙ c .before .before .before .before .before .before .before .before .before .op-eq-map .kept .1 .0
@@ -51,7 +51,7 @@ returns-2 c =
     let a = c .before .before .before .before .before .before .before .before .before .before .before .before .before .args in
     let S = storeIn (a .store .now) in
     let ig = ignoreOf (a .ignore) in
-    let st = lent (a .mapping .now) 0 in
+    let st = stateOf (a .mapping .now) 0 in
     let m = c .before .before .before .before .before .before .before .before .before .op-eq-map in
     let next = op-walk S ig (a .lhs) (a .rhs) st ∙ told-bind (pairOps S ig (a .lhs) (a .rhs) st) (opWalk S ig (a .lhs) (a .rhs)) (m .last .1 .0) (c .before .before .before .before .before .mapped .given .1) (m .ensures) in
     let r = c .before .before .op-eq-mapped in

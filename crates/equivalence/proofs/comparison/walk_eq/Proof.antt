@@ -7,9 +7,9 @@ use Rattle.layout.specs.Columns.{columns}
 use Rattle.layout.specs.Reading.{storeIn}
 use Rattle.fragments.specs.Ignoring.{ignoreOf}
 use Rattle.fragments.specs.Sorts.{sortOf}
-use Rattle.fragments.specs.Order.{Existing as ExistingList}
+use Rattle.fragments.specs.Order.{BlocksExist}
 use Rattle.fragments.proofs.There.{there}
-use Rattle.equivalence.specs.Walked.{leftOf, rightOf, lent, Told, Few}
+use Rattle.equivalence.specs.Walked.{leftOf, rightOf, stateOf, Told, PairedFits}
 use Rattle.equivalence.proofs.Answering.{few-walk, block-walk, region-walk}
 use borrow.Author.Needs.{needs}
 use Rattle.equivalence.proofs.comparison.walk_eq.Statement.{statement}
@@ -34,7 +34,7 @@ enum-told-2 : tie.Need-enum-told-2
 enum-told-2 c = search needs
 
 blocks-eq-requires : tie.Need-blocks-eq-requires
-unfolding sortOf ExistingList leftOf rightOf
+unfolding sortOf BlocksExist leftOf rightOf
 blocks-eq-requires c κs =
     let s = c .before .before .before .before .before in
     let a = s .args in
@@ -44,7 +44,7 @@ blocks-eq-requires c κs =
     let el = subst (λ x. exists (storeIn b) (sortOf x) (a .lhs) ≡ true) sort (s .pre .1 .0) in
     let er = subst (λ x. exists (storeIn b) (sortOf x) (a .rhs) ≡ true) sort (s .pre .1 .1) in
     let few = few-walk (storeIn b) (s .pre .0 .sound .ruled) ig block (a .lhs) (a .rhs) el (a .mapping .now) in
-    (s .pre .0, ((there (columns b) block (a .lhs) el, there (columns b) block (a .rhs) er), subst (λ (w : Walk). Few w) (block-walk (storeIn b) ig (a .lhs) (a .rhs) (lent (a .mapping .now) 0)) few))
+    (s .pre .0, ((there (columns b) block (a .lhs) el, there (columns b) block (a .rhs) er), subst (λ (w : Walk). PairedFits w) (block-walk (storeIn b) ig (a .lhs) (a .rhs) (stateOf (a .mapping .now) 0)) few))
 
 enum-told-3 : tie.Need-enum-told-3
 enum-told-3 c = search needs
@@ -60,7 +60,7 @@ region-eq-requires c κs =
     let el = subst (λ x. exists (storeIn b) (sortOf x) (a .lhs) ≡ true) sort (s .pre .1 .0) in
     let er = subst (λ x. exists (storeIn b) (sortOf x) (a .rhs) ≡ true) sort (s .pre .1 .1) in
     let few = few-walk (storeIn b) (s .pre .0 .sound .ruled) ig region (a .lhs) (a .rhs) el (a .mapping .now) in
-    (s .pre .0, (there (columns b) region (a .lhs) el, (there (columns b) region (a .rhs) er, subst (λ (w : Walk). Few w) (region-walk (storeIn b) ig (a .lhs) (a .rhs) (lent (a .mapping .now) 0)) few)))
+    (s .pre .0, (there (columns b) region (a .lhs) el, (there (columns b) region (a .rhs) er, subst (λ (w : Walk). PairedFits w) (region-walk (storeIn b) ig (a .lhs) (a .rhs) (stateOf (a .mapping .now) 0)) few)))
 
 same-length : tie.Need-same-length
 same-length c = search needs
@@ -78,7 +78,7 @@ returns-2 c =
     let a = c .before .before .before .before .before .before .before .before .args in
     let r = c .before .before .blocks-eq in
     rw (c .before .before .before .before .enum-told2 .given .1)
-    (subst (λ (w : Walk). Told w (r .result) (r .last .1 .0)) (sym (block-walk (storeIn (a .store .now)) (ignoreOf (a .ignore)) (a .lhs) (a .rhs) (lent (a .mapping .now) 0))) (r .ensures))
+    (subst (λ (w : Walk). Told w (r .result) (r .last .1 .0)) (sym (block-walk (storeIn (a .store .now)) (ignoreOf (a .ignore)) (a .lhs) (a .rhs) (stateOf (a .mapping .now) 0))) (r .ensures))
 
 same-length-3 : tie.Need-same-length-3
 same-length-3 c = search needs
@@ -89,7 +89,7 @@ returns-3 c =
     let a = c .before .before .before .before .before .before .before .before .args in
     let r = c .before .before .region-eq in
     rw (c .before .before .before .before .enum-told3 .given .1)
-    (subst (λ (w : Walk). Told w (r .result) (r .last .1 .0)) (sym (region-walk (storeIn (a .store .now)) (ignoreOf (a .ignore)) (a .lhs) (a .rhs) (lent (a .mapping .now) 0))) (r .ensures))
+    (subst (λ (w : Walk). Told w (r .result) (r .last .1 .0)) (sym (region-walk (storeIn (a .store .now)) (ignoreOf (a .ignore)) (a .lhs) (a .rhs) (stateOf (a .mapping .now) 0))) (r .ensures))
 
 pub walk-eq-spec : {M : Type 1} → statement M
 walk-eq-spec =

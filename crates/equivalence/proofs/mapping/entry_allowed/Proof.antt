@@ -1,7 +1,7 @@
 -- `entry_allowed` meets its contract, test by test. Assumes nothing.
 use mathlib.Core.Path.{refl}
 use borrow.Author.Tests.{eq-eqb, ne-eqb, lt-ltb, le-ltb}
-use Rattle.equivalence.specs.Lent.{entryAllowed}
+use Rattle.equivalence.specs.MappingWords.{entryAllowed}
 use Rattle.equivalence.proofs.mapping.entry_allowed.Statement.{statement}
 use Rattle.equivalence.proofs.mapping.entry_allowed.Tie as tie
 

@@ -4,8 +4,8 @@ use Prim.Native.Nat.{ℕ, _+_, _-_, _<_, _≤_}
 use native.Mathlib.Omega.{arith}
 use mathlib.Core.Path.{_≡_, refl, sym, ap, _∙_}
 use lib.ListN.{length, length-set}
-use Rattle.layout.specs.Reading.{following}
-use Rattle.equivalence.specs.Lent.{mappingOf, withValues}
+use Rattle.layout.specs.Reading.{consecutive}
+use Rattle.equivalence.specs.MappingWords.{mappingOf, valuesMapped}
 use Rattle.equivalence.proofs.Entering.{value-next, values-over}
 use borrow.Author.Needs.{needs}
 use Rattle.equivalence.proofs.mapping.map_values.Statement.{statement}
@@ -17,7 +17,7 @@ Inv-loop mapping₀ l r count image₀ v₀ mapping image v =
     × (l ≤ v)
     × (v ≤ l + count)
     × (image + l ≡ r + v)
-    × (withValues (mappingOf mapping₀) (following l count) (following r count) ≡ withValues (mappingOf mapping) (following v (l + count - v)) (following image (l + count - v)))
+    × (valuesMapped (mappingOf mapping₀) (consecutive l count) (consecutive r count) ≡ valuesMapped (mappingOf mapping) (consecutive v (l + count - v)) (consecutive image (l + count - v)))
 
 abbrev μ-loop : tie.MeasureT-loop
 μ-loop mapping₀ l r count image₀ v₀ mapping image v = l + count - v
@@ -30,7 +30,7 @@ loop-holds c =
       omega arith,
       omega arith,
       refl,
-      ap (λ (n : ℕ). withValues (mappingOf (a .mapping .now)) (following (a .l) n) (following (a .r) n)) e,
+      ap (λ (n : ℕ). valuesMapped (mappingOf (a .mapping .now)) (consecutive (a .l) n) (consecutive (a .r) n)) e,
     )
 
 add-loop : tie.Need-add-loop Inv-loop μ-loop

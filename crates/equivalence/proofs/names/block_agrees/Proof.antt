@@ -2,7 +2,7 @@
 use Prim.Native.Nat.{ℕ}
 use mathlib.Core.Path.{ap, _∙_}
 use lib.Dec.{eqb}
-use Rattle.equivalence.specs.Lent.{sameSuccessor}
+use Rattle.equivalence.specs.MappingWords.{sameSuccessor}
 use Rattle.equivalence.proofs.Pairs.{block-image}
 use borrow.Author.Needs.{needs}
 use Rattle.equivalence.proofs.names.block_agrees.Statement.{statement}

@@ -4,7 +4,7 @@ use mathlib.Core.Path.{sym, ap, _∙_}
 use Rattle.rules.specs.Comparison.{successorsAgree}
 use Rattle.layout.specs.Reading.{storeIn}
 use Rattle.layout.proofs.Scans.{failed, held}
-use Rattle.equivalence.specs.Lent.{mappingOf}
+use Rattle.equivalence.specs.MappingWords.{mappingOf}
 use borrow.Author.Needs.{needs}
 use Rattle.equivalence.proofs.names.names_agree.Statement.{statement}
 use Rattle.equivalence.proofs.names.names_agree.Tie as tie

@@ -8,7 +8,7 @@ use Rattle.rules.specs.Lists.{all, allPairs}
 use Rattle.rules.specs.Comparison.{operandsAgree}
 use Rattle.layout.specs.Columns.{columns}
 use Rattle.layout.specs.Reading.{valueCount, storeIn}
-use Rattle.equivalence.specs.Lent.{mappingOf, sameOperand}
+use Rattle.equivalence.specs.MappingWords.{mappingOf, sameOperand}
 use Rattle.equivalence.proofs.Named.{operands-below}
 use Rattle.equivalence.proofs.names.op_operands_agree.Statement.{statement}
 use Rattle.equivalence.proofs.names.op_operands_agree.Tie as tie

@@ -6,7 +6,7 @@ use mathlib.Core.Path.{_≡_, sym, ap₂, subst, _∙_}
 use lib.Dec.{ltb}
 use Rattle.rules.specs.Lists.{all, allPairs}
 use Rattle.rules.specs.Comparison.{successorsAgree}
-use Rattle.equivalence.specs.Lent.{mappingOf, sameSuccessor}
+use Rattle.equivalence.specs.MappingWords.{mappingOf, sameSuccessor}
 use Rattle.equivalence.proofs.Named.{successors-below}
 use Rattle.equivalence.proofs.names.op_successors_agree.Statement.{statement}
 use Rattle.equivalence.proofs.names.op_successors_agree.Tie as tie

@@ -6,7 +6,7 @@ use borrow.Author.Tests.{not-true, not-false}
 use Rattle.layout.specs.Columns.{columns}
 use Rattle.layout.specs.Reading.{storeOf}
 use Rattle.layout.proofs.Scans.{Before, AtBoth, before-zero, before-next}
-use Rattle.equivalence.specs.Lent.{mappingOf, sameOperand}
+use Rattle.equivalence.specs.MappingWords.{mappingOf, sameOperand}
 use Rattle.equivalence.proofs.Pairs.{pairs-pass, pairs-fail, below-at}
 use borrow.Author.Needs.{needs}
 use Rattle.equivalence.proofs.names.operands_agree.Statement.{statement}

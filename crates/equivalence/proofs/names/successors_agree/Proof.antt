@@ -4,7 +4,7 @@ use native.Mathlib.Omega.{arith}
 use mathlib.Core.Path.{sym, _∙_}
 use borrow.Author.Tests.{not-true, not-false}
 use Rattle.layout.proofs.Scans.{Before, AtBoth, before-zero, before-next}
-use Rattle.equivalence.specs.Lent.{mappingOf, sameSuccessor}
+use Rattle.equivalence.specs.MappingWords.{mappingOf, sameSuccessor}
 use Rattle.equivalence.proofs.Pairs.{pairs-pass, pairs-fail, below-at}
 use borrow.Author.Needs.{needs}
 use Rattle.equivalence.proofs.names.successors_agree.Statement.{statement}

@@ -10,7 +10,7 @@ use Rattle.layout.specs.Columns.{Cols, columns}
 use Rattle.layout.specs.Reading.{storeOf}
 use Rattle.layout.proofs.Laid.{laid-facts}
 use Rattle.layout.proofs.Types.{type-read}
-use Rattle.equivalence.specs.Lent.{sameOperand}
+use Rattle.equivalence.specs.MappingWords.{sameOperand}
 use Rattle.equivalence.proofs.Pairs.{value-image}
 use Rattle.equivalence.proofs.names.value_agrees.Statement.{statement}
 use Rattle.equivalence.proofs.names.value_agrees.Tie as tie

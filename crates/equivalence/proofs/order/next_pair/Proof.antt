@@ -7,10 +7,10 @@ use Rattle.layout.specs.Columns.{Cols, columns}
 use Rattle.layout.specs.Reading.{blockCount, storeIn}
 use Rattle.layout.proofs.Laid.{laid-facts}
 use Rattle.layout.proofs.Seeking.{ops-rise}
-use Rattle.fragments.proofs.Ordered.{listed-rise, block-in}
+use Rattle.fragments.proofs.Ordered.{block-list-rises, block-in}
 use Rattle.equivalence.specs.Walked.{leftOf, rightOf, lefts, rights}
 use Rattle.equivalence.specs.Order.{pairsFrom, FirstPair}
-use Rattle.equivalence.proofs.Ordered.{Step, next-both, next-else, pairs-over, pairs-later, pairs-first, first-same}
+use Rattle.equivalence.proofs.Ordered.{BothNext, next-both, next-else, pairs-over, pairs-later, pairs-first, first-same}
 use borrow.Author.Needs.{needs}
 use Rattle.equivalence.proofs.order.next_pair.Statement.{statement}
 use Rattle.equivalence.proofs.order.next_pair.Tie as tie
@@ -29,10 +29,10 @@ module _ (s : tie.Start Inv-loop μ-loop) where
   store = storeIn (s .args .store .now)
 
 -- in the loop, with two blocks found
-abbrev Found : Type 0
-Found = tie.After-known-told Inv-loop μ-loop
+abbrev NextFound : Type 0
+NextFound = tie.After-known-told Inv-loop μ-loop
 
-module _ (c : Found) where
+module _ (c : NextFound) where
   abbrev begun : tie.Start Inv-loop μ-loop
   begun = c .before .before .before .before .before .before
 
@@ -42,8 +42,8 @@ module _ (c : Found) where
   abbrev r : ℕ
   r = c .before .blocks2 .given .0 .1 .0
 
-  found : Step (c .before .before .before .before .loop .at .lblock) (lefts (store begun) (begun .args .lists)) (c .before .before .before .before .loop .at .rblock) (rights (store begun) (begun .args .lists)) l r
-  found = next-both _ (lefts (store begun) (begun .args .lists)) _ (rights (store begun) (begun .args .lists)) (listed-rise (store begun) (leftOf (begun .args .lists))) (listed-rise (store begun) (rightOf (begun .args .lists))) l r (sym (c .before .before .before .next-blocks .ensures) ∙ c .before .blocks2 .given .1)
+  found : BothNext (c .before .before .before .before .loop .at .lblock) (lefts (store begun) (begun .args .lists)) (c .before .before .before .before .loop .at .rblock) (rights (store begun) (begun .args .lists)) l r
+  found = next-both _ (lefts (store begun) (begun .args .lists)) _ (rights (store begun) (begun .args .lists)) (block-list-rises (store begun) (leftOf (begun .args .lists))) (block-list-rises (store begun) (rightOf (begun .args .lists))) l r (sym (c .before .before .before .next-blocks .ensures) ∙ c .before .blocks2 .given .1)
 
   l-here : l < blockCount (cols begun)
   l-here = block-in (cols begun) (leftOf (begun .args .lists)) l (begun .pre .1 .0) (found .lIn)

@@ -6,11 +6,11 @@ use mathlib.Core.Path.{_≡_, ap, _∙_}
 use Rattle.rules.specs.Store.{ofBlock}
 use Rattle.rules.specs.Shells.{sameShells}
 use Rattle.layout.specs.Columns.{Cols, columns}
-use Rattle.layout.specs.Reading.{storeIn, following}
+use Rattle.layout.specs.Reading.{storeIn, consecutive}
 use Rattle.layout.proofs.Laid.{laid-facts}
 use Rattle.layout.proofs.Scans.{failed, held}
 use Rattle.fragments.specs.Ignoring.{ignoreOf}
-use Rattle.equivalence.specs.Lent.{withValues}
+use Rattle.equivalence.specs.MappingWords.{valuesMapped}
 use Rattle.equivalence.proofs.Alike.{block-shells}
 use Rattle.equivalence.proofs.Paired.{Side, block-side, blocks-unlike, blocks-alike}
 use borrow.Author.Needs.{needs}
@@ -85,8 +85,8 @@ returns-2 c =
     let k = c .before .before .before .before .before .before .before .before .before in
     let l = k .before .before .before .block-row .result in
     let r = k .before .before .block-row2 .result in
-    blocks-alike (storeIn (a .store .now)) (ignoreOf (a .ignore)) (a .lhs) (a .rhs) (a .mapping .now) (a .paired) (c .before .before .map-values .last .0) (following (l .value) (l .values)) (following (r .value) (l .values)) (alike k) (sides k .left) (sides k .right)
-    (c .before .before .map-values .ensures ∙ ap (λ m. withValues m (following (l .value) (l .values)) (following (r .value) (l .values))) (c .before .before .before .before .before .before .before .map-block .ensures))
+    blocks-alike (storeIn (a .store .now)) (ignoreOf (a .ignore)) (a .lhs) (a .rhs) (a .mapping .now) (a .paired) (c .before .before .map-values .last .0) (consecutive (l .value) (l .values)) (consecutive (r .value) (l .values)) (alike k) (sides k .left) (sides k .right)
+    (c .before .before .map-values .ensures ∙ ap (λ m. valuesMapped m (consecutive (l .value) (l .values)) (consecutive (r .value) (l .values))) (c .before .before .before .before .before .before .before .map-block .ensures))
 
 pub block-eq-map-spec : {M : Type 1} → statement M
 block-eq-map-spec =

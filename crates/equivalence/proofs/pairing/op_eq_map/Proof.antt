@@ -4,11 +4,11 @@ use native.Mathlib.Omega.{arith}
 use mathlib.Core.Path.{ap, _∙_}
 use Rattle.rules.specs.Store.{ofOp}
 use Rattle.layout.specs.Columns.{Cols, columns}
-use Rattle.layout.specs.Reading.{storeIn, following}
+use Rattle.layout.specs.Reading.{storeIn, consecutive}
 use Rattle.layout.proofs.Laid.{laid-facts}
 use Rattle.layout.proofs.Scans.{failed, held}
 use Rattle.fragments.specs.Ignoring.{ignoreOf}
-use Rattle.equivalence.specs.Lent.{withValues}
+use Rattle.equivalence.specs.MappingWords.{valuesMapped}
 use Rattle.equivalence.proofs.Paired.{Side, op-side, ops-unlike, ops-alike}
 use borrow.Author.Needs.{needs}
 use Rattle.equivalence.proofs.pairing.op_eq_map.Statement.{statement}
@@ -82,8 +82,8 @@ returns-2 c =
     let l = k .before .before .before .op-row .result in
     let r = k .before .before .op-row2 .result in
     let alike = held (k .before .op-shells-eq .ensures) (k .if1 .left) in
-    ops-alike (storeIn (a .store .now)) (ignoreOf (a .ignore)) (a .lhs) (a .rhs) (a .mapping .now) (a .paired) (c .before .before .map-values .last .0) (following (l .value) (l .values)) (following (r .value) (l .values)) alike (sides k .left) (sides k .right)
-    (c .before .before .map-values .ensures ∙ ap (λ m. withValues m (following (l .value) (l .values)) (following (r .value) (l .values))) (c .before .before .before .before .before .before .before .map-op .ensures))
+    ops-alike (storeIn (a .store .now)) (ignoreOf (a .ignore)) (a .lhs) (a .rhs) (a .mapping .now) (a .paired) (c .before .before .map-values .last .0) (consecutive (l .value) (l .values)) (consecutive (r .value) (l .values)) alike (sides k .left) (sides k .right)
+    (c .before .before .map-values .ensures ∙ ap (λ m. valuesMapped m (consecutive (l .value) (l .values)) (consecutive (r .value) (l .values))) (c .before .before .before .before .before .before .before .map-op .ensures))
 
 pub op-eq-map-spec : {M : Type 1} → statement M
 op-eq-map-spec =

@@ -6,7 +6,7 @@ use lib.ListN.{length}
 use mathlib.Core.Path.{_≡_, refl, sym, ap, subst, _∙_}
 use Rattle.rules.specs.Store.{Store}
 use Rattle.rules.specs.Shells as rules
-use Rattle.rules.specs.Comparison.{State, Walk, _>>=_, paper, pairwise, pairBlocks, pass1}
+use Rattle.rules.specs.Comparison.{State, Walk, _>>=_, pairwise, pairBlocks, pass1}
 use Rattle.rules.proofs.Walking.Paired.{grows-pairwise, grows-pair-blocks}
 use Rattle.layout.specs.Columns.{Cols, columns}
 use Rattle.layout.specs.Reading.{blockCount, storeIn}
@@ -14,9 +14,9 @@ use Rattle.layout.specs.Children.{onFrom}
 use Rattle.layout.proofs.Laid.{laid-facts}
 use Rattle.layout.proofs.Seeking.{from-zero}
 use Rattle.fragments.specs.Ignoring.{ignoreOf}
-use Rattle.fragments.proofs.Ordered.{listed-rise, block-in}
-use Rattle.equivalence.specs.Walked.{leftOf, rightOf, lent, Told, answerOf, lefts, rights, namedBy}
-use Rattle.equivalence.proofs.Ordered.{Step, next-both, next-neither, next-unequal, bounded, pairwise-both, pairwise-over, pairwise-uneven}
+use Rattle.fragments.proofs.Ordered.{block-list-rises, block-in}
+use Rattle.equivalence.specs.Walked.{leftOf, rightOf, stateOf, Told, answerOf, lefts, rights, pairOfLists}
+use Rattle.equivalence.proofs.Ordered.{BothNext, next-both, next-neither, next-unequal, bounded, pairwise-both, pairwise-over, pairwise-uneven}
 use Rattle.equivalence.proofs.Telling.{told-ended, told-bind, told-over, told-uneven, named-neq, few-now}
 use borrow.Author.Needs.{needs}
 use Rattle.equivalence.proofs.passes.map_blocks.Statement.{statement}
@@ -25,8 +25,8 @@ use Rattle.equivalence.proofs.passes.map_blocks.Tie as tie
 abbrev Inv-loop : tie.InvT-loop
 Inv-loop store mapping₀ lists ignore paired count₀ a₀ b₀ mapping count a b =
     (length mapping ≡ length mapping₀)
-    × (pass1 paper (storeIn store) (ignoreOf ignore) (namedBy lists) (lefts (storeIn store) lists) (rights (storeIn store) lists) (lent mapping₀ paired)
-    ≡ pairwise paper (pairBlocks (storeIn store) (ignoreOf ignore)) (namedBy lists) (onFrom a (lefts (storeIn store) lists)) (onFrom b (rights (storeIn store) lists)) (lent mapping count))
+    × (pass1 (storeIn store) (ignoreOf ignore) (pairOfLists lists) (lefts (storeIn store) lists) (rights (storeIn store) lists) (stateOf mapping₀ paired)
+    ≡ pairwise (pairBlocks (storeIn store) (ignoreOf ignore)) (pairOfLists lists) (onFrom a (lefts (storeIn store) lists)) (onFrom b (rights (storeIn store) lists)) (stateOf mapping count))
 
 abbrev μ-loop : tie.MeasureT-loop
 μ-loop store mapping₀ lists ignore paired count₀ a₀ b₀ mapping count a b = 256 - a
@@ -52,16 +52,16 @@ module _ (s : tie.Start Inv-loop μ-loop) where
   step = pairBlocks store rule
 
   abbrev rest : ℕ → ℕ → State → Walk
-  rest a b = pairwise paper step (namedBy (s .args .lists)) (onFrom a ls) (onFrom b rs)
+  rest a b = pairwise step (pairOfLists (s .args .lists)) (onFrom a ls) (onFrom b rs)
 
   few : blockCount cols ≤ 256
   few = laid-facts cols (s .pre .0 .sound .laid) .counts .blocks
 
 -- in the loop, with a pair found
-abbrev Found : Type 0
-Found = tie.After-known-told Inv-loop μ-loop
+abbrev NextFound : Type 0
+NextFound = tie.After-known-told Inv-loop μ-loop
 
-module _ (c : Found) where
+module _ (c : NextFound) where
   abbrev begun : tie.Start Inv-loop μ-loop
   begun = c .before .before .before .before .before .before .before
 
@@ -72,10 +72,10 @@ module _ (c : Found) where
   r = c .before .l .given .0 .1 .0
 
   abbrev state : State
-  state = lent (c .before .before .before .before .loop .mapping) (c .before .before .before .before .loop .count)
+  state = stateOf (c .before .before .before .before .loop .mapping) (c .before .before .before .before .loop .count)
 
-  found : Step (c .before .before .before .before .loop .a) (ls begun) (c .before .before .before .before .loop .b) (rs begun) l r
-  found = next-both _ (ls begun) _ (rs begun) (listed-rise (store begun) (leftOf (begun .args .lists))) (listed-rise (store begun) (rightOf (begun .args .lists))) l r (sym (c .before .before .before .next-blocks .ensures) ∙ c .before .l .given .1)
+  found : BothNext (c .before .before .before .before .loop .a) (ls begun) (c .before .before .before .before .loop .b) (rs begun) l r
+  found = next-both _ (ls begun) _ (rs begun) (block-list-rises (store begun) (leftOf (begun .args .lists))) (block-list-rises (store begun) (rightOf (begun .args .lists))) l r (sym (c .before .before .before .next-blocks .ensures) ∙ c .before .l .given .1)
 
   l-here : l < blockCount (cols begun)
   l-here = block-in (cols begun) (leftOf (begun .args .lists)) l (begun .pre .1 .0 .0) (found .lIn)
@@ -84,8 +84,8 @@ module _ (c : Found) where
   r-here = block-in (cols begun) (rightOf (begun .args .lists)) r (begun .pre .1 .0 .1) (found .rIn)
 
   -- what is left begins with it
-  onward : pass1 paper (store begun) (rule begun) (namedBy (begun .args .lists)) (ls begun) (rs begun) (lent (begun .args .mapping .now) (begun .args .paired)) ≡ step begun l r state >>= rest begun (l + 1) (r + 1)
-  onward = c .before .before .before .before .loop .inv .1 ∙ pairwise-both (step begun) (namedBy (begun .args .lists)) (c .before .before .before .before .loop .a) (ls begun) (c .before .before .before .before .loop .b) (rs begun) state l r found
+  onward : pass1 (store begun) (rule begun) (pairOfLists (begun .args .lists)) (ls begun) (rs begun) (stateOf (begun .args .mapping .now) (begun .args .paired)) ≡ step begun l r state >>= rest begun (l + 1) (r + 1)
+  onward = c .before .before .before .before .loop .inv .1 ∙ pairwise-both (step begun) (pairOfLists (begun .args .lists)) (c .before .before .before .before .loop .a) (ls begun) (c .before .before .before .before .loop .b) (rs begun) state l r found
 
 loop-holds : tie.Need-loop-holds Inv-loop μ-loop
 unfolding pass1
@@ -100,11 +100,11 @@ enum-known-l : tie.Need-enum-known-l Inv-loop μ-loop
 enum-known-l c = search needs
 
 block-eq-map-requires : tie.Need-block-eq-map-requires Inv-loop μ-loop
-unfolding lent
+unfolding stateOf
 block-eq-map-requires c κs =
     let s = c .before .before .before .before .before .before .before .before in
     let m = c .before .before .before .before .before .loop in
-    (record { sound = s .pre .0 .sound; long = m .inv .0 ∙ s .pre .0 .long }, (l-here (c .before), (r-here (c .before), few-now _ (rest s (m .a) (m .b)) (state (c .before)) (grows-pairwise paper _ (grows-pair-blocks (store s) (rule s)) _ _ _) (m .inv .1) (s .pre .1 .1))))
+    (record { sound = s .pre .0 .sound; long = m .inv .0 ∙ s .pre .0 .long }, (l-here (c .before), (r-here (c .before), few-now _ (rest s (m .a) (m .b)) (state (c .before)) (grows-pairwise _ (grows-pair-blocks (store s) (rule s)) _ _ _) (m .inv .1) (s .pre .1 .1))))
 
 enum-known-mapped : tie.Need-enum-known-mapped Inv-loop μ-loop
 enum-known-mapped c = search needs
@@ -142,7 +142,7 @@ returns-2 : tie.Need-returns-2 Inv-loop μ-loop
 returns-2 c =
     let s = c .before .before .before .before .before .before in
     let m = c .before .before .before .loop in
-    told-over _ (m .mapping) (m .count) (m .inv .1 ∙ pairwise-over (step s) (namedBy (s .args .lists)) (m .a) (ls s) (m .b) (rs s) (lent (m .mapping) (m .count)) (next-neither (m .a) (ls s) (m .b) (rs s) (sym (c .before .before .next-blocks .ensures) ∙ c .enum-told .given .1)))
+    told-over _ (m .mapping) (m .count) (m .inv .1 ∙ pairwise-over (step s) (pairOfLists (s .args .lists)) (m .a) (ls s) (m .b) (rs s) (stateOf (m .mapping) (m .count)) (next-neither (m .a) (ls s) (m .b) (rs s) (sym (c .before .before .next-blocks .ensures) ∙ c .enum-told .given .1)))
 
 enum-told-2 : tie.Need-enum-told-2 Inv-loop μ-loop
 enum-told-2 c = search needs
@@ -162,8 +162,8 @@ returns-3 c =
     let m = c .before .before .before .before .loop in
     let q = c .lengths-neq .result in
     subst (λ (w : Walk). Told w q (m .mapping)) (sym (m .inv .1))
-    (told-uneven _ (namedBy x) q (m .mapping) (m .count) (ap answerOf (c .lengths-neq .ensures) ∙ named-neq x (m .count))
-    (pairwise-uneven (step s) (namedBy x) (m .a) (ls s) (m .b) (rs s) (lent (m .mapping) (m .count)) (next-unequal (m .a) (ls s) (m .b) (rs s) (listed-rise (store s) (leftOf x)) (listed-rise (store s) (rightOf x)) (sym (c .before .before .before .next-blocks .ensures) ∙ c .before .enum-told2 .given .1))))
+    (told-uneven _ (pairOfLists x) q (m .mapping) (m .count) (ap answerOf (c .lengths-neq .ensures) ∙ named-neq x (m .count))
+    (pairwise-uneven (step s) (pairOfLists x) (m .a) (ls s) (m .b) (rs s) (stateOf (m .mapping) (m .count)) (next-unequal (m .a) (ls s) (m .b) (rs s) (block-list-rises (store s) (leftOf x)) (block-list-rises (store s) (rightOf x)) (sym (c .before .before .before .next-blocks .ensures) ∙ c .before .enum-told2 .given .1))))
 
 pub map-blocks-spec : {M : Type 1} → statement M
 map-blocks-spec =

@@ -7,7 +7,7 @@ use mathlib.Core.Path.{_≡_, refl, sym, subst, _∙_}
 use Rattle.rules.specs.Store.{Store, opsOf}
 use Rattle.rules.specs.Fragments.{block}
 use Rattle.rules.specs.Shells as rules
-use Rattle.rules.specs.Comparison.{State, Walk, _>>=_, paper, pairOf, pairwise, pairOps}
+use Rattle.rules.specs.Comparison.{State, Walk, _>>=_, pairOf, pairwise, pairOps}
 use Rattle.rules.proofs.Walking.Paired.{grows-pairwise, grows-pair-ops}
 use Rattle.layout.specs.Columns.{Cols, columns}
 use Rattle.layout.specs.Reading.{opCount, storeIn}
@@ -16,9 +16,9 @@ use Rattle.layout.proofs.Laid.{laid-facts}
 use Rattle.layout.proofs.Seeking.{from-zero, ops-rise}
 use Rattle.fragments.specs.Ignoring.{ignoreOf}
 use Rattle.fragments.proofs.Ordered.{op-in}
-use Rattle.equivalence.specs.Walked.{lent, Told, answerOf}
+use Rattle.equivalence.specs.Walked.{stateOf, Told, answerOf}
 use Rattle.equivalence.specs.declared.types.EqResult.the-variants.{FirstNEQBlocks}
-use Rattle.equivalence.proofs.Ordered.{Step, next-both, next-neither, next-unequal, pairwise-both, pairwise-over, pairwise-uneven}
+use Rattle.equivalence.proofs.Ordered.{BothNext, next-both, next-neither, next-unequal, pairwise-both, pairwise-over, pairwise-uneven}
 use Rattle.equivalence.proofs.Telling.{told-ended, told-bind, told-over, told-uneven, few-now}
 use borrow.Author.Needs.{needs}
 use Rattle.equivalence.proofs.passes.map_ops_in.Statement.{statement}
@@ -27,8 +27,8 @@ use Rattle.equivalence.proofs.passes.map_ops_in.Tie as tie
 abbrev Inv-loop : tie.InvT-loop
 Inv-loop store mapping₀ lhs rhs ignore paired count₀ a₀ b₀ mapping count a b =
     (length mapping ≡ length mapping₀)
-    × (pairwise paper (pairOps (storeIn store) (ignoreOf ignore)) (pairOf block lhs rhs) (opsOf (storeIn store) lhs) (opsOf (storeIn store) rhs) (lent mapping₀ paired)
-    ≡ pairwise paper (pairOps (storeIn store) (ignoreOf ignore)) (pairOf block lhs rhs) (onFrom a (opsOf (storeIn store) lhs)) (onFrom b (opsOf (storeIn store) rhs)) (lent mapping count))
+    × (pairwise (pairOps (storeIn store) (ignoreOf ignore)) (pairOf block lhs rhs) (opsOf (storeIn store) lhs) (opsOf (storeIn store) rhs) (stateOf mapping₀ paired)
+    ≡ pairwise (pairOps (storeIn store) (ignoreOf ignore)) (pairOf block lhs rhs) (onFrom a (opsOf (storeIn store) lhs)) (onFrom b (opsOf (storeIn store) rhs)) (stateOf mapping count))
 
 abbrev μ-loop : tie.MeasureT-loop
 μ-loop store mapping₀ lhs rhs ignore paired count₀ a₀ b₀ mapping count a b = 512 - a
@@ -54,16 +54,16 @@ module _ (s : tie.Start Inv-loop μ-loop) where
   step = pairOps store rule
 
   abbrev rest : ℕ → ℕ → State → Walk
-  rest a b = pairwise paper step (pairOf block (s .args .lhs) (s .args .rhs)) (onFrom a ls) (onFrom b rs)
+  rest a b = pairwise step (pairOf block (s .args .lhs) (s .args .rhs)) (onFrom a ls) (onFrom b rs)
 
   few : opCount cols ≤ 512
   few = laid-facts cols (s .pre .0 .sound .laid) .counts .ops
 
 -- in the loop, with a pair found
-abbrev Found : Type 0
-Found = tie.After-known-told Inv-loop μ-loop
+abbrev NextFound : Type 0
+NextFound = tie.After-known-told Inv-loop μ-loop
 
-module _ (c : Found) where
+module _ (c : NextFound) where
   abbrev begun : tie.Start Inv-loop μ-loop
   begun = c .before .before .before .before .before .before .before
 
@@ -74,9 +74,9 @@ module _ (c : Found) where
   r = c .before .l .given .0 .1 .0
 
   abbrev state : State
-  state = lent (c .before .before .before .before .loop .mapping) (c .before .before .before .before .loop .count)
+  state = stateOf (c .before .before .before .before .loop .mapping) (c .before .before .before .before .loop .count)
 
-  found : Step (c .before .before .before .before .loop .a) (ls begun) (c .before .before .before .before .loop .b) (rs begun) l r
+  found : BothNext (c .before .before .before .before .loop .a) (ls begun) (c .before .before .before .before .loop .b) (rs begun) l r
   found = next-both _ (ls begun) _ (rs begun) (ops-rise (store begun) (begun .args .lhs)) (ops-rise (store begun) (begun .args .rhs)) l r (sym (c .before .before .before .next-ops .ensures) ∙ c .before .l .given .1)
 
   l-here : l < opCount (cols begun)
@@ -86,7 +86,7 @@ module _ (c : Found) where
   r-here = op-in (cols begun) (begun .args .rhs) r (found .rIn)
 
   -- what is left begins with it
-  onward : pairwise paper (step begun) (pairOf block (begun .args .lhs) (begun .args .rhs)) (ls begun) (rs begun) (lent (begun .args .mapping .now) (begun .args .paired)) ≡ step begun l r state >>= rest begun (l + 1) (r + 1)
+  onward : pairwise (step begun) (pairOf block (begun .args .lhs) (begun .args .rhs)) (ls begun) (rs begun) (stateOf (begun .args .mapping .now) (begun .args .paired)) ≡ step begun l r state >>= rest begun (l + 1) (r + 1)
   onward = c .before .before .before .before .loop .inv .1 ∙ pairwise-both (step begun) (pairOf block (begun .args .lhs) (begun .args .rhs)) (c .before .before .before .before .loop .a) (ls begun) (c .before .before .before .before .loop .b) (rs begun) state l r found
 
 loop-holds : tie.Need-loop-holds Inv-loop μ-loop
@@ -101,11 +101,11 @@ enum-known-l : tie.Need-enum-known-l Inv-loop μ-loop
 enum-known-l c = search needs
 
 op-eq-map-requires : tie.Need-op-eq-map-requires Inv-loop μ-loop
-unfolding lent
+unfolding stateOf
 op-eq-map-requires c κs =
     let s = c .before .before .before .before .before .before .before .before in
     let m = c .before .before .before .before .before .loop in
-    (record { sound = s .pre .0 .sound; long = m .inv .0 ∙ s .pre .0 .long }, (l-here (c .before), (r-here (c .before), few-now _ (rest s (m .a) (m .b)) (state (c .before)) (grows-pairwise paper _ (grows-pair-ops (store s) (rule s)) _ _ _) (m .inv .1) (s .pre .1 .1 .1))))
+    (record { sound = s .pre .0 .sound; long = m .inv .0 ∙ s .pre .0 .long }, (l-here (c .before), (r-here (c .before), few-now _ (rest s (m .a) (m .b)) (state (c .before)) (grows-pairwise _ (grows-pair-ops (store s) (rule s)) _ _ _) (m .inv .1) (s .pre .1 .1 .1))))
 
 enum-known-mapped : tie.Need-enum-known-mapped Inv-loop μ-loop
 enum-known-mapped c = search needs
@@ -143,7 +143,7 @@ returns-2 : tie.Need-returns-2 Inv-loop μ-loop
 returns-2 c =
     let s = c .before .before .before .before .before .before in
     let m = c .before .before .before .loop in
-    told-over _ (m .mapping) (m .count) (m .inv .1 ∙ pairwise-over (step s) (pairOf block (s .args .lhs) (s .args .rhs)) (m .a) (ls s) (m .b) (rs s) (lent (m .mapping) (m .count)) (next-neither (m .a) (ls s) (m .b) (rs s) (sym (c .before .before .next-ops .ensures) ∙ c .enum-told .given .1)))
+    told-over _ (m .mapping) (m .count) (m .inv .1 ∙ pairwise-over (step s) (pairOf block (s .args .lhs) (s .args .rhs)) (m .a) (ls s) (m .b) (rs s) (stateOf (m .mapping) (m .count)) (next-neither (m .a) (ls s) (m .b) (rs s) (sym (c .before .before .next-ops .ensures) ∙ c .enum-told .given .1)))
 
 enum-told-2 : tie.Need-enum-told-2 Inv-loop μ-loop
 enum-told-2 c = search needs
@@ -170,7 +170,7 @@ returns-3 c =
     let q = FirstNEQBlocks (s .args .lhs) (s .args .rhs) (m .count) in
     subst (λ (w : Walk). Told w q (m .mapping)) (sym (m .inv .1))
     (told-uneven _ p q (m .mapping) (m .count) refl
-    (pairwise-uneven (step s) p (m .a) (ls s) (m .b) (rs s) (lent (m .mapping) (m .count)) (next-unequal (m .a) (ls s) (m .b) (rs s) (ops-rise (store s) (s .args .lhs)) (ops-rise (store s) (s .args .rhs)) (sym (c .before .before .next-ops .ensures) ∙ c .enum-told2 .given .1))))
+    (pairwise-uneven (step s) p (m .a) (ls s) (m .b) (rs s) (stateOf (m .mapping) (m .count)) (next-unequal (m .a) (ls s) (m .b) (rs s) (ops-rise (store s) (s .args .lhs)) (ops-rise (store s) (s .args .rhs)) (sym (c .before .before .next-ops .ensures) ∙ c .enum-told2 .given .1))))
 
 pub map-ops-in-spec : {M : Type 1} → statement M
 map-ops-in-spec =

@@ -21,13 +21,13 @@ use Rattle.layout.proofs.Scans.{failed, held}
 use Rattle.layout.proofs.Tabulate.{regions-length}
 use Rattle.layout.proofs.Ranges.{range}
 use Rattle.fragments.specs.Ignoring.{ignoreOf}
-use Rattle.fragments.specs.Order.{Existing as ExistingList}
+use Rattle.fragments.specs.Order.{BlocksExist}
 use Rattle.fragments.proofs.Ordered.{op-in}
 use Rattle.fragments.proofs.Below.{below, aroundList, op-falls, around-region}
-use Rattle.equivalence.specs.Walked.{leftOf, rightOf, lent, Told, Few, regionWalk, opWalk, listsWalk}
-use Rattle.equivalence.specs.Order.{pairsFrom, past, First, FirstPair, walkPairs}
-use Rattle.equivalence.specs.declared.types.Lists.the-variants.{InRegions}
-use Rattle.equivalence.specs.declared.types.Place.{Place}
+use Rattle.equivalence.specs.Walked.{leftOf, rightOf, stateOf, Told, PairedFits, regionWalk, opWalk, listsWalk}
+use Rattle.equivalence.specs.Order.{pairsFrom, pastPair, IsFirstPair, FirstPair, walkPairs}
+use Rattle.equivalence.specs.declared.types.BlockLists.the-variants.{InRegions}
+use Rattle.equivalence.specs.declared.types.PairPosition.{PairPosition}
 use Rattle.equivalence.proofs.Ordered.{pairs-fewer}
 use Rattle.equivalence.proofs.Telling.{told-ended, told-bind, told-over, few-part}
 use Rattle.equivalence.proofs.Rounds.{region-lists, names-disagree, names-passed, grows-region, grows-pairs, few-first, first-ended, few-second, second-ended, third-starts, pairs-done, pairs-step, Turn, regions-begin, turn, regions-done, turn-next}
@@ -114,8 +114,8 @@ region-eq-calls t = (blocks-eq-below t, blocks-eq.Post)
 abbrev blocks-eq-Inv-loop : blocks-eq-lts.InvT-loop
 blocks-eq-Inv-loop store mapping₀ lists ignore paired entered mapped count₀ at₀ mapping count at =
     (length mapping ≡ length mapping₀)
-    × (walkPairs (opWalk (storeIn store) (ignoreOf ignore)) (pairsFrom (storeIn store) lists at₀) (lent mapping₀ count₀)
-    ≡ walkPairs (opWalk (storeIn store) (ignoreOf ignore)) (pairsFrom (storeIn store) lists at) (lent mapping count))
+    × (walkPairs (opWalk (storeIn store) (ignoreOf ignore)) (pairsFrom (storeIn store) lists at₀) (stateOf mapping₀ count₀)
+    ≡ walkPairs (opWalk (storeIn store) (ignoreOf ignore)) (pairsFrom (storeIn store) lists at) (stateOf mapping count))
 
 abbrev blocks-eq-μ-loop : blocks-eq-lts.MeasureT-loop
 blocks-eq-μ-loop store mapping₀ lists ignore paired entered mapped count₀ at₀ mapping count at = length (pairsFrom (storeIn store) lists at)
@@ -124,8 +124,8 @@ blocks-eq-μ-loop store mapping₀ lists ignore paired entered mapped count₀ a
 abbrev op-eq-mapped-Inv-loop : op-eq-mapped-lts.InvT-loop
 op-eq-mapped-Inv-loop store mapping₀ lhs rhs ignore paired l r pairs count₀ i₀ mapping count i =
     (length mapping ≡ length mapping₀)
-    × (opWalk (storeIn store) (ignoreOf ignore) lhs rhs (lent mapping₀ paired)
-    ≡ eachPair (regionWalk (storeIn store) (ignoreOf ignore)) (range (l + i) (at (columns store) opRegionEnd lhs)) (range (r + i) (at (columns store) opRegionEnd rhs)) (lent mapping count))
+    × (opWalk (storeIn store) (ignoreOf ignore) lhs rhs (stateOf mapping₀ paired)
+    ≡ eachPair (regionWalk (storeIn store) (ignoreOf ignore)) (range (l + i) (at (columns store) opRegionEnd lhs)) (range (r + i) (at (columns store) opRegionEnd rhs)) (stateOf mapping count))
 
 abbrev op-eq-mapped-μ-loop : op-eq-mapped-lts.MeasureT-loop
 op-eq-mapped-μ-loop store mapping₀ lhs rhs ignore paired l r pairs count₀ i₀ mapping count i = pairs - i
@@ -157,14 +157,14 @@ module _ (t : ℕ) where
     rule = ignoreOf (s .args .ignore)
 
     abbrev begun : State
-    begun = lent (s .args .mapping .now) (s .args .paired)
+    begun = stateOf (s .args .mapping .now) (s .args .paired)
 
     abbrev whole : Walk
     whole = listsWalk store rule (s .args .lists) begun
 
   -- the walk from here on is the whole walk
   rest : (c : PairsLeft)
-      → whole (c .before .before .before .before .before .before .before .before .before .before .before .before .before .before .before .before .before) ≡ walkPairs (opWalk (store (c .before .before .before .before .before .before .before .before .before .before .before .before .before .before .before .before .before)) (rule (c .before .before .before .before .before .before .before .before .before .before .before .before .before .before .before .before .before))) (pairsFrom (store (c .before .before .before .before .before .before .before .before .before .before .before .before .before .before .before .before .before)) (c .before .before .before .before .before .before .before .before .before .before .before .before .before .before .before .before .before .args .lists) (c .loop .at)) (lent (c .loop .mapping) (c .loop .count))
+      → whole (c .before .before .before .before .before .before .before .before .before .before .before .before .before .before .before .before .before) ≡ walkPairs (opWalk (store (c .before .before .before .before .before .before .before .before .before .before .before .before .before .before .before .before .before)) (rule (c .before .before .before .before .before .before .before .before .before .before .before .before .before .before .before .before .before))) (pairsFrom (store (c .before .before .before .before .before .before .before .before .before .before .before .before .before .before .before .before .before)) (c .before .before .before .before .before .before .before .before .before .before .before .before .before .before .before .before .before .args .lists) (c .loop .at)) (stateOf (c .loop .mapping) (c .loop .count))
   rest c =
       let s = c .before .before .before .before .before .before .before .before .before .before .before .before .before .before .before .before .before in
       third-starts (store s) (rule s) (s .args .lists) (begun s) (c .before .before .before .before .before .before .before .before .before .before .before .before .before .map-blocks .last .1 .0) (c .before .before .before .before .before .before .before .before .before .blocks2 .given .1) (c .before .before .before .before .before .before .before .before .before .before .before .before .before .map-blocks .ensures) (c .before .before .before .before .before .before .map-ops .last .1 .0) (c .before .before .ops .given .1) (c .before .before .before .before .before .before .map-ops .ensures) ∙ c .loop .inv .1
@@ -172,19 +172,19 @@ module _ (t : ℕ) where
   long-now : (c : PairsLeft) → length (c .loop .mapping) ≡ length (c .before .before .before .before .before .before .before .before .before .before .before .before .before .before .before .before .before .args .mapping .now)
   long-now c = c .loop .inv .0 ∙ c .before .before .before .before .before .before .map-ops .kept .1 .0 ∙ c .before .before .before .before .before .before .before .before .before .before .before .before .before .map-blocks .kept .1 .0
 
-  found : (c : PairFound) → First (store (c .before .before .before .before .before .before .before .before .before .before .before .before .before .before .before .before .before .before .before .before .before)) (c .before .before .before .before .before .before .before .before .before .before .before .before .before .before .before .before .before .before .before .before .before .args .lists) (c .before .before .before .before .loop .at) (c .before .next .given .0 .0)
+  found : (c : PairFound) → IsFirstPair (store (c .before .before .before .before .before .before .before .before .before .before .before .before .before .before .before .before .before .before .before .before .before)) (c .before .before .before .before .before .before .before .before .before .before .before .before .before .before .before .before .before .before .before .before .before .args .lists) (c .before .before .before .before .loop .at) (c .before .next .given .0 .0)
   unfolding FirstPair
   found c = subst (FirstPair (store (c .before .before .before .before .before .before .before .before .before .before .before .before .before .before .before .before .before .before .before .before .before)) (c .before .before .before .before .before .before .before .before .before .before .before .before .before .before .before .before .before .before .before .before .before .args .lists) (c .before .before .before .before .loop .at)) (c .before .next .given .1) (c .before .before .before .next-pair .ensures)
 
   -- which begins with the pair that was found
   rest-found : (c : PairFound) → whole (c .before .before .before .before .before .before .before .before .before .before .before .before .before .before .before .before .before .before .before .before .before)
-      ≡ opWalk (store (c .before .before .before .before .before .before .before .before .before .before .before .before .before .before .before .before .before .before .before .before .before)) (rule (c .before .before .before .before .before .before .before .before .before .before .before .before .before .before .before .before .before .before .before .before .before)) (c .before .next .given .0 .0 .lop) (c .before .next .given .0 .0 .rop) (lent (c .before .before .before .before .loop .mapping) (c .before .before .before .before .loop .count))
-      >>= walkPairs (opWalk (store (c .before .before .before .before .before .before .before .before .before .before .before .before .before .before .before .before .before .before .before .before .before)) (rule (c .before .before .before .before .before .before .before .before .before .before .before .before .before .before .before .before .before .before .before .before .before))) (pairsFrom (store (c .before .before .before .before .before .before .before .before .before .before .before .before .before .before .before .before .before .before .before .before .before)) (c .before .before .before .before .before .before .before .before .before .before .before .before .before .before .before .before .before .before .before .before .before .args .lists) (past (c .before .next .given .0 .0)))
+      ≡ opWalk (store (c .before .before .before .before .before .before .before .before .before .before .before .before .before .before .before .before .before .before .before .before .before)) (rule (c .before .before .before .before .before .before .before .before .before .before .before .before .before .before .before .before .before .before .before .before .before)) (c .before .next .given .0 .0 .lop) (c .before .next .given .0 .0 .rop) (stateOf (c .before .before .before .before .loop .mapping) (c .before .before .before .before .loop .count))
+      >>= walkPairs (opWalk (store (c .before .before .before .before .before .before .before .before .before .before .before .before .before .before .before .before .before .before .before .before .before)) (rule (c .before .before .before .before .before .before .before .before .before .before .before .before .before .before .before .before .before .before .before .before .before))) (pairsFrom (store (c .before .before .before .before .before .before .before .before .before .before .before .before .before .before .before .before .before .before .before .before .before)) (c .before .before .before .before .before .before .before .before .before .before .before .before .before .before .before .before .before .before .before .before .before .args .lists) (pastPair (c .before .next .given .0 .0)))
   rest-found c =
       let s = c .before .before .before .before .before .before .before .before .before .before .before .before .before .before .before .before .before .before .before .before .before in
       let q = c .before .next .given .0 .0 in
       let o = c .before .before .before .before .loop in
-      rest (c .before .before .before .before) ∙ pairs-step (store s) (rule s) (q .lop) (q .rop) (pairsFrom (store s) (s .args .lists) (past q)) (lent (o .mapping) (o .count)) (found c .pairs)
+      rest (c .before .before .before .before) ∙ pairs-step (store s) (rule s) (q .lop) (q .rop) (pairsFrom (store s) (s .args .lists) (pastPair q)) (stateOf (o .mapping) (o .count)) (found c .pairs)
 
   blocks-eq-map-blocks-requires : blocks-eq-lts.Need-map-blocks-requires (blocks-eq-calls t) (blocks-eq-at t) blocks-eq.Post blocks-eq-Inv-loop blocks-eq-μ-loop
   blocks-eq-map-blocks-requires c κs =
@@ -242,7 +242,7 @@ module _ (t : ℕ) where
       let s = c .before .before .before .before .before .before .before .before .before .before .before .before .before .before .before .before .before .before .before .before in
       let o = c .before .before .before .loop in
       let none : pairsFrom (store s) (s .args .lists) (o .at) ≡ [] = subst (FirstPair (store s) (s .args .lists) (o .at)) (c .enum-told .given .1) (c .before .before .next-pair .ensures) in
-      told-over _ (o .mapping) (o .count) (rest (c .before .before .before) ∙ pairs-done (store s) (rule s) _ (lent (o .mapping) (o .count)) none)
+      told-over _ (o .mapping) (o .count) (rest (c .before .before .before) ∙ pairs-done (store s) (rule s) _ (stateOf (o .mapping) (o .count)) none)
 
   blocks-eq-op-eq-mapped-requires : blocks-eq-lts.Need-op-eq-mapped-requires (blocks-eq-calls t) (blocks-eq-at t) blocks-eq.Post blocks-eq-Inv-loop blocks-eq-μ-loop
   blocks-eq-op-eq-mapped-requires c κs =
@@ -252,11 +252,11 @@ module _ (t : ℕ) where
       let C = columns (s .args .store .now) in
       let q = c .before .before .next .given .0 .0 in
       let one = found (c .before) in
-      let ps = pairsFrom S (s .args .lists) (past q) in
+      let ps = pairsFrom S (s .args .lists) (pastPair q) in
       let o = c .before .before .before .before .before .loop in
       let fewer : below S (q .lop) < below S (aroundList S (leftOf (s .args .lists))) = op-falls S (p .0 .sound .ruled) (leftOf (s .args .lists)) (q .lblock) (q .lop) (one .lBlock) (one .lOp) in
       let falls : 3 * below S (q .lop) + 2 < 3 * below S (aroundList S (leftOf (s .args .lists))) = omega arith in
-      let few = few-part _ (opWalk S (rule s) (q .lop) (q .rop) (lent (o .mapping) (o .count))) (walkPairs (opWalk S (rule s)) ps) (grows-pairs S (rule s) ps) (rest-found (c .before)) (p .1 .1) in (
+      let few = few-part _ (opWalk S (rule s) (q .lop) (q .rop) (stateOf (o .mapping) (o .count))) (walkPairs (opWalk S (rule s)) ps) (grows-pairs S (rule s) ps) (rest-found (c .before)) (p .1 .1) in (
         subst (λ (j : ℕ). 3 * below S (q .lop) + 2 < j) (s .pre .0) falls,
         (record { sound = p .0 .sound; long = long-now (c .before .before .before .before .before) ∙ p .0 .long }, (op-in C (q .lblock) (q .lop) (one .lOp), (op-in C (q .rblock) (q .rop) (one .rOp), few))),
       )
@@ -293,13 +293,13 @@ module _ (t : ℕ) where
   blocks-eq-loop-again c =
       let s = c .before .before .before .before .before .before .before .before .before .before .before .before .before .before .before .before .before .before .before .before .before .before .before .before .before .before .before .before .before in
       let q = c .before .before .before .before .before .before .before .before .before .next .given .0 .0 in
-      let ps = pairsFrom (store s) (s .args .lists) (past q) in
+      let ps = pairsFrom (store s) (s .args .lists) (pastPair q) in
       let o = c .before .before .before .before .before .before .before .before .before .before .before .before .loop in
       let compared = c .before .before .before .before .before .before .op-eq-mapped in (
         compared .kept .1 .0 ∙ o .inv .0,
-        o .inv .1 ∙ pairs-step (store s) (rule s) (q .lop) (q .rop) ps (lent (o .mapping) (o .count)) (found (c .before .before .before .before .before .before .before .before) .pairs)
-            ∙ told-bind (opWalk (store s) (rule s) (q .lop) (q .rop) (lent (o .mapping) (o .count))) (walkPairs (opWalk (store s) (rule s)) ps) (compared .last .1 .0) (c .before .before .compared .given .1) (compared .ensures)
-            ∙ ap (λ (place : Place). walkPairs (opWalk (store s) (rule s)) (pairsFrom (store s) (s .args .lists) place) (lent (compared .last .1 .0) (c .before .before .compared .given .0 .0))) (sym (c .past-pair .ensures)),
+        o .inv .1 ∙ pairs-step (store s) (rule s) (q .lop) (q .rop) ps (stateOf (o .mapping) (o .count)) (found (c .before .before .before .before .before .before .before .before) .pairs)
+            ∙ told-bind (opWalk (store s) (rule s) (q .lop) (q .rop) (stateOf (o .mapping) (o .count))) (walkPairs (opWalk (store s) (rule s)) ps) (compared .last .1 .0) (c .before .before .compared .given .1) (compared .ensures)
+            ∙ ap (λ (place : PairPosition). walkPairs (opWalk (store s) (rule s)) (pairsFrom (store s) (s .args .lists) place) (stateOf (compared .last .1 .0) (c .before .before .compared .given .0 .0))) (sym (c .past-pair .ensures)),
       )
 
   -- ---- two operations
@@ -333,12 +333,12 @@ module _ (t : ℕ) where
 
   -- the walk from here on begins with the next pair of regions
   next-turn : (c : RegionsLeft)
-      → opWalk (storeIn (c .before .before .before .before .before .before .before .before .before .before .args .store .now)) (ignoreOf (c .before .before .before .before .before .before .before .before .before .before .args .ignore)) (c .before .before .before .before .before .before .before .before .before .before .args .lhs) (c .before .before .before .before .before .before .before .before .before .before .args .rhs) (lent (c .before .before .before .before .before .before .before .before .before .before .args .mapping .now) (c .before .before .before .before .before .before .before .before .before .before .args .paired))
-      ≡ walkRegion (c .before .before .before .before .before .before .before .before .before .before) (c .before .before .before .before .number .result + c .before .loop .i) (c .before .before .before .number2 .result + c .before .loop .i) (lent (c .before .loop .mapping) (c .before .loop .count))
+      → opWalk (storeIn (c .before .before .before .before .before .before .before .before .before .before .args .store .now)) (ignoreOf (c .before .before .before .before .before .before .before .before .before .before .args .ignore)) (c .before .before .before .before .before .before .before .before .before .before .args .lhs) (c .before .before .before .before .before .before .before .before .before .before .args .rhs) (stateOf (c .before .before .before .before .before .before .before .before .before .before .args .mapping .now) (c .before .before .before .before .before .before .before .before .before .before .args .paired))
+      ≡ walkRegion (c .before .before .before .before .before .before .before .before .before .before) (c .before .before .before .before .number .result + c .before .loop .i) (c .before .before .before .number2 .result + c .before .loop .i) (stateOf (c .before .loop .mapping) (c .before .loop .count))
       >>= eachPair (walkRegion (c .before .before .before .before .before .before .before .before .before .before)) (range (c .before .before .before .before .number .result + (c .before .loop .i + 1)) (at (cols (c .before .before .before .before .before .before .before .before .before .before)) opRegionEnd (c .before .before .before .before .before .before .before .before .before .before .args .lhs))) (range (c .before .before .before .number2 .result + (c .before .loop .i + 1)) (at (cols (c .before .before .before .before .before .before .before .before .before .before)) opRegionEnd (c .before .before .before .before .before .before .before .before .before .before .args .rhs)))
   next-turn c =
       let m = c .before .loop in
-      m .inv .1 ∙ turn-next (walkRegion (c .before .before .before .before .before .before .before .before .before .before)) (lent (m .mapping) (m .count)) (this-turn c)
+      m .inv .1 ∙ turn-next (walkRegion (c .before .before .before .before .before .before .before .before .before .before)) (stateOf (m .mapping) (m .count)) (this-turn c)
 
   op-eq-mapped-names-agree-requires : op-eq-mapped-lts.Need-names-agree-requires (op-eq-mapped-calls t) (op-eq-mapped-at t) op-eq-mapped.Post op-eq-mapped-Inv-loop op-eq-mapped-μ-loop
   op-eq-mapped-names-agree-requires c κs =
@@ -385,7 +385,7 @@ module _ (t : ℕ) where
       let a = s .args in (
         refl,
         names-passed (storeIn (a .store .now)) (ignoreOf (a .ignore)) (a .lhs) (a .rhs) (a .mapping .now) (a .paired) (held (c .before .before .before .before .names-agree .ensures) (c .before .before .before .if1 .left))
-            ∙ regions-begin (cols s) (laid-facts (cols s) (p .0 .sound .laid)) (a .lhs) (a .rhs) (p .1 .0) (p .1 .1 .0) _ _ (c .before .before .number .ensures) (c .before .number2 .ensures) (walkRegion s) (lent (a .mapping .now) (a .paired)),
+            ∙ regions-begin (cols s) (laid-facts (cols s) (p .0 .sound .laid)) (a .lhs) (a .rhs) (p .1 .0) (p .1 .1 .0) _ _ (c .before .before .number .ensures) (c .before .number2 .ensures) (walkRegion s) (stateOf (a .mapping .now) (a .paired)),
       )
 
   op-eq-mapped-add-region-eq : op-eq-mapped-lts.Need-add-region-eq (op-eq-mapped-calls t) (op-eq-mapped-at t) op-eq-mapped.Post op-eq-mapped-Inv-loop op-eq-mapped-μ-loop
@@ -448,30 +448,30 @@ module _ (t : ℕ) where
       let p = s .pre .1 in
       let m = c .before .loop in
       let done = regions-done (cols s) (laid-facts (cols s) (p .0 .sound .laid)) (s .args .lhs) (s .args .rhs) (p .1 .0) (p .1 .1 .0) _ _ (c .before .before .before .before .number .ensures) (c .before .before .before .number2 .ensures) _ _ (c .before .before .region-pairs .ensures) in
-      told-over _ (m .mapping) (m .count) (m .inv .1 ∙ done (walkRegion s) (lent (m .mapping) (m .count)) (c .loop-test .left))
+      told-over _ (m .mapping) (m .count) (m .inv .1 ∙ done (walkRegion s) (stateOf (m .mapping) (m .count)) (c .loop-test .left))
 
   -- ---- two regions
 
   module _ (s : region-eq-lts.Start (region-eq-calls t) (region-eq-at t) region-eq.Post) where
     same-lists :
-        regionWalk (storeIn (s .args .store .now)) (ignoreOf (s .args .ignore)) (s .args .lhs) (s .args .rhs) (lent (s .args .mapping .now) (s .args .paired))
-        ≡ listsWalk (storeIn (s .args .store .now)) (ignoreOf (s .args .ignore)) (InRegions (s .args .lhs) (s .args .rhs)) (lent (s .args .mapping .now) (s .args .paired))
+        regionWalk (storeIn (s .args .store .now)) (ignoreOf (s .args .ignore)) (s .args .lhs) (s .args .rhs) (stateOf (s .args .mapping .now) (s .args .paired))
+        ≡ listsWalk (storeIn (s .args .store .now)) (ignoreOf (s .args .ignore)) (InRegions (s .args .lhs) (s .args .rhs)) (stateOf (s .args .mapping .now) (s .args .paired))
     unfolding regionExists
     same-lists =
         let a = s .args in
         let S = storeIn (a .store .now) in
         let e : regionExists S (a .lhs) ≡ true = lt-ltb (a .lhs) (length (S .regions)) (subst (λ (k : ℕ). a .lhs < k) (sym (regions-length (columns (a .store .now)))) (s .pre .1 .1 .0)) in
-        region-lists S (ignoreOf (a .ignore)) (s .pre .1 .0 .sound .ruled) (a .lhs) (a .rhs) e (lent (a .mapping .now) (a .paired))
+        region-lists S (ignoreOf (a .ignore)) (s .pre .1 .0 .sound .ruled) (a .lhs) (a .rhs) e (stateOf (a .mapping .now) (a .paired))
 
   region-eq-blocks-eq-requires : region-eq-lts.Need-blocks-eq-requires (region-eq-calls t) (region-eq-at t) region-eq.Post
-  unfolding ExistingList leftOf rightOf aroundList
+  unfolding BlocksExist leftOf rightOf aroundList
   region-eq-blocks-eq-requires c κs =
       let s = c .before .before .before in
       let p = s .pre .1 in
       let S = storeIn (s .args .store .now) in
       let falls : 3 * below S (getD (S .regions) (s .args .lhs) 0) < 3 * below S (getD (S .regions) (s .args .lhs) 0) + 1 = omega arith in (
         subst (λ (j : ℕ). 3 * below S (getD (S .regions) (s .args .lhs) 0) < j) (s .pre .0) falls,
-        (p .0, ((p .1 .0, p .1 .1 .0), subst (λ (w : Walk). Few w) (same-lists s) (p .1 .1 .1))),
+        (p .0, ((p .1 .0, p .1 .1 .0), subst (λ (w : Walk). PairedFits w) (same-lists s) (p .1 .1 .1))),
       )
 
   region-eq-same-length : region-eq-lts.Need-same-length (region-eq-calls t) (region-eq-at t) region-eq.Post

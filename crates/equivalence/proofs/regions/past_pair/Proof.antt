@@ -1,6 +1,6 @@
 -- `past_pair` meets its contract. Assumes nothing.
 use mathlib.Core.Path.{refl}
-use Rattle.equivalence.specs.Order.{past}
+use Rattle.equivalence.specs.Order.{pastPair}
 use borrow.Author.Needs.{needs}
 use Rattle.equivalence.proofs.regions.past_pair.Statement.{statement}
 use Rattle.equivalence.proofs.regions.past_pair.Tie as tie
@@ -12,7 +12,7 @@ add-t3 : tie.Need-add-t3
 add-t3 c = search needs
 
 returns : tie.Need-returns
-unfolding past
+unfolding pastPair
 returns c = refl
 
 pub past-pair-spec : {M : Type 1} → statement M

@@ -8,7 +8,7 @@ use Rattle.layout.specs.Reading.{blockCount, storeIn}
 use Rattle.layout.proofs.Laid.{laid-facts}
 use Rattle.layout.proofs.Seeking.{next-op, none-next}
 use Rattle.fragments.specs.Order.{opsFrom, FirstOp}
-use Rattle.fragments.proofs.Ordered.{next-listed, block-in, ops-over, ops-later, ops-first, first-same}
+use Rattle.fragments.proofs.Ordered.{next-in-list, block-in, ops-over, ops-later, ops-first, first-same}
 use borrow.Author.Needs.{needs}
 use Rattle.fragments.proofs.order.next_op_in.Statement.{statement}
 use Rattle.fragments.proofs.order.next_op_in.Tie as tie
@@ -50,7 +50,7 @@ next-op-requires c κs =
     let x = s .args .blocks in
     let p = c .before .before .before .before .loop .at in
     let b = c .before .block .given .0 .0 in
-    let n = next-listed S x (p .block) b _ (c .before .before .before .next-in .ensures) (c .before .block .given .1) in
+    let n = next-in-list S x (p .block) b _ (c .before .before .before .next-in .ensures) (c .before .block .given .1) in
     let l : b < blockCount C = block-in C x b (s .pre .1) (n .child) in
     (record { sized = s .pre .0 .sized; laid = s .pre .0 .laid }, l)
 
@@ -78,7 +78,7 @@ add-t10 c =
     let x = s .args .blocks in
     let p = c .before .before .before .before .before .before .before .loop .at in
     let b = c .before .before .before .before .block .given .0 .0 in
-    let n = next-listed S x (p .block) b _ (c .before .before .before .before .before .before .next-in .ensures) (c .before .before .before .before .block .given .1) in
+    let n = next-in-list S x (p .block) b _ (c .before .before .before .before .before .before .next-in .ensures) (c .before .before .before .before .block .given .1) in
     let l : b < blockCount C = block-in C x b (s .pre .1) (n .child) in
     let few : blockCount C ≤ 256 = laid-facts C (s .pre .0 .laid) .counts .blocks in
     record { fits = omega arith }
@@ -91,7 +91,7 @@ loop-less c =
     let x = s .args .blocks in
     let p = c .before .before .before .before .before .before .before .loop .at in
     let b = c .before .before .before .before .block .given .0 .0 in
-    let n = next-listed S x (p .block) b _ (c .before .before .before .before .before .before .next-in .ensures) (c .before .before .before .before .block .given .1) in
+    let n = next-in-list S x (p .block) b _ (c .before .before .before .before .before .before .next-in .ensures) (c .before .before .before .before .block .given .1) in
     let l : b < blockCount C = block-in C x b (s .pre .1) (n .child) in
     let few : blockCount C ≤ 256 = laid-facts C (s .pre .0 .laid) .counts .blocks in
     let from : p .block ≤ b = n .later in

@@ -6,7 +6,7 @@ use mathlib.Core.Path.{_≡_, sym, subst}
 use Rattle.layout.specs.Columns.{Cols, columns, at, opRegionEnd}
 use Rattle.layout.specs.Reading.{opCount, blockCount, regionCount}
 use Rattle.layout.proofs.Laid.{Laid, laid-facts}
-use Rattle.fragments.proofs.Turns.{InBlock, block-begun, block-done, op-found, no-level, op-deep, op-more, InRegion, region-begun, region-done, block-found, block-deep, block-more, InOp, op-begun, few-regions, op-done, region-deep, region-more}
+use Rattle.fragments.proofs.Turns.{SummingBlock, block-begun, block-done, op-found, no-level, op-deep, op-more, SummingRegion, region-begun, region-done, block-found, block-deep, block-more, SummingOp, op-begun, few-regions, op-done, region-deep, region-more}
 use borrow.Fn.Kinds.{In}
 use borrow.Fn.PlainCycle.{Measures, is, falls, and}
 use Rattle.fragments.proofs.sizes.size_in_block.Reads as size-in-block
@@ -63,7 +63,7 @@ abbrev block-calls : ℕ → size-in-block-lts.Claims
 block-calls t = (next-op-reads.Asked, next-op-reads.Learnt, size-in-op-below t, size-in-op.Post)
 
 abbrev size-in-block-Inv-loop : size-in-block-lts.InvT-loop
-size-in-block-Inv-loop store b left size₀ from₀ size from = InBlock (columns store) left b size from
+size-in-block-Inv-loop store b left size₀ from₀ size from = SummingBlock (columns store) left b size from
 
 abbrev size-in-block-μ-loop : size-in-block-lts.MeasureT-loop
 size-in-block-μ-loop store b left size₀ from₀ size from = opCount (columns store) - from
@@ -72,7 +72,7 @@ abbrev op-calls : ℕ → size-in-op-lts.Claims
 op-calls t = (number-reads.Asked, number-reads.Learnt, size-in-region-below t, size-in-region.Post)
 
 abbrev size-in-op-Inv-loop : size-in-op-lts.InvT-loop
-size-in-op-Inv-loop store n left end r₀ size₀ r size = InOp (columns store) left n size r
+size-in-op-Inv-loop store n left end r₀ size₀ r size = SummingOp (columns store) left n size r
 
 abbrev size-in-op-μ-loop : size-in-op-lts.MeasureT-loop
 size-in-op-μ-loop store n left end r₀ size₀ r size = end - r
@@ -81,7 +81,7 @@ abbrev region-calls : ℕ → size-in-region-lts.Claims
 region-calls t = (next-block-reads.Asked, next-block-reads.Learnt, size-in-block-below t, size-in-block.Post)
 
 abbrev size-in-region-Inv-loop : size-in-region-lts.InvT-loop
-size-in-region-Inv-loop store r left size₀ from₀ size from = InRegion (columns store) left r size from
+size-in-region-Inv-loop store r left size₀ from₀ size from = SummingRegion (columns store) left r size from
 
 abbrev size-in-region-μ-loop : size-in-region-lts.MeasureT-loop
 size-in-region-μ-loop store r left size₀ from₀ size from = blockCount (columns store) - from
@@ -113,7 +113,7 @@ module _ (t : ℕ) where
       let i = c .before .before .before .before .loop in
       op-found (block-cols s) (s .args .left) (s .args .b) (i .size) (i .from) (i .inv) _ (c .before .before .before .next-op .ensures) (c .before .n .given .0 .0) (c .before .n .given .1) (block-laid s)
 
-  op-counted : (c : OpCounted) → InBlock (block-cols (block-of (c .before .before .before .before .before))) (block-of (c .before .before .before .before .before) .args .left) (block-of (c .before .before .before .before .before) .args .b) (c .before .before .before .before .before .before .before .before .before .loop .size + c .before .more .given .0 .0) (c .before .before .before .before .before .before .n .given .0 .0 + 1)
+  op-counted : (c : OpCounted) → SummingBlock (block-cols (block-of (c .before .before .before .before .before))) (block-of (c .before .before .before .before .before) .args .left) (block-of (c .before .before .before .before .before) .args .b) (c .before .before .before .before .before .before .before .before .before .loop .size + c .before .more .given .0 .0) (c .before .before .before .before .before .before .n .given .0 .0 + 1)
   op-counted c =
       let s = block-of (c .before .before .before .before .before) in
       let i = c .before .before .before .before .before .before .before .before .before .loop in
@@ -210,7 +210,7 @@ module _ (t : ℕ) where
       let s = op-of c in
       (omega (arith, not-last c, op-laid s .op (s .args .n) (s .pre .1 .1) .regions .range .fits), op-laid s .counts .regions)
 
-  region-counted : (c : RegionCounted) → InOp (op-cols (op-of (c .before .before .before .before))) (op-of (c .before .before .before .before) .args .left) (op-of (c .before .before .before .before) .args .n) (c .before .before .before .before .before .loop .size + c .before .more .given .0 .0) (c .before .before .before .before .before .loop .r + 1)
+  region-counted : (c : RegionCounted) → SummingOp (op-cols (op-of (c .before .before .before .before))) (op-of (c .before .before .before .before) .args .left) (op-of (c .before .before .before .before) .args .n) (c .before .before .before .before .before .loop .size + c .before .more .given .0 .0) (c .before .before .before .before .before .loop .r + 1)
   region-counted c =
       let s = op-of (c .before .before .before .before) in
       let i = c .before .before .before .before .before .loop in
@@ -225,7 +225,7 @@ module _ (t : ℕ) where
   size-in-op-loop-holds : size-in-op-lts.Need-loop-holds (op-calls t) (size-in-op-at t) size-in-op.Post size-in-op-Inv-loop size-in-op-μ-loop
   size-in-op-loop-holds c =
       let s = c .before .before .before in
-      subst (λ (r : ℕ). InOp (op-cols s) (s .args .left) (s .args .n) 1 r) (sym (c .number2 .ensures)) (op-begun (op-cols s) (s .args .left) (s .args .n) (op-laid s) (s .pre .1 .1))
+      subst (λ (r : ℕ). SummingOp (op-cols s) (s .args .left) (s .args .n) 1 r) (sym (c .number2 .ensures)) (op-begun (op-cols s) (s .args .left) (s .args .n) (op-laid s) (s .pre .1 .1))
 
   size-in-op-size-in-region-requires : size-in-op-lts.Need-size-in-region-requires (op-calls t) (size-in-op-at t) size-in-op.Post size-in-op-Inv-loop size-in-op-μ-loop
   size-in-op-size-in-region-requires c κs =
@@ -292,7 +292,7 @@ module _ (t : ℕ) where
       let i = c .before .before .before .before .loop in
       block-found (region-cols s) (s .args .left) (s .args .r) (i .size) (i .from) (i .inv) _ (c .before .before .before .next-block .ensures) (c .before .b .given .0 .0) (c .before .b .given .1) (region-laid s)
 
-  block-counted : (c : BlockCounted) → InRegion (region-cols (region-of (c .before .before .before .before))) (region-of (c .before .before .before .before) .args .left) (region-of (c .before .before .before .before) .args .r) (c .before .before .before .before .before .before .before .before .loop .size + c .before .more .given .0 .0) (c .before .before .before .before .before .b .given .0 .0 + 1)
+  block-counted : (c : BlockCounted) → SummingRegion (region-cols (region-of (c .before .before .before .before))) (region-of (c .before .before .before .before) .args .left) (region-of (c .before .before .before .before) .args .r) (c .before .before .before .before .before .before .before .before .loop .size + c .before .more .given .0 .0) (c .before .before .before .before .before .b .given .0 .0 + 1)
   block-counted c =
       let s = region-of (c .before .before .before .before) in
       let i = c .before .before .before .before .before .before .before .before .loop in

@@ -3,13 +3,13 @@ use Prim.Native.Nat.{_-_}
 use native.Mathlib.Omega.{arith}
 use Rattle.layout.specs.Columns.{columns}
 use Rattle.fragments.specs.Ignoring.{ignoreOf}
-use Rattle.hashing.proofs.Slots.{Counting, count-begins, count-goes-on, count-over}
+use Rattle.hashing.proofs.Slots.{KeptCounting, count-begins, count-goes-on, count-over}
 use borrow.Author.Needs.{needs}
 use Rattle.hashing.proofs.attributes.count_kept.Statement.{statement}
 use Rattle.hashing.proofs.attributes.count_kept.Tie as tie
 
 abbrev Inv-loop : tie.InvT-loop
-Inv-loop store ignore first end kept₀ slot₀ kept slot = Counting (columns store) (ignoreOf ignore) first end kept slot
+Inv-loop store ignore first end kept₀ slot₀ kept slot = KeptCounting (columns store) (ignoreOf ignore) first end kept slot
 
 abbrev μ-loop : tie.MeasureT-loop
 μ-loop store ignore first end kept₀ slot₀ kept slot = end - slot

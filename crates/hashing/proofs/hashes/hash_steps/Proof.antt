@@ -5,9 +5,9 @@ use Rattle.rules.specs.Fragments.{op, block, region, exists, steps}
 use Rattle.layout.specs.Columns.{columns}
 use Rattle.layout.specs.Reading.{storeIn}
 use Rattle.fragments.specs.Sorts.{sortOf}
-use Rattle.fragments.specs.Order.{Existing}
+use Rattle.fragments.specs.Order.{BlocksExist}
 use Rattle.fragments.proofs.There.{there}
-use Rattle.hashing.specs.Walked.{Room}
+use Rattle.hashing.specs.Walked.{DefinitionsFit}
 use Rattle.hashing.proofs.Answering.{block-steps, region-steps, steps-room, steps-fed}
 use borrow.Author.Needs.{needs}
 use Rattle.hashing.proofs.hashes.hash_steps.Statement.{statement}
@@ -24,35 +24,35 @@ hash-op-requires c κs =
     let n = s .args .n in
     let sort = c .before .enum-told .given .1 in
     let e = subst (λ x. exists (storeIn b) (sortOf x) n ≡ true) sort (s .pre .1 .0) in
-    let room = subst (λ x. Room (storeIn b) (steps (storeIn b) (sortOf x) n) (s .args .st)) sort (s .pre .1 .1) in
+    let room = subst (λ x. DefinitionsFit (storeIn b) (steps (storeIn b) (sortOf x) n) (s .args .st)) sort (s .pre .1 .1) in
     (s .pre .0, (there (columns b) op n e, room))
 
 enum-told-2 : tie.Need-enum-told-2
 enum-told-2 c = search needs
 
 hash-blocks-full-requires : tie.Need-hash-blocks-full-requires
-unfolding sortOf Existing
+unfolding sortOf BlocksExist
 hash-blocks-full-requires c κs =
     let s = c .before .before .before .before .before in
     let b = s .args .store .now in
     let n = s .args .n in
     let sort = c .before .enum-told2 .given .1 in
     let e = subst (λ x. exists (storeIn b) (sortOf x) n ≡ true) sort (s .pre .1 .0) in
-    let room = subst (λ x. Room (storeIn b) (steps (storeIn b) (sortOf x) n) (s .args .st)) sort (s .pre .1 .1) in
+    let room = subst (λ x. DefinitionsFit (storeIn b) (steps (storeIn b) (sortOf x) n) (s .args .st)) sort (s .pre .1 .1) in
     (s .pre .0, (there (columns b) block n e, steps-room (storeIn b) block n _ (block-steps (storeIn b) n) room))
 
 enum-told-3 : tie.Need-enum-told-3
 enum-told-3 c = search needs
 
 hash-blocks-full-requires-2 : tie.Need-hash-blocks-full-requires-2
-unfolding sortOf Existing
+unfolding sortOf BlocksExist
 hash-blocks-full-requires-2 c κs =
     let s = c .before .before .before .before .before in
     let b = s .args .store .now in
     let n = s .args .n in
     let sort = c .before .enum-told3 .given .1 in
     let e = subst (λ x. exists (storeIn b) (sortOf x) n ≡ true) sort (s .pre .1 .0) in
-    let room = subst (λ x. Room (storeIn b) (steps (storeIn b) (sortOf x) n) (s .args .st)) sort (s .pre .1 .1) in
+    let room = subst (λ x. DefinitionsFit (storeIn b) (steps (storeIn b) (sortOf x) n) (s .args .st)) sort (s .pre .1 .1) in
     (s .pre .0, (there (columns b) region n e, steps-room (storeIn b) region n _ (region-steps (storeIn b) (s .pre .0 .sound .ruled) n) room))
 
 same-length : tie.Need-same-length

@@ -3,7 +3,7 @@ use Prim.Native.Nat.{_+_, _-_, _≤_}
 use native.Mathlib.Omega.{arith}
 use mathlib.Core.Path.{_≡_, refl, _∙_}
 use lib.ListN.{length}
-use Rattle.layout.specs.Reading.{following}
+use Rattle.layout.specs.Reading.{consecutive}
 use Rattle.hashing.specs.Words.{numbersLength, NumbersValues}
 use Rattle.hashing.proofs.Defining.{values-none, values-next, values-over}
 use borrow.Author.Needs.{needs}
@@ -16,7 +16,7 @@ Inv-loop numbers₀ first count id next₀ v₀ numbers next v =
     × (first ≤ v)
     × (v ≤ first + count)
     × (next + first ≡ id + v)
-    × NumbersValues numbers₀ numbers id (following first (v - first))
+    × NumbersValues numbers₀ numbers id (consecutive first (v - first))
 
 abbrev μ-loop : tie.MeasureT-loop
 μ-loop numbers₀ first count id next₀ v₀ numbers next v = first + count - v

@@ -10,10 +10,10 @@ use Rattle.layout.specs.Columns.{Cols, columns}
 use Rattle.layout.specs.Reading.{blockCount, storeIn}
 use Rattle.layout.specs.Children.{onFrom}
 use Rattle.layout.proofs.Laid.{laid-facts}
-use Rattle.layout.proofs.Seeking.{Next, from-zero, none-next}
+use Rattle.layout.proofs.Seeking.{NextChild, from-zero, none-next}
 use Rattle.fragments.specs.Ignoring.{ignoreOf}
-use Rattle.fragments.specs.Order.{listed}
-use Rattle.fragments.proofs.Ordered.{next-listed, block-in}
+use Rattle.fragments.specs.Order.{blockList}
+use Rattle.fragments.proofs.Ordered.{next-in-list, block-in}
 use Rattle.hashing.specs.Walked.{blockShells}
 use Rattle.hashing.proofs.Parting.{Partly, none-fed, all-fed, part-room, part-fed, map-left}
 use borrow.Author.Needs.{needs}
@@ -23,7 +23,7 @@ use Rattle.hashing.proofs.passes.hash_block_shells.Tie as tie
 abbrev Inv-loop : tie.InvT-loop
 Inv-loop store numbers₀ blocks ignore fed₀ from₀ numbers fed from =
     (length numbers ≡ length numbers₀)
-    × Partly (storeIn store) (ignoreOf ignore) (blockShells (listed (storeIn store) blocks)) (blockShells (onFrom from (listed (storeIn store) blocks))) numbers₀ numbers fed₀ fed
+    × Partly (storeIn store) (ignoreOf ignore) (blockShells (blockList (storeIn store) blocks)) (blockShells (onFrom from (blockList (storeIn store) blocks))) numbers₀ numbers fed₀ fed
 
 abbrev μ-loop : tie.MeasureT-loop
 μ-loop store numbers₀ blocks ignore fed₀ from₀ numbers fed from = 256 - from
@@ -37,24 +37,24 @@ module _ (s : tie.Start Inv-loop μ-loop) where
   store = storeIn (s .args .store .now)
 
   abbrev list : List ℕ
-  list = listed store (s .args .blocks)
+  list = blockList store (s .args .blocks)
 
   abbrev stepsOf : List ℕ → List Step
   stepsOf xs = blockShells xs
 
 -- in the loop, with the next one found
-abbrev Found : Type 0
-Found = tie.After-known-told Inv-loop μ-loop
+abbrev NextFound : Type 0
+NextFound = tie.After-known-told Inv-loop μ-loop
 
-module _ (c : Found) where
+module _ (c : NextFound) where
   abbrev begun : tie.Start Inv-loop μ-loop
   begun = c .before .before .before .before .before .before .before
 
   abbrev n : ℕ
   n = c .before .b .given .0 .0
 
-  found : Next (list begun) (c .before .before .before .before .loop .from) n
-  found = next-listed (store begun) (begun .args .blocks) (c .before .before .before .before .loop .from) n _ (c .before .before .before .next-in .ensures) (c .before .b .given .1)
+  found : NextChild (list begun) (c .before .before .before .before .loop .from) n
+  found = next-in-list (store begun) (begun .args .blocks) (c .before .before .before .before .loop .from) n _ (c .before .before .before .next-in .ensures) (c .before .b .given .1)
 
   here : n < blockCount (cols begun)
   here = block-in (cols begun) (begun .args .blocks) n (begun .pre .1 .0) (found .child)

@@ -10,7 +10,7 @@ use Rattle.layout.specs.Columns.{Cols, columns}
 use Rattle.layout.specs.Reading.{opCount, storeIn}
 use Rattle.layout.specs.Children.{onFrom}
 use Rattle.layout.proofs.Laid.{laid-facts}
-use Rattle.layout.proofs.Seeking.{Next, from-zero, none-next, next-op}
+use Rattle.layout.proofs.Seeking.{NextChild, from-zero, none-next, next-op}
 use Rattle.fragments.specs.Ignoring.{ignoreOf}
 use Rattle.fragments.proofs.Ordered.{op-in}
 use Rattle.hashing.specs.Walked.{opShells}
@@ -42,17 +42,17 @@ module _ (s : tie.Start Inv-loop μ-loop) where
   stepsOf xs = map (λ (n : ℕ). shell (ofOp n)) xs
 
 -- in the loop, with the next one found
-abbrev Found : Type 0
-Found = tie.After-known-told Inv-loop μ-loop
+abbrev NextFound : Type 0
+NextFound = tie.After-known-told Inv-loop μ-loop
 
-module _ (c : Found) where
+module _ (c : NextFound) where
   abbrev begun : tie.Start Inv-loop μ-loop
   begun = c .before .before .before .before .before .before .before
 
   abbrev n : ℕ
   n = c .before .n .given .0 .0
 
-  found : Next (list begun) (c .before .before .before .before .loop .from) n
+  found : NextChild (list begun) (c .before .before .before .before .loop .from) n
   found = next-op (store begun) (begun .args .b) (c .before .before .before .before .loop .from) n _ (c .before .before .before .next-op .ensures) (c .before .n .given .1)
 
   here : n < opCount (cols begun)

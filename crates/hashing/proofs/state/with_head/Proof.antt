@@ -30,7 +30,7 @@ use denote.Triple.Table.{entered, cited}
 use denote.Triple.Walked.{says, Stays, stay-none, walkOf, goes-none, Walks, ends-at, walked, walk-meets}
 use Rattle.rules.specs.Hash.{fnvFrom, leaf, count}
 use Rattle.hashing.proofs.Bytes.{fed-after}
-use Rattle.hashing.proofs.Lent.Loan.{Step, feeds, number}
+use Rattle.hashing.proofs.Lent.Loan.{FeedLent, feeds, number}
 use Rattle.hashing.proofs.state.hash_leaf.Symbol as leaf-def
 use Rattle.hashing.proofs.state.hash_leaf.Symbol.{name as #leaf}
 use Rattle.hashing.proofs.state.hash_leaf.Met as leaf-thm
@@ -63,7 +63,7 @@ module _ {M : Type 1} (𝓤 : URA M) (H : Heap 𝓤) (A : Atoms 𝓤) (W : Given
       qed W [] ∵ suffices ! _ (ends-at 𝓤 H A head.ended stayed (head.clauses 𝓤 H A mem run) W ((tt, tt, tt, a, at), tt) (vint w64 r) r (tt, (tt, (tt, tt))) (tt, (tt, (tt, tt)))) $ says ! e $
       number ! w64 r r-fits $ nothing ! $ number ! w64 n n-fits $ fjoin ! $ number ! w32 m m-fits $ fjoin ! $ number ! w64 x x-fits $ fjoin ! $ nothing ! $ done !
 
-  module _ (C : Calls 𝓤 H) (Λ : Loops 𝓤 H) (fm : FmC 𝓤 H (W .laws) C) (leaf-known : Triple 𝓤 (C #leaf) (Step w32 leaf 𝓤 H A)) (count-known : Triple 𝓤 (C #count) (Step w64 count 𝓤 H A)) where
+  module _ (C : Calls 𝓤 H) (Λ : Loops 𝓤 H) (fm : FmC 𝓤 H (W .laws) C) (leaf-known : Triple 𝓤 (C #leaf) (FeedLent w32 leaf 𝓤 H A)) (count-known : Triple 𝓤 (C #count) (FeedLent w64 count 𝓤 H A)) where
     walk : ent 𝓤 (onEntry 𝓤 H A head.signature tt tt a at) (WpFn 𝓤 H C Λ code.function (vint w64 x ∷ vint w32 m ∷ vint w64 n ∷ []) Post)
     walk =
         qed W (‵ ftrue ∷ ‵ (owns (u64 ∷ u32 ∷ u64 ∷ []) a at) ∷ []) ∵ enter ! C Λ code.function (vint w64 x ∷ vint w32 m ∷ vint w64 n ∷ []) _ $
@@ -87,13 +87,13 @@ module _ {M : Type 1} (𝓤 : URA M) (H : Heap 𝓤) (A : Atoms 𝓤) (W : Given
         keep ! [] $ by ! (exits r₂ fits₂ (fed-after x (leaf m) (count n) e₁ e₂))))))))))))
 
 module _ {M : Type 1} (𝓤 : URA M) (H : Heap 𝓤) (A : Atoms 𝓤) (W : Given 𝓤 H A) (mem : Memory → SProp 𝓤) (run : Routine → Fun 𝓤) where
-  head-walks : (C : Calls 𝓤 H) (Λ : Loops 𝓤 H) → FmC 𝓤 H (W .laws) C → Triple 𝓤 (C #leaf) (Step w32 leaf 𝓤 H A) → Triple 𝓤 (C #count) (Step w64 count 𝓤 H A)
+  head-walks : (C : Calls 𝓤 H) (Λ : Loops 𝓤 H) → FmC 𝓤 H (W .laws) C → Triple 𝓤 (C #leaf) (FeedLent w32 leaf 𝓤 H A) → Triple 𝓤 (C #count) (FeedLent w64 count 𝓤 H A)
       → Walks 𝓤 H A head.ended stayed (WpFn 𝓤 H C Λ code.function) (head.clauses 𝓤 H A mem run)
   head-walks C Λ fm leaf-known count-known =
       walked 𝓤 H A head.ended stayed (head.clauses 𝓤 H A mem run) (WpFn 𝓤 H C Λ code.function) (λ κs. (uint-vals w64, (uint-vals w32, (uint-vals w64, tt)))) (λ κs. (uint-tells w64, (uint-tells w32, (uint-tells w64, tt))))
       (λ κs qs bounds a g are. via 𝓤 _ (fst∗ 𝓤 _ (emp 𝓤)) (walk 𝓤 H A W mem run (a .0) (a .1 .0) (a .1 .1 .0) (are .0 .1) (are .1 .0 .1) (are .1 .1 .0 .1) C Λ fm leaf-known count-known))
 
-  head-meets : (𝓣 : Tables 𝓤 H) → Triple 𝓤 (𝓣 .C #leaf) (Step w32 leaf 𝓤 H A) → Triple 𝓤 (𝓣 .C #count) (Step w64 count 𝓤 H A)
+  head-meets : (𝓣 : Tables 𝓤 H) → Triple 𝓤 (𝓣 .C #leaf) (FeedLent w32 leaf 𝓤 H A) → Triple 𝓤 (𝓣 .C #count) (FeedLent w64 count 𝓤 H A)
       → Meets 𝓤 H A head.signature (WpFn 𝓤 H (𝓣 .C) (𝓣 .Λ) code.function) (head.spec 𝓤 H A mem run)
   head-meets 𝓣 leaf-known count-known =
       walk-meets 𝓤 H A head.ended stayed W (goes-none 𝓤 H A W 0 (λ _. u64) yes (λ κs x f. refl), (goes-none 𝓤 H A W 0 (λ _. u32) yes (λ κs x f. refl), (goes-none 𝓤 H A W 0 (λ _. u64) yes (λ κs x f. refl), tt))) (head.clauses 𝓤 H A mem run)
@@ -105,5 +105,5 @@ with-head-spec 𝓤 H 𝓜 𝓖 𝓡 =
     entered 𝓤 H (tripleOf 𝓤 H (𝓖 .A) head.signature (head.spec 𝓤 H (𝓖 .A) (𝓜 .mem) (𝓡 .run)))
     (tables 𝓤 H 𝓜 𝓡 code.env .C) (tables 𝓤 H 𝓜 𝓡 code.env .Λ) #head code.function (code.unfolded 𝓤 H 𝓜 𝓡)
     (head-meets 𝓤 H (𝓖 .A) (givenOf 𝓤 H 𝓜 𝓖) (𝓜 .mem) (𝓡 .run) (tablesOf 𝓤 H 𝓜 (tables 𝓤 H 𝓜 𝓡 code.env))
-    (cited 𝓤 H (Step w32 leaf 𝓤 H (𝓖 .A)) 𝓜 𝓡 code.env #leaf leaf-def.routine code.calls-hashing·state·hash-leaf (leaf-thm.met 𝓤 H 𝓜 𝓖 𝓡))
-    (cited 𝓤 H (Step w64 count 𝓤 H (𝓖 .A)) 𝓜 𝓡 code.env #count count-def.routine code.calls-hashing·state·hash-count (count-thm.met 𝓤 H 𝓜 𝓖 𝓡)))
+    (cited 𝓤 H (FeedLent w32 leaf 𝓤 H (𝓖 .A)) 𝓜 𝓡 code.env #leaf leaf-def.routine code.calls-hashing·state·hash-leaf (leaf-thm.met 𝓤 H 𝓜 𝓖 𝓡))
+    (cited 𝓤 H (FeedLent w64 count 𝓤 H (𝓖 .A)) 𝓜 𝓡 code.env #count count-def.routine code.calls-hashing·state·hash-count (count-thm.met 𝓤 H 𝓜 𝓖 𝓡)))

@@ -4,7 +4,7 @@ use contract.Running.{givenOf, tables, tablesOf}
 use denote.Triple.Spec.{tripleOf}
 use denote.Triple.Table.{entered, cited}
 use Rattle.rules.specs.Hash.{leaf}
-use Rattle.hashing.proofs.Lent.Loan.{Step}
+use Rattle.hashing.proofs.Lent.Loan.{FeedLent}
 use Rattle.hashing.proofs.Lent.Single.{meets}
 use Rattle.hashing.proofs.state.hash_leaf.Symbol as hash-def
 use Rattle.hashing.proofs.state.hash_leaf.Symbol.{name as #hash}
@@ -20,4 +20,4 @@ with-leaf-spec 𝓤 H 𝓜 𝓖 𝓡 =
     entered 𝓤 H (tripleOf 𝓤 H (𝓖 .A) with′.signature (with′.spec 𝓤 H (𝓖 .A) (𝓜 .mem) (𝓡 .run)))
     (tables 𝓤 H 𝓜 𝓡 code.env .C) (tables 𝓤 H 𝓜 𝓡 code.env .Λ) #with code.function (code.unfolded 𝓤 H 𝓜 𝓡)
     (meets w32 leaf 𝓤 H (𝓖 .A) (givenOf 𝓤 H 𝓜 𝓖) #hash (tablesOf 𝓤 H 𝓜 (tables 𝓤 H 𝓜 𝓡 code.env))
-    (cited 𝓤 H (Step w32 leaf 𝓤 H (𝓖 .A)) 𝓜 𝓡 code.env #hash hash-def.routine code.calls-hashing·state·hash-leaf (hash-thm.met 𝓤 H 𝓜 𝓖 𝓡)))
+    (cited 𝓤 H (FeedLent w32 leaf 𝓤 H (𝓖 .A)) 𝓜 𝓡 code.env #hash hash-def.routine code.calls-hashing·state·hash-leaf (hash-thm.met 𝓤 H 𝓜 𝓖 𝓡)))

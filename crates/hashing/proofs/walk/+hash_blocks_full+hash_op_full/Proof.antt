@@ -15,16 +15,16 @@ use Rattle.layout.proofs.Laid.{Laid, laid-facts}
 use Rattle.layout.proofs.Ranges.{range, regions-range, in-range}
 use Rattle.layout.proofs.columns.number.Reads as number-reads
 use Rattle.fragments.specs.Ignoring.{ignoreOf}
-use Rattle.fragments.specs.Order.{Existing, opsFrom, past, First, FirstOp}
+use Rattle.fragments.specs.Order.{BlocksExist, opsFrom, pastOp, IsFirstOp, FirstOp}
 use Rattle.fragments.specs.declared.types.Blocks.the-variants.{InRegion}
-use Rattle.fragments.specs.declared.types.Place.{Place}
+use Rattle.fragments.specs.declared.types.Position.{Position}
 use Rattle.fragments.proofs.Ordered.{op-in, ops-fewer}
 use Rattle.fragments.proofs.Below.{below, aroundList, op-falls, around-region}
 use Rattle.fragments.proofs.order.next_op_in.Reads as next-op-in-reads
 use Rattle.fragments.proofs.order.past_op.Reads as past-op-reads
-use Rattle.hashing.specs.Walked.{fullSteps, Fed, Room}
+use Rattle.hashing.specs.Walked.{fullSteps, Fed, DefinitionsFit}
 use Rattle.hashing.proofs.Parting.{Partly, none-fed, all-fed, part-room, part-fed}
-use Rattle.hashing.proofs.Rounds.{inRegion, region-listed, names-room, regions-room, full-fed, range-left, range-over, ops-left, ops-none, start, first-room, second-room, third-room, passes-fed}
+use Rattle.hashing.proofs.Rounds.{inRegion, region-list, names-room, regions-room, full-fed, range-left, range-over, ops-left, ops-none, start, first-room, second-room, third-room, passes-fed}
 use borrow.Author.Needs.{needs}
 use borrow.Fn.Kinds.{In}
 use borrow.Fn.PlainCycle.{Measures, is, falls, and}
@@ -124,7 +124,7 @@ module _ (t : ℕ) where
   long-now : (c : OpsLeft) → length (c .loop .numbers) ≡ length (c .before .before .before .before .before .before .before .before .before .before .before .args .numbers .now)
   long-now c = c .loop .inv .0 ∙ c .before .before .before .hash-op-shells .kept .1 .0 ∙ c .before .before .before .before .before .before .before .hash-block-shells .kept .1 .0
 
-  found : (c : OpFound) → First (store (c .before .before .before .before .before .before .before .before .before .before .before .before .before .before .before)) (c .before .before .before .before .before .before .before .before .before .before .before .before .before .before .before .args .blocks) (c .before .before .before .before .loop .at) (c .before .next .given .0 .0)
+  found : (c : OpFound) → IsFirstOp (store (c .before .before .before .before .before .before .before .before .before .before .before .before .before .before .before)) (c .before .before .before .before .before .before .before .before .before .before .before .before .before .before .before .args .blocks) (c .before .before .before .before .loop .at) (c .before .next .given .0 .0)
   unfolding FirstOp
   found c = subst (FirstOp (store (c .before .before .before .before .before .before .before .before .before .before .before .before .before .before .before)) (c .before .before .before .before .before .before .before .before .before .before .before .before .before .before .before .args .blocks) (c .before .before .before .before .loop .at)) (c .before .next .given .1) (c .before .before .before .next-op-in .ensures)
 
@@ -177,7 +177,7 @@ module _ (t : ℕ) where
       let fewer : below S (q .op) < below S (aroundList S x) = op-falls S (p .0 .sound .ruled) x (q .block) (q .op) (one .block) (one .op) in
       let falls : 2 * below S (q .op) + 1 < 2 * below S (aroundList S x) = omega arith in
       let third = third-room x (p .1 .1) (c .before .before .before .before .before .before .before .before .before .before .before .before .hash-block-shells .ensures) (c .before .before .before .before .before .before .before .before .hash-op-shells .ensures) in
-      let room = part-room (o .inv .1) (fullSteps S (q .op)) (concatMap (fullSteps S) (opsFrom S x (past q))) (ops-left (fullSteps S) one) third in (
+      let room = part-room (o .inv .1) (fullSteps S (q .op)) (concatMap (fullSteps S) (opsFrom S x (pastOp q))) (ops-left (fullSteps S) one) third in (
         subst (λ (j : ℕ). 2 * below S (q .op) + 1 < j) (s .pre .0) falls,
         (record { sound = p .0 .sound; long = long-now (c .before .before .before .before .before) ∙ p .0 .long }, (op-in (columns (s .args .store .now)) (q .block) (q .op) (one .op), room)),
       )
@@ -201,10 +201,10 @@ module _ (t : ℕ) where
       let q = c .before .before .before .before .before .before .next .given .0 .0 in
       let full = c .before .before .before .hash-op-full in
       let before = c .before .before .before .before .before .before .before .before .before .before .before .before .hash-op-shells in
-      let fed = part-fed (o .inv .1) (fullSteps S (q .op)) (concatMap (fullSteps S) (opsFrom S x (past q))) (ops-left (fullSteps S) (found (c .before .before .before .before .before))) (full .ensures) in (
+      let fed = part-fed (o .inv .1) (fullSteps S (q .op)) (concatMap (fullSteps S) (opsFrom S x (pastOp q))) (ops-left (fullSteps S) (found (c .before .before .before .before .before))) (full .ensures) in (
         full .kept .1 .0 ∙ o .inv .0,
         subst
-            (λ (place : Place). Partly S (ignoreOf (s .args .ignore)) (concatMap (fullSteps S) (opsFrom S x start)) (concatMap (fullSteps S) (opsFrom S x place)) (before .last .1 .0) (full .last .1 .0) (before .result) (full .result))
+            (λ (place : Position). Partly S (ignoreOf (s .args .ignore)) (concatMap (fullSteps S) (opsFrom S x start)) (concatMap (fullSteps S) (opsFrom S x place)) (before .last .1 .0) (full .last .1 .0) (before .result) (full .result))
             (sym (c .past-op .ensures)) fed,
       )
 
@@ -259,7 +259,7 @@ module _ (t : ℕ) where
   hash-op-full-loop-holds c = (refl, omega arith, none-fed)
 
   hash-op-full-hash-blocks-full-requires : hash-op-full-lts.Need-hash-blocks-full-requires (op-calls t) (hash-op-full-at t) hash-op-full.Post hash-op-full-Inv-loop hash-op-full-μ-loop
-  unfolding Existing
+  unfolding BlocksExist
   hash-op-full-hash-blocks-full-requires c κs =
       let s = c .before .before .before .before .before .before .before .before .before in
       let p = s .pre .1 in
@@ -274,7 +274,7 @@ module _ (t : ℕ) where
       let all = regions-room n (p .1 .1) (c .before .before .before .before .before .hash-names .ensures (rule s)) (range (c .before .before .before .number2 .result) end) known in
       let room = part-room (m .inv .2) (inRegion S (m .r)) (concatMap (inRegion S) (range (m .r + 1) end)) (range-left (inRegion S) (m .r) end (c .before .loop-test .taken)) all in (
         subst (λ (j : ℕ). 2 * below S (aroundList S (InRegion (m .r))) < j) (s .pre .0) falls,
-        (record { sound = p .0 .sound; long = m .inv .0 ∙ p .0 .long }, (fits (c .before) .0, subst (λ (xs : List Step). Room S xs (m .fed)) (region-listed S (p .0 .sound .ruled) (m .r)) room)),
+        (record { sound = p .0 .sound; long = m .inv .0 ∙ p .0 .long }, (fits (c .before) .0, subst (λ (xs : List Step). DefinitionsFit S xs (m .fed)) (region-list S (p .0 .sound .ruled) (m .r)) room)),
       )
 
   hash-op-full-add-r : hash-op-full-lts.Need-add-r (op-calls t) (hash-op-full-at t) hash-op-full.Post hash-op-full-Inv-loop hash-op-full-μ-loop
@@ -292,7 +292,7 @@ module _ (t : ℕ) where
       let m = c .before .before .before .before .before .loop in
       let end = c .before .before .before .before .before .before .before .number .result in
       let blocks = c .before .before .hash-blocks-full in
-      let one = subst (λ (xs : List Step). Fed S (rule s) xs (m .numbers) (blocks .last .1 .0) (m .fed) (blocks .result)) (sym (region-listed S (s .pre .1 .0 .sound .ruled) (m .r))) (blocks .ensures) in (
+      let one = subst (λ (xs : List Step). Fed S (rule s) xs (m .numbers) (blocks .last .1 .0) (m .fed) (blocks .result)) (sym (region-list S (s .pre .1 .0 .sound .ruled) (m .r))) (blocks .ensures) in (
         blocks .kept .1 .0 ∙ m .inv .0,
         omega (arith, m .inv .1),
         part-fed (m .inv .2) (inRegion S (m .r)) (concatMap (inRegion S) (range (m .r + 1) end)) (range-left (inRegion S) (m .r) end (c .before .before .before .before .loop-test .taken)) one,

@@ -4,7 +4,7 @@ use native.Mathlib.Omega.{arith}
 use mathlib.Core.Path.{sym, ap, _∙_, subst}
 use borrow.Author.Needs.{needs}
 use lib.ListN.{replicate, length-replicate}
-use Rattle.layout.specs.Columns.{size, columns, pasted}
+use Rattle.layout.specs.Columns.{columnSize, columns, pasted}
 use Rattle.layout.proofs.Buffer.{base-fits, columns-run}
 use Rattle.layout.proofs.columns.put_same.Statement.{statement}
 use Rattle.layout.proofs.columns.put_same.Tie as tie
@@ -29,7 +29,7 @@ returns c =
     (c .before .before .fill-at .ensures
     ∙ ap (λ (k : ℕ). pasted (a .store .now) (k + a .n) (replicate (a .count) (a .v))) (c .before .before .before .before .base .ensures))
     ∙ columns-run (a .store .now) (s .pre .0) (a .column) (a .n) (replicate (a .count) (a .v))
-    (subst (λ (k : ℕ). a .n + k ≤ size (a .column)) (sym (length-replicate (a .count) (a .v))) (s .pre .1 .1))
+    (subst (λ (k : ℕ). a .n + k ≤ columnSize (a .column)) (sym (length-replicate (a .count) (a .v))) (s .pre .1 .1))
 
 pub put-same-spec : {M : Type 1} → statement M
 put-same-spec = tie.close (tie.spec base-requires add-from fill-at-requires same-length returns)

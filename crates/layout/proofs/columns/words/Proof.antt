@@ -1,10 +1,10 @@
--- `words` meets its contract: a part of a column is a part of the buffer, that far behind the column's first. Assumes nothing.
+-- `words` meets its contract: a slice of a column is a slice of the buffer, that far behind the column's first. Assumes nothing.
 use Prim.Native.Nat.{ℕ, _+_, _-_}
 use native.Mathlib.Omega.{arith}
 use mathlib.Core.Path.{_≡_, sym, ap, _∙_}
 use borrow.Author.Needs.{needs}
 use lib.ListN.{take, drop}
-use Rattle.layout.proofs.Buffer.{base-fits, part-columns}
+use Rattle.layout.proofs.Buffer.{base-fits, slice-columns}
 use Rattle.layout.proofs.columns.words.Statement.{statement}
 use Rattle.layout.proofs.columns.words.Tie as tie
 
@@ -36,7 +36,7 @@ returns c =
     let n : (r + a .e) - (r + a .a) ≡ a .e - a .a = omega arith in
     ap (λ (k : ℕ). take k (drop (r + a .a) (a .store .now))) n
     ∙ ap (λ (k : ℕ). take (a .e - a .a) (drop (k + a .a) (a .store .now))) (c .before .base .ensures)
-    ∙ sym (part-columns (a .store .now) (a .column) (a .a) (a .e) (c .before .before .before .pre .1 .1 .1))
+    ∙ sym (slice-columns (a .store .now) (a .column) (a .a) (a .e) (c .before .before .before .pre .1 .1 .1))
 
 pub words-spec : {M : Type 1} → statement M
 words-spec =

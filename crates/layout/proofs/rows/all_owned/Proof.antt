@@ -1,11 +1,11 @@
--- `all_owned` meets its contract: the words in the range are a part of the column. Assumes nothing.
+-- `all_owned` meets its contract: the words in the range are a slice of the column. Assumes nothing.
 use Prim.Native.Nat.{ℕ, _≤_}
 use mathlib.Core.Path.{sym, ap, subst, _∙_}
 use lib.Dec.{eqb}
 use Rattle.rules.specs.Lists.{all}
 use Rattle.layout.specs.Columns.{columns}
 use Rattle.layout.proofs.Buffer.{columns-shaped}
-use Rattle.layout.proofs.Scans.{owned-part}
+use Rattle.layout.proofs.Scans.{owned-slice}
 use borrow.Author.Needs.{needs}
 use Rattle.layout.proofs.rows.all_owned.Statement.{statement}
 use Rattle.layout.proofs.rows.all_owned.Tie as tie
@@ -22,7 +22,7 @@ returns c =
     let a = s .args in
     c .all-are .ensures
     ∙ ap (all (λ (x : ℕ). eqb x (a .w))) (c .before .words .ensures)
-    ∙ owned-part (columns (a .store .now)) (a .column) (a .a) (a .e) (a .w)
+    ∙ owned-slice (columns (a .store .now)) (a .column) (a .a) (a .e) (a .w)
     (subst (λ (n : ℕ). a .e ≤ n) (sym (columns-shaped (a .store .now) (s .pre .0) (a .column))) (s .pre .1 .1 .1))
 
 pub all-owned-spec : {M : Type 1} → statement M

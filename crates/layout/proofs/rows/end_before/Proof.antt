@@ -1,4 +1,4 @@
--- `end_before` meets its contract: no part stands before the first operation's. Assumes nothing.
+-- `end_before` meets its contract: no slice stands before the first operation's. Assumes nothing.
 use mathlib.Core.Path.{_∙_}
 use borrow.Author.Needs.{needs}
 use Rattle.layout.specs.Columns.{columns}

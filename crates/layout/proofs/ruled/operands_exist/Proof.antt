@@ -1,4 +1,4 @@
--- `operands_exist` meets its contract: the operands are a part of their column. Assumes nothing.
+-- `operands_exist` meets its contract: the operands are a slice of their column. Assumes nothing.
 use Prim.Native.Nat.{ℕ}
 use mathlib.Core.Path.{_≡_, ap, ap₂, _∙_}
 use borrow.Author.Needs.{needs}

@@ -1,4 +1,4 @@
--- `successors_exist` meets its contract: the successors are a part of their column. Assumes nothing.
+-- `successors_exist` meets its contract: the successors are a slice of their column. Assumes nothing.
 use Prim.Native.Nat.{ℕ}
 use mathlib.Core.Path.{_≡_, ap, ap₂, _∙_}
 use borrow.Author.Needs.{needs}

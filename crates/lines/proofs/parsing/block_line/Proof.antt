@@ -1,6 +1,6 @@
 -- `block_line` meets its contract: its line is three numbers, a list, and nothing more. Assumes nothing.
 use Rattle.lines.specs.Reading.{fieldsLeft}
-use Rattle.lines.specs.Parsing.{threeOf, blockLineOf, BlockFits}
+use Rattle.lines.specs.Parsing.{threeOf, blockLineOf, ArgumentsFit}
 use Rattle.layout.proofs.Scans.{failed, held}
 use Rattle.lines.proofs.Answers.{told, read-items, items-fit, items-nothing}
 use Rattle.lines.proofs.Meaning.{unread, more-left, all-read, block-bad, block-untyped, block-read}
@@ -18,7 +18,7 @@ enum-told : tie.Need-enum-told
 enum-told c = search needs
 
 returns : tie.Need-returns
-unfolding threeOf blockLineOf BlockFits
+unfolding threeOf blockLineOf ArgumentsFit
 returns c =
     let line = c .before .before .before .before .before .args .line .now in
     record { same = unread (block-bad (fieldsLeft line (c .before .before .before .before .before .args .at)) (told (threeOf line) (c .before .before .read-three .ensures) (c .enum-told .given .1))); fit = tt }
@@ -36,7 +36,7 @@ same-length : tie.Need-same-length
 same-length c = search needs
 
 returns-2 : tie.Need-returns-2
-unfolding threeOf blockLineOf BlockFits
+unfolding threeOf blockLineOf ArgumentsFit
 returns-2 c =
     let line = c .before .before .before .before .before .before .before .before .before .before .before .before .args .line .now in
     let t = told (threeOf line) (c .before .before .before .before .before .before .before .before .before .read-three .ensures) (c .before .before .before .before .before .before .before .region .given .1) in
@@ -49,7 +49,7 @@ same-length-2 : tie.Need-same-length-2
 same-length-2 c = search needs
 
 returns-3 : tie.Need-returns-3
-unfolding threeOf blockLineOf BlockFits
+unfolding threeOf blockLineOf ArgumentsFit
 returns-3 c =
     let line = c .before .before .before .before .before .before .before .before .before .before .before .before .before .before .before .args .line .now in
     let t = told (threeOf line) (c .before .before .before .before .before .before .before .before .before .before .before .before .read-three .ensures) (c .before .before .before .before .before .before .before .before .before .before .region .given .1) in
@@ -60,7 +60,7 @@ same-length-3 : tie.Need-same-length-3
 same-length-3 c = search needs
 
 returns-4 : tie.Need-returns-4
-unfolding threeOf blockLineOf BlockFits
+unfolding threeOf blockLineOf ArgumentsFit
 returns-4 c =
     let line = c .before .before .before .before .before .before .before .before .before .before .before .before .before .before .before .args .line .now in
     let t = told (threeOf line) (c .before .before .before .before .before .before .before .before .before .before .before .before .read-three .ensures) (c .before .before .before .before .before .before .before .before .before .before .region .given .1) in

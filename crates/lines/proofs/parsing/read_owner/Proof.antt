@@ -4,7 +4,7 @@ use Rattle.rules.specs.Lists.{sameList}
 use Rattle.rules.specs.Bytes.{isText}
 use Rattle.rules.specs.Lines.{field, oneOf, owner}
 use Rattle.lines.specs.Reading.{fieldsLeft, wordOf}
-use Rattle.lines.specs.Parsing.{ownerNumber, ownerRead}
+use Rattle.lines.specs.Parsing.{ownerFields, ownerRead}
 use Rattle.layout.specs.Owners.{ownerOf}
 use Rattle.lines.proofs.Answers.{told, by-byte, read-number, read-nothing}
 use Rattle.lines.proofs.Meaning.{stops, goes, no-owner, other-owner, owner-unnumbered}
@@ -22,7 +22,7 @@ enum-told : tie.Need-enum-told
 enum-told c = search needs
 
 returns : tie.Need-returns
-unfolding wordOf ownerRead ownerNumber
+unfolding wordOf ownerRead ownerFields
 returns c =
     let line = c .before .before .before .before .args .line .now in
     sym (stops _ (no-owner (fieldsLeft line (c .before .before .before .before .args .at)) (told (wordOf line) (c .before .before .word-at .ensures) (c .enum-told .given .1))))
@@ -44,7 +44,7 @@ returns-2 c =
     owner-unnumbered (fieldsLeft line (c .before .before .before .before .before .before .before .before .args .at)) (fieldsLeft line (c .before .before .before .before .letter .given .0 .1 .0)) (c .before .before .before .before .letter .given .0 .0) w (read-nothing (c .before .before .number-at .ensures) (c .enum-told2 .given .1))
 
 returns-3 : tie.Need-returns-3
-unfolding wordOf ownerRead ownerNumber ownerOf owner field oneOf isText sameList
+unfolding wordOf ownerRead ownerFields ownerOf owner field oneOf isText sameList
 returns-3 c =
     let line = c .before .before .before .before .before .before .before .before .before .before .args .line .now in
     let w = told (wordOf line) (c .before .before .before .before .before .before .before .before .word-at .ensures) (c .before .before .before .before .before .before .letter .given .1) in
@@ -52,7 +52,7 @@ returns-3 c =
     sym (goes _ (by-byte owner (fieldsLeft line (c .before .before .before .before .before .before .before .before .before .before .args .at)) (fieldsLeft line (c .before .before .before .before .before .before .letter .given .0 .1 .0)) (c .before .before .before .before .before .before .letter .given .0 .0) w 111 (c .match3 .keys1)) (goes _ n refl))
 
 returns-4 : tie.Need-returns-4
-unfolding wordOf ownerRead ownerNumber ownerOf owner field oneOf isText sameList
+unfolding wordOf ownerRead ownerFields ownerOf owner field oneOf isText sameList
 returns-4 c =
     let line = c .before .before .before .before .before .before .before .before .before .before .args .line .now in
     let w = told (wordOf line) (c .before .before .before .before .before .before .before .before .word-at .ensures) (c .before .before .before .before .before .before .letter .given .1) in
@@ -60,7 +60,7 @@ returns-4 c =
     sym (goes _ (by-byte owner (fieldsLeft line (c .before .before .before .before .before .before .before .before .before .before .args .at)) (fieldsLeft line (c .before .before .before .before .before .before .letter .given .0 .1 .0)) (c .before .before .before .before .before .before .letter .given .0 .0) w 98 (c .match3 .keys2)) (goes _ n refl))
 
 returns-5 : tie.Need-returns-5
-unfolding wordOf ownerRead ownerNumber
+unfolding wordOf ownerRead ownerFields
 returns-5 c =
     let line = c .before .before .before .before .before .before .before .before .before .before .args .line .now in
     let w = told (wordOf line) (c .before .before .before .before .before .before .before .before .word-at .ensures) (c .before .before .before .before .before .before .letter .given .1) in

@@ -1,7 +1,7 @@
 -- `number_to` meets its contract: the number of the digits so far, and of those behind them, is the whole; it is no more than `most`, or the whole is more. Assumes nothing.
 use Prim.Native.Nat.{_-_}
 use mathlib.Core.Path.{sym}
-use Rattle.layout.specs.Reading.{part}
+use Rattle.layout.specs.Reading.{slice}
 use Rattle.layout.proofs.Scans.{failed, held}
 use Rattle.lines.specs.Reading.{numberOf}
 use Rattle.lines.proofs.Numbers.{starts-badly, Reading, reading-starts, reading-ends, no-digit, over-most, reading-turn}
@@ -22,7 +22,7 @@ returns : tie.Need-returns Inv-loop μ-loop
 unfolding numberOf
 returns c =
     let a = c .before .before .before .args in
-    sym (starts-badly _ (part (a .line .now) (a .a) (a .e)) (failed (c .before .starts-well .ensures) (c .if1 .taken)))
+    sym (starts-badly _ (slice (a .line .now) (a .a) (a .e)) (failed (c .before .starts-well .ensures) (c .if1 .taken)))
 
 loop-holds : tie.Need-loop-holds Inv-loop μ-loop
 loop-holds c =

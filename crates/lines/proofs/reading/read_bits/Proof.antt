@@ -4,7 +4,7 @@ use mathlib.Core.Option.{none, some}
 use mathlib.Core.Path.{_≡_, sym, ap, _∙_}
 use Rattle.rules.specs.Bytes.{numberBelow}
 use Rattle.rules.specs.Lines.{ignoreBits}
-use Rattle.layout.specs.Reading.{part}
+use Rattle.layout.specs.Reading.{slice}
 use Rattle.lines.specs.Reading.{FieldEnd, numberOf, bitsOf}
 use Rattle.lines.proofs.Answers.{no-field, field-good, field-bad}
 use borrow.Author.Needs.{needs}
@@ -43,7 +43,7 @@ returns-2 c =
     let e = c .before .before .before .before .field-end .result in
     let f : FieldEnd line at e = c .before .before .before .before .field-end .ensures in
     let n = c .before .n .given .0 .0 in
-    let q : numberBelow (2 ^ 64) (part line at e) ≡ some n = sym (c .before .before .before .number-to .ensures) ∙ ap numberOf (c .before .n .given .1) in
+    let q : numberBelow (2 ^ 64) (slice line at e) ≡ some n = sym (c .before .before .before .number-to .ensures) ∙ ap numberOf (c .before .n .given .1) in
     field-good (numberBelow (2 ^ 64)) line at e f n q
 
 returns-3 : tie.Need-returns-3
@@ -54,7 +54,7 @@ returns-3 c =
     let at = s .args .at in
     let e = c .before .before .before .field-end .result in
     let f : FieldEnd line at e = c .before .before .before .field-end .ensures in
-    let q : numberBelow (2 ^ 64) (part line at e) ≡ none = sym (c .before .before .number-to .ensures) ∙ ap numberOf (c .enum-told .given .1) in
+    let q : numberBelow (2 ^ 64) (slice line at e) ≡ none = sym (c .before .before .number-to .ensures) ∙ ap numberOf (c .enum-told .given .1) in
     field-bad (numberBelow (2 ^ 64)) line at e f q
 
 pub read-bits-spec : {M : Type 1} → statement M

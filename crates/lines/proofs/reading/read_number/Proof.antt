@@ -6,7 +6,7 @@ use mathlib.Core.Option.{none, some}
 use mathlib.Core.Path.{_≡_, sym, ap, _∙_}
 use Rattle.rules.specs.Bytes.{numberBelow}
 use Rattle.rules.specs.Lines.{number}
-use Rattle.layout.specs.Reading.{part}
+use Rattle.layout.specs.Reading.{slice}
 use Rattle.lines.specs.Reading.{FieldEnd, numberOf, readOf, ReadOn}
 use Rattle.lines.proofs.Answers.{no-field, field-good, field-bad}
 use Rattle.lines.proofs.Numbers.{number-below}
@@ -39,8 +39,8 @@ cast-t9 c =
     let at = s .args .at in
     let e = c .before .before .before .before .field-end .result in
     let n = c .before .n .given .0 .0 in
-    let q : numberBelow (2 ^ 32) (part line at e) ≡ some n = sym (c .before .before .before .number-to .ensures) ∙ ap numberOf (c .before .n .given .1) in
-    record { fits = number-below (2 ^ 32) (part line at e) n q }
+    let q : numberBelow (2 ^ 32) (slice line at e) ≡ some n = sym (c .before .before .before .number-to .ensures) ∙ ap numberOf (c .before .n .given .1) in
+    record { fits = number-below (2 ^ 32) (slice line at e) n q }
 
 add-t10 : tie.Need-add-t10
 add-t10 c = search needs
@@ -57,7 +57,7 @@ returns-2 c =
     let e = c .before .before .before .before .field-end .result in
     let f : FieldEnd line at e = c .before .before .before .before .field-end .ensures in
     let n = c .before .n .given .0 .0 in
-    let q : numberBelow (2 ^ 32) (part line at e) ≡ some n = sym (c .before .before .before .number-to .ensures) ∙ ap numberOf (c .before .n .given .1) in
+    let q : numberBelow (2 ^ 32) (slice line at e) ≡ some n = sym (c .before .before .before .number-to .ensures) ∙ ap numberOf (c .before .n .given .1) in
     let a : at ≤ e = f .from in
     let w : e ≤ length line = f .within in
     record { same = field-good (numberBelow (2 ^ 32)) line at e f n q; on = (omega arith, omega arith) }
@@ -70,7 +70,7 @@ returns-3 c =
     let at = s .args .at in
     let e = c .before .before .before .field-end .result in
     let f : FieldEnd line at e = c .before .before .before .field-end .ensures in
-    let q : numberBelow (2 ^ 32) (part line at e) ≡ none = sym (c .before .before .number-to .ensures) ∙ ap numberOf (c .enum-told .given .1) in
+    let q : numberBelow (2 ^ 32) (slice line at e) ≡ none = sym (c .before .before .number-to .ensures) ∙ ap numberOf (c .enum-told .given .1) in
     record { same = field-bad (numberBelow (2 ^ 32)) line at e f q; on = tt }
 
 pub read-number-spec : {M : Type 1} → statement M

@@ -1,13 +1,13 @@
 -- `digit_count` meets its contract: each turn takes one digit off and counts it. Assumes nothing.
 use Prim.Native.Nat.{_<_}
 use native.Mathlib.Omega.{arith}
-use Rattle.lines.proofs.Digits.{Counting, counting-starts, counting-turn, counting-ends}
+use Rattle.lines.proofs.Digits.{DigitCounting, counting-starts, counting-turn, counting-ends}
 use borrow.Author.Needs.{needs}
 use Rattle.lines.proofs.writing.digit_count.Statement.{statement}
 use Rattle.lines.proofs.writing.digit_count.Tie as tie
 
 abbrev Inv-loop : tie.InvT-loop
-Inv-loop n rest₀ count₀ rest count = Counting n rest count
+Inv-loop n rest₀ count₀ rest count = DigitCounting n rest count
 
 abbrev μ-loop : tie.MeasureT-loop
 μ-loop n rest₀ count₀ rest count = rest

@@ -7,8 +7,8 @@ use borrow.Author.Needs.{needs}
 use Rattle.listing.proofs.building_lines.operation_does.Statement.{statement}
 use Rattle.listing.proofs.building_lines.operation_does.Tie as tie
 
-read-head-requires : tie.Need-read-head-requires
-read-head-requires c κs = search needs
+read-op-fields-requires : tie.Need-read-op-fields-requires
+read-op-fields-requires c κs = search needs
 
 enum-known-kind : tie.Need-enum-known-kind
 enum-known-kind c = search needs
@@ -17,7 +17,7 @@ enum-told : tie.Need-enum-told
 enum-told c = search needs
 
 returns : tie.Need-returns
-returns c = unread _ _ (headless _ _ _ (c .before .before .read-head .ensures) (c .enum-told .given .1)) (c .before .before .before .before .before .pre .0)
+returns c = unread _ _ (headless _ _ _ (c .before .before .read-op-fields .ensures) (c .enum-told .given .1)) (c .before .before .before .before .before .pre .0)
 
 slice-aggregate-read-lists : tie.Need-slice-aggregate-read-lists
 slice-aggregate-read-lists c = search needs
@@ -39,7 +39,7 @@ enum-told-2 c = search needs
 
 returns-2 : tie.Need-returns-2
 returns-2 c =
-    unread _ _ (listless _ _ _ (c .before .before .before .before .before .before .before .before .before .before .before .before .read-head .ensures) _ _ _ _ _ (c .before .before .before .before .before .before .before .before .before .before .kind .given .1) _ _ _ _ (c .before .before .before .before .before .read-lists .ensures) (c .enum-told2 .given .1)) (c .before .before .before .before .before .before .before .before .before .before .before .before .before .before .before .pre .0)
+    unread _ _ (listless _ _ _ (c .before .before .before .before .before .before .before .before .before .before .before .before .read-op-fields .ensures) _ _ _ _ _ (c .before .before .before .before .before .before .before .before .before .before .kind .given .1) _ _ _ _ (c .before .before .before .before .before .read-lists .ensures) (c .enum-told2 .given .1)) (c .before .before .before .before .before .before .before .before .before .before .before .before .before .before .before .pre .0)
 
 array-share-prefix-types : tie.Need-array-share-prefix-types
 array-share-prefix-types c = types-fit (c .before .before .before .before .before .before .before .read-lists .ensures) (c .before .before .lists .given .1)
@@ -70,13 +70,13 @@ same-length c = search needs
 
 returns-3 : tie.Need-returns-3
 returns-3 c =
-    line-built _ _ _ _ _ (c .before .before .before .new-operation .ensures) (c .refusal-in .ensures) _ (operation-meant _ _ _ (c .before .before .before .before .before .before .before .before .before .before .before .before .before .before .before .before .before .before .before .before .before .read-head .ensures) _ _ _ _ _ (c .before .before .before .before .before .before .before .before .before .before .before .before .before .before .before .before .before .before .before .kind .given .1) _ _ _ _ (c .before .before .before .before .before .before .before .before .before .before .before .before .before .before .read-lists .ensures) _ _ _ (c .before .before .before .before .before .before .before .before .before .lists .given .1))
+    line-built _ _ _ _ _ (c .before .before .before .new-operation .ensures) (c .refusal-in .ensures) _ (operation-meant _ _ _ (c .before .before .before .before .before .before .before .before .before .before .before .before .before .before .before .before .before .before .before .before .before .read-op-fields .ensures) _ _ _ _ _ (c .before .before .before .before .before .before .before .before .before .before .before .before .before .before .before .before .before .before .before .kind .given .1) _ _ _ _ (c .before .before .before .before .before .before .before .before .before .before .before .before .before .before .read-lists .ensures) _ _ _ (c .before .before .before .before .before .before .before .before .before .lists .given .1))
 
 pub operation-does-spec : {M : Type 1} → statement M
 operation-does-spec =
     tie.close
     (tie.spec
-    read-head-requires
+    read-op-fields-requires
     enum-known-kind
     enum-told
     returns

@@ -1,6 +1,6 @@
 -- `run` meets its contract: what is printed so far, followed by what the rules print from here on, is all. Assumes nothing.
 use Prim.Native.Nat.{_-_}
-use Rattle.layout.specs.Reading.{part}
+use Rattle.layout.specs.Reading.{slice}
 use Rattle.listing.proofs.Runs.{Running, running-starts, running-turn, counts, has-room, few-lines, as-known, ran-out, ran-unended, ran-stopped}
 use native.Mathlib.Omega.{arith}
 use mathlib.Core.Path.{_≡_, refl, _∙_}
@@ -93,7 +93,7 @@ same-length-6 : tie.Need-same-length-6 Inv-loop μ-loop
 same-length-6 c = search needs
 
 returns-2 : tie.Need-returns-2 Inv-loop μ-loop
-unfolding part
+unfolding slice
 returns-2 c =
     let a = c .before .before .before .before .before .before .before .before .before .before .before .before .before .before .before .before .before .before .before .before .before .before .before .before .before .before .args in
     let p = a .program in
@@ -122,7 +122,7 @@ loop-less : tie.Need-loop-less Inv-loop μ-loop
 loop-less c = search needs
 
 loop-again : tie.Need-loop-again Inv-loop μ-loop
-unfolding part
+unfolding slice
 loop-again c =
     let a = c .before .before .before .before .before .before .before .before .before .before .before .before .before .before .before .before .before .before .before .before .before .before .args in
     let p = a .program in

@@ -5,8 +5,8 @@ use borrow.Author.Needs.{needs}
 use Rattle.rules.specs.Mapping.{noImage}
 use Rattle.rules.specs.Listings.{sumsProgram}
 use Rattle.layout.specs.Columns.{bufferLength}
-use Rattle.equivalence.specs.Lent.{mappingLength, emptyWords}
-use Rattle.listing.specs.Calls.{lent}
+use Rattle.equivalence.specs.MappingWords.{mappingLength, emptyWords}
+use Rattle.listing.specs.Calls.{buffers}
 use Rattle.programs.proofs.Printing.{all-printed, never-refused, never-short}
 use Rattle.programs.proofs.answers.sums_printed.Statement.{statement}
 use Rattle.programs.proofs.answers.sums_printed.Tie as tie
@@ -30,21 +30,21 @@ same-length : tie.Need-same-length
 same-length c = search needs
 
 returns : tie.Need-returns
-unfolding lent
+unfolding buffers
 returns c = all-printed sumsProgram (c .before .before .before .before .before .before .before .before .before .before .before .args .listing .now) _ _ _ (c .before .before .before .before .before .before .sums .ensures) _ (c .before .n .given .1)
 
 same-length-2 : tie.Need-same-length-2
 same-length-2 c = search needs
 
 returns-2 : tie.Need-returns-2
-unfolding lent emptyWords
+unfolding buffers emptyWords
 returns-2 c = never-refused sumsProgram (c .before .before .before .before .before .before .before .before .before .before .args .listing .now) _ _ _ (c .before .before .before .before .before .sums .ensures) (length-replicate {A = ℕ} bufferLength 0) (length-replicate {A = ℕ} mappingLength noImage) _ (c .enum-told .given .1)
 
 same-length-3 : tie.Need-same-length-3
 same-length-3 c = search needs
 
 returns-3 : tie.Need-returns-3
-unfolding lent emptyWords
+unfolding buffers emptyWords
 returns-3 c = never-short sumsProgram (c .before .before .before .before .before .before .before .before .before .before .args .listing .now) _ _ _ (c .before .before .before .before .before .sums .ensures) (length-replicate {A = ℕ} bufferLength 0) (length-replicate {A = ℕ} mappingLength noImage) (c .before .before .before .before .before .before .before .before .before .before .pre) (c .enum-told2 .given .1)
 
 pub sums-printed-spec : {M : Type 1} → statement M

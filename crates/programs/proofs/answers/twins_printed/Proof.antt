@@ -4,8 +4,8 @@ use lib.ListN.{length-replicate}
 use borrow.Author.Needs.{needs}
 use Rattle.rules.specs.Listings.{twinsProgram}
 use Rattle.layout.specs.Columns.{bufferLength}
-use Rattle.equivalence.specs.Lent.{mappingLength}
-use Rattle.listing.specs.Calls.{lent}
+use Rattle.equivalence.specs.MappingWords.{mappingLength}
+use Rattle.listing.specs.Calls.{buffers}
 use Rattle.programs.proofs.Printing.{all-printed, never-refused, never-short}
 use Rattle.programs.proofs.answers.twins_printed.Statement.{statement}
 use Rattle.programs.proofs.answers.twins_printed.Tie as tie
@@ -32,21 +32,21 @@ same-length : tie.Need-same-length
 same-length c = search needs
 
 returns : tie.Need-returns
-unfolding lent
+unfolding buffers
 returns c = all-printed twinsProgram (c .before .before .before .before .before .before .before .before .before .before .before .before .before .args .listing .now) _ _ _ (c .before .before .before .before .before .before .before .twins .ensures) _ (c .before .n .given .1)
 
 same-length-2 : tie.Need-same-length-2
 same-length-2 c = search needs
 
 returns-2 : tie.Need-returns-2
-unfolding lent
+unfolding buffers
 returns-2 c = never-refused twinsProgram (c .before .before .before .before .before .before .before .before .before .before .before .before .args .listing .now) _ _ _ (c .before .before .before .before .before .before .twins .ensures) (length-replicate {A = ℕ} bufferLength 0) (length-replicate {A = ℕ} mappingLength 0) _ (c .enum-told .given .1)
 
 same-length-3 : tie.Need-same-length-3
 same-length-3 c = search needs
 
 returns-3 : tie.Need-returns-3
-unfolding lent
+unfolding buffers
 returns-3 c = never-short twinsProgram (c .before .before .before .before .before .before .before .before .before .before .before .before .args .listing .now) _ _ _ (c .before .before .before .before .before .before .twins .ensures) (length-replicate {A = ℕ} bufferLength 0) (length-replicate {A = ℕ} mappingLength 0) (c .before .before .before .before .before .before .before .before .before .before .before .before .pre) (c .enum-told2 .given .1)
 
 pub twins-printed-spec : {M : Type 1} → statement M

@@ -1,6 +1,6 @@
 -- `read_more` meets its contract: what was read lies in the lent bytes. Assumes nothing.
 use borrow.Author.Needs.{needs}
-use Rattle.programs.specs.Within.{Within}
+use Rattle.programs.specs.InputFits.{InputFits}
 use Rattle.programs.proofs.input.read_more.Statement.{statement}
 use Rattle.programs.proofs.input.read_more.Tie as tie
 
@@ -20,21 +20,21 @@ same-length : tie.Need-same-length
 same-length c = search needs
 
 returns : tie.Need-returns
-unfolding Within
+unfolding InputFits
 returns c = tt
 
 count-requires : tie.Need-count-requires
 count-requires c κs = search needs
 
-there-requires : tie.Need-there-requires
-there-requires c κs = search needs
+end-of-read-requires : tie.Need-end-of-read-requires
+end-of-read-requires c κs = search needs
 
 same-length-2 : tie.Need-same-length-2
 same-length-2 c = search needs
 
 returns-2 : tie.Need-returns-2
-unfolding Within
-returns-2 c = c .there .ensures
+unfolding InputFits
+returns-2 c = c .end-of-read .ensures
 
 pub read-more-spec : {M : Type 1} → statement M
 read-more-spec =
@@ -47,6 +47,6 @@ read-more-spec =
     same-length
     returns
     count-requires
-    there-requires
+    end-of-read-requires
     same-length-2
     returns-2)

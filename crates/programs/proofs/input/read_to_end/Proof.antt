@@ -4,7 +4,7 @@ use mathlib.Core.Path.{_≡_, sym, subst, _∙_}
 use lib.ListN.{length}
 use borrow.Author.Needs.{needs}
 use Rattle.programs.proofs.Reading.{answered, fewer}
-use Rattle.programs.specs.Within.{Within}
+use Rattle.programs.specs.InputFits.{InputFits}
 use Rattle.programs.proofs.input.read_to_end.Statement.{statement}
 use Rattle.programs.proofs.input.read_to_end.Tie as tie
 
@@ -30,14 +30,14 @@ same-length : tie.Need-same-length Inv-loop μ-loop
 same-length c = search needs
 
 returns : tie.Need-returns Inv-loop μ-loop
-unfolding Within
+unfolding InputFits
 returns c = tt
 
 same-length-2 : tie.Need-same-length-2 Inv-loop μ-loop
 same-length-2 c = search needs
 
 returns-2 : tie.Need-returns-2 Inv-loop μ-loop
-unfolding Within
+unfolding InputFits
 returns-2 c = subst (λ (n : ℕ). c .before .before .before .before .before .before .before .before .before .loop .at ≤ n) (sym (c .before .before .before .before .before .before .read-more .kept .1 .0)) (c .before .before .before .before .before .before .before .before .before .loop .inv .0)
 
 next-within : (c : tie.Else1 Inv-loop μ-loop) → c .before .before .next .given .0 .0 ≤ length (c .before .before .before .before .before .before .read-more .last .1 .0)
@@ -53,7 +53,7 @@ same-length-3 : tie.Need-same-length-3 Inv-loop μ-loop
 same-length-3 c = search needs
 
 returns-3 : tie.Need-returns-3 Inv-loop μ-loop
-unfolding Within
+unfolding InputFits
 returns-3 c = c .before .loop .inv .0
 
 pub read-to-end-spec : {M : Type 1} → statement M

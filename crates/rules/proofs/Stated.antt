@@ -1,0 +1,58 @@
+-- The statements of `specs/Statements`, each by the lemma that it is. (`accepted-exactly`, `unignored-same`, `premise-needed` and
+-- `premise-needed-thrice` are proved where they stand.) Assumes nothing.
+use Rattle.rules.specs.Store.{emptyStore}
+use Rattle.rules.specs.Statements as stated
+use Rattle.rules.proofs.Soundness.Kept as kept
+use Rattle.rules.proofs.Walking.Answered as walking
+use Rattle.rules.proofs.Walking.Paired as pairing
+use Rattle.rules.proofs.Walking.Sizes as sizing
+use Rattle.rules.proofs.Form.Canonical as forms
+use Rattle.rules.proofs.Listings.Short as printing
+
+pub canonical-equal : stated.CanonicalEqual
+unfolding stated.CanonicalEqual
+canonical-equal s sd ig f a b ia ib e = forms.canonical→equal s sd ig f a b ia ib e
+
+pub equal-canonical : stated.EqualCanonical
+unfolding stated.EqualCanonical
+equal-canonical s sd ig f a b ia ib p e = forms.equal→canonical s sd ig f a b ia ib p e
+
+pub canonical-hash : stated.CanonicalHash
+unfolding stated.CanonicalHash
+canonical-hash s ig f a b e = forms.canonical→hash s ig f a b e
+
+pub built-sound : stated.BuiltSound
+unfolding stated.BuiltSound
+built-sound s c h = kept.built-sound s c h
+
+pub after-sound : stated.AfterSound
+unfolding stated.AfterSound
+after-sound calls = kept.after-sound emptyStore calls kept.empty-sound
+
+pub comparison-is : stated.ComparisonIs
+unfolding stated.ComparisonIs
+comparison-is s sd ig f m am l r il ir = walking.comparison-is s sd ig f m am l r il ir
+
+pub never-refused : stated.NeverRefused
+unfolding stated.NeverRefused
+never-refused s sd ig f m am l r il ir cause e = walking.never-refused s sd ig f m am l r il ir cause e
+
+pub hashed-is : stated.HashedIs
+unfolding stated.HashedIs
+hashed-is s sd ig f n i = walking.hashed-is s sd ig f n i
+
+pub equal-answered : stated.EqualAnswered
+unfolding stated.EqualAnswered
+equal-answered s sd ig f a b ia ib = walking.equal-answered s sd ig f a b ia ib
+
+pub paired-most : stated.PairedMost
+unfolding stated.PairedMost
+paired-most s sd ig f l r i st = pairing.paired-most s sd ig f l r i st
+
+pub size-most : stated.SizeMost
+unfolding stated.SizeMost
+size-most s sd f n size i e = sizing.size-most s sd f n size i e
+
+pub output-fits : stated.OutputFits
+unfolding stated.OutputFits
+output-fits bytes = (printing.twins-short bytes, printing.sums-short bytes)

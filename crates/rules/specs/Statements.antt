@@ -1,0 +1,146 @@
+-- What is proved of the rules, statement by statement, as the documents cite it; `proofs/Stated` has a proof of each, of the name that
+-- stands beside it. Demand 3 is in `Laws`, agreement with the Rust in `Agreement`, computed cases are in `Cases` and `ListingCases`.
+use Prim.Native.Nat.{ℕ, _+_, _≤_}
+use mathlib.Core.Bool.{Bool, true, false}
+use mathlib.Core.List.{List, [], _∷_, _++_, map}
+use mathlib.Core.Logic.{_↔_, _⊎_}
+use mathlib.Core.Option.{none, some}
+use mathlib.Core.Path.{_≡_}
+use lib.Dec.{eqb}
+use lib.ListN.{length, replicate}
+use Rattle.rules.specs.Lists.{every, all, any, filter, sameList}
+use Rattle.rules.specs.Store.{Store, Attribute, emptyStore, sound, keysRise, maxOps}
+use Rattle.rules.specs.Fragments.{Sort, op, NamesNothingOf, fragmentSize}
+use Rattle.rules.specs.Building.{Call, newOperation, setOperand, tests, firstFailed, applied, built, after}
+use Rattle.rules.specs.Shells.{Ignore, unignored, sameAttribute}
+use Rattle.rules.specs.Mapping.{Mapping, emptyMapping, allowed}
+use Rattle.rules.specs.Comparison.{State, standing, compare, compareBy}
+use Rattle.rules.specs.Hash.{hash}
+use Rattle.rules.specs.Answers.{eq, refused, comparisonOf, comparison, hashIs, hashed}
+use Rattle.rules.specs.Listings.{twins, sums, maxOutput}
+use Rattle.rules.specs.Laws.{In, Equal, equal}
+use Rattle.rules.specs.Form.{canonical}
+use Rattle.rules.specs.Cases.{ignoring}
+
+-- ---- equality is equality of canonical forms
+
+-- `canonical-equal`
+unfoldable pub CanonicalEqual : Type 0
+CanonicalEqual =
+    (s : Store) → sound s ≡ true → (ig : Ignore) (f : Sort) (a b : ℕ) → In s f a → In s f b
+    → canonical s ig f a ≡ canonical s ig f b → Equal s ig f a b
+
+-- the other way, if they are the same fragment or the left names nothing that the right defines: `equal-canonical`
+unfoldable pub EqualCanonical : Type 0
+EqualCanonical =
+    (s : Store) → sound s ≡ true → (ig : Ignore) (f : Sort) (a b : ℕ) → In s f a → In s f b
+    → (a ≡ b) ⊎ NamesNothingOf s f a b → Equal s ig f a b → canonical s ig f a ≡ canonical s ig f b
+
+-- the hash is one of the form: `canonical-hash`
+unfoldable pub CanonicalHash : Type 0
+CanonicalHash = (s : Store) (ig : Ignore) (f : Sort) (a b : ℕ) → canonical s ig f a ≡ canonical s ig f b → hash s ig f a ≡ hash s ig f b
+
+-- ---- 01's premise is needed
+
+-- an operation with a result, then so many of one kind, each with that result as operand and a result of its own
+unfoldable pub alike : ℕ → List Call
+alike n = newOperation 1 none 0 0 (3 ∷ []) [] [] ∷ replicate n (newOperation 2 none 0 0 (3 ∷ []) (0 ∷ []) [])
+
+-- two of them, and the operand of both is then the second one's result
+unfoldable pub tangled : List Call
+tangled = alike 2 ++ (setOperand 1 0 2 ∷ setOperand 2 0 2 ∷ [])
+
+-- without it symmetry and equal hashes fail: `premise-needed`
+unfoldable pub PremiseNeeded : Type 0
+PremiseNeeded =
+    (sound (after emptyStore tangled) ≡ true)
+    × (equal (after emptyStore tangled) (ignoring false 0) op 1 2 ≡ true)
+    × (equal (after emptyStore tangled) (ignoring false 0) op 2 1 ≡ false)
+    × (eqb (hash (after emptyStore tangled) (ignoring false 0) op 1) (hash (after emptyStore tangled) (ignoring false 0) op 2) ≡ false)
+
+-- and a third one whose operand is its own result
+unfoldable pub tangledThree : List Call
+tangledThree = alike 3 ++ (setOperand 1 0 2 ∷ setOperand 2 0 2 ∷ setOperand 3 0 3 ∷ [])
+
+-- and transitivity fails: `premise-needed-thrice`
+unfoldable pub PremiseNeededThrice : Type 0
+PremiseNeededThrice =
+    (sound (after emptyStore tangledThree) ≡ true)
+    × (equal (after emptyStore tangledThree) (ignoring false 0) op 1 2 ≡ true)
+    × (equal (after emptyStore tangledThree) (ignoring false 0) op 2 3 ≡ true)
+    × (equal (after emptyStore tangledThree) (ignoring false 0) op 1 3 ≡ false)
+
+-- ---- building
+
+-- a call, accepted or refused, keeps a sound store sound, and so does a list of calls: `built-sound`, `after-sound`
+unfoldable pub BuiltSound : Type 0
+BuiltSound = (s : Store) (c : Call) → sound s ≡ true → sound (built s c) ≡ true
+
+unfoldable pub AfterSound : Type 0
+AfterSound = (calls : List Call) → sound (after emptyStore calls) ≡ true
+
+-- a cause that is no limit: an attribute kind above 63, a named thing that does not exist, an operand index past the end
+unfoldable pub ofNames : Bool × ℕ → Bool
+ofNames t = any (eqb (t .1)) (6 ∷ 2 ∷ 7 ∷ [])
+
+-- the call's tests of these causes pass
+unfoldable pub namesHold : Store → Call → Bool
+namesHold s c = every (map (λ (t : Bool × ℕ). t .0) (filter ofNames (tests s c)))
+
+-- such a call is accepted exactly when the store with it done is sound: nothing is refused by a limit while there is room:
+-- `accepted-exactly`
+unfoldable pub AcceptedExactly : Type 0
+AcceptedExactly =
+    (s : Store) (c : Call) → sound s ≡ true → namesHold s c ≡ true → (firstFailed (tests s c) ≡ none) ↔ (sound (applied s c) ≡ true)
+
+-- ---- answers
+
+-- a comparison of fragments that exist, from an allowed mapping, answers as the walk does, and is never refused: `comparison-is`,
+-- `never-refused`
+unfoldable pub ComparisonIs : Type 0
+ComparisonIs =
+    (s : Store) → sound s ≡ true → (ig : Ignore) (f : Sort) (m : Mapping) → allowed s m ≡ true → (l r : ℕ) → In s f l → In s f r
+    → comparison true s m ig f l r ≡ comparisonOf (compare s ig f l r m) m
+
+unfoldable pub NeverRefused : Type 0
+NeverRefused =
+    (s : Store) → sound s ≡ true → (ig : Ignore) (f : Sort) (m : Mapping) → allowed s m ≡ true → (l r : ℕ) → In s f l → In s f r
+    → (cause : ℕ) → comparison true s m ig f l r .answer ≡ refused cause → ⊥
+
+-- a hash of a fragment that exists is given: `hashed-is`
+unfoldable pub HashedIs : Type 0
+HashedIs = (s : Store) → sound s ≡ true → (ig : Ignore) (f : Sort) (n : ℕ) → In s f n → hashed true s ig f n ≡ hashIs (hash s ig f n)
+
+-- equality is the answer eq: `equal-answered`
+unfoldable pub EqualAnswered : Type 0
+EqualAnswered =
+    (s : Store) → sound s ≡ true → (ig : Ignore) (f : Sort) (a b : ℕ) → In s f a → In s f b
+    → (equal s ig f a b ≡ true) ↔ ((n : ℕ) × (comparison true s emptyMapping ig f a b .answer ≡ eq n))
+
+-- ---- counts
+
+-- a comparison enters at most 768 operations and blocks: `paired-most`
+unfoldable pub PairedMost : Type 0
+PairedMost =
+    (s : Store) → sound s ≡ true → (ig : Ignore) (f : Sort) (l r : ℕ) → In s f l → (st : State)
+    → standing (compareBy s ig f l r st) .paired ≤ st .paired + 768
+
+-- a fragment has at most 512 operations: `size-most`
+unfoldable pub SizeMost : Type 0
+SizeMost = (s : Store) → sound s ≡ true → (f : Sort) (n size : ℕ) → In s f n → fragmentSize s f n ≡ some size → size ≤ maxOps
+
+-- the output of a listing fits: `output-fits`
+unfoldable pub OutputFits : Type 0
+OutputFits = (bytes : List ℕ) → (length (twins bytes) ≤ maxOutput) × (length (sums bytes) ≤ maxOutput)
+
+-- ---- attributes
+
+-- 01's reading, and the Rust's: as many, and each of the one stands in the other
+unfoldable pub SameByKey : List Attribute → List Attribute → Type 0
+SameByKey xs ys = (length xs ≡ length ys) × (all (λ (a : Attribute). any (sameAttribute a) ys) xs ≡ true)
+
+-- the unignored attributes by rising key are equal as lists exactly then: `unignored-same`
+unfoldable pub UnignoredSame : Type 0
+UnignoredSame =
+    (ig : Ignore) (xs ys : List Attribute) → keysRise xs ≡ true → keysRise ys ≡ true
+    → (sameList sameAttribute (unignored ig xs) (unignored ig ys) ≡ true) ↔ SameByKey (unignored ig xs) (unignored ig ys)
