@@ -53,14 +53,6 @@ module _ (s : Store) (f : Sort) (l r : ℕ) where
     right-missing e = rw (el, e) refl
 
     module _ (er : exists s f r ≡ true) where
-      pub left-deep : shallow s f l ≡ false → firstFailed (pairTests s f l r) ≡ some 12
-      unfolding pairTests firstFailed
-      left-deep e = rw (el, er, e) refl
-
-      pub right-deep : shallow s f l ≡ true → shallow s f r ≡ false → firstFailed (pairTests s f l r) ≡ some 12
-      unfolding pairTests firstFailed
-      right-deep e d = rw (el, er, e, d) refl
-
       pub both-shallow : shallow s f l ≡ true → shallow s f r ≡ true → firstFailed (pairTests s f l r) ≡ none
       unfolding pairTests firstFailed
       both-shallow e d = rw (el, er, e, d) refl

@@ -7,7 +7,6 @@ use crate::types::BlockLists;
 use crate::types::EqResult;
 use fragments::ignoring::Ignore;
 use fragments::sorts::exists;
-use fragments::sorts::is_shallow;
 use fragments::types::Sort;
 use layout::causes::Cause;
 ghost use mathlib.Core.Bool.{true};
@@ -27,7 +26,7 @@ ghost use Rattle.equivalence.specs.MappingWords.{mappingOf};
 ghost use Rattle.equivalence.specs.Walked.{ReadyToCompare, Told, PairedFits, stateOf};
 ghost use Rattle.equivalence.specs.Calls.{Answered, pairTests};
 
-// Why two fragments are not compared: one does not exist, or one is nested too deep. Nothing is entered yet.
+// Why two fragments are not compared: one does not exist. In a sound store none is nested too deep.
 fn pair_cause(store: &[u32], sort: Sort, lhs: u32, rhs: u32) -> Cause
     requires { ⌜ IsSound (now store) ⌝ }
     ensures { λ q. ⌜ causeOf q ≡ firstFailed (pairTests (storeIn (now (store .entry))) (sortOf sort) lhs rhs) ⌝ }
@@ -37,12 +36,6 @@ fn pair_cause(store: &[u32], sort: Sort, lhs: u32, rhs: u32) -> Cause
     }
     if !exists(store, sort, rhs) {
         return Cause::Is(2);
-    }
-    if !is_shallow(store, sort, lhs) {
-        return Cause::Is(12);
-    }
-    if !is_shallow(store, sort, rhs) {
-        return Cause::Is(12);
     }
     Cause::None
 }

@@ -11,7 +11,6 @@ ghost use mathlib.Core.Path.{_≡_};
 ghost use mathlib.Core.Bool.{true};
 ghost use lib.ListN.{length};
 ghost use Rattle.rules.specs.Fragments.{fragmentSize};
-ghost use Rattle.rules.specs.Answers.{shallow};
 ghost use Rattle.layout.specs.Columns.{bufferLength};
 ghost use Rattle.layout.specs.Reading.{storeIn};
 ghost use Rattle.layout.specs.Soundness.{IsSound};
@@ -40,17 +39,5 @@ pub fn size(store: &[u32], sort: Sort, n: u32) -> Size
         Sort::Op => operation_size(store, n as usize),
         Sort::Block => basic_block_size(store, n as usize),
         Sort::Region => region_size(store, n as usize),
-    }
-}
-
-// No operation in it is nested too deep.
-pub fn is_shallow(store: &[u32], sort: Sort, n: u32) -> bool
-    requires { ⌜ IsSound (now store) ⌝ }
-    requires { ⌜ Rattle.rules.specs.Fragments.exists (storeIn (now store)) (sortOf sort) n ≡ true ⌝ }
-    ensures { λ r. ⌜ r ≡ shallow (storeIn (now (store .entry))) (sortOf sort) n ⌝ }
-{
-    match size(store, sort, n) {
-        Size::Of(_) => true,
-        Size::TooDeep => false,
     }
 }

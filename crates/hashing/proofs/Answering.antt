@@ -30,10 +30,6 @@ module _ (s : Store) (f : Sort) (n : ℕ) where
   unfolding fragmentTests firstFailed
   missing e = rw e refl
 
-  pub too-deep : exists s f n ≡ true → shallow s f n ≡ false → firstFailed (fragmentTests s f n) ≡ some 12
-  unfolding fragmentTests firstFailed
-  too-deep e d = rw (e, d) refl
-
   pub both-pass : exists s f n ≡ true → shallow s f n ≡ true → firstFailed (fragmentTests s f n) ≡ none
   unfolding fragmentTests firstFailed
   both-pass e d = rw (e, d) refl

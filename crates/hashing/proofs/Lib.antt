@@ -8,6 +8,7 @@ mod Defining
 mod Naming
 mod Feeding
 mod Stepping
+mod Zeros
 mod Bytes
 mod Slots
 mod Reading

@@ -9,7 +9,6 @@ use crate::walk::hash_blocks_full;
 use crate::walk::hash_op_full;
 use fragments::ignoring::Ignore;
 use fragments::sorts::exists;
-use fragments::sorts::is_shallow;
 use fragments::types::Blocks;
 use fragments::types::Sort;
 use layout::causes::Cause;
@@ -27,16 +26,13 @@ ghost use Rattle.fragments.specs.Sorts.{sortOf};
 ghost use Rattle.hashing.specs.Walked.{ReadyToHash, Fed, DefinitionsFit, atStart};
 ghost use Rattle.hashing.specs.Calls.{fragmentTests, Answered};
 
-// Why a fragment is not hashed: it does not exist, or an operation in it is nested too deep.
+// Why a fragment is not hashed: it does not exist. In a sound store nothing is nested too deep.
 fn hash_cause(store: &[u32], sort: Sort, n: u32) -> Cause
     requires { ⌜ IsSound (now store) ⌝ }
     ensures { λ q. ⌜ causeOf q ≡ firstFailed (fragmentTests (storeIn (now (store .entry))) (sortOf sort) n) ⌝ }
 {
     if !exists(store, sort, n) {
         return Cause::Is(2);
-    }
-    if !is_shallow(store, sort, n) {
-        return Cause::Is(12);
     }
     Cause::None
 }

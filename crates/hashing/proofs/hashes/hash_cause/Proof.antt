@@ -1,10 +1,11 @@
--- `hash_cause` meets its contract, test by test. Assumes nothing.
+-- `hash_cause` meets its contract: a fragment exists or not, and in a sound store none is nested too deep. Assumes nothing.
 use mathlib.Core.Path.{sym}
+use Rattle.rules.proofs.Walking.Answered.{fragment-shallow}
 use Rattle.layout.specs.Reading.{storeIn}
 use Rattle.layout.specs.Causes.{causeOf}
 use Rattle.layout.proofs.Scans.{failed, held}
 use Rattle.fragments.specs.Sorts.{sortOf}
-use Rattle.hashing.proofs.Answering.{missing, too-deep, both-pass}
+use Rattle.hashing.proofs.Answering.{missing, both-pass}
 use Rattle.hashing.proofs.hashes.hash_cause.Statement.{statement}
 use Rattle.hashing.proofs.hashes.hash_cause.Tie as tie
 
@@ -20,29 +21,15 @@ returns c =
     let f = sortOf (a .sort) in
     sym (missing S f (a .n) (failed (c .before .exists .ensures) (c .if1 .taken)))
 
-is-shallow-requires : tie.Need-is-shallow-requires
-is-shallow-requires c κs =
-    let s = c .before .before .before in
-    (s .pre, held (c .before .exists .ensures) (c .if1 .left))
-
 returns-2 : tie.Need-returns-2
 unfolding causeOf
 returns-2 c =
-    let s = c .before .before .before .before .before in
+    let s = c .before .before .before in
     let a = s .args in
     let S = storeIn (a .store .now) in
     let f = sortOf (a .sort) in
-    sym (too-deep S f (a .n) (held (c .before .before .before .exists .ensures) (c .before .before .if1 .left)) (failed (c .before .is-shallow .ensures) (c .if2 .taken)))
-
-returns-3 : tie.Need-returns-3
-unfolding causeOf
-returns-3 c =
-    let s = c .before .before .before .before .before in
-    let a = s .args in
-    let S = storeIn (a .store .now) in
-    let f = sortOf (a .sort) in
-    sym (both-pass S f (a .n) (held (c .before .before .before .exists .ensures) (c .before .before .if1 .left)) (held (c .before .is-shallow .ensures) (c .if2 .left)))
+    let e = held (c .before .exists .ensures) (c .if1 .left) in
+    sym (both-pass S f (a .n) e (fragment-shallow S (s .pre .ruled) f (a .n) e))
 
 pub hash-cause-spec : {M : Type 1} → statement M
-hash-cause-spec =
-    tie.close (tie.spec exists-requires returns is-shallow-requires returns-2 returns-3)
+hash-cause-spec = tie.close (tie.spec exists-requires returns returns-2)

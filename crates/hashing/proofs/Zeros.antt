@@ -1,0 +1,43 @@
+-- A byte that is 0 only multiplies the word. So to feed a number below 256 is to xor it in and to multiply once, by a power of the prime; and
+-- the power may be taken modulo 2^64. Assumes nothing.
+use Prim.Native.Nat.{ℕ, zero, suc, _+_, _*_, _/_, _%_, _^_, _<_}
+use native.Mathlib.Nat.{mul-assoc, mul-comm, mul-one, add-mul, pow-suc, div-add-mod', mul-add-mod-self-right}
+use native.Mathlib.Omega.{arith}
+use mathlib.Core.Path.{_≡_, refl, sym, ap, _∙_}
+use lib.Bits.{bitXor, xor-zero-r}
+use Rattle.rules.specs.Hash.{fnvPrime, fnvFrom, fnvByte, bytes}
+
+left-mod : (a b m : ℕ) → (a % m * b) % m ≡ (a * b) % m
+left-mod a b m =
+    let turned : a / m * b * m ≡ a / m * m * b = mul-assoc (a / m) b m ∙ ap (λ (n : ℕ). a / m * n) (mul-comm b m) ∙ sym (mul-assoc (a / m) m b) in
+    let whole : a / m * b * m + a % m * b ≡ a * b = ap (λ (n : ℕ). n + a % m * b) turned ∙ sym (add-mul (a / m * m) (a % m) b) ∙ ap (λ (n : ℕ). n * b) (div-add-mod' a m) in
+    sym (mul-add-mod-self-right (a / m * b) m (a % m * b)) ∙ ap (λ (n : ℕ). n % m) whole
+
+right-mod : (a b m : ℕ) → (a * (b % m)) % m ≡ (a * b) % m
+right-mod a b m = ap (λ (n : ℕ). n % m) (mul-comm a (b % m)) ∙ left-mod b a m ∙ ap (λ (n : ℕ). n % m) (mul-comm b a)
+
+-- k bytes that are 0
+zeros : (k x : ℕ) → fnvFrom (x % 2 ^ 64) (bytes k 0) ≡ (x * fnvPrime ^ k) % 2 ^ 64
+unfolding fnvFrom fnvByte bytes
+zeros zero x = ap (λ (n : ℕ). n % 2 ^ 64) (sym (mul-one x))
+zeros (suc k) x =
+    let fed : (bitXor (x % 2 ^ 64) 0 * fnvPrime) % 2 ^ 64 ≡ (x * fnvPrime) % 2 ^ 64 = ap (λ (n : ℕ). (n * fnvPrime) % 2 ^ 64) (xor-zero-r (x % 2 ^ 64)) ∙ left-mod x fnvPrime (2 ^ 64) in
+    let power : x * fnvPrime * fnvPrime ^ k ≡ x * fnvPrime ^ suc k = mul-assoc x fnvPrime (fnvPrime ^ k) ∙ ap (λ (n : ℕ). x * n) (mul-comm fnvPrime (fnvPrime ^ k) ∙ sym (pow-suc fnvPrime k)) in
+    ap (λ (w : ℕ). fnvFrom w (bytes k 0)) fed ∙ zeros k (x * fnvPrime) ∙ ap (λ (n : ℕ). n % 2 ^ 64) power
+
+-- a number below 256, and k bytes that are 0 behind it
+pub small : (k w n : ℕ) → n < 256 → fnvFrom w (bytes (suc k) n) ≡ (bitXor w n * (fnvPrime ^ suc k % 2 ^ 64)) % 2 ^ 64
+unfolding fnvFrom fnvByte bytes
+small k w n h =
+    let low : n % 256 ≡ n = omega arith in
+    let high : n / 256 ≡ 0 = omega arith in
+    let power : bitXor w n * fnvPrime * fnvPrime ^ k ≡ bitXor w n * fnvPrime ^ suc k = mul-assoc (bitXor w n) fnvPrime (fnvPrime ^ k) ∙ ap (λ (m : ℕ). bitXor w n * m) (mul-comm fnvPrime (fnvPrime ^ k) ∙ sym (pow-suc fnvPrime k)) in
+    rw (low, high) (zeros k (bitXor w n * fnvPrime) ∙ ap (λ (m : ℕ). m % 2 ^ 64) power ∙ sym (right-mod (bitXor w n) (fnvPrime ^ suc k) (2 ^ 64)))
+
+-- a number of two bytes, and k bytes that are 0 behind them
+pub two : (k w n : ℕ) {fed : ℕ} → n < 65536 → fed ≡ fnvFrom w (bytes 1 (n % 256)) → fnvFrom w (bytes (suc (suc k)) n) ≡ (bitXor fed (n / 256) * (fnvPrime ^ suc k % 2 ^ 64)) % 2 ^ 64
+unfolding fnvFrom bytes
+two k w n {fed} h e =
+    let byte : n % 256 % 256 ≡ n % 256 = omega arith in
+    let first : fed ≡ fnvByte w (n % 256) = e ∙ ap (λ (b : ℕ). fnvByte w b) byte in
+    small k (fnvByte w (n % 256)) (n / 256) (omega arith) ∙ ap (λ (x : ℕ). (bitXor x (n / 256) * (fnvPrime ^ suc k % 2 ^ 64)) % 2 ^ 64) (sym first)
