@@ -10,7 +10,7 @@ use lib.Seq.{drop-length}
 use Rattle.rules.specs.Store.{Store, emptyStore}
 use Rattle.rules.specs.Bytes.{lineFeed, Pieces, cutAt}
 use Rattle.rules.specs.Listings as rules
-use Rattle.rules.specs.Listings.{Outcome, prints, stops, refusal, does, proceed, atEnd, run, atStart, keeps, leaves, noTally, twinsProgram, sumsProgram, maxListing, maxOutput}
+use Rattle.rules.specs.Listings.{LineOutcome, prints, stops, refusal, does, proceed, atEnd, run, atStart, keeps, leaves, noTally, twinsProgram, sumsProgram, maxListing, maxOutput}
 use Rattle.rules.proofs.Listings.Short.{Within, Terse, does-within, twins-terse, sums-terse}
 use Rattle.layout.specs.Reading.{slice, storeIn}
 use Rattle.layout.specs.Soundness.{IsSound}
@@ -61,20 +61,20 @@ module _ (p : Program) (listing : List ℕ) where
       unfolding proceed
       printed-on b next d =
           line-first l
-          ∙ ap (λ (o : Outcome). proceed o n (λ next′. printsFrom (suc n) (e + 1) next′)) d
+          ∙ ap (λ (o : LineOutcome). proceed o n (λ next′. printsFrom (suc n) (e + 1) next′)) d
           ∙ ap (λ (k : ℕ). b ++ printsFrom k (e + 1) next) (sym (add-one n))
 
       left-on : (b : List ℕ) (next : rules.Progress) → does (programOf p) now (slice listing start e) ≡ prints b next → leavesFrom start now ≡ leavesFrom (e + 1) next
       unfolding keeps
-      left-on b next d = line-leaves l ∙ ap (λ (o : Outcome). keeps o now (λ next′. leavesFrom (e + 1) next′)) d
+      left-on b next d = line-leaves l ∙ ap (λ (o : LineOutcome). keeps o now (λ next′. leavesFrom (e + 1) next′)) d
 
       stops-here : (k : ℕ) → does (programOf p) now (slice listing start e) ≡ stops k → printsFrom n start now ≡ refusal n k
       unfolding proceed
-      stops-here k d = line-first l ∙ ap (λ (o : Outcome). proceed o n (λ next′. printsFrom (suc n) (e + 1) next′)) d
+      stops-here k d = line-first l ∙ ap (λ (o : LineOutcome). proceed o n (λ next′. printsFrom (suc n) (e + 1) next′)) d
 
       left-here : (k : ℕ) → does (programOf p) now (slice listing start e) ≡ stops k → leavesFrom start now ≡ now .store
       unfolding keeps
-      left-here k d = line-leaves l ∙ ap (λ (o : Outcome). keeps o now (λ next′. leavesFrom (e + 1) next′)) d
+      left-here k d = line-leaves l ∙ ap (λ (o : LineOutcome). keeps o now (λ next′. leavesFrom (e + 1) next′)) d
 
       -- five bytes for each byte of the line, its line feed included
       line-short : (b : List ℕ) (next : rules.Progress) → does (programOf p) now (slice listing start e) ≡ prints b next → length b + 5 * start ≤ 5 * (e + 1)

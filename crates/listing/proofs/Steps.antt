@@ -12,7 +12,7 @@ use Rattle.rules.specs.Lists.{sameList}
 use Rattle.rules.specs.Bytes.{isText}
 use Rattle.rules.specs.Lines.{Line, field, oneOf, operationLine, blockLine, attributeLine, operandLine, queryLine, letter, wholly, parse}
 use Rattle.rules.specs.Listings as rules
-use Rattle.rules.specs.Listings.{Outcome, stops, lineDoes, does, maxLine}
+use Rattle.rules.specs.Listings.{LineOutcome, stops, lineDoes, does, maxLine}
 use Rattle.layout.specs.Causes.{causeOf}
 use Rattle.layout.specs.Soundness.{IsSound}
 use Rattle.layout.specs.declared.causes.Cause.{Cause}
@@ -31,11 +31,11 @@ use Rattle.lines.proofs.Joined.{nothing}
 
 -- ---- steps
 
-pub stopped : (o : Outcome) (store out : List ℕ) (now : Progress) (k : ℕ) → o ≡ stops k → Stepped o store out out now (Stopped k)
+pub stopped : (o : LineOutcome) (store out : List ℕ) (now : Progress) (k : ℕ) → o ≡ stops k → Stepped o store out out now (Stopped k)
 unfolding outcomeOf Goes
 stopped o store out now k e = record { bytes = []; does = e; goes = refl }
 
-pub same-outcome : {o p : Outcome} {store before after : List ℕ} {now : Progress} {r : LineResult} → o ≡ p → Stepped p store before after now r → Stepped o store before after now r
+pub same-outcome : {o p : LineOutcome} {store before after : List ℕ} {now : Progress} {r : LineResult} → o ≡ p → Stepped p store before after now r → Stepped o store before after now r
 same-outcome e s = record { bytes = s .bytes; does = e ∙ s .does; goes = s .goes }
 
 -- nothing is counted
@@ -90,7 +90,7 @@ module _ (p : Program) (line store out : List ℕ) (now : Progress) (sound : IsS
   pub line-stopped : (k : ℕ) → does (programOf p) (progressOf store now) line ≡ stops k → LineDoes p line store store out out now (Stopped k)
   line-stopped k e = record { step = stopped _ store out now k e; sound = sound; unchanged = λ cause q. refl }
 
-  pub line-asked : (after : List ℕ) (r : LineResult) (o : Outcome) → does (programOf p) (progressOf store now) line ≡ o → Stepped o store out after now r → LineDoes p line store store out after now r
+  pub line-asked : (after : List ℕ) (r : LineResult) (o : LineOutcome) → does (programOf p) (progressOf store now) line ≡ o → Stepped o store out after now r → LineDoes p line store store out after now r
   line-asked after r o e s = record { step = same-outcome e s; sound = sound; unchanged = λ cause q. refl }
 
   module _ (exit : List ℕ) (meant : Option Line) (r : Cause) (e : does (programOf p) (progressOf store now) line ≡ lineDoes (programOf p) (progressOf store now) meant) (did : LineDid store exit meant r) where

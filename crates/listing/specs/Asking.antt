@@ -5,7 +5,7 @@ use mathlib.Core.List.{List, []}
 use mathlib.Core.Path.{_≡_}
 use Rattle.rules.specs.Answers.{Compared, eq, neq, refused, comparison}
 use Rattle.rules.specs.Mapping.{emptyMapping}
-use Rattle.rules.specs.Listings.{Outcome, prints, stops, equalLine, unequalLine}
+use Rattle.rules.specs.Listings.{LineOutcome, prints, stops, equalLine, unequalLine}
 use Rattle.layout.specs.Reading.{storeIn}
 use Rattle.fragments.specs.Sorts.{sortOf}
 use Rattle.fragments.specs.Ignoring.{ignoreOf}
@@ -51,7 +51,7 @@ pub record CountedMore (now : Progress) (at : ℕ) (found : Bool) (ops : ℕ) (n
 
 -- ---- a step: what is printed goes behind what was printed, and the rules' outcome is this
 
-unfoldable pub outcomeOf : List ℕ → List ℕ → LineResult → Outcome
+unfoldable pub outcomeOf : List ℕ → List ℕ → LineResult → LineOutcome
 outcomeOf store bytes (On next) = prints bytes (progressOf store next)
 outcomeOf store bytes (Stopped cause) = stops cause
 
@@ -60,7 +60,7 @@ Goes before after now bytes (On next) = Wrote 40 before after (now .at) bytes (n
 Goes before after now bytes (Stopped cause) = after ≡ before
 
 -- of a step that leaves this store
-pub record Stepped (outcome : Outcome) (store : List ℕ) (before after : List ℕ) (now : Progress) (r : LineResult) : Type 0 where
+pub record Stepped (outcome : LineOutcome) (store : List ℕ) (before after : List ℕ) (now : Progress) (r : LineResult) : Type 0 where
   pub bytes : List ℕ
   pub does : outcome ≡ outcomeOf store bytes r
   pub goes : Goes before after now bytes r

@@ -7,7 +7,7 @@ use mathlib.Core.Path.{_≡_}
 use lib.Dec.{eqb}
 use Rattle.rules.specs.Building.{Built, made, accepted, refused}
 use Rattle.rules.specs.Lines.{Line, operationLine, blockLine, attributeLine, operandLine, wholly}
-use Rattle.rules.specs.Listings.{Progress, Program, Tally, Outcome, prints, stops, lineDoes}
+use Rattle.rules.specs.Listings.{Progress, Program, Tally, LineOutcome, prints, stops, lineDoes}
 use Rattle.layout.specs.Reading.{storeIn}
 use Rattle.layout.specs.Causes.{causeOf}
 use Rattle.layout.specs.Soundness.{IsSound}
@@ -27,7 +27,7 @@ buildingLine letter fs =
     (cond (eqb letter 98) (wholly (blockLine fs)) (cond (eqb letter 97) (wholly (attributeLine fs)) (cond (eqb letter 115) (wholly (operandLine fs)) none)))
 
 -- nothing is printed, and this is left; or the line is refused
-unfoldable pub ledTo : Progress → Option ℕ → Outcome
+unfoldable pub ledTo : Progress → Option ℕ → LineOutcome
 ledTo next none = prints [] next
 ledTo next (some cause) = stops cause
 

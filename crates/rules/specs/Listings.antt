@@ -78,25 +78,25 @@ pub record Progress : Type 0 where
 unfoldable pub atStart : Progress
 atStart = record { store = emptyStore; tally = noTally }
 
-pub data Outcome : Type 0 where
+pub data LineOutcome : Type 0 where
   -- what a line prints, and what it leaves
-  prints : List ℕ → Progress → Outcome
+  prints : List ℕ → Progress → LineOutcome
   -- the cause for which it is refused
-  stops : ℕ → Outcome
+  stops : ℕ → LineOutcome
 
 pub record Program : Type 0 where
   -- what a `q` does
-  pub ask : Progress → Sort → ℕ → ℕ → Ignore → Outcome
+  pub ask : Progress → Sort → ℕ → ℕ → Ignore → LineOutcome
   -- what is printed behind the last line
   pub close : Progress → List ℕ
 
 -- a building call prints nothing
-unfoldable pub buildingDoes : Built → Store → Progress → Outcome
+unfoldable pub buildingDoes : Built → Store → Progress → LineOutcome
 buildingDoes (made n) s now = prints [] (record { store = s; tally = now .tally })
 buildingDoes accepted s now = prints [] (record { store = s; tally = now .tally })
 buildingDoes (refused cause) s now = stops cause
 
-unfoldable pub lineDoes : Program → Progress → Option Line → Outcome
+unfoldable pub lineDoes : Program → Progress → Option Line → LineOutcome
 lineDoes p now none = stops 10
 lineDoes p now (some (building c)) = buildingDoes (answer (now .store) c) (built (now .store) c) now
 lineDoes p now (some (query f l r ig)) = p .ask now f l r ig
@@ -105,11 +105,11 @@ lineDoes p now (some (query f l r ig)) = p .ask now f l r ig
 abbrev pub maxLine : ℕ
 maxLine = 512
 
-unfoldable pub does : Program → Progress → List ℕ → Outcome
+unfoldable pub does : Program → Progress → List ℕ → LineOutcome
 does p now line = cond (leb (length line) maxLine) (lineDoes p now (parse line)) (stops 11)
 
 -- a refused line "ends either program; what was printed before stands, and no share follows"
-unfoldable pub proceed : Outcome → ℕ → (Progress → List ℕ) → List ℕ
+unfoldable pub proceed : LineOutcome → ℕ → (Progress → List ℕ) → List ℕ
 proceed (prints out next) n more = out ++ more next
 proceed (stops cause) n more = refusal n cause
 
@@ -162,7 +162,7 @@ maxOutput = 327680
 
 -- ---- the store afterwards: what the lines have built, up to a refused one
 
-unfoldable pub keeps : Outcome → Progress → (Progress → Store) → Store
+unfoldable pub keeps : LineOutcome → Progress → (Progress → Store) → Store
 keeps (prints out next) now more = more next
 keeps (stops cause) now more = now .store
 
@@ -176,7 +176,7 @@ storeAfter p bytes = leaves p atStart (behindFirst (cutAt lineFeed bytes .whole)
 
 -- ---- "`twins` prints a line for each `q`, then the share"
 
-unfoldable pub twinsAnswer : Compared → Sort → ℕ → Progress → Outcome
+unfoldable pub twinsAnswer : Compared → Sort → ℕ → Progress → LineOutcome
 twinsAnswer (eq paired) f r now =
     prints (equalLine paired) (record { store = now .store; tally = tallied true (now .store) f r (now .tally) })
 twinsAnswer (neq p paired) f r now =
@@ -196,7 +196,7 @@ twins bytes = listed twinsProgram bytes
 
 -- ---- "`sums` prints for each `q` both hashes ..., and no share": both are there before any is printed
 
-unfoldable pub sumsAnswer : Hashed → Hashed → Progress → Outcome
+unfoldable pub sumsAnswer : Hashed → Hashed → Progress → LineOutcome
 sumsAnswer (hashIs left) (hashIs right) now = prints (hashesLine left right) now
 sumsAnswer (hashIs left) (refusedHash cause) now = stops cause
 sumsAnswer (refusedHash cause) right now = stops cause

@@ -17,14 +17,14 @@ use Rattle.rules.specs.Shells.{Ignore}
 use Rattle.rules.specs.Answers.{Compared, eq, neq, refused as refusedCompared, Hashed, hashIs, refusedHash}
 use Rattle.rules.specs.Bytes.{text, isText, lineFeed, cutAt}
 use Rattle.rules.specs.Lines.{Line, building, query, parse}
-use Rattle.rules.specs.Listings.{Progress, Outcome, prints, stops, Program, buildingDoes, lineDoes, maxLine, does, proceed, atEnd, run, atStart, headerTests, headerCause, listingCause, behindFirst, unless, maxListing, maxOutput, listed, twinsAnswer, twinsProgram, twins, sumsAnswer, sumsProgram, sums}
+use Rattle.rules.specs.Listings.{Progress, LineOutcome, prints, stops, Program, buildingDoes, lineDoes, maxLine, does, proceed, atEnd, run, atStart, headerTests, headerCause, listingCause, behindFirst, unless, maxListing, maxOutput, listed, twinsAnswer, twinsProgram, twins, sumsAnswer, sumsProgram, sums}
 use Rattle.rules.proofs.Basics.Tests.{numbers-same}
 use Rattle.rules.proofs.Listings.Cut.{weight, cut-weight}
 use Rattle.rules.proofs.Listings.Written.{lastMost, lineMost, refusal-short, share-short, equal-short, unequal-short, hashes-short}
 use Rattle.rules.proofs.Listings.Taken.{parse-long}
 
 -- at most k bytes are printed
-abbrev pub Within : ℕ → Outcome → Type 0
+abbrev pub Within : ℕ → LineOutcome → Type 0
 Within k (prints out next) = length out ≤ k
 Within k (stops cause) = Unit {0}
 
@@ -38,11 +38,11 @@ building-within k (made n) s now = omega arith
 building-within k accepted s now = omega arith
 building-within k (refused cause) s now = tt
 
-more : (j k : ℕ) (o : Outcome) → j ≤ k → Within j o → Within k o
+more : (j k : ℕ) (o : LineOutcome) → j ≤ k → Within j o → Within k o
 more j k (prints out next) h w = omega arith
 more j k (stops cause) h w = tt
 
-proceed-short : (j k n : ℕ) (o : Outcome) (g : Progress → List ℕ) → Within j o → ((next : Progress) → length (g next) ≤ k) → lastMost ≤ k
+proceed-short : (j k n : ℕ) (o : LineOutcome) (g : Progress → List ℕ) → Within j o → ((next : Progress) → length (g next) ≤ k) → lastMost ≤ k
     → length (proceed o n g) ≤ j + k
 unfolding proceed
 proceed-short j k n (prints out next) g w f h = omega (arith, length-append out (g next), f next)
