@@ -9,7 +9,7 @@ use mathlib.Core.Path.{_≡_, refl, sym, ap, subst, _∙_}
 use lib.ListN.{length, take, drop}
 use Rattle.rules.specs.Store.{Attribute, Owner}
 use Rattle.rules.specs.Building.{Call, newOperation, newBlock, setAttribute, setOperand, made, tests, firstFailed, acceptance}
-use Rattle.layout.specs.Columns.{Cols, columns, columnSize, counts, slotKey, slotKind, slotContent, operandWords}
+use Rattle.layout.specs.Columns.{Cols, columns, columnSize, counts, slotKey, slotKind, slotContent, operandWords, slotCount}
 use Rattle.layout.specs.Reading.{slice, opCount, blockCount, slotsOf, storeOf, storeIn}
 use Rattle.layout.specs.Soundness.{soundBuffer, IsSound}
 use Rattle.layout.specs.Owners.{keyCount, countColumn, ownerNumber}
@@ -45,7 +45,7 @@ take-most (suc n) [] = omega arith
 take-most (suc n) (x ∷ xs) = let l = take-most n xs in omega arith
 
 -- in a column of slots
-inserted-shaped : (C : Cols) (k i e v : ℕ) → columnSize k ≡ 6144 → i ≤ e → e + 1 ≤ 6144 → Shaped C → Shaped (inserted C k i e v)
+inserted-shaped : (C : Cols) (k i e v : ℕ) → columnSize k ≡ slotCount → i ≤ e → e + 1 ≤ slotCount → Shaped C → Shaped (inserted C k i e v)
 unfolding inserted slice
 inserted-shaped C k i e v z l r sh =
     let m : length (take (e - i) (drop i (C k))) ≤ e - i = take-most (e - i) (drop i (C k)) in
@@ -70,9 +70,9 @@ module _ (b : List ℕ) (h : IsSound b) (w : Owner) (a : Attribute) (clear : fir
       go true e = write-shaped _ slotContent s _ (write-shaped C slotKind s _ (shaped b h))
       go false e =
           let i : s ≤ slotsOf w + keyCount C w = slot-low C w (a .key) in
-          let r : slotsOf w + 8 ≤ 6144 = reachable b h w (owner-there b h w a clear) .slots in
+          let r : slotsOf w + 8 ≤ slotCount = reachable b h w (owner-there b h w a clear) .slots in
           let k : keyCount C w + 1 ≤ 8 = room-there b h w a clear e .0 in
-          let fits : slotsOf w + keyCount C w + 1 ≤ 6144 = omega arith in
+          let fits : slotsOf w + keyCount C w + 1 ≤ slotCount = omega arith in
           write-shaped _ counts 6 _
           (write-shaped _ (countColumn w) (ownerNumber w) _
           (inserted-shaped _ slotContent s _ _ refl i fits

@@ -1,13 +1,14 @@
 -- What each accepted building call writes, column by column.
-use Prim.Native.Nat.{ℕ, zero, suc, _+_, _<_, _≤_}
+use Prim.Native.Nat.{ℕ, zero, suc, _+_, _-_, _<_, _≤_}
 use mathlib.Core.Bool.{Bool, cond, _&&_}
 use mathlib.Core.Option.{Option, none, some}
-use mathlib.Core.List.{List, [], _∷_}
+use mathlib.Core.List.{List, [], _∷_, _++_}
 use lib.Dec.{eqb, leb, ltb}
 use lib.ListN.{length, replicate}
 use Rattle.rules.specs.Store.{Attribute, Owner, ofOp, ofBlock, maxOps, maxRegions, maxValues, maxOperands, maxSuccessors}
-use Rattle.layout.specs.Columns.{Cols, at, write, writeRange, counts, opKind, opDepth, opOperandFirst, regionOp, regionBlockFirst, regionBlockEnd, blockRegion, blockOpFirst, blockOpEnd, valueType, valueOwner, operandWords, successorWords, slotKey, slotKind, slotContent}
+use Rattle.layout.specs.Columns.{Cols, at, write, writeRange, counts, opKind, opParent, opDepth, opOperandFirst, regionOp, regionBlockFirst, regionBlockEnd, blockRegion, blockOpFirst, blockOpEnd, valueType, valueOwner, operandWords, successorWords, slotKey, slotKind, slotContent, opNext, blockNext}
 use Rattle.layout.specs.Reading.{opCount, blockCount, regionCount, valueCount, operandCount, successorCount, attributeCount, around, ownerCode, slotsOf, slice}
+use Rattle.layout.specs.Children.{behindChild}
 use Rattle.layout.specs.Owners.{countColumn, ownerNumber, keyCount}
 use Rattle.building.specs.declared.attributes.AttributePlace.{AttributePlace}
 use Rattle.building.specs.declared.attributes.AttributePlace.the-variants as Places
@@ -61,9 +62,21 @@ begun first end n = cond (leb end first) n first
 unfoldable pub extended : Cols → ℕ → ℕ → ℕ → ℕ → Cols
 extended C first end owner n = write (write C first owner (begun (at C first owner) (at C end owner) n)) end owner (n + 1)
 
+-- the last child before n, with which its owner's range ends, is linked to n; w is the owner's word in a column of owners
+unfoldable pub lastLinked : Cols → ℕ → ℕ → ℕ → ℕ → ℕ → Cols
+lastLinked C owners links end w n = cond (behindChild C owners n w end) (write C links (end - 1) n) C
+
+-- and n to no child yet
+unfoldable pub childLinked : Cols → ℕ → ℕ → ℕ → ℕ → ℕ → Cols
+childLinked C owners links end w n = write (lastLinked C owners links end w n) links n 0
+
+-- a child, number n, is linked, and goes to the end of its owner's range
+unfoldable pub childPlaced : Cols → ℕ → ℕ → ℕ → ℕ → ℕ → ℕ → ℕ → Cols
+childPlaced C owners links first end owner w n = extended (childLinked C owners links (at C end owner) w n) first end owner n
+
 unfoldable pub opPlaced : Cols → Option ℕ → ℕ → Cols
 opPlaced C none n = C
-opPlaced C (some b) n = extended C blockOpFirst blockOpEnd b n
+opPlaced C (some b) n = childPlaced C opParent opNext blockOpFirst blockOpEnd b (b + 1) n
 
 -- so many regions, of operation n, without blocks
 unfoldable pub withRegions : Cols → ℕ → ℕ → Cols
@@ -76,19 +89,24 @@ withRegions C n regions =
 unfoldable pub withSlice : Cols → ℕ → ℕ → List ℕ → Cols
 withSlice C k c xs = write (writeRange C k (at C counts c) xs) counts c (at C counts c + length xs)
 
--- the words of a new operation's row, from its kind on
-unfoldable pub opRow : Cols → ℕ → ℕ → ℕ → ℕ → ℕ → ℕ → ℕ → ℕ → List ℕ
-opRow C kind parent location depth regions results operands successors =
-    kind
-    ∷ parent
-    ∷ location
-    ∷ depth
-    ∷ regionCount C ∷ (regionCount C + regions)
-    ∷ valueCount C ∷ (valueCount C + results)
-    ∷ operandCount C ∷ (operandCount C + operands)
+-- the words of a new operation's row: from its kind on, from where its regions begin, and from where its operands begin
+unfoldable pub opHead : ℕ → ℕ → ℕ → ℕ → List ℕ
+opHead kind parent location depth = kind ∷ parent ∷ location ∷ depth ∷ []
+
+unfoldable pub opRanges : Cols → ℕ → ℕ → List ℕ
+opRanges C regions results = regionCount C ∷ (regionCount C + regions) ∷ valueCount C ∷ (valueCount C + results) ∷ []
+
+unfoldable pub opSlices : Cols → ℕ → ℕ → List ℕ
+opSlices C operands successors =
+    operandCount C ∷ (operandCount C + operands)
     ∷ successorCount C ∷ (successorCount C + successors)
     ∷ 0
     ∷ []
+
+unfoldable pub opRow : Cols → ℕ → ℕ → ℕ → ℕ → ℕ → ℕ → ℕ → ℕ → List ℕ
+unfolding opHead opRanges opSlices
+opRow C kind parent location depth regions results operands successors =
+    opHead kind parent location depth ++ opRanges C regions results ++ opSlices C operands successors
 
 unfoldable pub opWritten : Cols → ℕ → Option ℕ → ℕ → ℕ → ℕ → ℕ → ℕ → Cols
 opWritten C kind parent location regions results operands successors =
@@ -115,11 +133,14 @@ unfoldable pub blockWritten : Cols → ℕ → ℕ → ℕ → ℕ → ℕ → C
 blockWritten C m region label location arguments =
     withRow C blockRegion m (region ∷ label ∷ location ∷ valueCount C ∷ (valueCount C + arguments) ∷ 0 ∷ 0 ∷ 0 ∷ [])
 
+unfoldable pub blockPlaced : Cols → ℕ → ℕ → Cols
+blockPlaced C region m = childPlaced C blockRegion blockNext regionBlockFirst regionBlockEnd region region m
+
 unfoldable pub withBlock : Cols → ℕ → ℕ → ℕ → List ℕ → Cols
 withBlock C region label location types =
     write
     (withValues
-    (extended (blockWritten C (blockCount C) region label location (length types)) regionBlockFirst regionBlockEnd region (blockCount C))
+    (blockPlaced (blockWritten C (blockCount C) region label location (length types)) region (blockCount C))
     (ofBlock (blockCount C)) types)
     counts 1 (blockCount C + 1)
 

@@ -22,7 +22,7 @@ ghost use Prim.Native.Nat.{_+_, _<_, _≤_};
 ghost use lib.ListN.{length};
 ghost use Rattle.rules.specs.Store.{ownerExists};
 ghost use Rattle.rules.specs.Building.{setAttribute, tests, firstFailed};
-ghost use Rattle.layout.specs.Columns.{bufferLength, columns};
+ghost use Rattle.layout.specs.Columns.{bufferLength, columns, slotCount};
 ghost use Rattle.layout.specs.Reading.{slotsOf, storeIn};
 ghost use Rattle.layout.specs.Soundness.{IsSound};
 ghost use Rattle.layout.specs.Owners.{ownerOf, keyCount};
@@ -41,7 +41,7 @@ enum AttributePlace {
 fn slot_from(store: &[u32], first: usize, count: usize, key: u32) -> usize
     requires { ⌜ length (now store) ≡ bufferLength ⌝ }
     requires { ⌜ count ≤ 8 ⌝ }
-    requires { ⌜ first + 8 ≤ 6144 ⌝ }
+    requires { ⌜ first + 8 ≤ slotCount ⌝ }
     ensures { λ r. ⌜ r ≡ seek (columns (now (store .entry))) key first count ⌝ }
 {
     let mut i = 0;
@@ -103,7 +103,7 @@ fn place_for(store: &[u32], owner: Owner, attribute: Attribute) -> AttributePlac
 // Replaces the kind and the content at a slot.
 fn put_replaced(store: &mut [u32], slot: usize, attribute: Attribute)
     requires { ⌜ length (now store) ≡ bufferLength ⌝ }
-    requires { ⌜ slot < 6144 ⌝ }
+    requires { ⌜ slot < slotCount ⌝ }
     ensures { λ _. ⌜ columns (now (store .exit)) ≡ replaced (columns (now (store .entry))) slot (attributeOf attribute) ⌝ }
 {
     put(store, SLOT_KIND, slot, attribute.kind);

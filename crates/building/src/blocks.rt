@@ -1,9 +1,11 @@
 // The call that adds a block.
 use crate::types::Built;
 use crate::writes::extend;
+use crate::writes::link_child;
 use crate::writes::put_row;
 use crate::writes::put_values;
 use layout::causes::Cause;
+use layout::columns::BLOCK_NEXT;
 use layout::columns::BLOCK_REGION;
 use layout::columns::BLOCKS;
 use layout::columns::COUNTS;
@@ -22,7 +24,7 @@ ghost use Rattle.layout.specs.Columns.{bufferLength, columns};
 ghost use Rattle.layout.specs.Reading.{blockCount, valueCount, storeIn};
 ghost use Rattle.layout.specs.Soundness.{IsSound};
 ghost use Rattle.layout.specs.Causes.{causeOf};
-ghost use Rattle.building.specs.Raw.{blockWritten, withBlock};
+ghost use Rattle.building.specs.Raw.{blockWritten, blockPlaced, withBlock};
 ghost use Rattle.building.specs.Calls.{Did};
 
 // The cause for which the call is refused, if there is one. It does not depend on label and location.
@@ -65,6 +67,19 @@ fn put_block_row(
     put_row(store, BLOCK_REGION, m, &row);
 }
 
+// Block m goes to the end of its region's range, and the one before it is linked to it.
+fn place_block(store: &mut [u32], region: u32, m: usize)
+    requires { ⌜ length (now store) ≡ bufferLength ⌝ }
+    requires { ⌜ region < 256 ⌝ }
+    requires { ⌜ m < 256 ⌝ }
+    ensures { λ _. ⌜ columns (now (store .exit)) ≡ blockPlaced (columns (now (store .entry))) region m ⌝ }
+{
+    let r = region as usize;
+    let end = number(store, REGION_BLOCK_END, r);
+    link_child(store, BLOCK_REGION, BLOCK_NEXT, end, region, m);
+    extend(store, REGION_BLOCK_FIRST, REGION_BLOCK_END, r, m);
+}
+
 // Writes all of a new block: its row, its number into its region's range, its arguments, and the count of blocks.
 fn put_block(store: &mut [u32], region: u32, label: u32, location: u32, types: &[u32])
     requires { ⌜ length (now store) ≡ bufferLength ⌝ }
@@ -75,13 +90,7 @@ fn put_block(store: &mut [u32], region: u32, label: u32, location: u32, types: &
 {
     let m = number(store, COUNTS, BLOCKS);
     put_block_row(store, m, region, label, location, types.len());
-    extend(
-        store,
-        REGION_BLOCK_FIRST,
-        REGION_BLOCK_END,
-        region as usize,
-        m,
-    );
+    place_block(store, region, m);
     put_values(store, (2 * m + 1) as u32, types);
     put(store, COUNTS, BLOCKS, (m + 1) as u32);
 }

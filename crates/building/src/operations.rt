@@ -6,16 +6,30 @@ use crate::tests::operation_names;
 use crate::tests::operation_room;
 use crate::types::Built;
 use crate::types::Parent;
+use crate::types::Sizes;
 use crate::writes::extend;
+use crate::writes::link_child;
 use crate::writes::put_regions;
-use crate::writes::put_row;
 use crate::writes::put_slice;
 use crate::writes::put_values;
 use layout::causes::Cause;
 use layout::columns::BLOCK_OP_END;
 use layout::columns::BLOCK_OP_FIRST;
 use layout::columns::COUNTS;
+use layout::columns::OP_ATTRIBUTES;
+use layout::columns::OP_DEPTH;
 use layout::columns::OP_KIND;
+use layout::columns::OP_LOCATION;
+use layout::columns::OP_NEXT;
+use layout::columns::OP_OPERAND_END;
+use layout::columns::OP_OPERAND_FIRST;
+use layout::columns::OP_PARENT;
+use layout::columns::OP_REGION_END;
+use layout::columns::OP_REGION_FIRST;
+use layout::columns::OP_RESULT_END;
+use layout::columns::OP_RESULT_FIRST;
+use layout::columns::OP_SUCCESSOR_END;
+use layout::columns::OP_SUCCESSOR_FIRST;
 use layout::columns::OPERAND_WORDS;
 use layout::columns::OPERANDS;
 use layout::columns::OPS;
@@ -28,16 +42,16 @@ use layout::columns::number;
 use layout::columns::put;
 ghost use mathlib.Core.Path.{_≡_};
 ghost use mathlib.Core.Bool.{true};
-ghost use Prim.Native.Nat.{ℕ, _<_};
+ghost use Prim.Native.Nat.{ℕ, _+_, _<_, _≤_};
 ghost use lib.ListN.{length};
 ghost use Rattle.rules.specs.Store.{parentExists};
 ghost use Rattle.rules.specs.Building.{newOperation, tests, firstFailed};
-ghost use Rattle.layout.specs.Reading.{storeIn};
-ghost use Rattle.layout.specs.Columns.{bufferLength, columns, opKind};
+ghost use Rattle.layout.specs.Reading.{regionCount, valueCount, operandCount, successorCount, storeIn};
+ghost use Rattle.layout.specs.Columns.{bufferLength, columns, opKind, opRegionFirst, opOperandFirst};
 ghost use Rattle.layout.specs.Soundness.{IsSound};
 ghost use Rattle.building.specs.Types.{parentOf};
 ghost use Rattle.layout.specs.Causes.{causeOf};
-ghost use Rattle.building.specs.Raw.{OpRoom, withRow, parentBelow, parentCode, opRow, opPlaced, opWritten, withOperation};
+ghost use Rattle.building.specs.Raw.{OpRoom, withRow, parentBelow, parentCode, opHead, opRanges, opSlices, opPlaced, opWritten, withOperation};
 ghost use Rattle.building.specs.Calls.{Did};
 
 // The cause for which the call is refused, if there is one. It does not depend on kind and location.
@@ -67,48 +81,52 @@ fn operation_cause(
     Cause::None
 }
 
-// Writes the row of a new operation, n: its regions, results, operands and successors are the next of the store, so many of each, and it
-// has no attributes yet.
-fn put_op_row(
-    store: &mut [u32],
-    n: usize,
-    kind: u32,
-    parent: u32,
-    location: u32,
-    depth: u32,
-    regions: usize,
-    results: usize,
-    operands: usize,
-    successors: usize,
-)
+// Writes the first words of operation n's row.
+fn put_op_head(store: &mut [u32], n: usize, kind: u32, parent: u32, location: u32, depth: u32)
     requires { ⌜ length (now store) ≡ bufferLength ⌝ }
     requires { ⌜ n < 512 ⌝ }
-    requires { ⌜ OpRoom (columns (now store)) regions results operands successors ⌝ }
-    ensures { λ _. ⌜ columns (now (store .exit)) ≡ withRow (columns (now (store .entry))) opKind n (opRow (columns (now (store .entry))) kind parent location depth regions results operands successors) ⌝ }
+    ensures { λ _. ⌜ columns (now (store .exit)) ≡ withRow (columns (now (store .entry))) opKind n (opHead kind parent location depth) ⌝ }
+{
+    put(store, OP_KIND, n, kind);
+    put(store, OP_PARENT, n, parent);
+    put(store, OP_LOCATION, n, location);
+    put(store, OP_DEPTH, n, depth);
+}
+
+// Its regions and results are the next of the store.
+fn put_op_ranges(store: &mut [u32], n: usize, sizes: Sizes)
+    requires { ⌜ length (now store) ≡ bufferLength ⌝ }
+    requires { ⌜ n < 512 ⌝ }
+    requires { ⌜ regionCount (columns (now store)) + sizes .regions ≤ 256 ⌝ }
+    requires { ⌜ valueCount (columns (now store)) + sizes .results ≤ 2048 ⌝ }
+    ensures { λ _. ⌜ columns (now (store .exit)) ≡ withRow (columns (now (store .entry))) opRegionFirst n (opRanges (columns (now (store .entry))) (sizes .regions) (sizes .results)) ⌝ }
 {
     let r = number(store, COUNTS, REGIONS);
     let v = number(store, COUNTS, VALUES);
-    let o = number(store, COUNTS, OPERANDS);
-    let s = number(store, COUNTS, SUCCESSORS);
-    let row = [
-        kind,
-        parent,
-        location,
-        depth,
-        r as u32,
-        (r + regions) as u32,
-        v as u32,
-        (v + results) as u32,
-        o as u32,
-        (o + operands) as u32,
-        s as u32,
-        (s + successors) as u32,
-        0,
-    ];
-    put_row(store, OP_KIND, n, &row);
+    put(store, OP_REGION_FIRST, n, r as u32);
+    put(store, OP_REGION_END, n, (r + sizes.regions) as u32);
+    put(store, OP_RESULT_FIRST, n, v as u32);
+    put(store, OP_RESULT_END, n, (v + sizes.results) as u32);
 }
 
-// Operation n goes to the end of its block's range, if it has a block.
+// Its operands and successors are the next of the shared lists, and it has no attributes yet.
+fn put_op_slices(store: &mut [u32], n: usize, sizes: Sizes)
+    requires { ⌜ length (now store) ≡ bufferLength ⌝ }
+    requires { ⌜ n < 512 ⌝ }
+    requires { ⌜ operandCount (columns (now store)) + sizes .operands ≤ 2048 ⌝ }
+    requires { ⌜ successorCount (columns (now store)) + sizes .successors ≤ 512 ⌝ }
+    ensures { λ _. ⌜ columns (now (store .exit)) ≡ withRow (columns (now (store .entry))) opOperandFirst n (opSlices (columns (now (store .entry))) (sizes .operands) (sizes .successors)) ⌝ }
+{
+    let o = number(store, COUNTS, OPERANDS);
+    let s = number(store, COUNTS, SUCCESSORS);
+    put(store, OP_OPERAND_FIRST, n, o as u32);
+    put(store, OP_OPERAND_END, n, (o + sizes.operands) as u32);
+    put(store, OP_SUCCESSOR_FIRST, n, s as u32);
+    put(store, OP_SUCCESSOR_END, n, (s + sizes.successors) as u32);
+    put(store, OP_ATTRIBUTES, n, 0);
+}
+
+// Operation n goes to the end of its block's range, if it has a block, and the one before it is linked to it.
 fn place_op(store: &mut [u32], parent: Parent, n: usize)
     requires { ⌜ length (now store) ≡ bufferLength ⌝ }
     requires { ⌜ parentBelow 256 (parentOf parent) ⌝ }
@@ -117,7 +135,11 @@ fn place_op(store: &mut [u32], parent: Parent, n: usize)
 {
     match parent {
         Parent::None => {}
-        Parent::Block(b) => extend(store, BLOCK_OP_FIRST, BLOCK_OP_END, b as usize, n),
+        Parent::Block(b) => {
+            let end = number(store, BLOCK_OP_END, b as usize);
+            link_child(store, OP_PARENT, OP_NEXT, end, b + 1, n);
+            extend(store, BLOCK_OP_FIRST, BLOCK_OP_END, b as usize, n);
+        }
     }
 }
 
@@ -133,36 +155,18 @@ fn parent_word(parent: Parent) -> u32
 }
 
 // Writes a new operation's row, and its number into its block's range.
-fn put_op(
-    store: &mut [u32],
-    kind: u32,
-    parent: Parent,
-    location: u32,
-    regions: usize,
-    results: usize,
-    operands: usize,
-    successors: usize,
-)
+fn put_op(store: &mut [u32], kind: u32, parent: Parent, location: u32, sizes: Sizes)
     requires { ⌜ IsSound (now store) ⌝ }
     requires { ⌜ parentExists (storeIn (now store)) (parentOf parent) ≡ true ⌝ }
-    requires { ⌜ OpRoom (columns (now store)) regions results operands successors ⌝ }
-    ensures { λ _. ⌜ columns (now (store .exit)) ≡ opWritten (columns (now (store .entry))) kind (parentOf parent) location regions results operands successors ⌝ }
+    requires { ⌜ OpRoom (columns (now store)) (sizes .regions) (sizes .results) (sizes .operands) (sizes .successors) ⌝ }
+    ensures { λ _. ⌜ columns (now (store .exit)) ≡ opWritten (columns (now (store .entry))) kind (parentOf parent) location (sizes .regions) (sizes .results) (sizes .operands) (sizes .successors) ⌝ }
 {
     let n = number(store, COUNTS, OPS);
     let depth = depth_under(store, parent);
     let word = parent_word(parent);
-    put_op_row(
-        store,
-        n,
-        kind,
-        word,
-        location,
-        depth,
-        regions,
-        results,
-        operands,
-        successors,
-    );
+    put_op_head(store, n, kind, word, location, depth);
+    put_op_ranges(store, n, sizes);
+    put_op_slices(store, n, sizes);
     place_op(store, parent, n);
 }
 
@@ -183,18 +187,14 @@ fn put_operation(
     ensures { λ _. ⌜ columns (now (store .exit)) ≡ withOperation (columns (now (store .entry))) kind (parentOf parent) location regions (now (types .entry)) (now (operands .entry)) (now (successors .entry)) ⌝ }
 {
     let n = number(store, COUNTS, OPS);
-    let count = regions as usize;
-    put_op(
-        store,
-        kind,
-        parent,
-        location,
-        count,
-        types.len(),
-        operands.len(),
-        successors.len(),
-    );
-    put_regions(store, n, count);
+    let sizes = Sizes {
+        regions: regions as usize,
+        results: types.len(),
+        operands: operands.len(),
+        successors: successors.len(),
+    };
+    put_op(store, kind, parent, location, sizes);
+    put_regions(store, n, sizes.regions);
     put_values(store, (2 * n) as u32, types);
     put_slice(store, OPERAND_WORDS, OPERANDS, operands);
     put_slice(store, SUCCESSOR_WORDS, SUCCESSORS, successors);

@@ -6,6 +6,14 @@ pub enum Parent {
     Block(u32),
 }
 
+// How many regions, results, operands and successors a new operation has.
+pub struct Sizes {
+    pub regions: usize,
+    pub results: usize,
+    pub operands: usize,
+    pub successors: usize,
+}
+
 // What an attribute is set on.
 pub type Owner = layout::owners::Owner;
 

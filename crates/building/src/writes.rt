@@ -1,4 +1,5 @@
 // What an accepted call writes. Each function writes what the definition of its contract says, column by column, and nothing else.
+use layout::children::is_behind;
 use layout::columns::COUNTS;
 use layout::columns::REGION_BLOCK_END;
 use layout::columns::REGION_BLOCK_FIRST;
@@ -15,14 +16,14 @@ use layout::columns::put_same;
 ghost use mathlib.Core.Path.{_≡_};
 ghost use Prim.Native.Nat.{ℕ, _+_, _<_, _≤_};
 ghost use lib.ListN.{length};
-ghost use Rattle.layout.specs.Columns.{bufferLength, columnSize, columns, counts};
+ghost use Rattle.layout.specs.Columns.{bufferLength, columnSize, columns, counts, columnCount};
 ghost use Rattle.layout.specs.Reading.{regionCount, valueCount};
-ghost use Rattle.building.specs.Raw.{withRow, begun, extended, withSlice, withRegions, withValuesBy};
+ghost use Rattle.building.specs.Raw.{withRow, begun, lastLinked, childLinked, extended, withSlice, withRegions, withValuesBy};
 
 // Writes row n of a table: its words, one to a column, from column `first` on.
 pub fn put_row(store: &mut [u32], first: usize, n: usize, row: &[u32])
     requires { ⌜ length (now store) ≡ bufferLength ⌝ }
-    requires { ⌜ first + length (now row) ≤ 32 ⌝ }
+    requires { ⌜ first + length (now row) ≤ columnCount ⌝ }
     requires { ⌜ ((j : ℕ) → j < length (now row) → n < columnSize (first + j)) ⌝ }
     ensures { λ _. ⌜ columns (now (store .exit)) ≡ withRow (columns (now (store .entry))) first n (now (row .entry)) ⌝ }
 {
@@ -43,11 +44,40 @@ fn begin(first: u32, end: u32, n: u32) -> u32
     first
 }
 
+// The last child before n, with which its owner's range ends, is linked to n. `w` is the owner's word in the column `owners`.
+fn link_last(store: &mut [u32], owners: usize, links: usize, end: usize, w: u32, n: usize)
+    requires { ⌜ length (now store) ≡ bufferLength ⌝ }
+    requires { ⌜ owners < columnCount ⌝ }
+    requires { ⌜ links < columnCount ⌝ }
+    requires { ⌜ n < columnSize owners ⌝ }
+    requires { ⌜ n < columnSize links ⌝ }
+    requires { ⌜ n < 512 ⌝ }
+    ensures { λ _. ⌜ columns (now (store .exit)) ≡ lastLinked (columns (now (store .entry))) owners links end w n ⌝ }
+{
+    if is_behind(store, owners, n, w, end) {
+        put(store, links, end - 1, n as u32);
+    }
+}
+
+// The same, and n is linked to no child yet.
+pub fn link_child(store: &mut [u32], owners: usize, links: usize, end: usize, w: u32, n: usize)
+    requires { ⌜ length (now store) ≡ bufferLength ⌝ }
+    requires { ⌜ owners < columnCount ⌝ }
+    requires { ⌜ links < columnCount ⌝ }
+    requires { ⌜ n < columnSize owners ⌝ }
+    requires { ⌜ n < columnSize links ⌝ }
+    requires { ⌜ n < 512 ⌝ }
+    ensures { λ _. ⌜ columns (now (store .exit)) ≡ childLinked (columns (now (store .entry))) owners links end w n ⌝ }
+{
+    link_last(store, owners, links, end, w, n);
+    put(store, links, n, 0);
+}
+
 // A new child, number n, goes to the end of its owner's range, which stands in the columns `first` and `end`.
 pub fn extend(store: &mut [u32], first: usize, end: usize, owner: usize, n: usize)
     requires { ⌜ length (now store) ≡ bufferLength ⌝ }
-    requires { ⌜ first < 32 ⌝ }
-    requires { ⌜ end < 32 ⌝ }
+    requires { ⌜ first < columnCount ⌝ }
+    requires { ⌜ end < columnCount ⌝ }
     requires { ⌜ owner < columnSize first ⌝ }
     requires { ⌜ owner < columnSize end ⌝ }
     requires { ⌜ n < 512 ⌝ }
@@ -88,7 +118,7 @@ pub fn put_values(store: &mut [u32], owner: u32, types: &[u32])
 // Appends a list to a shared list; the shared list's length is word `word` of the counts.
 pub fn put_slice(store: &mut [u32], column: usize, word: usize, list: &[u32])
     requires { ⌜ length (now store) ≡ bufferLength ⌝ }
-    requires { ⌜ column < 32 ⌝ }
+    requires { ⌜ column < columnCount ⌝ }
     requires { ⌜ word < 8 ⌝ }
     requires { ⌜ Rattle.layout.specs.Columns.at (columns (now store)) counts word + length (now list) ≤ columnSize column ⌝ }
     requires { ⌜ columnSize column ≤ 2048 ⌝ }

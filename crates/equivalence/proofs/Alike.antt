@@ -1,22 +1,25 @@
 -- The shells of two operations or blocks are compared by their rows: a row has its owner's shell, and as many values. Assumes nothing.
-use Prim.Native.Nat.{ℕ}
+use Prim.Native.Nat.{ℕ, _+_}
+use native.Mathlib.Omega.{arith}
 use mathlib.Core.Bool.{Bool, true, false, cond, _&&_}
 use mathlib.Core.Option.{none, some}
 use mathlib.Core.List.{[], _∷_}
 use mathlib.Core.Path.{_≡_, refl, sym, ap, _∙_}
-use borrow.Author.Tests.{eqb-true}
+use borrow.Author.Tests.{eqb-true, ne-eqb}
 use lib.Dec.{eqb}
 use Rattle.rules.specs.Lists.{every, sameList}
-use Rattle.rules.specs.Store.{ofOp, ofBlock}
+use Rattle.rules.specs.Store.{opAt, ofOp, ofBlock}
 use Rattle.rules.specs.Shells.{Ignore, unignoredLocation, countsOf, sameAttribute, sameLocation, sameShells}
-use Rattle.rules.proofs.Basics.Tests.{passed}
+use Rattle.rules.proofs.Basics.Tests.{passed, and-left, and-right}
 use Rattle.layout.specs.Columns.{Cols}
 use Rattle.layout.specs.Reading.{storeOf}
 use Rattle.fragments.specs.Rows.{rowShell, RowOf, HeadOf}
 use Rattle.fragments.specs.declared.types.Head.{Head}
 use Rattle.fragments.specs.declared.types.Row.{Row}
 use Rattle.fragments.proofs.ByRows.{row-count}
-use Rattle.equivalence.specs.Rows.{sameHeads, sameRows}
+use Rattle.equivalence.specs.Slots.{sameKept}
+use Rattle.equivalence.specs.Rows.{sameHeads, sameBareRows, sameRows}
+use Rattle.equivalence.proofs.Kept.{ended-both}
 
 -- ---- rows
 
@@ -38,6 +41,12 @@ counts-read : {C : Cols} {n : ℕ} {h : Head} {r : Row} → HeadOf (storeOf C) n
     → countsOf (storeOf C) (ofOp n) ≡ h .kind ∷ h .regions ∷ h .successors ∷ h .operands ∷ r .values ∷ []
 unfolding countsOf
 counts-read e f = λ i. sym (e .kind) i ∷ sym (e .regions) i ∷ sym (e .successors) i ∷ sym (e .operands) i ∷ sym (row-count f) i ∷ []
+
+-- operations of two kinds are not the same, whatever else they have
+pub kinds-unlike : (C : Cols) (ig : Ignore) {a b : ℕ} {h g : Head} → HeadOf (storeOf C) a h → HeadOf (storeOf C) b g → (h .kind ≡ g .kind → ⊥)
+    → sameShells (storeOf C) ig (ofOp a) (ofOp b) ≡ false
+unfolding sameShells every sameList countsOf
+kinds-unlike C ig {a} {b} eh eg ne = rw (ne-eqb (opAt (storeOf C) a .kind) (opAt (storeOf C) b .kind) (λ e. ne (eh .kind ∙ e ∙ sym (eg .kind)))) refl
 
 -- what is compared beside the counts
 abbrev rest : Cols → Ignore → Row → Row → Bool
@@ -78,6 +87,41 @@ module _ {C : Cols} (ig : Ignore) {a b : ℕ} {l r : Row} where
 pub as-many : (C : Cols) (ig : Ignore) (l r : Row) → sameRows C ig l r ≡ true → l .values ≡ r .values
 unfolding sameRows
 as-many C ig l r h = eqb-true (l .values) (r .values) (passed _ h .0)
+
+-- ---- rows, with the attributes last
+
+attributes-last : (a b c d : Bool) → every (a ∷ b ∷ c ∷ d ∷ []) ≡ every (a ∷ b ∷ d ∷ []) && c
+unfolding every
+attributes-last false b c d = refl
+attributes-last true false c d = refl
+attributes-last true true false false = refl
+attributes-last true true false true = refl
+attributes-last true true true false = refl
+attributes-last true true true true = refl
+
+module _ (C : Cols) (ig : Ignore) (l r : Row) where
+  abbrev slots : Bool
+  slots = sameKept C ig (l .slot) (l .slot + l .attributes) (r .slot) (r .slot + r .attributes)
+
+  parts : sameRows C ig l r ≡ sameBareRows C ig l r && slots
+  unfolding sameRows sameBareRows sameKept rowShell
+  parts =
+      attributes-last (eqb (l .values) (r .values)) (sameLocation (rowShell C ig l .location) (rowShell C ig r .location)) slots
+      (sameList eqb (rowShell C ig l .types) (rowShell C ig r .types))
+
+  pub rows-unlike : sameBareRows C ig l r ≡ false → sameRows C ig l r ≡ false
+  rows-unlike e = parts ∙ ap (λ (t : Bool). t && slots) e
+
+  module _ (e : sameBareRows C ig l r ≡ true) where
+    pub rows-left : sameRows C ig l r ≡ slots
+    rows-left = parts ∙ ap (λ (t : Bool). t && slots) e
+
+    -- no attributes are equal attributes
+    pub rows-bare : (eqb (l .attributes) 0 && eqb (r .attributes) 0) ≡ true → sameRows C ig l r ≡ true
+    rows-bare n =
+        let x : l .attributes ≡ 0 = eqb-true _ _ (and-left (eqb (l .attributes) 0) (eqb (r .attributes) 0) n) in
+        let y : r .attributes ≡ 0 = eqb-true _ _ (and-right (eqb (l .attributes) 0) (eqb (r .attributes) 0) n) in
+        rows-left ∙ ended-both C ig (l .slot) _ (r .slot) _ (omega arith) (omega arith)
 
 -- ---- locations
 

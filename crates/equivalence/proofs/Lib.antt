@@ -8,6 +8,7 @@ pub mod Entering
 pub mod Paired
 pub mod Ordered
 pub mod Telling
+pub mod Zipped
 pub mod Named
 pub mod Rounds
 pub mod Answering

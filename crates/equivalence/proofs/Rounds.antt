@@ -1,34 +1,34 @@
 -- The walks that call one another: two regions are their lists of blocks, two operations are what they name and then their regions pair
 -- by pair, and two lists of blocks are their three passes, the last of them pair by pair. Assumes nothing.
 use Prim.Native.Nat.{ℕ, suc, _+_, _-_, _<_, _≤_, min}
-use native.Mathlib.Nat.{le-refl, le-trans}
 use native.Mathlib.Decide.{decLt}
 use native.Mathlib.Omega.{arith}
 use mathlib.Core.Bool.{true, false, _&&_}
-use mathlib.Core.List.{List, [], _∷_, List·Memᴰ}
+use mathlib.Core.List.{List, [], _∷_, List·Memᴰ, List·Memᴰ·head}
 use mathlib.Core.Path.{_≡_, refl, sym, ap, ap₂, subst, _∙_}
 use lib.ListN.{length}
-use Rattle.rules.specs.Store.{Store, regionsOf, regionExists, sound}
+use Rattle.rules.specs.Store.{Store, opAround, opsOf, regionsOf, regionExists, sound}
 use Rattle.rules.specs.Fragments.{op, region, exists, levels}
 use Rattle.rules.specs.Shells.{Ignore}
 use Rattle.rules.specs.Comparison.{State, Walk, on, standing, _>>=_, eachPair, expect, operandsAgree, successorsAgree, checkNames, checkOps, pass1, pass2, pass3, compareLists, compareRegions, compareBy}
 use Rattle.rules.specs.Answers.{comparisonOf}
 use Rattle.rules.proofs.Walking.Enough.{enough-one}
 use Rattle.rules.proofs.Walking.Deep.{walks-not-deep}
-use Rattle.rules.proofs.Walking.Paired.{Grows, grows-bind, grows-ops, grows-pass2, grows-pass3, grows-regions}
+use Rattle.rules.proofs.Walking.Paired.{Grows, grows-each, grows-ops, grows-pass2, grows-pass3, grows-regions}
 use Rattle.layout.specs.Columns.{Cols, at, opRegionFirst, opRegionEnd}
 use Rattle.layout.specs.Reading.{opCount, regionCount, storeOf}
 use Rattle.layout.proofs.Laid.{Laid}
 use Rattle.layout.proofs.Ranges.{range, range-empty, range-first, length-range, regions-range, in-range}
 use Rattle.fragments.specs.Order.{blockList}
+use Rattle.fragments.specs.declared.types.Blocks.{Blocks}
+use Rattle.fragments.specs.declared.types.Blocks.the-variants as list
+use Rattle.fragments.proofs.Below.{below, aroundList, around-all, op-falls}
 use Rattle.equivalence.specs.MappingWords.{mappingOf}
-use Rattle.equivalence.specs.Walked.{answerOf, stateOf, outcome, Told, PairedFits, leftOf, rightOf, lefts, rights, pairOfLists, regionWalk, opWalk, listsWalk}
-use Rattle.equivalence.specs.Order.{pairsFrom, walkPairs}
+use Rattle.equivalence.specs.Walked.{answerOf, stateOf, outcome, Told, PairedFits, leftOf, rightOf, lefts, rights, pairOfLists, regionWalk, opWalk, opsWalk, listsWalk}
 use Rattle.equivalence.specs.declared.types.EqResult.{EqResult}
 use Rattle.equivalence.specs.declared.types.EqResult.the-variants.{Eq, FirstNEQOps}
 use Rattle.equivalence.specs.declared.types.BlockLists.{BlockLists}
 use Rattle.equivalence.specs.declared.types.BlockLists.the-variants.{InRegions}
-use Rattle.equivalence.proofs.Ordered.{pass3-pairs}
 use Rattle.equivalence.proofs.Telling.{NotEq, told-ended, told-bind, few-part}
 
 module _ (s : Store) (ig : Ignore) where
@@ -61,20 +61,9 @@ module _ (s : Store) (ig : Ignore) where
 
   -- ---- two lists of blocks
 
-  pub grows-pairs : (ps : List (ℕ × ℕ)) → Grows (walkPairs (opWalk s ig) ps)
-  unfolding walkPairs standing
-  grows-pairs [] st = le-refl _
-  grows-pairs (p ∷ ps) st =
-      le-trans (grows-op (p .0) (p .1) st) (grows-bind (opWalk s ig (p .0) (p .1) st) (walkPairs (opWalk s ig) ps) (grows-pairs ps))
-
-  pub pairs-done : (ps : List (ℕ × ℕ)) (st : State) → ps ≡ [] → walkPairs (opWalk s ig) ps st ≡ on st
-  unfolding walkPairs
-  pairs-done ps st e = rw e refl
-
-  pub pairs-step : (l r : ℕ) (qs : List (ℕ × ℕ)) (st : State) {ps : List (ℕ × ℕ)} → ps ≡ (l, r) ∷ qs
-      → walkPairs (opWalk s ig) ps st ≡ opWalk s ig l r st >>= walkPairs (opWalk s ig) qs
-  unfolding walkPairs
-  pairs-step l r qs st e = ap (λ (ps : List (ℕ × ℕ)). walkPairs (opWalk s ig) ps st) e
+  pub grows-ops-in : (l r : ℕ) → Grows (opsWalk s ig l r)
+  unfolding opsWalk
+  grows-ops-in l r = grows-each (opWalk s ig) grows-op _ _
 
   module _ (x : BlockLists) (st : State) where
     abbrev pub first : Walk
@@ -109,8 +98,19 @@ module _ (s : Store) (ig : Ignore) where
       second-ended o c k t = subst (λ (w : Walk). Told w o c) (sym past-first) (told-ended (second (stateOf b n)) third o c k t)
 
       pub third-starts : (c : List ℕ) {m : ℕ} {o : EqResult} → o ≡ Eq m → Told (second (stateOf b n)) o c
-          → listsWalk s ig x st ≡ walkPairs (opWalk s ig) (pairsFrom s x (record { lblock = 0; rblock = 0; lop = 0; rop = 0 })) (stateOf c m)
-      third-starts c {m} f t = past-first ∙ told-bind (second (stateOf b n)) third c f t ∙ pass3-pairs (opWalk s ig) s x (stateOf c m)
+          → listsWalk s ig x st ≡ eachPair (opsWalk s ig) (lefts s x) (rights s x) (stateOf c m)
+      unfolding opsWalk pass3
+      third-starts c f t = past-first ∙ told-bind (second (stateOf b n)) third c f t
+
+-- ---- what is below a block's operations
+
+-- the operation around a block is the one around its list
+pub block-around : (s : Store) (x : Blocks) (b : ℕ) → List·Memᴰ b (blockList s x) → below s (opAround s b) ≡ below s (aroundList s x)
+block-around s x b m = ap (below s) (around-all s x b m)
+
+pub op-behind : (s : Store) → sound s ≡ true → (b n : ℕ) → List·Memᴰ n (opsOf s b) → below s n < below s (opAround s b)
+unfolding blockList aroundList
+op-behind s sd b n m = op-falls s sd (list.Alone b) b n (List·Memᴰ·head refl) m
 
 -- ---- regions pair by pair
 

@@ -19,9 +19,13 @@ mappingOf b = record { values = take maxValues b; blocks = take maxBlocks (drop 
 unfoldable pub emptyWords : List ℕ
 emptyWords = replicate mappingLength noImage
 
--- "every left number and image used exists in the store": one entry, of number n, of a store with so many
-unfoldable pub entryAllowed : ℕ → ℕ → ℕ → Bool
-entryAllowed count n e = eqb e noImage || (ltb n count && ltb e count)
+-- "every left number and image used exists in the store": the entry of a number that exists, in a store with so many
+unfoldable pub imageAllowed : ℕ → ℕ → Bool
+imageAllowed count e = eqb e noImage || ltb e count
+
+-- the entry of any other number
+unfoldable pub unmapped : ℕ → Bool
+unmapped e = eqb e noImage
 
 -- ---- entries made
 

@@ -18,6 +18,15 @@ sameHeads l r =
     ∷ eqb (l .operands) (r .operands)
     ∷ [])
 
+-- without the attributes
+unfoldable pub sameBareRows : Cols → Ignore → Row → Row → Bool
+sameBareRows C ig l r =
+    every
+    (eqb (l .values) (r .values)
+    ∷ sameLocation (rowShell C ig l .location) (rowShell C ig r .location)
+    ∷ sameList eqb (rowShell C ig l .types) (rowShell C ig r .types)
+    ∷ [])
+
 unfoldable pub sameRows : Cols → Ignore → Row → Row → Bool
 sameRows C ig l r =
     every

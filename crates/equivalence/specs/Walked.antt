@@ -3,10 +3,10 @@ use Prim.Native.Nat.{ℕ, _≤_}
 use mathlib.Core.List.{List}
 use mathlib.Core.Path.{_≡_}
 use lib.ListN.{length}
-use Rattle.rules.specs.Store.{Store}
+use Rattle.rules.specs.Store.{Store, opsOf}
 use Rattle.rules.specs.Fragments.{op, block, region, levels}
 use Rattle.rules.specs.Shells as rules
-use Rattle.rules.specs.Comparison.{State, Pair, Walk, standing, pairOf, checkOps, compareLists, compareRegions}
+use Rattle.rules.specs.Comparison.{State, Pair, Walk, standing, eachPair, pairOf, checkOps, compareLists, compareRegions}
 use Rattle.rules.specs.Answers.{Compared, Comparison, eq, neq, refused, comparisonOf}
 use Rattle.layout.specs.Soundness.{IsSound}
 use Rattle.fragments.specs.Order.{blockList}
@@ -86,6 +86,10 @@ regionWalk s ig l r st = compareRegions levels s ig l r st
 
 unfoldable pub opWalk : Store → rules.Ignore → ℕ → ℕ → State → Walk
 opWalk s ig l r st = checkOps s (compareRegions levels s ig) l r st
+
+-- over the operations of two blocks that are paired
+unfoldable pub opsWalk : Store → rules.Ignore → ℕ → ℕ → State → Walk
+opsWalk s ig l r st = eachPair (opWalk s ig) (opsOf s l) (opsOf s r) st
 
 unfoldable pub listsWalk : Store → rules.Ignore → BlockLists → State → Walk
 listsWalk s ig x st = compareLists s ig (opWalk s ig) (pairOfLists x) (lefts s x) (rights s x) st

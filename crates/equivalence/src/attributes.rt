@@ -9,7 +9,7 @@ ghost use mathlib.Core.Path.{_≡_};
 ghost use Prim.Native.Nat.{_<_, _≤_};
 ghost use lib.ListN.{length};
 ghost use Rattle.rules.specs.Shells.{sameAttribute};
-ghost use Rattle.layout.specs.Columns.{bufferLength, columns};
+ghost use Rattle.layout.specs.Columns.{bufferLength, columns, slotCount};
 ghost use Rattle.layout.specs.Reading.{attributeAt};
 ghost use Rattle.fragments.specs.Ignoring.{ignoreOf, Kinds};
 ghost use Rattle.equivalence.specs.Slots.{sameKept};
@@ -17,8 +17,8 @@ ghost use Rattle.equivalence.specs.Slots.{sameKept};
 // The attributes at two slots are equal.
 fn attribute_eq(store: &[u32], l: usize, r: usize) -> bool
     requires { ⌜ length (now store) ≡ bufferLength ⌝ }
-    requires { ⌜ l < 6144 ⌝ }
-    requires { ⌜ r < 6144 ⌝ }
+    requires { ⌜ l < slotCount ⌝ }
+    requires { ⌜ r < slotCount ⌝ }
     ensures { λ q. ⌜ q ≡ sameAttribute (attributeAt (columns (now (store .entry))) l) (attributeAt (columns (now (store .entry))) r) ⌝ }
 {
     if at(store, SLOT_KEY, l) != at(store, SLOT_KEY, r) {
@@ -40,10 +40,10 @@ pub fn attributes_eq(
     rend: usize,
 ) -> bool
     requires { ⌜ length (now store) ≡ bufferLength ⌝ }
-    requires { ⌜ lend ≤ 6144 ⌝ }
+    requires { ⌜ lend ≤ slotCount ⌝ }
     requires { ⌜ l ≤ lend ⌝ }
     requires { ⌜ Kinds (columns (now store)) l lend ⌝ }
-    requires { ⌜ rend ≤ 6144 ⌝ }
+    requires { ⌜ rend ≤ slotCount ⌝ }
     requires { ⌜ r ≤ rend ⌝ }
     requires { ⌜ Kinds (columns (now store)) r rend ⌝ }
     ensures { λ q. ⌜ q ≡ sameKept (columns (now (store .entry))) (ignoreOf ignore) l lend r rend ⌝ }

@@ -9,6 +9,8 @@ use fragments::ignoring::Ignore;
 use fragments::sorts::exists;
 use fragments::types::Sort;
 use layout::causes::Cause;
+use layout::columns::OP_KIND;
+use layout::columns::at;
 ghost use mathlib.Core.Bool.{true};
 ghost use mathlib.Core.Path.{_≡_};
 ghost use Rattle.rules.specs.Building.{firstFailed};
@@ -40,7 +42,8 @@ fn pair_cause(store: &[u32], sort: Sort, lhs: u32, rhs: u32) -> Cause
     Cause::None
 }
 
-// Compare two operations: they are mapped, and then everything else about them is compared.
+// Compare two operations: they are mapped, and then everything else about them is compared. The store is lent anew, and what is ignored put
+// together anew, so that calls take both in registers.
 fn ops_eq(store: &[u32], mapping: &mut [u32], lhs: usize, rhs: usize, ignore: Ignore) -> EqResult
     requires { ⌜ ReadyToCompare (now store) (now mapping) ⌝ }
     requires { ⌜ lhs < opCount (columns (now store)) ⌝ }
@@ -48,11 +51,15 @@ fn ops_eq(store: &[u32], mapping: &mut [u32], lhs: usize, rhs: usize, ignore: Ig
     requires { ⌜ PairedFits (compareBy (storeIn (now store)) (ignoreOf ignore) op lhs rhs (stateOf (now mapping) 0)) ⌝ }
     ensures { λ q. ⌜ Told (compareBy (storeIn (now (store .entry))) (ignoreOf ignore) op lhs rhs (stateOf (now (mapping .entry)) 0)) q (now (mapping .exit)) ⌝ }
 {
-    let mapped = op_eq_map(store, mapping, lhs, rhs, ignore, 0);
+    let rule = Ignore {
+        locations: ignore.locations,
+        bits: ignore.bits,
+    };
+    let mapped = op_eq_map(&*store, mapping, lhs, rhs, rule, 0);
     let EqResult::Eq(paired) = mapped else {
         return mapped;
     };
-    op_eq_mapped(store, mapping, lhs, rhs, ignore, paired)
+    op_eq_mapped(&*store, mapping, lhs, rhs, rule, paired)
 }
 
 // Compare two fragments by their sort. Two blocks are two lists of one block each.
@@ -94,4 +101,26 @@ pub fn fragments_eq(
         return EqResult::Refused(n);
     }
     walk_eq(store, mapping, sort, lhs as usize, rhs as usize, ignore)
+}
+
+// Compare two operations, as `fragments_eq` does. Kinds that differ at first sight are told before anything else is read.
+pub fn operations_eq(
+    store: &[u32],
+    mapping: &mut [u32],
+    lhs: u32,
+    rhs: u32,
+    ignore: Ignore,
+) -> EqResult
+    requires { ⌜ IsSound (now store) ⌝ }
+    requires { ⌜ allowed (storeIn (now store)) (mappingOf (now mapping)) ≡ true ⌝ }
+    ensures { λ q. ⌜ Answered (now (store .entry)) (now (mapping .entry)) (now (mapping .exit)) (ignoreOf ignore) op lhs rhs q ⌝ }
+{
+    let cause = pair_cause(store, Sort::Op, lhs, rhs);
+    if let Cause::Is(n) = cause {
+        return EqResult::Refused(n);
+    }
+    if at(store, OP_KIND, lhs as usize) != at(store, OP_KIND, rhs as usize) {
+        return EqResult::FirstNEQOps(lhs, rhs, 0);
+    }
+    ops_eq(store, mapping, lhs as usize, rhs as usize, ignore)
 }

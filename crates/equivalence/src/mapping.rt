@@ -4,13 +4,15 @@ use layout::columns::COUNTS;
 use layout::columns::OPS;
 use layout::columns::VALUES;
 use layout::columns::at;
+use std::num::wrapping_add_u32;
 ghost use mathlib.Core.Path.{_≡_};
 ghost use Prim.Native.Nat.{_+_, _<_, _≤_};
 ghost use lib.ListN.{length};
+ghost use Rattle.rules.specs.Lists.{all};
 ghost use Rattle.rules.specs.Mapping.{entriesAllowed, allowed};
 ghost use Rattle.layout.specs.Reading.{storeIn, consecutive};
 ghost use Rattle.layout.specs.Soundness.{Arranged};
-ghost use Rattle.equivalence.specs.MappingWords.{mappingLength, mappingOf, entryAllowed, opMapped, blockMapped, valuesMapped};
+ghost use Rattle.equivalence.specs.MappingWords.{mappingLength, mappingOf, imageAllowed, unmapped, opMapped, blockMapped, valuesMapped};
 
 // The entry of a number that has no image.
 pub const NO_IMAGE: u32 = 4294967295;
@@ -22,31 +24,52 @@ pub const BLOCK_ENTRIES: usize = 2048;
 
 pub const OP_ENTRIES: usize = 2304;
 
-// An entry is allowed if it has no image, or if its number n and its image exist, in a store with `count` of what it is an entry of.
-fn entry_allowed(count: u32, n: usize, image: u32) -> bool
-    ensures { λ r. ⌜ r ≡ entryAllowed count n image ⌝ }
+// An entry of a number that exists is allowed if it has no image, or one that exists in a store with `count` of what it is an entry of. Of
+// an entry that has none, one more wraps to 0.
+fn image_allowed(count: u32, image: u32) -> bool
+    ensures { λ r. ⌜ r ≡ imageAllowed count image ⌝ }
 {
-    if image == NO_IMAGE {
-        return true;
+    wrapping_add_u32(image, 1) <= count
+}
+
+// Each of these entries of numbers that exist is allowed. The loop has no early exit, so that it is done in lanes.
+fn images_allowed(count: u32, entries: &[u32]) -> bool
+    ensures { λ r. ⌜ r ≡ all (imageAllowed count) (now (entries .entry)) ⌝ }
+{
+    let mut good = true;
+    let mut i = 0;
+    while i < entries.len() {
+        good = good & image_allowed(count, entries[i]);
+        i += 1;
     }
-    if n >= count as usize {
-        return false;
+    good
+}
+
+// None of these entries has an image: all that is allowed of numbers that do not exist. The loop has no early exit either.
+fn none_mapped(entries: &[u32]) -> bool
+    ensures { λ r. ⌜ r ≡ all unmapped (now (entries .entry)) ⌝ }
+{
+    let mut good = true;
+    let mut i = 0;
+    while i < entries.len() {
+        good = good & (entries[i] == NO_IMAGE);
+        i += 1;
     }
-    image < count
+    good
 }
 
 // Each entry is allowed.
 fn entries_allowed(count: u32, entries: &[u32]) -> bool
     ensures { λ r. ⌜ r ≡ entriesAllowed count 0 (now (entries .entry)) ⌝ }
 {
-    let mut i = 0;
-    while i < entries.len() {
-        if !entry_allowed(count, i, entries[i]) {
-            return false;
-        }
-        i += 1;
+    let n = count as usize;
+    if n > entries.len() {
+        return images_allowed(count, entries);
     }
-    true
+    if !images_allowed(count, &entries[0..n]) {
+        return false;
+    }
+    none_mapped(&entries[n..])
 }
 
 // The mapping is of the right length, and each left number and image in it exists in the store.

@@ -1,7 +1,5 @@
 // The order of a comparison: two lists of blocks, and the operations in two blocks, are walked through side by side.
 use crate::types::BlockLists;
-use crate::types::NextOps;
-use crate::types::PairPosition;
 use crate::types::ZipNext;
 use layout::children::Found;
 use layout::children::next_block;
@@ -14,7 +12,7 @@ ghost use Rattle.layout.specs.Columns.{columns};
 ghost use Rattle.layout.specs.Reading.{blockCount, storeIn};
 ghost use Rattle.layout.specs.Soundness.{IsSound};
 ghost use Rattle.equivalence.specs.Walked.{lefts, rights};
-ghost use Rattle.equivalence.specs.Order.{bothOf, nextOf, ListsExist, FirstPair};
+ghost use Rattle.equivalence.specs.Order.{bothOf, nextOf, ListsExist};
 
 // What is next in two lists side by side, from what is next in each.
 fn both(l: Found, r: Found) -> ZipNext
@@ -52,34 +50,4 @@ pub fn next_ops(store: &[u32], l: usize, r: usize, a: usize, b: usize) -> ZipNex
     ensures { λ q. ⌜ q ≡ nextOf a (opsOf (storeIn (now (store .entry))) l) b (opsOf (storeIn (now (store .entry))) r) ⌝ }
 {
     both(next_op(store, l, a), next_op(store, r, b))
-}
-
-// The next pair of operations in two lists of blocks, from a position on.
-pub fn next_pair(store: &[u32], lists: BlockLists, from: PairPosition) -> NextOps
-    requires { ⌜ IsSound (now store) ⌝ }
-    requires { ⌜ ListsExist (columns (now store)) lists ⌝ }
-    ensures { λ q. ⌜ FirstPair (storeIn (now (store .entry))) lists from q ⌝ }
-{
-    let mut at = from;
-    loop {
-        let blocks = next_blocks(store, lists, at.lblock, at.rblock);
-        let ZipNext::Both(l, r) = blocks else {
-            return NextOps::End;
-        };
-        let ops = next_ops(store, l, r, at.lop, at.rop);
-        if let ZipNext::Both(m, n) = ops {
-            return NextOps::At(PairPosition {
-                lblock: l,
-                rblock: r,
-                lop: m,
-                rop: n,
-            });
-        }
-        at = PairPosition {
-            lblock: l + 1,
-            rblock: r + 1,
-            lop: 0,
-            rop: 0,
-        };
-    }
 }

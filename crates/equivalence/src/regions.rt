@@ -1,14 +1,15 @@
-// Comparison of two regions, of two lists of blocks, and of two operations that are mapped. The three functions call one another; this ends
+// Comparison of two regions, of two lists of blocks, and of two operations that are mapped. The four functions call one another; this ends
 // since a region holds fewer operations than the operation around it. An operation's uses are compared after everything in its list of
-// blocks is mapped, and before anything in its own regions is.
+// blocks is mapped, and before anything in its own regions is. What is ignored is put together anew from its fields (`rule`): so calls take
+// it in registers, where a copy would go through memory each time.
 use crate::names::names_agree;
-use crate::order::next_pair;
+use crate::order::next_blocks;
+use crate::order::next_ops;
 use crate::passes::map_blocks;
 use crate::passes::map_ops;
 use crate::types::BlockLists;
 use crate::types::EqResult;
-use crate::types::NextOps;
-use crate::types::PairPosition;
+use crate::types::ZipNext;
 use fragments::ignoring::Ignore;
 use fragments::rows::op_regions;
 use layout::columns::OP_REGION_FIRST;
@@ -18,11 +19,11 @@ ghost use mathlib.Core.Path.{_≡_};
 ghost use lib.ListN.{length};
 ghost use Rattle.rules.specs.Store.{regionsOf};
 ghost use Rattle.layout.specs.Columns.{columns};
-ghost use Rattle.layout.specs.Reading.{opCount, regionCount, storeIn};
+ghost use Rattle.layout.specs.Reading.{opCount, blockCount, regionCount, storeIn};
 ghost use Rattle.layout.specs.Soundness.{IsSound};
 ghost use Rattle.fragments.specs.Ignoring.{ignoreOf};
-ghost use Rattle.equivalence.specs.Walked.{ReadyToCompare, Told, PairedFits, stateOf, regionWalk, opWalk, listsWalk};
-ghost use Rattle.equivalence.specs.Order.{ListsExist, pastPair};
+ghost use Rattle.equivalence.specs.Walked.{ReadyToCompare, Told, PairedFits, stateOf, regionWalk, opWalk, opsWalk, listsWalk};
+ghost use Rattle.equivalence.specs.Order.{ListsExist};
 
 // How many pairs of regions two operations have.
 fn region_pairs(store: &[u32], lhs: usize, rhs: usize) -> usize
@@ -37,20 +38,6 @@ fn region_pairs(store: &[u32], lhs: usize, rhs: usize) -> usize
         return l;
     }
     r
-}
-
-// The position past a pair of operations.
-fn past_pair(p: PairPosition) -> PairPosition
-    requires { ⌜ p .lop < 512 ⌝ }
-    requires { ⌜ p .rop < 512 ⌝ }
-    ensures { λ q. ⌜ q ≡ pastPair p ⌝ }
-{
-    PairPosition {
-        lblock: p.lblock,
-        rblock: p.rblock,
-        lop: p.lop + 1,
-        rop: p.rop + 1,
-    }
 }
 
 // Compare everything that `op_eq_map` left unchecked: operands, successors and nested regions. Their mapping must already be updated.
@@ -71,13 +58,17 @@ pub fn op_eq_mapped(
     if !names_agree(store, mapping, lhs, rhs) {
         return EqResult::FirstNEQOps(lhs as u32, rhs as u32, paired);
     }
+    let rule = Ignore {
+        locations: ignore.locations,
+        bits: ignore.bits,
+    };
     let l = number(store, OP_REGION_FIRST, lhs);
     let r = number(store, OP_REGION_FIRST, rhs);
     let pairs = region_pairs(store, lhs, rhs);
     let mut count = paired;
     let mut i = 0;
     while i < pairs {
-        let compared = region_eq(store, mapping, l + i, r + i, ignore, count);
+        let compared = region_eq(store, mapping, l + i, r + i, rule, count);
         let EqResult::Eq(n) = compared else {
             return compared;
         };
@@ -124,34 +115,72 @@ pub fn blocks_eq(
     requires { ⌜ PairedFits (listsWalk (storeIn (now store)) (ignoreOf ignore) lists (stateOf (now mapping) paired)) ⌝ }
     ensures { λ q. ⌜ Told (listsWalk (storeIn (now (store .entry))) (ignoreOf ignore) lists (stateOf (now (mapping .entry)) paired)) q (now (mapping .exit)) ⌝ }
 {
+    let rule = Ignore {
+        locations: ignore.locations,
+        bits: ignore.bits,
+    };
     // Pass 1: blocks and their arguments.
-    let blocks = map_blocks(store, mapping, lists, ignore, paired);
+    let blocks = map_blocks(store, mapping, lists, rule, paired);
     let EqResult::Eq(entered) = blocks else {
         return blocks;
     };
     // Pass 2: every block's operations and their results.
-    let ops = map_ops(store, mapping, lists, ignore, entered);
+    let ops = map_ops(store, mapping, lists, rule, entered);
     let EqResult::Eq(mapped) = ops else {
         return ops;
     };
     // Pass 3: full comparison of every operation (operands, successors, regions).
     let mut count = mapped;
-    let mut at = PairPosition {
-        lblock: 0,
-        rblock: 0,
-        lop: 0,
-        rop: 0,
-    };
+    let mut lfrom = 0;
+    let mut rfrom = 0;
     loop {
-        let next = next_pair(store, lists, at);
-        let NextOps::At(p) = next else {
+        let next = next_blocks(store, lists, lfrom, rfrom);
+        let ZipNext::Both(l, r) = next else {
             return EqResult::Eq(count);
         };
-        let compared = op_eq_mapped(store, mapping, p.lop, p.rop, ignore, count);
+        let compared = check_ops_in(store, mapping, l, r, rule, count);
         let EqResult::Eq(n) = compared else {
             return compared;
         };
         count = n;
-        at = past_pair(p);
+        lfrom = l + 1;
+        rfrom = r + 1;
+    }
+}
+
+// Pass 3 in two blocks, whose operations and results are mapped.
+fn check_ops_in(
+    store: &[u32],
+    mapping: &mut [u32],
+    lhs: usize,
+    rhs: usize,
+    ignore: Ignore,
+    paired: u32,
+) -> EqResult
+    requires { ⌜ ReadyToCompare (now store) (now mapping) ⌝ }
+    requires { ⌜ lhs < blockCount (columns (now store)) ⌝ }
+    requires { ⌜ rhs < blockCount (columns (now store)) ⌝ }
+    requires { ⌜ PairedFits (opsWalk (storeIn (now store)) (ignoreOf ignore) lhs rhs (stateOf (now mapping) paired)) ⌝ }
+    ensures { λ q. ⌜ Told (opsWalk (storeIn (now (store .entry))) (ignoreOf ignore) lhs rhs (stateOf (now (mapping .entry)) paired)) q (now (mapping .exit)) ⌝ }
+{
+    let rule = Ignore {
+        locations: ignore.locations,
+        bits: ignore.bits,
+    };
+    let mut count = paired;
+    let mut lfrom = 0;
+    let mut rfrom = 0;
+    loop {
+        let next = next_ops(store, lhs, rhs, lfrom, rfrom);
+        let ZipNext::Both(l, r) = next else {
+            return EqResult::Eq(count);
+        };
+        let compared = op_eq_mapped(store, mapping, l, r, rule, count);
+        let EqResult::Eq(n) = compared else {
+            return compared;
+        };
+        count = n;
+        lfrom = l + 1;
+        rfrom = r + 1;
     }
 }

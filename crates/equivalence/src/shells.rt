@@ -8,6 +8,7 @@ use fragments::types::Row;
 use layout::columns::VALUE_TYPE;
 use layout::columns::words;
 use layout::lists::words_eq;
+ghost use mathlib.Core.Bool.{_&&_};
 ghost use mathlib.Core.Path.{_≡_};
 ghost use Prim.Native.Nat.{_+_, _<_};
 ghost use lib.Dec.{eqb};
@@ -20,7 +21,7 @@ ghost use Rattle.layout.specs.Reading.{opCount, slice, storeIn};
 ghost use Rattle.layout.specs.Soundness.{IsSound};
 ghost use Rattle.fragments.specs.Ignoring.{ignoreOf};
 ghost use Rattle.fragments.specs.Rows.{RowFits, RowOf};
-ghost use Rattle.equivalence.specs.Rows.{sameHeads, sameRows};
+ghost use Rattle.equivalence.specs.Rows.{sameHeads, sameBareRows, sameRows};
 
 // Two operations have the same kind, and as many regions, successors and operands.
 fn heads_eq(l: Head, r: Head) -> bool
@@ -61,13 +62,12 @@ fn types_eq(store: &[u32], l: Row, r: Row) -> bool
     )
 }
 
-// What operations and blocks have in common is equal, and this is all that is compared of two blocks: numbers of values, locations,
-// attributes, and the types of the values.
-pub fn rows_eq(store: &[u32], ignore: Ignore, l: Row, r: Row) -> bool
+// What operations and blocks have in common besides attributes is equal: numbers of values, locations, and the types of the values.
+fn bare_rows_eq(store: &[u32], ignore: Ignore, l: Row, r: Row) -> bool
     requires { ⌜ length (now store) ≡ bufferLength ⌝ }
     requires { ⌜ RowFits (columns (now store)) l ⌝ }
     requires { ⌜ RowFits (columns (now store)) r ⌝ }
-    ensures { λ q. ⌜ q ≡ sameRows (columns (now (store .entry))) (ignoreOf ignore) l r ⌝ }
+    ensures { λ q. ⌜ q ≡ sameBareRows (columns (now (store .entry))) (ignoreOf ignore) l r ⌝ }
 {
     if l.values != r.values {
         return false;
@@ -75,12 +75,33 @@ pub fn rows_eq(store: &[u32], ignore: Ignore, l: Row, r: Row) -> bool
     if !locations_eq(ignore, l.location, r.location) {
         return false;
     }
-    let lend = l.slot + l.attributes;
-    let rend = r.slot + r.attributes;
-    if !attributes_eq(store, ignore, l.slot, lend, r.slot, rend) {
+    types_eq(store, l, r)
+}
+
+// Neither of two rows has attributes.
+fn no_attributes(l: Row, r: Row) -> bool
+    ensures { λ q. ⌜ q ≡ (eqb (l .attributes) 0 && eqb (r .attributes) 0) ⌝ }
+{
+    (l.attributes == 0) & (r.attributes == 0)
+}
+
+// What operations and blocks have in common is equal, and this is all that is compared of two blocks. Attributes are compared by a call
+// here and by another in `op_shells_eq`: were there one, their loop would become a part of everything around it, and slow it down.
+pub fn rows_eq(store: &[u32], ignore: Ignore, l: Row, r: Row) -> bool
+    requires { ⌜ length (now store) ≡ bufferLength ⌝ }
+    requires { ⌜ RowFits (columns (now store)) l ⌝ }
+    requires { ⌜ RowFits (columns (now store)) r ⌝ }
+    ensures { λ q. ⌜ q ≡ sameRows (columns (now (store .entry))) (ignoreOf ignore) l r ⌝ }
+{
+    if !bare_rows_eq(store, ignore, l, r) {
         return false;
     }
-    types_eq(store, l, r)
+    if no_attributes(l, r) {
+        return true;
+    }
+    let lend = l.slot + l.attributes;
+    let rend = r.slot + r.attributes;
+    attributes_eq(store, ignore, l.slot, lend, r.slot, rend)
 }
 
 // What two operations have by themselves is equal; `l` and `r` are their rows.
@@ -95,5 +116,13 @@ pub fn op_shells_eq(store: &[u32], ignore: Ignore, lhs: usize, rhs: usize, l: Ro
     if !heads_eq(op_head(store, lhs), op_head(store, rhs)) {
         return false;
     }
-    rows_eq(store, ignore, l, r)
+    if !bare_rows_eq(store, ignore, l, r) {
+        return false;
+    }
+    if no_attributes(l, r) {
+        return true;
+    }
+    let lend = l.slot + l.attributes;
+    let rend = r.slot + r.attributes;
+    attributes_eq(store, ignore, l.slot, lend, r.slot, rend)
 }

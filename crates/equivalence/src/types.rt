@@ -23,18 +23,3 @@ pub enum ZipNext {
     Neither,
     Unequal,
 }
-
-// How far a walk through two lists of blocks has come. To come on the left are the blocks from number `lblock` on, and in the first of
-// these the operations from number `lop` on; on the right likewise.
-pub struct PairPosition {
-    pub lblock: usize,
-    pub rblock: usize,
-    pub lop: usize,
-    pub rop: usize,
-}
-
-// The next pair of operations in two lists of blocks, and the blocks that they are in; or that there is none.
-pub enum NextOps {
-    At(PairPosition),
-    End,
-}

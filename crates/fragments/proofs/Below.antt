@@ -23,10 +23,15 @@ unfoldable pub aroundList : Store → Blocks → ℕ
 aroundList s (InRegion r) = getD (s .regions) r 0
 aroundList s (Alone b) = opAround s b
 
-around-all : (s : Store) (x : Blocks) (b : ℕ) → List·Memᴰ b (blockList s x) → opAround s b ≡ aroundList s x
+pub around-all : (s : Store) (x : Blocks) (b : ℕ) → List·Memᴰ b (blockList s x) → opAround s b ≡ aroundList s x
 unfolding blockList aroundList opAround
 around-all s (InRegion r) b m = ap (λ (q : ℕ). getD (s .regions) q 0) (blocks-in s r m .1)
 around-all s (Alone a) b m = ap (opAround s) (List·Memᴰ·eq-of-singleton m)
+
+-- it is around each block of the list by itself
+pub around-block : (s : Store) (x : Blocks) (b : ℕ) → List·Memᴰ b (blockList s x) → aroundList s (Alone b) ≡ aroundList s x
+unfolding aroundList
+around-block s x b m = around-all s x b m
 
 -- an operation in the list is behind the one around it
 pub op-falls : (s : Store) → sound s ≡ true → (x : Blocks) (b n : ℕ) → List·Memᴰ b (blockList s x) → List·Memᴰ n (opsOf s b) → below s n < below s (aroundList s x)

@@ -7,7 +7,7 @@ use mathlib.Core.Path.{_≡_, sym, ap, subst, _∙_}
 use lib.ListN.{length}
 use Rattle.rules.specs.Store.{Op, Block, Owner, ofOp, ofBlock, typeOf, valuesOf, maxValues, maxOps, maxBlocks, maxOwnKeys, regionsOf}
 use Rattle.rules.specs.Shells.{Ignore, unignored, unignoredLocation, shellOf}
-use Rattle.layout.specs.Columns.{Cols, at, columns, opKind, opRegionFirst, opRegionEnd, opSuccessorFirst, opSuccessorEnd, opOperandFirst, opOperandEnd, opLocation, opResultFirst, opResultEnd, opAttributes, blockLocation, blockArgumentFirst, blockArgumentEnd, blockAttributes, valueType}
+use Rattle.layout.specs.Columns.{Cols, at, columns, opKind, opRegionFirst, opRegionEnd, opSuccessorFirst, opSuccessorEnd, opOperandFirst, opOperandEnd, opLocation, opResultFirst, opResultEnd, opAttributes, blockLocation, blockArgumentFirst, blockArgumentEnd, blockAttributes, valueType, firstBlockSlot}
 use Rattle.layout.specs.Reading.{opCount, blockCount, valueCount, slotsOf, slice, attributesFrom, opOf, blockOf, storeOf, consecutive}
 use Rattle.layout.specs.Owners.{countColumn, ownerNumber, keyCount}
 use Rattle.layout.specs.Soundness.{IsSound}
@@ -106,7 +106,7 @@ module _ (b : List ℕ) (s : IsSound b) where
         fits = record { slots = omega arith; kinds = block-kinds b s n l; values = omega arith };
         shell = λ ig i. record {
           location = ap (λ (o : Block). unignoredLocation ig (o .location)) (block-read C n l) i;
-          attributes = (ap (λ (o : Block). unignored ig (o .attributes)) (block-read C n l) ∙ slots-kept C ig (4096 + 8 * n) (at C blockAttributes n)) i;
+          attributes = (ap (λ (o : Block). unignored ig (o .attributes)) (block-read C n l) ∙ slots-kept C ig (firstBlockSlot + 8 * n) (at C blockAttributes n)) i;
           types = types-slice (ofBlock n) (at C blockArgumentFirst n) (at C blockArgumentEnd n) r (arguments-range C laid n l) i;
         };
         values = arguments-range C laid n l ∙ range-consecutive (at C blockArgumentFirst n) (at C blockArgumentEnd n);

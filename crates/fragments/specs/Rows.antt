@@ -4,7 +4,7 @@ use mathlib.Core.Path.{_≡_}
 use lib.ListN.{length}
 use Rattle.rules.specs.Store.{Store, Owner, opAt, regionsOf, valuesOf, maxValues}
 use Rattle.rules.specs.Shells.{Ignore, Shell, shellOf, unignoredLocation}
-use Rattle.layout.specs.Columns.{Cols, valueType}
+use Rattle.layout.specs.Columns.{Cols, valueType, slotCount}
 use Rattle.layout.specs.Reading.{slice, storeOf, consecutive}
 use Rattle.fragments.specs.Ignoring.{keptFrom, Kinds}
 use Rattle.fragments.specs.declared.types.Row.{Row}
@@ -12,7 +12,7 @@ use Rattle.fragments.specs.declared.types.Head.{Head}
 
 -- its slots and values are in the columns, and its attribute kinds are at most 63
 pub record RowFits (C : Cols) (r : Row) : Type 0 where
-  pub slots : r .slot + r .attributes ≤ 6144
+  pub slots : r .slot + r .attributes ≤ slotCount
   pub kinds : Kinds C (r .slot) (r .slot + r .attributes)
   pub values : r .value + r .values ≤ maxValues
 

@@ -5,7 +5,7 @@ ghost use mathlib.Core.Path.{_≡_};
 ghost use Prim.Native.Nat.{_<_, _≤_};
 ghost use lib.ListN.{length};
 ghost use Rattle.rules.specs.Shells.{ignored};
-ghost use Rattle.layout.specs.Columns.{bufferLength, columns, slotKind};
+ghost use Rattle.layout.specs.Columns.{bufferLength, columns, slotKind, slotCount};
 ghost use Rattle.layout.specs.Reading.{attributeAt};
 ghost use Rattle.fragments.specs.Ignoring.{ignoreOf, bitSet, Kinds, Skipped};
 
@@ -26,7 +26,7 @@ fn bit_set(bits: u64, kind: u32) -> bool
 // The attribute at a slot is ignored.
 fn slot_ignored(store: &[u32], ignore: Ignore, slot: usize) -> bool
     requires { ⌜ length (now store) ≡ bufferLength ⌝ }
-    requires { ⌜ slot < 6144 ⌝ }
+    requires { ⌜ slot < slotCount ⌝ }
     requires { ⌜ Rattle.layout.specs.Columns.at (columns (now store)) slotKind slot < 64 ⌝ }
     ensures { λ q. ⌜ q ≡ ignored (ignoreOf ignore) (attributeAt (columns (now (store .entry))) slot) ⌝ }
 {
@@ -36,7 +36,7 @@ fn slot_ignored(store: &[u32], ignore: Ignore, slot: usize) -> bool
 // The first slot from `from` on that is not ignored, or `end`.
 pub fn next_kept(store: &[u32], ignore: Ignore, from: usize, end: usize) -> usize
     requires { ⌜ length (now store) ≡ bufferLength ⌝ }
-    requires { ⌜ end ≤ 6144 ⌝ }
+    requires { ⌜ end ≤ slotCount ⌝ }
     requires { ⌜ from ≤ end ⌝ }
     requires { ⌜ Kinds (columns (now store)) from end ⌝ }
     ensures { λ i. ⌜ Skipped (columns (now (store .entry))) (ignoreOf ignore) from end i ⌝ }

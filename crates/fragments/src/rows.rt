@@ -23,7 +23,7 @@ ghost use mathlib.Core.Path.{_≡_};
 ghost use Prim.Native.Nat.{_-_, _<_, _≤_};
 ghost use lib.ListN.{length};
 ghost use Rattle.rules.specs.Store.{ofOp, ofBlock, regionsOf};
-ghost use Rattle.layout.specs.Columns.{bufferLength, columnSize, columns};
+ghost use Rattle.layout.specs.Columns.{bufferLength, columnSize, columns, columnCount};
 ghost use Rattle.layout.specs.Reading.{opCount, blockCount, storeIn};
 ghost use Rattle.layout.specs.Soundness.{IsSound};
 ghost use Rattle.fragments.specs.Rows.{RowOf, HeadOf};
@@ -31,8 +31,8 @@ ghost use Rattle.fragments.specs.Rows.{RowOf, HeadOf};
 // How many numbers there are in a row's range.
 fn span(store: &[u32], first: usize, end: usize, n: usize) -> usize
     requires { ⌜ length (now store) ≡ bufferLength ⌝ }
-    requires { ⌜ first < 32 ⌝ }
-    requires { ⌜ end < 32 ⌝ }
+    requires { ⌜ first < columnCount ⌝ }
+    requires { ⌜ end < columnCount ⌝ }
     requires { ⌜ n < columnSize first ⌝ }
     requires { ⌜ n < columnSize end ⌝ }
     requires { ⌜ Rattle.layout.specs.Columns.at (columns (now store)) first n ≤ Rattle.layout.specs.Columns.at (columns (now store)) end n ⌝ }

@@ -36,16 +36,3 @@ pub enum Blocks {
     InRegion(usize),
     Alone(usize),
 }
-
-// How far a walk through a list of blocks has come. To come are the blocks from number `block` on, and in the first of these the operations
-// from number `op` on.
-pub struct Position {
-    pub block: usize,
-    pub op: usize,
-}
-
-// The next operation in a list of blocks, and the block that it is in; or that there is none.
-pub enum NextOp {
-    At(Position),
-    End,
-}

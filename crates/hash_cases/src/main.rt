@@ -39,18 +39,22 @@ fn vector(input: &[u8], published: u64) {
     say(input, b"", hash_of(input), published);
 }
 
-// The same bytes as numbers of 4 and of 8 bytes, lowest byte first.
+// The same bytes as numbers of 4 bytes, lowest byte first; and as a number of 8 bytes, with 4 behind them that are 0, whose hash was computed
+// apart.
 fn numbers() {
     let foob = feed_leaf(START, 0x626f6f66);
     say(b"foob", b" as a leaf", foob, 0xdd120e790c2512af);
-    let half = feed_count(START, 0x77206f676e6f6863);
-    let whole = feed_count(half, 0x2165726568207361);
+    let chon = feed_leaf(START, 0x6e6f6863);
+    let gowa = feed_leaf(chon, 0x77206f67);
+    let here = feed_leaf(feed_leaf(gowa, 0x68207361), 0x21657265);
     say(
         b"chongo was here!",
-        b" as two counts",
-        whole,
+        b" as four leaves",
+        here,
         0x858e2fa32a55e61d,
     );
+    let count = feed_count(START, 0x626f6f66);
+    say(b"foob", b" as a count", count, 0x5c9b38e6c2f3191f);
 }
 
 fn main() {

@@ -9,18 +9,17 @@ use Rattle.rules.specs.Store.{Store, ofOp, sound}
 use Rattle.rules.specs.Fragments.{Sort, op, block, region, exists, Step, shell, steps}
 use Rattle.rules.specs.Building.{firstFailed}
 use Rattle.rules.specs.Shells.{Ignore}
-use Rattle.rules.specs.Hash.{noNumbers, hash}
+use Rattle.rules.specs.Hash.{hash}
 use Rattle.rules.specs.Answers.{shallow, hashTests, hashedBy, hashed}
 use Rattle.layout.specs.Reading.{storeIn}
 use Rattle.layout.specs.Soundness.{soundBuffer, IsSound}
 use Rattle.layout.proofs.Empty.{sound-of}
-use Rattle.hashing.specs.Walked.{Stands, Fed, DefinitionsFit, fullSteps, listedSteps, atStart}
+use Rattle.numbering.specs.Numbered.{DefinitionsFit}
+use Rattle.hashing.specs.Walked.{Fed, fullSteps, listedSteps}
 use Rattle.fragments.specs.Order.{blockList}
 use Rattle.hashing.specs.Calls.{hashedOf, fragmentTests, Answered}
 use Rattle.fragments.specs.declared.types.Blocks.the-variants.{InRegion, Alone}
 use Rattle.hashing.specs.declared.types.Hashed.the-variants.{Hash, Refused}
-use Rattle.hashing.specs.declared.types.Hashing.{Hashing}
-use Rattle.hashing.proofs.Feeding.{room-start, fed-hash}
 use Rattle.hashing.proofs.Rounds.{region-list}
 
 -- ---- the tests of a fragment
@@ -57,19 +56,12 @@ pub region-steps : (s : Store) → sound s ≡ true → (n : ℕ) → steps s re
 unfolding steps
 region-steps s sd n = region-list s sd n
 
-module _ (s : Store) (f : Sort) (n : ℕ) (xs : List Step) (e : steps s f n ≡ xs) {st : Hashing} where
-  pub steps-room : DefinitionsFit s (steps s f n) st → DefinitionsFit s xs st
-  steps-room r = subst (λ (l : List Step). DefinitionsFit s l st) e r
+module _ (s : Store) (f : Sort) (n : ℕ) (xs : List Step) (e : steps s f n ≡ xs) {a : List ℕ} where
+  pub steps-room : DefinitionsFit s (steps s f n) a → DefinitionsFit s xs a
+  steps-room r = subst (λ (l : List Step). DefinitionsFit s l a) e r
 
-  pub steps-fed : {ig : Ignore} {numbers numbers′ : List ℕ} {st′ : Hashing} → Fed s ig xs numbers numbers′ st st′ → Fed s ig (steps s f n) numbers numbers′ st st′
-  steps-fed {ig} {numbers} {numbers′} {st′} d = subst (λ (l : List Step). Fed s ig l numbers numbers′ st st′) (sym e) d
-
-module _ (s : Store) (f : Sort) (n : ℕ) {st : Hashing} (z : st ≡ atStart) where
-  pub begin-room : sound s ≡ true → exists s f n ≡ true → DefinitionsFit s (steps s f n) st
-  begin-room sd h = subst (λ (t : Hashing). DefinitionsFit s (steps s f n) t) (sym z) (room-start s sd f n h)
-
-  pub all-hash : (ig : Ignore) {numbers numbers′ : List ℕ} {st′ : Hashing} → Stands noNumbers numbers atStart → Fed s ig (steps s f n) numbers numbers′ st st′ → st′ .word ≡ hash s ig f n
-  all-hash ig {numbers} {numbers′} {st′} h d = fed-hash s ig f n h (subst (λ (t : Hashing). Fed s ig (steps s f n) numbers numbers′ t st′) z d)
+  pub steps-fed : {ig : Ignore} {b : List ℕ} {w w′ : ℕ} → Fed s ig xs a b w w′ → Fed s ig (steps s f n) a b w w′
+  steps-fed {ig} {b} {w} {w′} d = subst (λ (l : List Step). Fed s ig l a b w w′) (sym e) d
 
 -- ---- answers
 

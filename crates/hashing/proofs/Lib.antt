@@ -1,17 +1,15 @@
--- Why the multiplication is right, why a number may be fed by its halves, how the running hash is lent to a step and comes back, what words
--- of numbers stand for, that to feed steps one after the other is to feed them all, that rows are read as what they are of, and that a walk
--- feeds all steps of a fragment.
+-- Why the multiplication is right, why a number may be fed by its halves, how the running hash is lent to a step and comes back, that to feed
+-- steps one after the other is to feed them all, that rows are read as what they are of, and that a walk feeds all steps of a fragment.
 mod Columns
 mod Halves
 mod Lent
-mod Defining
-mod Naming
 mod Feeding
-mod Stepping
+mod Parting
+mod Reading
+mod Naming
+mod Lone
+mod Rounds
+mod Answering
 mod Zeros
 mod Bytes
 mod Slots
-mod Reading
-mod Parting
-mod Rounds
-mod Answering

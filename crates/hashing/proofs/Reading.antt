@@ -1,30 +1,25 @@
--- What is read off the rows says how much is numbered and fed: as many values as the owner has, and an operation's kind and regions.
--- Assumes nothing.
+-- What is read off the rows says how much is numbered and fed: as many values as the owner has, an operation's kind and regions, and the
+-- owner of a value. Assumes nothing.
 use Prim.Native.Nat.{ℕ, _+_, _<_, _≤_}
-use native.Mathlib.Omega.{arith}
-use mathlib.Core.List.{[], _∷_, _++_, append-nil}
-use mathlib.Core.Path.{_≡_, sym, ap, _∙_}
+use mathlib.Core.Bool.{true}
+use mathlib.Core.List.{_++_}
+use mathlib.Core.Path.{_≡_, sym, ap, subst, _∙_}
 use lib.ListN.{length}
-use Rattle.rules.specs.Lists.{concatMap}
-use Rattle.rules.specs.Store.{Store, Op, Owner, ofOp, ofBlock, regionsOf, valuesOf, maxValues, maxBlocks}
-use Rattle.rules.specs.Fragments.{shell, stepDefines, blockOwner}
-use Rattle.rules.specs.Hash.{fnvFrom, leaf, count, headBytes}
+use Rattle.rules.specs.Store.{Op, Owner, ofOp, regionsOf, maxOwnRegions, sound}
+use Rattle.rules.specs.Fragments.{shell}
+use Rattle.rules.specs.Shells.{Ignore, Shell, shellOf}
+use Rattle.rules.specs.Hash.{fnvFrom, leaf, count, headBytes, shellBytes}
+use Rattle.rules.proofs.Form.Hashes.{fnv-append}
+use Rattle.rules.proofs.Soundness.Sound.{facts}
 use Rattle.layout.specs.Columns.{Cols, at, opKind}
 use Rattle.layout.specs.Reading.{opCount, opOf, storeOf}
-use Rattle.layout.proofs.Tabulate.{op-read}
-use Rattle.fragments.specs.Rows.{RowOf}
+use Rattle.layout.proofs.Tabulate.{op-read, ops-length}
+use Rattle.fragments.specs.Rows.{RowOf, rowShell}
 use Rattle.fragments.specs.declared.types.Row.{Row}
-use Rattle.fragments.proofs.ByRows.{row-count}
-use Rattle.hashing.specs.Walked.{valuesIn, blocksIn, DefinitionsFit}
-use Rattle.hashing.specs.declared.types.Hashing.{Hashing}
+use Rattle.hashing.specs.Walked.{ownerBytes}
 
-pub row-room : {C : Cols} {w : Owner} {r : Row} → RowOf C w r → {st : Hashing} → DefinitionsFit (storeOf C) (shell w ∷ []) st → st .values + r .values ≤ maxValues
-unfolding valuesIn concatMap stepDefines
-row-room {C} {w} h m = omega (arith, m .values, row-count h, ap length (append-nil (valuesOf (storeOf C) w)))
-
-pub block-room : {s : Store} {n : ℕ} {st : Hashing} → DefinitionsFit s (shell (ofBlock n) ∷ []) st → st .blocks < maxBlocks
-unfolding blocksIn concatMap stepDefines blockOwner
-block-room m = omega (arith, m .blocks)
+pub regions-few : (C : Cols) → sound (storeOf C) ≡ true → (n : ℕ) → n < opCount C → length (regionsOf (storeOf C) n) ≤ maxOwnRegions
+regions-few C sd n l = facts (storeOf C) sd .op n (subst (λ (k : ℕ). n < k) (sym (ops-length C)) l) .regionsFit
 
 pub head-fed : (C : Cols) (n : ℕ) → n < opCount C → (word : ℕ) {kind regions r : ℕ} → kind ≡ at C opKind n → regions ≡ length (regionsOf (storeOf C) n)
     → r ≡ fnvFrom word (leaf kind ++ count regions) → r ≡ fnvFrom word (headBytes (storeOf C) (ofOp n))
@@ -32,3 +27,13 @@ unfolding headBytes opOf
 head-fed C n l word k e q =
     let kind = k ∙ sym (ap (λ (x : Op). x .kind) (op-read C n l)) in
     q ∙ (λ i. fnvFrom word (leaf (kind i) ++ count (e i)))
+
+-- what an owner feeds of itself: a head, and then its row
+pub row-fed : {C : Cols} {o : Owner} {r : Row} → RowOf C o r → (ig : Ignore) (w : ℕ) {head w′ : ℕ} → head ≡ fnvFrom w (headBytes (storeOf C) o)
+    → w′ ≡ fnvFrom head (shellBytes (rowShell C ig r)) → w′ ≡ fnvFrom w (ownerBytes (storeOf C) ig o)
+unfolding ownerBytes
+row-fed {C} {o} {r} h ig w {head} e q =
+    q
+    ∙ ap (λ (k : ℕ). fnvFrom k (shellBytes (rowShell C ig r))) e
+    ∙ ap (λ (x : Shell). fnvFrom (fnvFrom w (headBytes (storeOf C) o)) (shellBytes x)) (sym (h .shell ig))
+    ∙ sym (fnv-append w (headBytes (storeOf C) o) (shellBytes (shellOf (storeOf C) ig o)))

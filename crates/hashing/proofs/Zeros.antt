@@ -3,9 +3,10 @@
 use Prim.Native.Nat.{ℕ, zero, suc, _+_, _*_, _/_, _%_, _^_, _<_}
 use native.Mathlib.Nat.{mul-assoc, mul-comm, mul-one, add-mul, pow-suc, div-add-mod', mul-add-mod-self-right}
 use native.Mathlib.Omega.{arith}
-use mathlib.Core.Path.{_≡_, refl, sym, ap, _∙_}
+use mathlib.Core.Path.{_≡_, sym, ap, _∙_}
 use lib.Bits.{bitXor, xor-zero-r}
 use Rattle.rules.specs.Hash.{fnvPrime, fnvFrom, fnvByte, bytes}
+use Rattle.hashing.proofs.Halves.{fed-in-two}
 
 left-mod : (a b m : ℕ) → (a % m * b) % m ≡ (a * b) % m
 left-mod a b m =
@@ -41,3 +42,11 @@ two k w n {fed} h e =
     let byte : n % 256 % 256 ≡ n % 256 = omega arith in
     let first : fed ≡ fnvByte w (n % 256) = e ∙ ap (λ (b : ℕ). fnvByte w b) byte in
     small k (fnvByte w (n % 256)) (n / 256) (omega arith) ∙ ap (λ (x : ℕ). (bitXor x (n / 256) * (fnvPrime ^ suc k % 2 ^ 64)) % 2 ^ 64) (sym first)
+
+-- a number of four bytes, and four bytes that are 0 behind it
+pub upper : (w n : ℕ) {fed r : ℕ} → n < 4294967296 → fed ≡ fnvFrom w (bytes 4 n) → r ≡ (fed * (fnvPrime ^ 4 % 2 ^ 64)) % 2 ^ 64 → r ≡ fnvFrom w (bytes 8 n)
+upper w n {fed} {r} h e q =
+    let low : n % 256 ^ 4 ≡ n = omega arith in
+    let high : n / 256 ^ 4 ≡ 0 = omega arith in
+    let none : r ≡ fnvFrom fed (bytes 4 0) = q ∙ ap (λ (x : ℕ). (x * (fnvPrime ^ 4 % 2 ^ 64)) % 2 ^ 64) (sym (xor-zero-r fed)) ∙ sym (small 3 fed 0 (omega arith)) in
+    fed-in-two 4 w n (e ∙ ap (λ (k : ℕ). fnvFrom w (bytes 4 k)) (sym low)) (none ∙ ap (λ (k : ℕ). fnvFrom fed (bytes 4 k)) (sym high))

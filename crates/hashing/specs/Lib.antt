@@ -1,4 +1,3 @@
--- The hash on lent words: what they stand for, what is fed and numbered, and what a call answers.
-pub mod Words
+-- The hash on lent words: what is fed, and what a call answers.
 pub mod Walked
 pub mod Calls

@@ -1,58 +1,49 @@
--- What steps of a walk have done: their bytes are fed, and what they define is numbered.
-use Prim.Native.Nat.{ℕ, _+_, _≤_}
-use mathlib.Core.List.{List, [], _∷_, map}
+-- What steps of a walk have done: what they define is numbered, and their bytes are fed.
+use Prim.Native.Nat.{ℕ, _+_}
+use mathlib.Core.Bool.{Bool, true}
+use mathlib.Core.List.{List, [], _∷_, _++_, map}
 use mathlib.Core.Path.{_≡_}
-use lib.ListN.{length}
 use Rattle.rules.specs.Lists.{concatMap}
-use Rattle.rules.specs.Store.{Store, ofOp, ofBlock, opsOf, valuesOf, maxValues, maxBlocks}
-use Rattle.rules.specs.Fragments.{Step, shell, names, fullOp, listSteps, regionSteps, levels, stepDefines, blockOwner}
-use Rattle.rules.specs.Shells.{Ignore}
-use Rattle.rules.specs.Hash.{fnvStart, fnvFrom, Numbering, numbered, allBytes}
-use Rattle.layout.specs.Soundness.{IsSound}
-use Rattle.hashing.specs.Words.{numbersLength, Words}
-use Rattle.hashing.specs.declared.types.Hashing.{Hashing}
+use Rattle.rules.specs.Store.{Store, Owner, ofOp, ofBlock, opsOf, regionsOf}
+use Rattle.rules.specs.Fragments.{Sort, op, Step, shell, names, fullOp, listSteps, regionSteps, levels}
+use Rattle.rules.specs.Shells.{Ignore, shellOf}
+use Rattle.rules.specs.Hash.{fnvFrom, Numbering, numbered, nameOf, nameBytes, headBytes, shellBytes, allBytes}
+use Rattle.numbering.specs.Words.{Stands}
+use Rattle.numbering.specs.Numbered.{Numbers}
 
--- a sound store, and words of the right length: what every step of a walk asks for
-pub record ReadyToHash (store numbers : List ℕ) : Type 0 where
-  pub sound : IsSound store
-  pub long : length numbers ≡ numbersLength
+-- these steps are numbered, and fed into the word
+pub record Fed (s : Store) (ig : Ignore) (xs : List Step) (before after : List ℕ) (w w′ : ℕ) : Type 0 where
+  pub numbers : Numbers s xs before after
+  pub word : (N : Numbering) → Stands s N before → w′ ≡ fnvFrom w (allBytes s ig xs N)
 
--- the words and the counts stand for the numbering
-pub record Stands (N : Numbering) (numbers : List ℕ) (st : Hashing) : Type 0 where
-  pub words : Words N numbers
-  pub values : st .values ≡ length (N .values)
-  pub blocks : st .blocks ≡ length (N .blocks)
+-- what an operation or a block feeds of itself
+unfoldable pub ownerBytes : Store → Ignore → Owner → List ℕ
+ownerBytes s ig w = headBytes s w ++ shellBytes (shellOf s ig w)
 
--- numbered step by step
-unfoldable pub numberedAll : Store → List Step → Numbering → Numbering
-numberedAll s [] N = N
-numberedAll s (x ∷ xs) N = numberedAll s xs (numbered s x N)
+-- what a use of n feeds, where these are defined
+abbrev pub bytesIn : List ℕ → ℕ → List ℕ
+bytesIn defined n = nameBytes (nameOf defined n)
 
--- the values and the blocks that steps define
-unfoldable pub valuesIn : Store → List Step → List ℕ
-valuesIn s xs = concatMap (valuesOf s) (concatMap stepDefines xs)
+abbrev pub valueBytes : Numbering → ℕ → List ℕ
+valueBytes N v = bytesIn (N .values) v
 
-unfoldable pub blocksIn : List Step → List ℕ
-blocksIn xs = concatMap blockOwner (concatMap stepDefines xs)
+abbrev pub blockBytes : Numbering → ℕ → List ℕ
+blockBytes N b = bytesIn (N .blocks) b
 
--- these steps are fed and numbered
-pub record Fed (s : Store) (ig : Ignore) (xs : List Step) (numbers numbers′ : List ℕ) (st st′ : Hashing) : Type 0 where
-  pub fed : (N : Numbering) → Stands N numbers st → (st′ .word ≡ fnvFrom (st .word) (allBytes s ig xs N)) × Stands (numberedAll s xs N) numbers′ st′
-  pub values : st′ .values ≡ st .values + length (valuesIn s xs)
-  pub blocks : st′ .blocks ≡ st .blocks + length (blocksIn xs)
+-- whatever numbering the words stand for, r is the word after these bytes of it
+abbrev pub FeedsNames : Store → List ℕ → (Numbering → List ℕ) → ℕ → ℕ → Type 0
+FeedsNames s numbers bytes word r = (N : Numbering) → Stands s N numbers → r ≡ fnvFrom word (bytes N)
 
--- what these steps define still fits
-pub record DefinitionsFit (s : Store) (xs : List Step) (st : Hashing) : Type 0 where
-  pub values : st .values + length (valuesIn s xs) ≤ maxValues
-  pub blocks : st .blocks + length (blocksIn xs) ≤ maxBlocks
+-- each of a list of operands, or of successors, is fed by its name
+abbrev pub FeedsOperands : Store → List ℕ → List ℕ → ℕ → ℕ → Type 0
+FeedsOperands s numbers list word r = FeedsNames s numbers (λ (N : Numbering). concatMap (valueBytes N) list) word r
 
--- before anything is fed
-unfoldable pub atStart : Hashing
-atStart = record { word = fnvStart; values = 0; blocks = 0 }
+abbrev pub FeedsSuccessors : List ℕ → List ℕ → ℕ → ℕ → Type 0
+FeedsSuccessors numbers list word r = (s : Store) → FeedsNames s numbers (λ (N : Numbering). concatMap (blockBytes N) list) word r
 
 -- an operation's names are fed, under whatever ignore rule
-abbrev pub FedNames : Store → ℕ → List ℕ → Hashing → Hashing → Type 0
-FedNames s n numbers st st′ = (ig : Ignore) → Fed s ig (names n ∷ []) numbers numbers st st′
+abbrev pub FedNames : Store → ℕ → List ℕ → ℕ → ℕ → Type 0
+FedNames s n numbers word word′ = (ig : Ignore) → Fed s ig (names n ∷ []) numbers numbers word word′
 
 -- ---- the steps of a walk, part by part
 
@@ -63,9 +54,16 @@ blockShells bs = map (λ (b : ℕ). shell (ofBlock b)) bs
 unfoldable pub opShells : Store → ℕ → List Step
 opShells s b = map (λ (n : ℕ). shell (ofOp n)) (opsOf s b)
 
--- of an operation in full, and of a list of blocks, where a walk begins
+-- of an operation in full, of those in a block, and of a list of blocks, where a walk begins
 unfoldable pub fullSteps : Store → ℕ → List Step
 fullSteps s n = fullOp s (regionSteps levels s) n
 
+unfoldable pub opsInFull : Store → ℕ → List Step
+opsInFull s b = concatMap (fullSteps s) (opsOf s b)
+
 unfoldable pub listedSteps : Store → List ℕ → List Step
 listedSteps s bs = listSteps s (fullSteps s) bs
+
+-- where this is true, the fragment is an operation without regions
+abbrev pub HoldsNothing : Store → Sort → ℕ → Bool → Type 0
+HoldsNothing s f n b = b ≡ true → (f ≡ op) × (regionsOf s n ≡ [])

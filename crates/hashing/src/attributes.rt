@@ -13,14 +13,14 @@ ghost use Prim.Native.Nat.{_<_, _≤_};
 ghost use lib.ListN.{length};
 ghost use Rattle.rules.specs.Lists.{concatMap};
 ghost use Rattle.rules.specs.Hash.{fnvFrom, count, attributeBytes};
-ghost use Rattle.layout.specs.Columns.{bufferLength, columns};
+ghost use Rattle.layout.specs.Columns.{bufferLength, columns, slotCount};
 ghost use Rattle.layout.specs.Reading.{attributeAt};
 ghost use Rattle.fragments.specs.Ignoring.{ignoreOf, keptFrom, Kinds};
 
 // How many attributes of a run of slots are not ignored.
-fn count_kept(store: &[u32], ignore: Ignore, first: usize, end: usize) -> u64
+fn count_kept(store: &[u32], ignore: Ignore, first: usize, end: usize) -> u32
     requires { ⌜ length (now store) ≡ bufferLength ⌝ }
-    requires { ⌜ end ≤ 6144 ⌝ }
+    requires { ⌜ end ≤ slotCount ⌝ }
     requires { ⌜ first ≤ end ⌝ }
     requires { ⌜ Kinds (columns (now store)) first end ⌝ }
     ensures { λ r. ⌜ r ≡ length (keptFrom (columns (now (store .entry))) (ignoreOf ignore) first end) ⌝ }
@@ -37,7 +37,7 @@ fn count_kept(store: &[u32], ignore: Ignore, first: usize, end: usize) -> u64
 // Hash the attribute at a slot: its key, its kind, its content.
 fn feed_attribute(store: &[u32], slot: usize, word: u64) -> u64
     requires { ⌜ length (now store) ≡ bufferLength ⌝ }
-    requires { ⌜ slot < 6144 ⌝ }
+    requires { ⌜ slot < slotCount ⌝ }
     ensures { λ r. ⌜ r ≡ fnvFrom word (attributeBytes (attributeAt (columns (now (store .entry))) slot)) ⌝ }
 {
     let key = at(store, SLOT_KEY, slot);
@@ -49,7 +49,7 @@ fn feed_attribute(store: &[u32], slot: usize, word: u64) -> u64
 // Hash each attribute of a run of slots that is not ignored.
 fn feed_kept(store: &[u32], ignore: Ignore, first: usize, end: usize, word: u64) -> u64
     requires { ⌜ length (now store) ≡ bufferLength ⌝ }
-    requires { ⌜ end ≤ 6144 ⌝ }
+    requires { ⌜ end ≤ slotCount ⌝ }
     requires { ⌜ first ≤ end ⌝ }
     requires { ⌜ Kinds (columns (now store)) first end ⌝ }
     ensures { λ r. ⌜ r ≡ fnvFrom word (concatMap attributeBytes (keptFrom (columns (now (store .entry))) (ignoreOf ignore) first end)) ⌝ }
@@ -66,7 +66,7 @@ fn feed_kept(store: &[u32], ignore: Ignore, first: usize, end: usize, word: u64)
 // Hash the attributes of a run of slots, ignoring those specified by `ignore`: how many there are, then each.
 pub fn attributes_hash(store: &[u32], ignore: Ignore, first: usize, end: usize, word: u64) -> u64
     requires { ⌜ length (now store) ≡ bufferLength ⌝ }
-    requires { ⌜ end ≤ 6144 ⌝ }
+    requires { ⌜ end ≤ slotCount ⌝ }
     requires { ⌜ first ≤ end ⌝ }
     requires { ⌜ Kinds (columns (now store)) first end ⌝ }
     ensures { λ r. ⌜ r ≡ fnvFrom word (count (length (keptFrom (columns (now (store .entry))) (ignoreOf ignore) first end)) ++ concatMap attributeBytes (keptFrom (columns (now (store .entry))) (ignoreOf ignore) first end)) ⌝ }

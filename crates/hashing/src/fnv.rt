@@ -15,8 +15,6 @@ const PRIME_3: u64 = 624165263380053675;
 
 const PRIME_4: u64 = 11527715348014283921;
 
-const PRIME_7: u64 = 14218562807570617051;
-
 const PRIME_8: u64 = 2232315406967589409;
 
 // Feeds one byte: it is xored in, and then the word is multiplied.
@@ -63,17 +61,12 @@ pub fn feed_leaf(word: u64, n: u32) -> u64
     feed_wide(word, n)
 }
 
-// Feeds a number of 8 bytes.
-pub fn feed_count(word: u64, n: u64) -> u64
+// Feeds a number of 8 bytes, of which the upper 4 are 0.
+pub fn feed_count(word: u64, n: u32) -> u64
     ensures { λ r. ⌜ r ≡ fnvFrom word (count n) ⌝ }
 {
     if n < 256 {
-        return wrapping_mul(word ^ n, PRIME_8);
+        return wrapping_mul(word ^ n as u64, PRIME_8);
     }
-    if n < 65536 {
-        let fed = feed_tag(word, (n % 256) as u8);
-        return wrapping_mul(fed ^ (n / 256), PRIME_7);
-    }
-    let fed = feed_leaf(word, (n % 4294967296) as u32);
-    feed_leaf(fed, (n / 4294967296) as u32)
+    wrapping_mul(feed_leaf(word, n), PRIME_4)
 }

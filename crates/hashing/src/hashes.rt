@@ -1,10 +1,9 @@
 // The hash of a fragment on a sound store. It begins with nothing hashed and nothing numbered.
+use crate::alone::hash_alone;
+use crate::alone::holds_nothing;
 use crate::fnv::START;
-use crate::numbering::NO_NUMBER;
-use crate::numbering::NUMBERS_LENGTH;
 use crate::shells::hash_op_shell;
 use crate::types::Hashed;
-use crate::types::Hashing;
 use crate::walk::hash_blocks_full;
 use crate::walk::hash_op_full;
 use fragments::ignoring::Ignore;
@@ -12,6 +11,8 @@ use fragments::sorts::exists;
 use fragments::types::Blocks;
 use fragments::types::Sort;
 use layout::causes::Cause;
+use numbering::words::NUMBERS_LENGTH;
+use numbering::words::WalkNumbers;
 ghost use mathlib.Core.Bool.{true};
 ghost use mathlib.Core.Path.{_≡_};
 ghost use Prim.Native.Nat.{_<_};
@@ -23,7 +24,8 @@ ghost use Rattle.layout.specs.Columns.{columns};
 ghost use Rattle.layout.specs.Soundness.{IsSound};
 ghost use Rattle.fragments.specs.Ignoring.{ignoreOf};
 ghost use Rattle.fragments.specs.Sorts.{sortOf};
-ghost use Rattle.hashing.specs.Walked.{ReadyToHash, Fed, DefinitionsFit, atStart};
+ghost use Rattle.numbering.specs.Numbered.{DefinitionsFit};
+ghost use Rattle.hashing.specs.Walked.{Fed};
 ghost use Rattle.hashing.specs.Calls.{fragmentTests, Answered};
 
 // Why a fragment is not hashed: it does not exist. In a sound store nothing is nested too deep.
@@ -37,46 +39,35 @@ fn hash_cause(store: &[u32], sort: Sort, n: u32) -> Cause
     Cause::None
 }
 
-// Nothing is hashed or numbered yet.
-fn at_start() -> Hashing
-    ensures { λ r. ⌜ r ≡ atStart ⌝ }
-{
-    Hashing {
-        word: START,
-        values: 0,
-        blocks: 0,
-    }
-}
-
 // Hash an operation: its shell, then its operands, successors and nested regions.
-fn hash_op(store: &[u32], numbers: &mut [u32], n: usize, ignore: Ignore, st: Hashing) -> Hashing
-    requires { ⌜ ReadyToHash (now store) (now numbers) ⌝ }
+fn hash_op(store: &[u32], numbers: &mut WalkNumbers, n: usize, ignore: Ignore, word: u64) -> u64
+    requires { ⌜ IsSound (now store) ⌝ }
     requires { ⌜ n < opCount (columns (now store)) ⌝ }
-    requires { ⌜ DefinitionsFit (storeIn (now store)) (steps (storeIn (now store)) op n) st ⌝ }
-    ensures { λ r. ⌜ Fed (storeIn (now (store .entry))) (ignoreOf ignore) (steps (storeIn (now (store .entry))) op n) (now (numbers .entry)) (now (numbers .exit)) st r ⌝ }
+    requires { ⌜ DefinitionsFit (storeIn (now store)) (steps (storeIn (now store)) op n) (now numbers) ⌝ }
+    ensures { λ r. ⌜ Fed (storeIn (now (store .entry))) (ignoreOf ignore) (steps (storeIn (now (store .entry))) op n) (now (numbers .entry)) (now (numbers .exit)) word r ⌝ }
 {
-    let shell = hash_op_shell(store, numbers, n, ignore, st);
+    let shell = hash_op_shell(store, numbers, n, ignore, word);
     hash_op_full(store, numbers, n, ignore, shell)
 }
 
 // Hash a fragment by its sort. A block is a list of one block.
 fn hash_steps(
     store: &[u32],
-    numbers: &mut [u32],
+    numbers: &mut WalkNumbers,
     sort: Sort,
     n: usize,
     ignore: Ignore,
-    st: Hashing,
-) -> Hashing
-    requires { ⌜ ReadyToHash (now store) (now numbers) ⌝ }
+    word: u64,
+) -> u64
+    requires { ⌜ IsSound (now store) ⌝ }
     requires { ⌜ Rattle.rules.specs.Fragments.exists (storeIn (now store)) (sortOf sort) n ≡ true ⌝ }
-    requires { ⌜ DefinitionsFit (storeIn (now store)) (steps (storeIn (now store)) (sortOf sort) n) st ⌝ }
-    ensures { λ r. ⌜ Fed (storeIn (now (store .entry))) (ignoreOf ignore) (steps (storeIn (now (store .entry))) (sortOf sort) n) (now (numbers .entry)) (now (numbers .exit)) st r ⌝ }
+    requires { ⌜ DefinitionsFit (storeIn (now store)) (steps (storeIn (now store)) (sortOf sort) n) (now numbers) ⌝ }
+    ensures { λ r. ⌜ Fed (storeIn (now (store .entry))) (ignoreOf ignore) (steps (storeIn (now (store .entry))) (sortOf sort) n) (now (numbers .entry)) (now (numbers .exit)) word r ⌝ }
 {
     match sort {
-        Sort::Op => hash_op(store, numbers, n, ignore, st),
-        Sort::Block => hash_blocks_full(store, numbers, Blocks::Alone(n), ignore, st),
-        Sort::Region => hash_blocks_full(store, numbers, Blocks::InRegion(n), ignore, st),
+        Sort::Op => hash_op(store, numbers, n, ignore, word),
+        Sort::Block => hash_blocks_full(store, numbers, Blocks::Alone(n), ignore, word),
+        Sort::Region => hash_blocks_full(store, numbers, Blocks::InRegion(n), ignore, word),
     }
 }
 
@@ -89,7 +80,9 @@ pub fn fragment_hash(store: &[u32], sort: Sort, n: u32, ignore: Ignore) -> Hashe
     if let Cause::Is(k) = cause {
         return Hashed::Refused(k);
     }
-    let mut numbers = [NO_NUMBER; NUMBERS_LENGTH];
-    let fed = hash_steps(store, &mut numbers, sort, n as usize, ignore, at_start());
-    Hashed::Hash(fed.word)
+    if holds_nothing(store, sort, n as usize) {
+        return Hashed::Hash(hash_alone(store, n as usize, ignore));
+    }
+    let mut numbers = [0; NUMBERS_LENGTH];
+    Hashed::Hash(hash_steps(store, &mut numbers, sort, n as usize, ignore, START))
 }

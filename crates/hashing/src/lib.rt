@@ -2,11 +2,12 @@
 //
 // The hash is coherent with equality: two fragments that compare as equal, begun with an empty mapping and under the same ignore rule, have
 // the same hash. The converse isn't guaranteed: collisions are possible.
+pub mod alone;
 pub mod attributes;
 pub mod calls;
 pub mod fnv;
 pub mod hashes;
-pub mod numbering;
+pub mod names;
 pub mod passes;
 pub mod product;
 pub mod shells;

@@ -1,34 +1,36 @@
 // The first two passes of `hash_blocks_full`: what a list of blocks defines is hashed by itself and numbered, before any use is hashed.
 use crate::shells::hash_block_shell;
 use crate::shells::hash_op_shell;
-use crate::types::Hashing;
 use fragments::ignoring::Ignore;
 use fragments::order::next_in;
 use fragments::types::Blocks;
 use layout::children::Found;
 use layout::children::next_op;
+use numbering::words::WalkNumbers;
 ghost use Prim.Native.Nat.{_<_};
 ghost use Rattle.rules.specs.Lists.{concatMap};
 ghost use Rattle.layout.specs.Columns.{columns};
 ghost use Rattle.layout.specs.Reading.{blockCount, storeIn};
+ghost use Rattle.layout.specs.Soundness.{IsSound};
 ghost use Rattle.fragments.specs.Ignoring.{ignoreOf};
-ghost use Rattle.hashing.specs.Walked.{ReadyToHash, blockShells, opShells, Fed, DefinitionsFit};
+ghost use Rattle.numbering.specs.Numbered.{DefinitionsFit};
+ghost use Rattle.hashing.specs.Walked.{blockShells, opShells, Fed};
 ghost use Rattle.fragments.specs.Order.{blockList, BlocksExist};
 
 // Pass 1: every block's shell.
 pub fn hash_block_shells(
     store: &[u32],
-    numbers: &mut [u32],
+    numbers: &mut WalkNumbers,
     blocks: Blocks,
     ignore: Ignore,
-    st: Hashing,
-) -> Hashing
-    requires { ⌜ ReadyToHash (now store) (now numbers) ⌝ }
+    word: u64,
+) -> u64
+    requires { ⌜ IsSound (now store) ⌝ }
     requires { ⌜ BlocksExist (columns (now store)) blocks ⌝ }
-    requires { ⌜ DefinitionsFit (storeIn (now store)) (blockShells (blockList (storeIn (now store)) blocks)) st ⌝ }
-    ensures { λ r. ⌜ Fed (storeIn (now (store .entry))) (ignoreOf ignore) (blockShells (blockList (storeIn (now (store .entry))) blocks)) (now (numbers .entry)) (now (numbers .exit)) st r ⌝ }
+    requires { ⌜ DefinitionsFit (storeIn (now store)) (blockShells (blockList (storeIn (now store)) blocks)) (now numbers) ⌝ }
+    ensures { λ r. ⌜ Fed (storeIn (now (store .entry))) (ignoreOf ignore) (blockShells (blockList (storeIn (now (store .entry))) blocks)) (now (numbers .entry)) (now (numbers .exit)) word r ⌝ }
 {
-    let mut fed = st;
+    let mut fed = word;
     let mut from = 0;
     loop {
         let Found::At(b) = next_in(store, blocks, from) else {
@@ -42,17 +44,17 @@ pub fn hash_block_shells(
 // Pass 2 of one block: the shells of its operations.
 fn hash_op_shells_in(
     store: &[u32],
-    numbers: &mut [u32],
+    numbers: &mut WalkNumbers,
     b: usize,
     ignore: Ignore,
-    st: Hashing,
-) -> Hashing
-    requires { ⌜ ReadyToHash (now store) (now numbers) ⌝ }
+    word: u64,
+) -> u64
+    requires { ⌜ IsSound (now store) ⌝ }
     requires { ⌜ b < blockCount (columns (now store)) ⌝ }
-    requires { ⌜ DefinitionsFit (storeIn (now store)) (opShells (storeIn (now store)) b) st ⌝ }
-    ensures { λ r. ⌜ Fed (storeIn (now (store .entry))) (ignoreOf ignore) (opShells (storeIn (now (store .entry))) b) (now (numbers .entry)) (now (numbers .exit)) st r ⌝ }
+    requires { ⌜ DefinitionsFit (storeIn (now store)) (opShells (storeIn (now store)) b) (now numbers) ⌝ }
+    ensures { λ r. ⌜ Fed (storeIn (now (store .entry))) (ignoreOf ignore) (opShells (storeIn (now (store .entry))) b) (now (numbers .entry)) (now (numbers .exit)) word r ⌝ }
 {
-    let mut fed = st;
+    let mut fed = word;
     let mut from = 0;
     loop {
         let Found::At(n) = next_op(store, b, from) else {
@@ -66,17 +68,17 @@ fn hash_op_shells_in(
 // Pass 2: the shells of every block's operations.
 pub fn hash_op_shells(
     store: &[u32],
-    numbers: &mut [u32],
+    numbers: &mut WalkNumbers,
     blocks: Blocks,
     ignore: Ignore,
-    st: Hashing,
-) -> Hashing
-    requires { ⌜ ReadyToHash (now store) (now numbers) ⌝ }
+    word: u64,
+) -> u64
+    requires { ⌜ IsSound (now store) ⌝ }
     requires { ⌜ BlocksExist (columns (now store)) blocks ⌝ }
-    requires { ⌜ DefinitionsFit (storeIn (now store)) (concatMap (opShells (storeIn (now store))) (blockList (storeIn (now store)) blocks)) st ⌝ }
-    ensures { λ r. ⌜ Fed (storeIn (now (store .entry))) (ignoreOf ignore) (concatMap (opShells (storeIn (now (store .entry)))) (blockList (storeIn (now (store .entry))) blocks)) (now (numbers .entry)) (now (numbers .exit)) st r ⌝ }
+    requires { ⌜ DefinitionsFit (storeIn (now store)) (concatMap (opShells (storeIn (now store))) (blockList (storeIn (now store)) blocks)) (now numbers) ⌝ }
+    ensures { λ r. ⌜ Fed (storeIn (now (store .entry))) (ignoreOf ignore) (concatMap (opShells (storeIn (now (store .entry)))) (blockList (storeIn (now (store .entry))) blocks)) (now (numbers .entry)) (now (numbers .exit)) word r ⌝ }
 {
-    let mut fed = st;
+    let mut fed = word;
     let mut from = 0;
     loop {
         let Found::At(b) = next_in(store, blocks, from) else {

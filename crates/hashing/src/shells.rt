@@ -1,10 +1,7 @@
 // Shells: what is hashed of an operation or a block by itself. Then its values, and a block itself, get the next walk numbers.
 use crate::attributes::attributes_hash;
-use crate::numbering::define_block;
-use crate::numbering::define_values;
 use crate::state::with_head;
 use crate::state::with_leaf;
-use crate::types::Hashing;
 use fragments::ignoring::Ignore;
 use fragments::rows::block_row;
 use fragments::rows::op_regions;
@@ -14,6 +11,9 @@ use layout::columns::OP_KIND;
 use layout::columns::VALUE_TYPE;
 use layout::columns::at;
 use layout::columns::words;
+use numbering::words::WalkNumbers;
+use numbering::words::define_block;
+use numbering::words::define_op;
 ghost use mathlib.Core.List.{[], _∷_};
 ghost use mathlib.Core.Path.{_≡_};
 ghost use Prim.Native.Nat.{_<_};
@@ -28,7 +28,8 @@ ghost use Rattle.layout.specs.Reading.{opCount, blockCount, storeIn};
 ghost use Rattle.layout.specs.Soundness.{IsSound};
 ghost use Rattle.fragments.specs.Ignoring.{ignoreOf};
 ghost use Rattle.fragments.specs.Rows.{RowFits, rowShell};
-ghost use Rattle.hashing.specs.Walked.{ReadyToHash, Fed, DefinitionsFit};
+ghost use Rattle.numbering.specs.Numbered.{DefinitionsFit};
+ghost use Rattle.hashing.specs.Walked.{ownerBytes, Fed};
 
 // Hash a location, unless locations are ignored.
 fn location_hash(ignore: Ignore, location: u32, word: u64) -> u64
@@ -54,7 +55,7 @@ fn hash_types(types: &[u32], word: u64) -> u64
 }
 
 // Hash what operations and blocks have in common: location, attributes, and the types of the values.
-fn hash_row(store: &[u32], ignore: Ignore, row: Row, word: u64) -> u64
+pub fn hash_row(store: &[u32], ignore: Ignore, row: Row, word: u64) -> u64
     requires { ⌜ length (now store) ≡ bufferLength ⌝ }
     requires { ⌜ RowFits (columns (now store)) row ⌝ }
     ensures { λ r. ⌜ r ≡ fnvFrom word (shellBytes (rowShell (columns (now (store .entry))) (ignoreOf ignore) row)) ⌝ }
@@ -73,53 +74,58 @@ fn hash_head(store: &[u32], n: usize, word: u64) -> u64
     ensures { λ r. ⌜ r ≡ fnvFrom word (headBytes (storeIn (now (store .entry))) (ofOp n)) ⌝ }
 {
     let kind = at(store, OP_KIND, n);
-    with_head(word, kind, op_regions(store, n) as u64)
+    with_head(word, kind, op_regions(store, n) as u32)
+}
+
+// What an operation feeds of itself, apart from all numbering: its head and its row.
+pub fn feed_op_shell(store: &[u32], n: usize, ignore: Ignore, word: u64) -> u64
+    requires { ⌜ IsSound (now store) ⌝ }
+    requires { ⌜ n < opCount (columns (now store)) ⌝ }
+    ensures { λ r. ⌜ r ≡ fnvFrom word (ownerBytes (storeIn (now (store .entry))) (ignoreOf ignore) (ofOp n)) ⌝ }
+{
+    let head = hash_head(store, n, word);
+    hash_row(store, ignore, op_row(store, n), head)
+}
+
+// What a block feeds of itself.
+pub fn feed_block_shell(store: &[u32], n: usize, ignore: Ignore, word: u64) -> u64
+    requires { ⌜ IsSound (now store) ⌝ }
+    requires { ⌜ n < blockCount (columns (now store)) ⌝ }
+    ensures { λ r. ⌜ r ≡ fnvFrom word (ownerBytes (storeIn (now (store .entry))) (ignoreOf ignore) (ofBlock n)) ⌝ }
+{
+    hash_row(store, ignore, block_row(store, n), word)
 }
 
 // Hash components of an operation that do not use or contain other things, and define its results.
 pub fn hash_op_shell(
     store: &[u32],
-    numbers: &mut [u32],
+    numbers: &mut WalkNumbers,
     n: usize,
     ignore: Ignore,
-    st: Hashing,
-) -> Hashing
-    requires { ⌜ ReadyToHash (now store) (now numbers) ⌝ }
+    word: u64,
+) -> u64
+    requires { ⌜ IsSound (now store) ⌝ }
     requires { ⌜ n < opCount (columns (now store)) ⌝ }
-    requires { ⌜ DefinitionsFit (storeIn (now store)) (shell (ofOp n) ∷ []) st ⌝ }
-    ensures { λ r. ⌜ Fed (storeIn (now (store .entry))) (ignoreOf ignore) (shell (ofOp n) ∷ []) (now (numbers .entry)) (now (numbers .exit)) st r ⌝ }
+    requires { ⌜ DefinitionsFit (storeIn (now store)) (shell (ofOp n) ∷ []) (now numbers) ⌝ }
+    ensures { λ r. ⌜ Fed (storeIn (now (store .entry))) (ignoreOf ignore) (shell (ofOp n) ∷ []) (now (numbers .entry)) (now (numbers .exit)) word r ⌝ }
 {
-    let row = op_row(store, n);
-    let head = hash_head(store, n, st.word);
-    let word = hash_row(store, ignore, row, head);
-    define_values(numbers, row.value, row.values, st.values);
-    Hashing {
-        word: word,
-        values: st.values + row.values as u32,
-        blocks: st.blocks,
-    }
+    define_op(store, numbers, n);
+    feed_op_shell(store, n, ignore, word)
 }
 
 // Hash components of a block that do not use or contain other things, and define the block and its arguments.
 pub fn hash_block_shell(
     store: &[u32],
-    numbers: &mut [u32],
+    numbers: &mut WalkNumbers,
     n: usize,
     ignore: Ignore,
-    st: Hashing,
-) -> Hashing
-    requires { ⌜ ReadyToHash (now store) (now numbers) ⌝ }
+    word: u64,
+) -> u64
+    requires { ⌜ IsSound (now store) ⌝ }
     requires { ⌜ n < blockCount (columns (now store)) ⌝ }
-    requires { ⌜ DefinitionsFit (storeIn (now store)) (shell (ofBlock n) ∷ []) st ⌝ }
-    ensures { λ r. ⌜ Fed (storeIn (now (store .entry))) (ignoreOf ignore) (shell (ofBlock n) ∷ []) (now (numbers .entry)) (now (numbers .exit)) st r ⌝ }
+    requires { ⌜ DefinitionsFit (storeIn (now store)) (shell (ofBlock n) ∷ []) (now numbers) ⌝ }
+    ensures { λ r. ⌜ Fed (storeIn (now (store .entry))) (ignoreOf ignore) (shell (ofBlock n) ∷ []) (now (numbers .entry)) (now (numbers .exit)) word r ⌝ }
 {
-    let row = block_row(store, n);
-    let word = hash_row(store, ignore, row, st.word);
-    define_block(numbers, n, st.blocks);
-    define_values(numbers, row.value, row.values, st.values);
-    Hashing {
-        word: word,
-        values: st.values + row.values as u32,
-        blocks: st.blocks + 1,
-    }
+    define_block(store, numbers, n);
+    feed_block_shell(store, n, ignore, word)
 }

@@ -28,7 +28,7 @@ pub fn hash_leaf(state: &mut RunningHash, n: u32)
 }
 
 // Feeds a count or a walk number: 8 bytes.
-pub fn hash_count(state: &mut RunningHash, n: u64)
+pub fn hash_count(state: &mut RunningHash, n: u32)
     ensures { λ _. ⌜ now (state .exit) .word ≡ fnvFrom (now (state .entry) .word) (count n) ⌝ }
 {
     state.word = feed_count(state.word, n);
@@ -44,7 +44,7 @@ pub fn with_leaf(word: u64, n: u32) -> u64
 }
 
 // After a count by itself.
-pub fn with_count(word: u64, n: u64) -> u64
+pub fn with_count(word: u64, n: u32) -> u64
     ensures { λ r. ⌜ r ≡ fnvFrom word (count n) ⌝ }
 {
     let mut state = RunningHash { word: word };
@@ -53,7 +53,7 @@ pub fn with_count(word: u64, n: u64) -> u64
 }
 
 // After a use of what has a walk number: tag 0 and the walk number.
-pub fn with_walk_number(word: u64, n: u64) -> u64
+pub fn with_walk_number(word: u64, n: u32) -> u64
     ensures { λ r. ⌜ r ≡ fnvFrom word (nameBytes (walkNumber n)) ⌝ }
 {
     let mut state = RunningHash { word: word };
@@ -73,7 +73,7 @@ pub fn with_store_number(word: u64, n: u32) -> u64
 }
 
 // After what only an operation has: its kind, and how many regions it has.
-pub fn with_head(word: u64, kind: u32, regions: u64) -> u64
+pub fn with_head(word: u64, kind: u32, regions: u32) -> u64
     ensures { λ r. ⌜ r ≡ fnvFrom word (leaf kind ++ count regions) ⌝ }
 {
     let mut state = RunningHash { word: word };

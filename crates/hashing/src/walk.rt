@@ -1,62 +1,42 @@
-// An operation in full, and a list of blocks in full. The two functions call one another; this ends since a region holds fewer operations
+// An operation in full, and a list of blocks in full. The three functions call one another; this ends since a region holds fewer operations
 // than the operation around it. An operation's uses are hashed after everything in its list of blocks is numbered, and before anything in
 // its own regions is.
-use crate::numbering::hash_operands;
-use crate::numbering::hash_successors;
+use crate::names::hash_names;
 use crate::passes::hash_block_shells;
 use crate::passes::hash_op_shells;
-use crate::types::Hashing;
 use fragments::ignoring::Ignore;
-use fragments::order::next_op_in;
-use fragments::order::past_op;
+use fragments::order::next_in;
 use fragments::types::Blocks;
-use fragments::types::NextOp;
-use fragments::types::Position;
+use layout::children::Found;
+use layout::children::next_op;
 use layout::columns::OP_REGION_END;
 use layout::columns::OP_REGION_FIRST;
 use layout::columns::number;
-use layout::slices::operands_of;
-use layout::slices::successors_of;
+use numbering::words::WalkNumbers;
 ghost use Prim.Native.Nat.{_<_};
-ghost use mathlib.Core.List.{[], _∷_};
-ghost use Rattle.rules.specs.Fragments.{names};
 ghost use Rattle.layout.specs.Columns.{columns};
-ghost use Rattle.layout.specs.Reading.{opCount, storeIn};
+ghost use Rattle.layout.specs.Reading.{opCount, blockCount, storeIn};
+ghost use Rattle.layout.specs.Soundness.{IsSound};
 ghost use Rattle.fragments.specs.Ignoring.{ignoreOf};
-ghost use Rattle.hashing.specs.Walked.{ReadyToHash, fullSteps, listedSteps, Fed, FedNames, DefinitionsFit};
 ghost use Rattle.fragments.specs.Order.{blockList, BlocksExist};
-
-// Hash what an operation uses: its operands, then its successors.
-fn hash_names(store: &[u32], numbers: &[u32], n: usize, st: Hashing) -> Hashing
-    requires { ⌜ ReadyToHash (now store) (now numbers) ⌝ }
-    requires { ⌜ n < opCount (columns (now store)) ⌝ }
-    requires { ⌜ DefinitionsFit (storeIn (now store)) (names n ∷ []) st ⌝ }
-    ensures { λ r. ⌜ FedNames (storeIn (now (store .entry))) n (now (numbers .entry)) st r ⌝ }
-{
-    let operands = hash_operands(numbers, operands_of(store, n), st.word);
-    let word = hash_successors(numbers, successors_of(store, n), operands);
-    Hashing {
-        word: word,
-        values: st.values,
-        blocks: st.blocks,
-    }
-}
+ghost use Rattle.numbering.specs.Numbered.{DefinitionsFit};
+ghost use Rattle.hashing.specs.Walked.{fullSteps, opsInFull, listedSteps, Fed};
 
 // Complete the hash of an operation by hashing its operands, successors and nested regions.
 // Does not hash components already hashed by `hash_op_shell`.
 pub fn hash_op_full(
     store: &[u32],
-    numbers: &mut [u32],
+    numbers: &mut WalkNumbers,
     n: usize,
     ignore: Ignore,
-    st: Hashing,
-) -> Hashing
-    requires { ⌜ ReadyToHash (now store) (now numbers) ⌝ }
+    word: u64,
+) -> u64
+    requires { ⌜ IsSound (now store) ⌝ }
     requires { ⌜ n < opCount (columns (now store)) ⌝ }
-    requires { ⌜ DefinitionsFit (storeIn (now store)) (fullSteps (storeIn (now store)) n) st ⌝ }
-    ensures { λ r. ⌜ Fed (storeIn (now (store .entry))) (ignoreOf ignore) (fullSteps (storeIn (now (store .entry))) n) (now (numbers .entry)) (now (numbers .exit)) st r ⌝ }
+    requires { ⌜ DefinitionsFit (storeIn (now store)) (fullSteps (storeIn (now store)) n) (now numbers) ⌝ }
+    ensures { λ r. ⌜ Fed (storeIn (now (store .entry))) (ignoreOf ignore) (fullSteps (storeIn (now (store .entry))) n) (now (numbers .entry)) (now (numbers .exit)) word r ⌝ }
 {
-    let mut fed = hash_names(store, numbers, n, st);
+    let mut fed = hash_names(store, numbers, n, word);
     let end = number(store, OP_REGION_END, n);
     let mut r = number(store, OP_REGION_FIRST, n);
     while r < end {
@@ -74,25 +54,48 @@ pub fn hash_op_full(
 // So any use of a block or value that is defined anywhere in the list is already numbered by the time it's hashed: forward references too.
 pub fn hash_blocks_full(
     store: &[u32],
-    numbers: &mut [u32],
+    numbers: &mut WalkNumbers,
     blocks: Blocks,
     ignore: Ignore,
-    st: Hashing,
-) -> Hashing
-    requires { ⌜ ReadyToHash (now store) (now numbers) ⌝ }
+    word: u64,
+) -> u64
+    requires { ⌜ IsSound (now store) ⌝ }
     requires { ⌜ BlocksExist (columns (now store)) blocks ⌝ }
-    requires { ⌜ DefinitionsFit (storeIn (now store)) (listedSteps (storeIn (now store)) (blockList (storeIn (now store)) blocks)) st ⌝ }
-    ensures { λ r. ⌜ Fed (storeIn (now (store .entry))) (ignoreOf ignore) (listedSteps (storeIn (now (store .entry))) (blockList (storeIn (now (store .entry))) blocks)) (now (numbers .entry)) (now (numbers .exit)) st r ⌝ }
+    requires { ⌜ DefinitionsFit (storeIn (now store)) (listedSteps (storeIn (now store)) (blockList (storeIn (now store)) blocks)) (now numbers) ⌝ }
+    ensures { λ r. ⌜ Fed (storeIn (now (store .entry))) (ignoreOf ignore) (listedSteps (storeIn (now (store .entry))) (blockList (storeIn (now (store .entry))) blocks)) (now (numbers .entry)) (now (numbers .exit)) word r ⌝ }
 {
-    let shells = hash_block_shells(store, numbers, blocks, ignore, st);
+    let shells = hash_block_shells(store, numbers, blocks, ignore, word);
     let mut fed = hash_op_shells(store, numbers, blocks, ignore, shells);
-    let mut at = Position { block: 0, op: 0 };
+    let mut from = 0;
     loop {
-        let next = next_op_in(store, blocks, at);
-        let NextOp::At(p) = next else {
+        let Found::At(b) = next_in(store, blocks, from) else {
             return fed;
         };
-        fed = hash_op_full(store, numbers, p.op, ignore, fed);
-        at = past_op(p);
+        fed = hash_ops_full(store, numbers, b, ignore, fed);
+        from = b + 1;
+    }
+}
+
+// Pass 3 of one block: its operations in full.
+fn hash_ops_full(
+    store: &[u32],
+    numbers: &mut WalkNumbers,
+    b: usize,
+    ignore: Ignore,
+    word: u64,
+) -> u64
+    requires { ⌜ IsSound (now store) ⌝ }
+    requires { ⌜ b < blockCount (columns (now store)) ⌝ }
+    requires { ⌜ DefinitionsFit (storeIn (now store)) (opsInFull (storeIn (now store)) b) (now numbers) ⌝ }
+    ensures { λ r. ⌜ Fed (storeIn (now (store .entry))) (ignoreOf ignore) (opsInFull (storeIn (now (store .entry))) b) (now (numbers .entry)) (now (numbers .exit)) word r ⌝ }
+{
+    let mut fed = word;
+    let mut from = 0;
+    loop {
+        let Found::At(n) = next_op(store, b, from) else {
+            return fed;
+        };
+        fed = hash_op_full(store, numbers, n, ignore, fed);
+        from = n + 1;
     }
 }

@@ -102,8 +102,21 @@ pub record BlockChild (C : Cols) (r m : ℕ) : Type 0 where
   pub word : at C blockRegion m ≡ r
   pub place : InRange (at C regionBlockFirst r) (at C regionBlockEnd r) m
 
+module _ (C : Cols) where
+  pub ops-scan-all : (b : ℕ) → Scan (at C opParent) (b + 1) (opCount C) (opsOf (storeOf C) b)
+  unfolding opsOf storeOf opOf
+  ops-scan-all b =
+      child-scan (λ (o : Op). isParent b (o .parent)) (opOf C) (at C opParent) (b + 1) (λ i. parent-word b (at C opParent i))
+      0 (opCount C) (opCount C) (omega arith) (λ i l e. record { from = omega arith; below = l })
+
+  pub blocks-scan-all : (r : ℕ) → Scan (at C blockRegion) r (blockCount C) (blocksOf (storeOf C) r)
+  unfolding blocksOf storeOf blockOf
+  blocks-scan-all r =
+      child-scan (λ (x : Block). eqb (x .region) r) (blockOf C) (at C blockRegion) r (λ i. (eqb-true _ r, eq-eqb _ r))
+      0 (blockCount C) (blockCount C) (omega arith) (λ i l e. record { from = omega arith; below = l })
+
 module _ (C : Cols) (h : Laid C) where
-  op-inside : (b n : ℕ) → n < opCount C → at C opParent n ≡ suc b → InRange (at C blockOpFirst b) (at C blockOpEnd b) n
+  pub op-inside : (b n : ℕ) → n < opCount C → at C opParent n ≡ suc b → InRange (at C blockOpFirst b) (at C blockOpEnd b) n
   unfolding parentFrom
   op-inside b n l e = placed-facts C n b (subst (λ (w : ℕ). placed C n (parentFrom w) ≡ true) e (h .op n l .place)) .place
 
@@ -128,7 +141,7 @@ module _ (C : Cols) (h : Laid C) where
 
   -- ---- the blocks of a region
 
-  block-inside : (r m : ℕ) → m < blockCount C → at C blockRegion m ≡ r → InRange (at C regionBlockFirst r) (at C regionBlockEnd r) m
+  pub block-inside : (r m : ℕ) → m < blockCount C → at C blockRegion m ≡ r → InRange (at C regionBlockFirst r) (at C regionBlockEnd r) m
   block-inside r m l e = subst (λ (x : ℕ). InRange (at C regionBlockFirst x) (at C regionBlockEnd x) m) e (h .block m l .place)
 
   pub blocks-facts : (r : ℕ) {m : ℕ} → List·Memᴰ m (blocksOf (storeOf C) r) → BlockChild C r m

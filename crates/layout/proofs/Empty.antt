@@ -91,6 +91,8 @@ module _ (C : Cols) (z : (i : ℕ) → i < 8 → at C counts i ≡ 0) where
         operandEnd = ends opOperandEnd ∙ sym operands;
         successorEnd = ends opSuccessorEnd ∙ sym successors;
         attributes = ap₂ (λ (n m : ℕ). sum (tabulate n (at C opAttributes)) + sum (tabulate m (at C blockAttributes))) ops blocks ∙ sym attributes;
+        opLink = λ n l. none-below n _ ops l;
+        blockLink = λ n l. none-below n _ blocks l;
       }
 
 -- ---- the buffer of zeros

@@ -11,10 +11,10 @@ use borrow.Author.Tests.{eq-eqb, ne-eqb}
 use lib.Dec.{eqb}
 use Rattle.rules.specs.Store.{opsOf, blocksOf}
 use Rattle.layout.specs.Columns.{Cols, at, opParent, regionBlockFirst, regionBlockEnd, blockRegion, blockOpFirst, blockOpEnd}
-use Rattle.layout.specs.Reading.{blockCount, regionCount, storeOf}
+use Rattle.layout.specs.Reading.{opCount, blockCount, regionCount, storeOf}
 use Rattle.layout.specs.Children.{firstFrom, firstWord}
 use Rattle.layout.proofs.Laid.{Laid}
-use Rattle.layout.proofs.ChildList.{Scan, ops-scan, ops-facts, ops-mem, blocks-scan, blocks-facts, blocks-mem}
+use Rattle.layout.proofs.ChildList.{Scan, ops-scan-all, blocks-scan-all, ops-scan, ops-facts, ops-mem, blocks-scan, blocks-facts, blocks-mem}
 
 module _ (C : Cols) (k w : ℕ) where
   step : (a n : ℕ) → firstWord C k w a (suc n) ≡ cond (eqb (at C k a) w) (some a) (firstWord C k w (suc a) n)
@@ -56,6 +56,15 @@ module _ (C : Cols) (k w : ℕ) where
 
     scan-first : (a : ℕ) → n ≤ a → Passed a → firstFrom n xs ≡ firstWord C k w a (e - a)
     scan-first a l passed = scan-from (e - a) a l refl passed
+
+-- ---- from a number on, among all children
+
+module _ (C : Cols) where
+  pub op-on : (b n : ℕ) → firstFrom n (opsOf (storeOf C) b) ≡ firstWord C opParent (b + 1) n (opCount C - n)
+  op-on b n = scan-first C opParent (b + 1) (opCount C) _ (ops-scan-all C b) n n (omega arith) (λ i p q f e. omega arith)
+
+  pub block-on : (r n : ℕ) → firstFrom n (blocksOf (storeOf C) r) ≡ firstWord C blockRegion r n (blockCount C - n)
+  block-on r n = scan-first C blockRegion r (blockCount C) _ (blocks-scan-all C r) n n (omega arith) (λ i p q f e. omega arith)
 
 -- ---- no child stands before the range, so to search from n on and from the range's begin on is to look for the first child from n on
 

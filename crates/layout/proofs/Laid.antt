@@ -9,7 +9,7 @@ use Rattle.rules.specs.Store.{ofOp, ofBlock, maxOps, maxBlocks, maxRegions, max
 use Rattle.rules.proofs.Basics.Tests.{and-left, and-right, and-both, passed, every-of, allBelow-at, allBelow-of}
 use Rattle.layout.specs.Columns.{Cols, columnSize, at, opParent, opRegionFirst, opRegionEnd, opResultFirst, opResultEnd, opOperandFirst, opOperandEnd, opSuccessorFirst, opSuccessorEnd, opAttributes, regionOp, regionBlockFirst, regionBlockEnd, blockRegion, blockArgumentFirst, blockArgumentEnd, blockOpEnd, blockAttributes, valueOwner}
 use Rattle.layout.specs.Reading.{opCount, blockCount, regionCount, valueCount, operandCount, successorCount, attributeCount, parentFrom, ownerCode}
-use Rattle.layout.specs.Soundness.{ranged, within, owned, ownedWithin, endBefore, tiled, placed, regionsOwned, resultsOwned, listsTiled, opLaid, blockLaid, regionLaid, valueLaid, attributeSum, countsHold, countsLaid, laidOut}
+use Rattle.layout.specs.Soundness.{ranged, within, owned, ownedWithin, endBefore, tiled, placed, regionsOwned, resultsOwned, listsTiled, opLaid, blockLaid, regionLaid, valueLaid, attributeSum, countsHold, countsLaid, laidOut, opLinked, blockLinked}
 
 -- each column is as long as it should be
 abbrev pub Shaped : Cols → Type 0
@@ -69,6 +69,8 @@ pub record Laid (C : Cols) : Type 0 where
   pub operandEnd : endBefore C opOperandEnd (opCount C) ≡ operandCount C
   pub successorEnd : endBefore C opSuccessorEnd (opCount C) ≡ successorCount C
   pub attributes : attributeSum C ≡ attributeCount C
+  pub opLink : (n : ℕ) → n < opCount C → opLinked C n ≡ true
+  pub blockLink : (m : ℕ) → m < blockCount C → blockLinked C m ≡ true
 
 pub ranged-facts : (a e n : ℕ) → ranged a e n ≡ true → Ranged a e n
 unfolding ranged
@@ -188,6 +190,8 @@ laid-facts C h =
       operandEnd = eqb-true _ _ (q .0);
       successorEnd = eqb-true _ _ (q .1 .0);
       attributes = eqb-true _ _ (q .1 .1 .0);
+      opLink = λ n l. allBelow-at _ _ (p .1 .1 .1 .1 .1 .1 .0) n l;
+      blockLink = λ m l. allBelow-at _ _ (p .1 .1 .1 .1 .1 .1 .1 .0) m l;
     }
 
 pub laid-of : (C : Cols) → Laid C → laidOut C ≡ true
@@ -203,7 +207,10 @@ laid-of C h =
             allBelow-of _ _ (λ r l. region-of C r (h .region r l)),
             (
               allBelow-of _ _ (h .value),
-              (every-of _ (eq-eqb _ _ (h .operandEnd), (eq-eqb _ _ (h .successorEnd), (eq-eqb _ _ (h .attributes), tt))), tt),
+              (
+                every-of _ (eq-eqb _ _ (h .operandEnd), (eq-eqb _ _ (h .successorEnd), (eq-eqb _ _ (h .attributes), tt))),
+                (allBelow-of _ _ (h .opLink), (allBelow-of _ _ (h .blockLink), tt)),
+              ),
             ),
           ),
         ),

@@ -14,6 +14,7 @@ pub mod Totals
 pub mod Rules
 pub mod ChildList
 pub mod Finds
+pub mod Linking
 pub mod Seeking
 pub mod Slots
 pub mod Empty

@@ -5,7 +5,7 @@ use mathlib.Core.Bool.{true}
 use mathlib.Core.Path.{_≡_, sym, subst, _∙_}
 use borrow.Author.Tests.{lt-ltb}
 use Rattle.rules.specs.Store.{Owner, ofOp, ofBlock, ownerExists, maxOwnKeys}
-use Rattle.layout.specs.Columns.{Cols, columnSize}
+use Rattle.layout.specs.Columns.{Cols, columnSize, columnCount, slotCount}
 use Rattle.layout.specs.Reading.{opCount, blockCount, slotsOf, storeOf}
 use Rattle.layout.specs.Owners.{countColumn, ownerNumber, keyCount}
 use Rattle.layout.proofs.Laid.{Laid}
@@ -31,12 +31,12 @@ unfolding keyCount countColumn ownerNumber
 owner-keys C (ofOp n) h l = h .op n l .keys
 owner-keys C (ofBlock m) h l = h .block m l .keys
 
-pub slots-fit : (C : Cols) (w : Owner) → Laid C → ownerIn C w → slotsOf w + 8 ≤ 6144
+pub slots-fit : (C : Cols) (w : Owner) → Laid C → ownerIn C w → slotsOf w + 8 ≤ slotCount
 unfolding slotsOf
 slots-fit C (ofOp n) h l = omega (arith, h .counts .ops)
 slots-fit C (ofBlock m) h l = omega (arith, h .counts .blocks)
 
-column-low : (w : Owner) → countColumn w < 32
+column-low : (w : Owner) → countColumn w < columnCount
 unfolding countColumn
 column-low (ofOp n) = omega arith
 column-low (ofBlock m) = omega arith
@@ -49,16 +49,16 @@ number-low C (ofBlock m) h l = omega (arith, h .counts .blocks)
 -- what is written and read of an owner lies in its columns
 pub record Reachable (C : Cols) (w : Owner) : Type 0 where
   pub within : ownerIn C w
-  pub column : countColumn w < 32
+  pub column : countColumn w < columnCount
   pub number : ownerNumber w < columnSize (countColumn w)
   pub keys : keyCount C w ≤ maxOwnKeys
-  pub slots : slotsOf w + 8 ≤ 6144
+  pub slots : slotsOf w + 8 ≤ slotCount
 
 pub owner-reached : (C : Cols) (w : Owner) → Laid C → ownerIn C w → Reachable C w
 owner-reached C w h l = record { within = l; column = column-low w; number = number-low C w h l; keys = owner-keys C w h l; slots = slots-fit C w h l }
 
-pub count-reached : (C : Cols) (w : Owner) → Reachable C w → (k n : ℕ) → k ≡ countColumn w → n ≡ ownerNumber w → (k < 32) × (n < columnSize k)
+pub count-reached : (C : Cols) (w : Owner) → Reachable C w → (k n : ℕ) → k ≡ countColumn w → n ≡ ownerNumber w → (k < columnCount) × (n < columnSize k)
 count-reached C w r k n p q = (
-  subst (λ (x : ℕ). x < 32) (sym p) (r .column),
+  subst (λ (x : ℕ). x < columnCount) (sym p) (r .column),
   subst (λ (x : ℕ). x < columnSize k) (sym q) (subst (λ (x : ℕ). ownerNumber w < columnSize x) (sym p) (r .number)),
 )

@@ -110,7 +110,7 @@ operandWords = 27
 abbrev pub successorWords : ℕ
 successorWords = 28
 
--- of an attribute slot: 8 for each operation, then 8 for each block
+-- of an attribute slot
 abbrev pub slotKey : ℕ
 slotKey = 29
 
@@ -120,7 +120,25 @@ slotKind = 30
 abbrev pub slotContent : ℕ
 slotContent = 31
 
+-- of an operation in a block: the next operation of the block, or 0
+abbrev pub opNext : ℕ
+opNext = 32
+
+-- of a block: the next block of its region, or 0
+abbrev pub blockNext : ℕ
+blockNext = 33
+
+abbrev pub columnCount : ℕ
+columnCount = 34
+
 -- ---- where they stand, one behind the other
+
+-- attribute slots: 8 for each operation, then 8 for each block
+abbrev pub firstBlockSlot : ℕ
+firstBlockSlot = 4096
+
+abbrev pub slotCount : ℕ
+slotCount = 6144
 
 abbrev pub columnSizes : List ℕ
 columnSizes =
@@ -130,7 +148,8 @@ columnSizes =
     ∷ 256 ∷ 256 ∷ 256 ∷ 256 ∷ 256 ∷ 256 ∷ 256 ∷ 256
     ∷ 2048 ∷ 2048
     ∷ 2048 ∷ 512
-    ∷ 6144 ∷ 6144 ∷ 6144
+    ∷ slotCount ∷ slotCount ∷ slotCount
+    ∷ 512 ∷ 256
     ∷ []
 
 abbrev pub columnSize : ℕ → ℕ
@@ -141,7 +160,7 @@ base k = sum (take k columnSizes)
 
 -- the buffer's length in words
 abbrev pub bufferLength : ℕ
-bufferLength = 34568
+bufferLength = 35336
 
 -- an empty store's words
 unfoldable pub emptyBuffer : List ℕ

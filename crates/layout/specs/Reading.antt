@@ -1,5 +1,5 @@
--- What the words are read as: the rules' store. The columns of depth, and the ranges that children lie in, are not read: they only help
--- to find things, and soundness holds them to what is read.
+-- What the words are read as: the rules' store. The columns of depth and of links, and the ranges that children lie in, are not read: they
+-- only help to find things, and soundness holds them to what is read.
 use Prim.Native.Nat.{ℕ, zero, suc, _+_, _*_, _-_, _/_, _%_}
 use mathlib.Core.Bool.{cond}
 use mathlib.Core.Option.{Option, none, some}
@@ -7,7 +7,7 @@ use mathlib.Core.List.{List, [], _∷_}
 use lib.Dec.{eqb}
 use lib.ListN.{take, drop}
 use Rattle.rules.specs.Store.{Store, Op, Block, Value, Attribute, Owner, ofOp, ofBlock}
-use Rattle.layout.specs.Columns.{Cols, columns, at, counts, opKind, opParent, opLocation, opOperandFirst, opOperandEnd, opSuccessorFirst, opSuccessorEnd, opAttributes, regionOp, blockRegion, blockLabel, blockLocation, blockAttributes, valueType, valueOwner, operandWords, successorWords, slotKey, slotKind, slotContent}
+use Rattle.layout.specs.Columns.{Cols, columns, at, counts, opKind, opParent, opLocation, opOperandFirst, opOperandEnd, opSuccessorFirst, opSuccessorEnd, opAttributes, regionOp, blockRegion, blockLabel, blockLocation, blockAttributes, valueType, valueOwner, operandWords, successorWords, slotKey, slotKind, slotContent, firstBlockSlot}
 
 -- f at each number below n, by rising number
 unfoldable pub tabulateFrom : {A : Type 0} → ℕ → ℕ → (ℕ → A) → List A
@@ -68,7 +68,7 @@ ownerCode (ofBlock b) = 2 * b + 1
 -- an owner's first attribute slot
 unfoldable pub slotsOf : Owner → ℕ
 slotsOf (ofOp n) = 8 * n
-slotsOf (ofBlock b) = 4096 + 8 * b
+slotsOf (ofBlock b) = firstBlockSlot + 8 * b
 
 unfoldable pub attributeAt : Cols → ℕ → Attribute
 attributeAt C i = record { key = at C slotKey i; kind = at C slotKind i; content = at C slotContent i }

@@ -1,6 +1,6 @@
 -- Which buffers are sound: of the right length, laid out, and sound by document 01's rules for what they are read as.
 use Prim.Native.Nat.{ℕ, zero, suc, _+_, _-_}
-use mathlib.Core.Bool.{Bool, true, false, _&&_}
+use mathlib.Core.Bool.{Bool, true, false, cond, _&&_}
 use mathlib.Core.Option.{Option, none, some}
 use mathlib.Core.List.{List, [], _∷_}
 use mathlib.Core.Path.{_≡_}
@@ -8,8 +8,9 @@ use lib.Dec.{eqb, leb, ltb}
 use lib.ListN.{length, getD}
 use Rattle.rules.specs.Lists.{every, all, allBelow, sum}
 use Rattle.rules.specs.Store.{Owner, ofOp, ofBlock, sound, blockAfter, attributesHold, maxNesting, maxOps, maxBlocks, maxRegions, maxValues, maxOperands, maxSuccessors, maxAttributes, maxOwnKeys, maxOwnRegions, maxOwnValues, maxOwnOperands, maxOwnSuccessors}
-use Rattle.layout.specs.Columns.{Cols, at, columns, bufferLength, opParent, opDepth, opRegionFirst, opRegionEnd, opResultFirst, opResultEnd, opOperandFirst, opOperandEnd, opSuccessorFirst, opSuccessorEnd, opAttributes, regionOp, regionBlockFirst, regionBlockEnd, blockRegion, blockArgumentFirst, blockArgumentEnd, blockOpFirst, blockOpEnd, blockAttributes, valueOwner}
+use Rattle.layout.specs.Columns.{Cols, at, columns, bufferLength, opParent, opDepth, opRegionFirst, opRegionEnd, opResultFirst, opResultEnd, opOperandFirst, opOperandEnd, opSuccessorFirst, opSuccessorEnd, opAttributes, regionOp, regionBlockFirst, regionBlockEnd, blockRegion, blockArgumentFirst, blockArgumentEnd, blockOpFirst, blockOpEnd, blockAttributes, valueOwner, opNext, blockNext}
 use Rattle.layout.specs.Reading.{tabulate, opCount, blockCount, regionCount, valueCount, operandCount, successorCount, attributeCount, around, parentFrom, ownerFrom, ownerCode, opOf, blockOf, storeOf}
+use Rattle.layout.specs.Children.{firstWord, wordFrom}
 
 -- ---- ranges
 
@@ -103,6 +104,27 @@ valueLaid C v = inOwner C v (ownerFrom (at C valueOwner v))
 unfoldable pub rowLaid : Cols → ℕ → ℕ → Bool
 rowLaid C table i = getD (opLaid C i ∷ blockLaid C i ∷ regionLaid C i ∷ valueLaid C i ∷ []) table false
 
+-- ---- links: from each child of a block or region to the next one
+
+-- the next of so many children that has the same word in a column of owners as n has, or 0
+unfoldable pub nextChild : Cols → ℕ → ℕ → ℕ → ℕ
+nextChild C owners count n = wordFrom (firstWord C owners (at C owners n) (n + 1) (count - (n + 1)))
+
+-- the link of child n is the number of the next child; with the last one, whose link is 0, the range of children ends
+unfoldable pub linkHolds : ℕ → ℕ → ℕ → ℕ → Bool
+linkHolds next link end n = eqb link next && cond (eqb next 0) (eqb end (n + 1)) true
+
+-- an operation in a block, for the number of the next one
+unfoldable pub parentLinked : Cols → ℕ → Option ℕ → ℕ → Bool
+parentLinked C n none next = true
+parentLinked C n (some b) next = linkHolds next (at C opNext n) (at C blockOpEnd b) n
+
+unfoldable pub opLinked : Cols → ℕ → Bool
+opLinked C n = parentLinked C n (parentFrom (at C opParent n)) (nextChild C opParent (opCount C) n)
+
+unfoldable pub blockLinked : Cols → ℕ → Bool
+blockLinked C m = linkHolds (nextChild C blockRegion (blockCount C) m) (at C blockNext m) (at C regionBlockEnd (at C blockRegion m)) m
+
 -- ---- counts
 
 unfoldable pub attributeSum : Cols → ℕ
@@ -171,6 +193,8 @@ laidOut C =
     ∷ allBelow (regionCount C) (regionLaid C)
     ∷ allBelow (valueCount C) (valueLaid C)
     ∷ countsLaid C
+    ∷ allBelow (opCount C) (opLinked C)
+    ∷ allBelow (blockCount C) (blockLinked C)
     ∷ [])
 
 -- of the right length, and laid out: so what the words are read as can be found by them

@@ -1,4 +1,4 @@
-// Is the buffer laid out? Its counts first, then every row of its tables, then what rows and counts say together.
+// Is the buffer laid out? Its counts first, then every row of its tables, then what rows and counts say together, and the links.
 use crate::columns::ATTRIBUTES;
 use crate::columns::BLOCK_ATTRIBUTES;
 use crate::columns::BLOCKS;
@@ -12,6 +12,8 @@ use crate::columns::REGIONS;
 use crate::columns::SUCCESSORS;
 use crate::columns::VALUES;
 use crate::columns::number;
+use crate::links::blocks_linked;
+use crate::links::ops_linked;
 use crate::row_checks::block_laid;
 use crate::row_checks::op_laid;
 use crate::row_checks::region_laid;
@@ -23,7 +25,7 @@ ghost use Prim.Native.Nat.{_<_, _≤_, _+_};
 ghost use lib.Dec.{leb};
 ghost use lib.ListN.{length};
 ghost use Rattle.rules.specs.Lists.{allBelow, sum};
-ghost use Rattle.layout.specs.Columns.{bufferLength, columnSize, counts, columns, at};
+ghost use Rattle.layout.specs.Columns.{bufferLength, columnSize, counts, columns, at, columnCount};
 ghost use Rattle.layout.specs.Reading.{tabulate, opCount, blockCount};
 ghost use Rattle.layout.specs.Soundness.{CountsBounded, opLaid, blockLaid, rowLaid, attributeSum, countsHold, countsLaid, laidOut};
 
@@ -88,7 +90,7 @@ fn rows_laid(store: &[u32], table: usize) -> bool
 // The sum of the first n words of a column, of which none is above 8.
 fn sum_of(store: &[u32], column: usize, n: usize) -> usize
     requires { ⌜ length (now store) ≡ bufferLength ⌝ }
-    requires { ⌜ column < 32 ⌝ }
+    requires { ⌜ column < columnCount ⌝ }
     requires { ⌜ n ≤ columnSize column ⌝ }
     requires { ⌜ allBelow n (λ i. leb (at (columns (now store)) column i) 8) ≡ true ⌝ }
     ensures { λ r. ⌜ r ≡ sum (tabulate n (at (columns (now (store .entry))) column)) ⌝ }
@@ -152,5 +154,11 @@ pub fn laid_out(store: &[u32]) -> bool
     if !rows_laid(store, VALUES) {
         return false;
     }
-    counts_laid(store)
+    if !counts_laid(store) {
+        return false;
+    }
+    if !ops_linked(store) {
+        return false;
+    }
+    blocks_linked(store)
 }

@@ -6,11 +6,11 @@ ghost use mathlib.Core.Path.{_≡_};
 ghost use mathlib.Core.List.{_∷_};
 ghost use Prim.Native.Nat.{_+_, _-_, _<_, _≤_};
 ghost use lib.ListN.{length, replicate};
-ghost use Rattle.layout.specs.Columns.{bufferLength, columnSize, columns, at, write, writeRange};
+ghost use Rattle.layout.specs.Columns.{bufferLength, columnSize, columns, at, write, writeRange, columnCount};
 ghost use Rattle.layout.specs.Reading.{slice};
 
 // The buffer's length in words.
-pub const STORE_LENGTH: usize = 34568;
+pub const STORE_LENGTH: usize = 35336;
 
 // How many there are of each thing: the words of the first column.
 pub const COUNTS: usize = 0;
@@ -97,53 +97,61 @@ pub const SLOT_KIND: usize = 30;
 
 pub const SLOT_CONTENT: usize = 31;
 
-const BASES: [usize; 32] = [
-    0,
-    8,
-    520,
-    1032,
-    1544,
-    2056,
-    2568,
-    3080,
-    3592,
-    4104,
-    4616,
-    5128,
-    5640,
-    6152,
-    6664,
-    6920,
-    7176,
-    7432,
-    7688,
-    7944,
-    8200,
-    8456,
-    8712,
-    8968,
-    9224,
-    9480,
-    11528,
-    13576,
-    15624,
-    16136,
-    22280,
-    28424,
-];
+// Where the slots of blocks begin, behind those of operations.
+pub const FIRST_BLOCK_SLOT: usize = 4096;
 
-// Where a column begins.
+// Of an operation in a block, and of a block: the next operation of the block, the next block of the region, or 0.
+pub const OP_NEXT: usize = 32;
+
+pub const BLOCK_NEXT: usize = 33;
+
+// Where a column begins. A match and no table: a table would be built on the stack wherever the column isn't a constant.
 fn base(column: usize) -> usize
-    requires { ⌜ column < 32 ⌝ }
+    requires { ⌜ column < columnCount ⌝ }
     ensures { λ r. ⌜ r ≡ Rattle.layout.specs.Columns.base column ⌝ }
 {
-    BASES[column]
+    match column {
+        COUNTS => 0,
+        OP_KIND => 8,
+        OP_PARENT => 520,
+        OP_LOCATION => 1032,
+        OP_DEPTH => 1544,
+        OP_REGION_FIRST => 2056,
+        OP_REGION_END => 2568,
+        OP_RESULT_FIRST => 3080,
+        OP_RESULT_END => 3592,
+        OP_OPERAND_FIRST => 4104,
+        OP_OPERAND_END => 4616,
+        OP_SUCCESSOR_FIRST => 5128,
+        OP_SUCCESSOR_END => 5640,
+        OP_ATTRIBUTES => 6152,
+        REGION_OP => 6664,
+        REGION_BLOCK_FIRST => 6920,
+        REGION_BLOCK_END => 7176,
+        BLOCK_REGION => 7432,
+        BLOCK_LABEL => 7688,
+        BLOCK_LOCATION => 7944,
+        BLOCK_ARGUMENT_FIRST => 8200,
+        BLOCK_ARGUMENT_END => 8456,
+        BLOCK_OP_FIRST => 8712,
+        BLOCK_OP_END => 8968,
+        BLOCK_ATTRIBUTES => 9224,
+        VALUE_TYPE => 9480,
+        VALUE_OWNER => 11528,
+        OPERAND_WORDS => 13576,
+        SUCCESSOR_WORDS => 15624,
+        SLOT_KEY => 16136,
+        SLOT_KIND => 22280,
+        SLOT_CONTENT => 28424,
+        OP_NEXT => 34568,
+        _ => 35080,
+    }
 }
 
 // One word of a column.
 pub fn at(store: &[u32], column: usize, n: usize) -> u32
     requires { ⌜ length (now store) ≡ bufferLength ⌝ }
-    requires { ⌜ column < 32 ⌝ }
+    requires { ⌜ column < columnCount ⌝ }
     requires { ⌜ n < columnSize column ⌝ }
     ensures { λ r. ⌜ r ≡ Rattle.layout.specs.Columns.at (columns (now (store .entry))) column n ⌝ }
 {
@@ -154,7 +162,7 @@ pub fn at(store: &[u32], column: usize, n: usize) -> u32
 // The same word, as a number to count and to index with.
 pub fn number(store: &[u32], column: usize, n: usize) -> usize
     requires { ⌜ length (now store) ≡ bufferLength ⌝ }
-    requires { ⌜ column < 32 ⌝ }
+    requires { ⌜ column < columnCount ⌝ }
     requires { ⌜ n < columnSize column ⌝ }
     ensures { λ r. ⌜ r ≡ Rattle.layout.specs.Columns.at (columns (now (store .entry))) column n ⌝ }
 {
@@ -164,7 +172,7 @@ pub fn number(store: &[u32], column: usize, n: usize) -> usize
 // The words of a column from `a` up to `e`, which is not among them.
 pub fn words(store: &[u32], column: usize, a: usize, e: usize) -> &[u32]
     requires { ⌜ length (now store) ≡ bufferLength ⌝ }
-    requires { ⌜ column < 32 ⌝ }
+    requires { ⌜ column < columnCount ⌝ }
     requires { ⌜ a ≤ e ⌝ }
     requires { ⌜ e ≤ columnSize column ⌝ }
     ensures { λ r. ⌜ now r ≡ slice (columns (now (store .entry)) column) a e ⌝ }
@@ -176,7 +184,7 @@ pub fn words(store: &[u32], column: usize, a: usize, e: usize) -> &[u32]
 // Writes one word of a column.
 pub fn put(store: &mut [u32], column: usize, n: usize, v: u32)
     requires { ⌜ length (now store) ≡ bufferLength ⌝ }
-    requires { ⌜ column < 32 ⌝ }
+    requires { ⌜ column < columnCount ⌝ }
     requires { ⌜ n < columnSize column ⌝ }
     ensures { λ _. ⌜ columns (now (store .exit)) ≡ write (columns (now (store .entry))) column n v ⌝ }
 {
@@ -187,7 +195,7 @@ pub fn put(store: &mut [u32], column: usize, n: usize, v: u32)
 // Writes a list over the words of a column, from word `n` on.
 pub fn put_all(store: &mut [u32], column: usize, n: usize, list: &[u32])
     requires { ⌜ length (now store) ≡ bufferLength ⌝ }
-    requires { ⌜ column < 32 ⌝ }
+    requires { ⌜ column < columnCount ⌝ }
     requires { ⌜ n + length (now list) ≤ columnSize column ⌝ }
     ensures { λ _. ⌜ columns (now (store .exit)) ≡ writeRange (columns (now (store .entry))) column n (now (list .entry)) ⌝ }
 {
@@ -198,7 +206,7 @@ pub fn put_all(store: &mut [u32], column: usize, n: usize, list: &[u32])
 // Writes the word `v` over `count` words of a column, from word `n` on.
 pub fn put_same(store: &mut [u32], column: usize, n: usize, count: usize, v: u32)
     requires { ⌜ length (now store) ≡ bufferLength ⌝ }
-    requires { ⌜ column < 32 ⌝ }
+    requires { ⌜ column < columnCount ⌝ }
     requires { ⌜ n + count ≤ columnSize column ⌝ }
     ensures { λ _. ⌜ columns (now (store .exit)) ≡ writeRange (columns (now (store .entry))) column n (replicate count v) ⌝ }
 {
@@ -209,7 +217,7 @@ pub fn put_same(store: &mut [u32], column: usize, n: usize, count: usize, v: u32
 // Inserts a word at `a`: the words of a column from `a` up to `e` move one place on, and the word at `e` is overwritten.
 pub fn insert(store: &mut [u32], column: usize, a: usize, e: usize, v: u32)
     requires { ⌜ length (now store) ≡ bufferLength ⌝ }
-    requires { ⌜ column < 32 ⌝ }
+    requires { ⌜ column < columnCount ⌝ }
     requires { ⌜ a ≤ e ⌝ }
     requires { ⌜ e < columnSize column ⌝ }
     ensures { λ _. ⌜ columns (now (store .exit)) ≡ writeRange (columns (now (store .entry))) column a (v ∷ slice (columns (now (store .entry)) column) a e) ⌝ }

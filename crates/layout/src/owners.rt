@@ -1,5 +1,6 @@
 // The owner of attributes: whether it exists, its slots, and how many keys it has.
 use crate::columns::BLOCK_ATTRIBUTES;
+use crate::columns::FIRST_BLOCK_SLOT;
 use crate::columns::OP_ATTRIBUTES;
 use crate::columns::number;
 use crate::existing::block_exists;
@@ -55,7 +56,7 @@ pub fn first_slot(owner: Owner) -> usize
 {
     match owner {
         Owner::Op(n) => 8 * n as usize,
-        Owner::Block(b) => 4096 + 8 * b as usize,
+        Owner::Block(b) => FIRST_BLOCK_SLOT + 8 * b as usize,
     }
 }
 

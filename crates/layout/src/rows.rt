@@ -6,7 +6,7 @@ ghost use mathlib.Core.Path.{_≡_};
 ghost use Prim.Native.Nat.{_-_, _<_, _≤_};
 ghost use lib.Dec.{leb};
 ghost use lib.ListN.{length};
-ghost use Rattle.layout.specs.Columns.{bufferLength, columnSize, columns, at};
+ghost use Rattle.layout.specs.Columns.{bufferLength, columnSize, columns, at, columnCount};
 ghost use Rattle.layout.specs.Reading.{slice};
 ghost use Rattle.layout.specs.Soundness.{tiled, owned, ownedWithin};
 
@@ -33,7 +33,7 @@ pub fn within(a: usize, e: usize, n: usize) -> bool
 // Each word of a column in the range from `a` to `e` is `w`.
 pub fn all_owned(store: &[u32], column: usize, a: usize, e: usize, w: u32) -> bool
     requires { ⌜ length (now store) ≡ bufferLength ⌝ }
-    requires { ⌜ column < 32 ⌝ }
+    requires { ⌜ column < columnCount ⌝ }
     requires { ⌜ a ≤ e ⌝ }
     requires { ⌜ e ≤ columnSize column ⌝ }
     ensures { λ r. ⌜ r ≡ owned (columns (now (store .entry))) column a e w ⌝ }
@@ -44,8 +44,8 @@ pub fn all_owned(store: &[u32], column: usize, a: usize, e: usize, w: u32) -> bo
 // The number `n` lies in the range of a row.
 pub fn holds(store: &[u32], first: usize, end: usize, row: usize, n: usize) -> bool
     requires { ⌜ length (now store) ≡ bufferLength ⌝ }
-    requires { ⌜ first < 32 ⌝ }
-    requires { ⌜ end < 32 ⌝ }
+    requires { ⌜ first < columnCount ⌝ }
+    requires { ⌜ end < columnCount ⌝ }
     requires { ⌜ row < columnSize first ⌝ }
     requires { ⌜ row < columnSize end ⌝ }
     ensures { λ r. ⌜ r ≡ Rattle.layout.specs.Soundness.within (at (columns (now (store .entry))) first row) (at (columns (now (store .entry))) end row) n ⌝ }
@@ -56,8 +56,8 @@ pub fn holds(store: &[u32], first: usize, end: usize, row: usize, n: usize) -> b
 // The range of a row has at most `most` numbers.
 pub fn at_most(store: &[u32], first: usize, end: usize, row: usize, most: usize) -> bool
     requires { ⌜ length (now store) ≡ bufferLength ⌝ }
-    requires { ⌜ first < 32 ⌝ }
-    requires { ⌜ end < 32 ⌝ }
+    requires { ⌜ first < columnCount ⌝ }
+    requires { ⌜ end < columnCount ⌝ }
     requires { ⌜ row < columnSize first ⌝ }
     requires { ⌜ row < columnSize end ⌝ }
     requires { ⌜ at (columns (now store)) first row ≤ at (columns (now store)) end row ⌝ }
@@ -71,9 +71,9 @@ pub fn at_most(store: &[u32], first: usize, end: usize, row: usize, most: usize)
 // The words of a column in the range of a row.
 pub fn row_words(store: &[u32], first: usize, end: usize, row: usize, column: usize) -> &[u32]
     requires { ⌜ length (now store) ≡ bufferLength ⌝ }
-    requires { ⌜ first < 32 ⌝ }
-    requires { ⌜ end < 32 ⌝ }
-    requires { ⌜ column < 32 ⌝ }
+    requires { ⌜ first < columnCount ⌝ }
+    requires { ⌜ end < columnCount ⌝ }
+    requires { ⌜ column < columnCount ⌝ }
     requires { ⌜ row < columnSize first ⌝ }
     requires { ⌜ row < columnSize end ⌝ }
     requires { ⌜ at (columns (now store)) first row ≤ at (columns (now store)) end row ⌝ }
@@ -99,9 +99,9 @@ pub fn owns(
     w: u32,
 ) -> bool
     requires { ⌜ length (now store) ≡ bufferLength ⌝ }
-    requires { ⌜ first < 32 ⌝ }
-    requires { ⌜ end < 32 ⌝ }
-    requires { ⌜ column < 32 ⌝ }
+    requires { ⌜ first < columnCount ⌝ }
+    requires { ⌜ end < columnCount ⌝ }
+    requires { ⌜ column < columnCount ⌝ }
     requires { ⌜ row < columnSize first ⌝ }
     requires { ⌜ row < columnSize end ⌝ }
     requires { ⌜ total ≤ columnSize column ⌝ }
@@ -118,7 +118,7 @@ pub fn owns(
 // Where the slice of a shared list ends that stands before operation n's; `column` has the ends.
 pub fn end_before(store: &[u32], column: usize, n: usize) -> usize
     requires { ⌜ length (now store) ≡ bufferLength ⌝ }
-    requires { ⌜ column < 32 ⌝ }
+    requires { ⌜ column < columnCount ⌝ }
     requires { ⌜ n ≤ columnSize column ⌝ }
     ensures { λ r. ⌜ r ≡ Rattle.layout.specs.Soundness.endBefore (columns (now (store .entry))) column n ⌝ }
 {
@@ -131,8 +131,8 @@ pub fn end_before(store: &[u32], column: usize, n: usize) -> usize
 // Operation n's slice of a shared list begins where the one before it ends, and is one of the first `total` words.
 pub fn is_tiled(store: &[u32], first: usize, end: usize, n: usize, total: usize) -> bool
     requires { ⌜ length (now store) ≡ bufferLength ⌝ }
-    requires { ⌜ first < 32 ⌝ }
-    requires { ⌜ end < 32 ⌝ }
+    requires { ⌜ first < columnCount ⌝ }
+    requires { ⌜ end < columnCount ⌝ }
     requires { ⌜ n < columnSize first ⌝ }
     requires { ⌜ n < columnSize end ⌝ }
     ensures { λ r. ⌜ r ≡ tiled (columns (now (store .entry))) first end n total ⌝ }

@@ -35,7 +35,7 @@ ghost use lib.Dec.{leb, ltb};
 ghost use lib.ListN.{length};
 ghost use Rattle.rules.specs.Lists.{all, allBelow};
 ghost use Rattle.rules.specs.Store.{keysRise, attributesHold, maxAttributeKind, blockAfter, sound};
-ghost use Rattle.layout.specs.Columns.{bufferLength, columns, opParent};
+ghost use Rattle.layout.specs.Columns.{bufferLength, columns, opParent, slotCount};
 ghost use Rattle.layout.specs.Reading.{attributesFrom, opCount, blockCount, valueCount, around, parentFrom, opOf, storeIn};
 ghost use Rattle.layout.specs.Soundness.{Arranged, opRules, blockRules};
 
@@ -43,7 +43,7 @@ ghost use Rattle.layout.specs.Soundness.{Arranged, opRules, blockRules};
 fn keys_rise(store: &[u32], first: usize, count: usize) -> bool
     requires { ⌜ length (now store) ≡ bufferLength ⌝ }
     requires { ⌜ count ≤ 8 ⌝ }
-    requires { ⌜ first + 8 ≤ 6144 ⌝ }
+    requires { ⌜ first + 8 ≤ slotCount ⌝ }
     ensures { λ r. ⌜ r ≡ keysRise (attributesFrom (columns (now (store .entry))) first count) ⌝ }
 {
     let mut i = 0;
@@ -61,7 +61,7 @@ fn keys_rise(store: &[u32], first: usize, count: usize) -> bool
 fn kinds_fit(store: &[u32], first: usize, count: usize) -> bool
     requires { ⌜ length (now store) ≡ bufferLength ⌝ }
     requires { ⌜ count ≤ 8 ⌝ }
-    requires { ⌜ first + 8 ≤ 6144 ⌝ }
+    requires { ⌜ first + 8 ≤ slotCount ⌝ }
     ensures { λ r. ⌜ r ≡ all (λ a. leb (a .kind) maxAttributeKind) (attributesFrom (columns (now (store .entry))) first count) ⌝ }
 {
     all_below(words(store, SLOT_KIND, first, first + count), 64)
@@ -71,7 +71,7 @@ fn kinds_fit(store: &[u32], first: usize, count: usize) -> bool
 fn attributes_hold(store: &[u32], first: usize, count: usize) -> bool
     requires { ⌜ length (now store) ≡ bufferLength ⌝ }
     requires { ⌜ count ≤ 8 ⌝ }
-    requires { ⌜ first + 8 ≤ 6144 ⌝ }
+    requires { ⌜ first + 8 ≤ slotCount ⌝ }
     ensures { λ r. ⌜ r ≡ attributesHold (attributesFrom (columns (now (store .entry))) first count) ⌝ }
 {
     if !keys_rise(store, first, count) {

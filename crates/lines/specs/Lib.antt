@@ -3,3 +3,4 @@ pub mod Pieces
 pub mod Reading
 pub mod Parsing
 pub mod Wrote
+pub mod Room

@@ -13,6 +13,7 @@ ghost use Rattle.rules.specs.Listings.{refusal, equalLine, sortText, unequalLin
 ghost use Rattle.rules.specs.Comparison.{pairOf};
 ghost use Rattle.fragments.specs.Sorts.{sortOf};
 ghost use Rattle.lines.specs.Wrote.{Wrote};
+ghost use Rattle.lines.specs.Room.{numberRoom, refusalRoom, equalRoom, sortRoom, unequalRoom, hashesRoom, shareRoom, mostShared};
 
 const COMMA: u8 = 44;
 
@@ -20,8 +21,8 @@ const LINE_FEED: u8 = 10;
 
 // A number and the comma behind it.
 fn put_field(out: &mut [u8], at: usize, n: u32) -> usize
-    requires { ⌜ at + 11 ≤ length (now out) ⌝ }
-    ensures { λ r. ⌜ Wrote 11 (now (out .entry)) (now (out .exit)) at (decimal n ++ (comma ∷ [])) r ⌝ }
+    requires { ⌜ at + numberRoom ≤ length (now out) ⌝ }
+    ensures { λ r. ⌜ Wrote numberRoom (now (out .entry)) (now (out .exit)) at (decimal n ++ (comma ∷ [])) r ⌝ }
 {
     let end = put_decimal(out, at, n);
     put_byte(out, end, COMMA)
@@ -29,8 +30,8 @@ fn put_field(out: &mut [u8], at: usize, n: u32) -> usize
 
 // A number and the line feed behind it.
 fn put_last(out: &mut [u8], at: usize, n: u32) -> usize
-    requires { ⌜ at + 11 ≤ length (now out) ⌝ }
-    ensures { λ r. ⌜ Wrote 11 (now (out .entry)) (now (out .exit)) at (decimal n ++ (lineFeed ∷ [])) r ⌝ }
+    requires { ⌜ at + numberRoom ≤ length (now out) ⌝ }
+    ensures { λ r. ⌜ Wrote numberRoom (now (out .entry)) (now (out .exit)) at (decimal n ++ (lineFeed ∷ [])) r ⌝ }
 {
     let end = put_decimal(out, at, n);
     put_byte(out, end, LINE_FEED)
@@ -38,8 +39,8 @@ fn put_last(out: &mut [u8], at: usize, n: u32) -> usize
 
 // The line that says that a line of the listing is refused, and for which cause.
 pub fn put_refusal(out: &mut [u8], at: usize, line: u32, cause: u32) -> usize
-    requires { ⌜ at + 30 ≤ length (now out) ⌝ }
-    ensures { λ r. ⌜ Wrote 30 (now (out .entry)) (now (out .exit)) at (refusal line cause) r ⌝ }
+    requires { ⌜ at + refusalRoom ≤ length (now out) ⌝ }
+    ensures { λ r. ⌜ Wrote refusalRoom (now (out .entry)) (now (out .exit)) at (refusal line cause) r ⌝ }
 {
     let fields = put_text(out, at, b"refused,");
     let last = put_field(out, fields, line);
@@ -48,8 +49,8 @@ pub fn put_refusal(out: &mut [u8], at: usize, line: u32, cause: u32) -> usize
 
 // The line of two equal fragments.
 pub fn put_equal(out: &mut [u8], at: usize, paired: u32) -> usize
-    requires { ⌜ at + 18 ≤ length (now out) ⌝ }
-    ensures { λ r. ⌜ Wrote 18 (now (out .entry)) (now (out .exit)) at (equalLine paired) r ⌝ }
+    requires { ⌜ at + equalRoom ≤ length (now out) ⌝ }
+    ensures { λ r. ⌜ Wrote equalRoom (now (out .entry)) (now (out .exit)) at (equalLine paired) r ⌝ }
 {
     let last = put_text(out, at, b"eq,-,-,");
     put_last(out, last, paired)
@@ -57,8 +58,8 @@ pub fn put_equal(out: &mut [u8], at: usize, paired: u32) -> usize
 
 // A sort of fragment and the comma behind it.
 fn put_sort(out: &mut [u8], at: usize, sort: Sort) -> usize
-    requires { ⌜ at + 7 ≤ length (now out) ⌝ }
-    ensures { λ r. ⌜ Wrote 7 (now (out .entry)) (now (out .exit)) at (sortText (sortOf sort) ++ (comma ∷ [])) r ⌝ }
+    requires { ⌜ at + sortRoom ≤ length (now out) ⌝ }
+    ensures { λ r. ⌜ Wrote sortRoom (now (out .entry)) (now (out .exit)) at (sortText (sortOf sort) ++ (comma ∷ [])) r ⌝ }
 {
     match sort {
         Sort::Op => put_text(out, at, b"op,"),
@@ -69,8 +70,8 @@ fn put_sort(out: &mut [u8], at: usize, sort: Sort) -> usize
 
 // The line of two unequal fragments: the first unequal pair.
 pub fn put_unequal(out: &mut [u8], at: usize, sort: Sort, l: u32, r: u32, paired: u32) -> usize
-    requires { ⌜ at + 40 ≤ length (now out) ⌝ }
-    ensures { λ q. ⌜ Wrote 40 (now (out .entry)) (now (out .exit)) at (unequalLine (pairOf (sortOf sort) l r) paired) q ⌝ }
+    requires { ⌜ at + unequalRoom ≤ length (now out) ⌝ }
+    ensures { λ q. ⌜ Wrote unequalRoom (now (out .entry)) (now (out .exit)) at (unequalLine (pairOf (sortOf sort) l r) paired) q ⌝ }
 {
     let left = put_sort(out, at, sort);
     let right = put_field(out, left, l);
@@ -80,8 +81,8 @@ pub fn put_unequal(out: &mut [u8], at: usize, sort: Sort, l: u32, r: u32, paired
 
 // The line of two hashes.
 pub fn put_hashes(out: &mut [u8], at: usize, l: u64, r: u64) -> usize
-    requires { ⌜ at + 34 ≤ length (now out) ⌝ }
-    ensures { λ q. ⌜ Wrote 34 (now (out .entry)) (now (out .exit)) at (hashesLine l r) q ⌝ }
+    requires { ⌜ at + hashesRoom ≤ length (now out) ⌝ }
+    ensures { λ q. ⌜ Wrote hashesRoom (now (out .entry)) (now (out .exit)) at (hashesLine l r) q ⌝ }
 {
     let parted = put_hexadecimal(out, at, l);
     let right = put_byte(out, parted, COMMA);
@@ -92,7 +93,7 @@ pub fn put_hashes(out: &mut [u8], at: usize, l: u64, r: u64) -> usize
 // How many per cent `part` is of `whole`, rounded down; 0 if there is nothing.
 fn per_cent(part: u64, whole: u64) -> u32
     requires { ⌜ part ≤ whole ⌝ }
-    requires { ⌜ whole ≤ 1125899906842624 ⌝ }
+    requires { ⌜ whole ≤ mostShared ⌝ }
     ensures { λ r. ⌜ r ≡ perCent part whole ⌝ }
 {
     if whole == 0 {
@@ -103,10 +104,10 @@ fn per_cent(part: u64, whole: u64) -> u32
 
 // The line of the share: how many per cent of all operations were found equal.
 pub fn put_share(out: &mut [u8], at: usize, equal: u64, all: u64) -> usize
-    requires { ⌜ at + 17 ≤ length (now out) ⌝ }
+    requires { ⌜ at + shareRoom ≤ length (now out) ⌝ }
     requires { ⌜ equal ≤ all ⌝ }
-    requires { ⌜ all ≤ 1125899906842624 ⌝ }
-    ensures { λ r. ⌜ Wrote 17 (now (out .entry)) (now (out .exit)) at (shareLine (record { equal = equal; all = all })) r ⌝ }
+    requires { ⌜ all ≤ mostShared ⌝ }
+    ensures { λ r. ⌜ Wrote shareRoom (now (out .entry)) (now (out .exit)) at (shareLine (record { equal = equal; all = all })) r ⌝ }
 {
     let share = per_cent(equal, all);
     let last = put_text(out, at, b"share,");

@@ -5,6 +5,7 @@ ghost use Prim.Native.Nat.{_+_, _<_, _≤_};
 ghost use lib.ListN.{length};
 ghost use Rattle.rules.specs.Bytes.{lastDigits, digitCount, decimal, hexadecimal};
 ghost use Rattle.lines.specs.Wrote.{Wrote};
+ghost use Rattle.lines.specs.Room.{decimalRoom, hexadecimalRoom};
 
 pub fn put_byte(out: &mut [u8], at: usize, byte: u8) -> usize
     requires { ⌜ at + 1 ≤ length (now out) ⌝ }
@@ -68,16 +69,16 @@ fn digit_count(n: u32) -> usize
 }
 
 pub fn put_decimal(out: &mut [u8], at: usize, n: u32) -> usize
-    requires { ⌜ at + 10 ≤ length (now out) ⌝ }
-    ensures { λ r. ⌜ Wrote 10 (now (out .entry)) (now (out .exit)) at (decimal n) r ⌝ }
+    requires { ⌜ at + decimalRoom ≤ length (now out) ⌝ }
+    ensures { λ r. ⌜ Wrote decimalRoom (now (out .entry)) (now (out .exit)) at (decimal n) r ⌝ }
 {
     let count = digit_count(n);
     put_digits(out, at, 10, count, n as u64)
 }
 
 pub fn put_hexadecimal(out: &mut [u8], at: usize, w: u64) -> usize
-    requires { ⌜ at + 16 ≤ length (now out) ⌝ }
-    ensures { λ r. ⌜ Wrote 16 (now (out .entry)) (now (out .exit)) at (hexadecimal w) r ⌝ }
+    requires { ⌜ at + hexadecimalRoom ≤ length (now out) ⌝ }
+    ensures { λ r. ⌜ Wrote hexadecimalRoom (now (out .entry)) (now (out .exit)) at (hexadecimal w) r ⌝ }
 {
     put_digits(out, at, 16, 16, w)
 }

@@ -9,6 +9,7 @@ use crate::answers::owner;
 use crate::answers::parent;
 use building::types::Attribute;
 use equivalence::comparison::fragments_eq;
+use equivalence::comparison::operations_eq;
 use fragments::ignoring::Ignore;
 use fragments::types::Sort;
 use hashing::hashes::fragment_hash;
@@ -115,14 +116,7 @@ pub extern "C" fn wz_known_operation_eq(
     requires { ⌜ allowed (storeIn (now store)) (mappingOf (now mapping)) ≡ true ⌝ }
     ensures { λ r. ⌜ comparing.Answered (now (store .entry)) (now (mapping .entry)) (now (mapping .exit)) (ignoring locations bits) op lhs rhs (verdictMeans r) ⌝ }
 {
-    of_verdict(fragments_eq(
-        store,
-        mapping,
-        Sort::Op,
-        lhs,
-        rhs,
-        Ignore { locations, bits },
-    ))
+    of_verdict(operations_eq(store, mapping, lhs, rhs, Ignore { locations, bits }))
 }
 
 #[no_mangle]

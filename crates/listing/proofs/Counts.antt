@@ -11,9 +11,9 @@ use Rattle.equivalence.specs.Walked.{answerOf}
 use Rattle.equivalence.specs.declared.types.EqResult.{EqResult}
 use Rattle.equivalence.specs.declared.types.EqResult.the-variants.{Eq, FirstNEQOps, FirstNEQRegions, FirstNEQBlocks, Refused}
 use Rattle.equivalence.proofs.Telling.{NotEq}
-use Rattle.listing.specs.declared.types.Progress.{Progress}
-use Rattle.listing.specs.Progress.{TallyFits, Further}
-use Rattle.listing.specs.Asking.{isEq, CountedMore}
+use Rattle.listing.specs.declared.types.Tally.{Tally}
+use Rattle.listing.specs.Tally.{mostOps, TallyFits, CountedMore, Further}
+use Rattle.listing.specs.Asking.{isEq}
 
 -- ---- the operations inside a fragment
 
@@ -42,29 +42,28 @@ not-eq (Refused cause) k = refl
 
 -- ---- counts
 
-module _ (now : Progress) (at : ℕ) (found : Bool) (ops : ℕ) (few : ops ≤ 4294967295) where
-  pub found-more : found ≡ true → CountedMore now at found ops (record { at = at; equal = now .equal + ops; all = now .all + ops })
-  found-more e = record { printed = refl; equal = rw e refl; all = refl; few = few }
+module _ (now : Tally) (found : Bool) (ops : ℕ) (few : ops ≤ mostOps) where
+  pub found-more : found ≡ true → CountedMore now found ops (record { equal = now .equal + ops; all = now .all + ops })
+  found-more e = record { equal = rw e refl; all = refl; few = few }
 
-  pub other-more : found ≡ false → CountedMore now at found ops (record { at = at; equal = now .equal; all = now .all + ops })
-  other-more e = record { printed = refl; equal = rw e (let z : now .equal ≡ now .equal + 0 = omega arith in z); all = refl; few = few }
+  pub other-more : found ≡ false → CountedMore now found ops (record { equal = now .equal; all = now .all + ops })
+  other-more e = record { equal = rw e (let z : now .equal ≡ now .equal + 0 = omega arith in z); all = refl; few = few }
 
 -- the same, said in other words
-pub counted-as : {now next : Progress} {at ops ops′ : ℕ} {found found′ : Bool}
-    → CountedMore now at found ops next → found ≡ found′ → ops ≡ ops′ → CountedMore now at found′ ops′ next
-counted-as {now} {next} {at} {ops} {ops′} {found} {found′} m e f =
-    subst (λ (n : ℕ). CountedMore now at found′ n next) f (subst (λ (t : Bool). CountedMore now at t ops next) e m)
+pub counted-as : {now next : Tally} {ops ops′ : ℕ} {found found′ : Bool} → CountedMore now found ops next → found ≡ found′ → ops ≡ ops′ → CountedMore now found′ ops′ next
+counted-as {now} {next} {ops} {ops′} {found} {found′} m e f =
+    subst (λ (n : ℕ). CountedMore now found′ n next) f (subst (λ (t : Bool). CountedMore now t ops next) e m)
 
 -- a part of the operations is counted as equal
 part-of : (found : Bool) (ops : ℕ) → cond found ops 0 ≤ ops
 part-of true ops = omega arith
 part-of false ops = omega arith
 
-pub further : {now next : Progress} {at ops : ℕ} {found : Bool} → TallyFits now → CountedMore now at found ops next → Further now next
-further {now} {next} {at} {ops} {found} h m =
+pub further : {now next : Tally} {ops : ℕ} {found : Bool} → TallyFits now → CountedMore now found ops next → Further now next
+further {now} {next} {ops} {found} h m =
     let a : next .equal ≡ now .equal + cond found ops 0 = m .equal in
     let b : next .all ≡ now .all + ops = m .all in
-    let d : ops ≤ 4294967295 = m .few in
+    let d : ops ≤ mostOps = m .few in
     let f : now .equal ≤ now .all = h .part in
     let g : cond found ops 0 ≤ ops = part-of found ops in
     record { part = omega arith; few = omega arith }

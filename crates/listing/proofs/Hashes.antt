@@ -17,10 +17,12 @@ use Rattle.hashing.specs.declared.types.Hashed.{Hashed}
 use Rattle.hashing.specs.declared.types.Hashed.the-variants.{Hash, Refused}
 use Rattle.lines.specs.Parsing.{queryOf}
 use Rattle.lines.specs.Wrote.{Wrote}
+use Rattle.lines.specs.Room.{hashesRoom}
 use Rattle.lines.specs.declared.parsing.Query.{Query}
 use Rattle.listing.specs.declared.types.Progress.{Progress}
 use Rattle.listing.specs.declared.types.LineResult.the-variants.{On, Stopped}
-use Rattle.listing.specs.Progress.{progressOf, tallyOf, TallyFits}
+use Rattle.listing.specs.Tally.{tallyOf, TallyFits}
+use Rattle.listing.specs.Progress.{progressOf}
 use Rattle.listing.specs.Asking.{outcomeOf, Goes, Stepped}
 use Rattle.lines.proofs.Joined.{within}
 
@@ -46,8 +48,8 @@ module _ (b : List ℕ) (now : Progress) (q : Query) (left right : Hashed) (soun
     unfolding sumsAnswer hashedOf outcomeOf Goes
     right-stops w cause e f = record { bytes = []; does = sums-asks ∙ rw (e, f) refl; goes = refl }
 
-    pub sums-goes : (v w : ℕ) → left ≡ Hash v → right ≡ Hash w → TallyFits now → (out′ : List ℕ) (at : ℕ) → Wrote 34 out out′ (now .at) (hashesLine v w) at
-        → Stepped (lineDoes sumsProgram (progressOf b now) (some (queryOf q))) b out out′ now (On (record { at = at; equal = now .equal; all = now .all }))
+    pub sums-goes : (v w : ℕ) → left ≡ Hash v → right ≡ Hash w → TallyFits (now .tally) → (out′ : List ℕ) (at : ℕ) → Wrote hashesRoom out out′ (now .at) (hashesLine v w) at
+        → Stepped (lineDoes sumsProgram (progressOf b now) (some (queryOf q))) b out out′ now (On (record { at = at; tally = now .tally }))
     unfolding sumsAnswer hashedOf outcomeOf Goes progressOf tallyOf
     sums-goes v w e f h out′ at wrote =
         record {

@@ -18,15 +18,25 @@ use Rattle.layout.proofs.Scans.{slice-length}
 use Rattle.equivalence.specs.MappingWords.{emptyWords}
 use Rattle.lines.specs.Pieces.{piecesFrom, PieceEnd}
 use Rattle.lines.specs.Wrote.{Wrote}
+use Rattle.lines.specs.Room.{refusalRoom, shareRoom}
 use Rattle.lines.proofs.Joined.{then, said, within, nothing}
 use Rattle.listing.specs.declared.types.Program.{Program}
 use Rattle.listing.specs.declared.types.Program.the-variants.{Twins, Sums}
 use Rattle.listing.specs.declared.types.Progress.{Progress}
 use Rattle.listing.specs.declared.types.LineResult.{LineResult}
 use Rattle.listing.specs.declared.types.LineResult.the-variants.{On, Stopped}
-use Rattle.listing.specs.Progress.{programOf, tallyOf, progressOf, TallyFits, Further}
-use Rattle.listing.specs.Asking.{outcomeOf, Goes}
+use Rattle.listing.specs.Tally.{tallyOf, mostOps, TallyFits, Further}
+use Rattle.listing.specs.Progress.{programOf, progressOf}
+use Rattle.listing.specs.Asking.{stepRoom, outcomeOf, Goes}
 use Rattle.listing.specs.Stepping.{secondLine, closes, LineDoes, Ran}
+
+-- the rules print at most so many bytes for each byte of a line, its line feed included
+abbrev perByte : ℕ
+perByte = 5
+
+-- what the header alone would give room for, and nothing is printed for it
+abbrev spare : ℕ
+spare = 50
 
 terse : (p : Program) → Terse (programOf p)
 unfolding programOf
@@ -77,9 +87,9 @@ module _ (p : Program) (listing : List ℕ) where
       left-here k d = line-leaves l ∙ ap (λ (o : LineOutcome). keeps o now (λ next′. leavesFrom (e + 1) next′)) d
 
       -- five bytes for each byte of the line, its line feed included
-      line-short : (b : List ℕ) (next : rules.Progress) → does (programOf p) now (slice listing start e) ≡ prints b next → length b + 5 * start ≤ 5 * (e + 1)
+      line-short : (b : List ℕ) (next : rules.Progress) → does (programOf p) now (slice listing start e) ≡ prints b next → length b + perByte * start ≤ perByte * (e + 1)
       line-short b next d =
-          let w : length b ≤ 5 * suc (length (slice listing start e)) = subst (Within (5 * suc (length (slice listing start e)))) d (does-within (programOf p) (terse p) now (slice listing start e)) in
+          let w : length b ≤ perByte * suc (length (slice listing start e)) = subst (Within (perByte * suc (length (slice listing start e)))) d (does-within (programOf p) (terse p) now (slice listing start e)) in
           let m : length (slice listing start e) ≡ e - start = slice-length listing start e (end .within) in
           let f : start ≤ e = end .behind in
           omega arith
@@ -115,7 +125,7 @@ module _ (p : Program) (listing : List ℕ) where
     unfolding leaves
     leaves-here = ap (λ (q : Pieces). leaves (programOf p) now (q .whole)) no-pieces
 
-closing : (p : Program) (store : List ℕ) (now : Progress) → programOf p .close (progressOf store now) ≡ closes p now
+closing : (p : Program) (store : List ℕ) (now : Progress) → programOf p .close (progressOf store now) ≡ closes p (now .tally)
 unfolding programOf closes progressOf twinsProgram sumsProgram
 closing Twins store now = refl
 closing Sums store now = refl
@@ -130,147 +140,147 @@ module _ (p : Program) (listing : List ℕ) (from : ℕ) (before : List ℕ) whe
     pub sound : IsSound store
     pub empty : mapping ≡ emptyWords
     pub bytes : List ℕ
-    pub wrote : Wrote (5 * start) before out 0 bytes (now .at)
+    pub wrote : Wrote (perByte * start) before out 0 bytes (now .at)
     pub whole : printsFrom p listing 2 from atStart ≡ bytes ++ printsFrom p listing n start (progressOf store now)
     pub store-left : leavesFrom p listing from atStart ≡ leavesFrom p listing start (progressOf store now)
-    pub room : now .at + 50 ≤ 5 * start
+    pub room : now .at + spare ≤ perByte * start
     pub within : start ≤ length listing
-    pub part : now .equal ≤ now .all
-    pub few : now .all ≤ 4294967295 * start
+    pub part : now .tally .equal ≤ now .tally .all
+    pub few : now .tally .all ≤ mostOps * start
     pub lines : n ≤ start
 
-  module _ (roomy : maxOutput ≤ length before) (short : length listing ≤ maxListing) where
-    pub running-starts : (store mapping : List ℕ) → IsSound store → storeIn store ≡ emptyStore → mapping ≡ emptyWords → secondLine ≤ from → from ≤ length listing → Running store mapping before (record { at = 0; equal = 0; all = 0 }) 2 from
-    unfolding progressOf tallyOf atStart noTally
-    running-starts store mapping sound reads e long h =
+module _ {p : Program} {listing : List ℕ} {from : ℕ} {before : List ℕ} (roomy : maxOutput ≤ length before) (short : length listing ≤ maxListing) where
+  pub running-starts : (store mapping : List ℕ) → IsSound store → storeIn store ≡ emptyStore → mapping ≡ emptyWords → secondLine ≤ from → from ≤ length listing → Running p listing from before store mapping before (record { at = 0; tally = record { equal = 0; all = 0 } }) 2 from
+  unfolding progressOf tallyOf atStart noTally
+  running-starts store mapping sound reads e long h =
+      record {
+        sound = sound;
+        empty = e;
+        bytes = [];
+        wrote = nothing (perByte * from) before 0;
+        whole = ap (λ (s : Store). printsFrom p listing 2 from (record { store = s; tally = noTally })) (sym reads);
+        store-left = ap (λ (s : Store). leavesFrom p listing from (record { store = s; tally = noTally })) (sym reads);
+        room = omega arith;
+        within = h;
+        part = omega arith;
+        few = omega arith;
+        lines = omega arith;
+      }
+
+  module _ {store mapping out : List ℕ} {now : Progress} {n start : ℕ} (inv : Running p listing from before store mapping out now n start) where
+    pub counts : TallyFits (now .tally)
+    counts =
+        let a = inv .few in
+        let b = inv .within in
+        record { part = inv .part; few = omega arith }
+
+    pub has-room : now .at + spare ≤ length before
+    has-room = let a = inv .room in let b = inv .within in omega arith
+
+    pub few-lines : n ≤ maxListing
+    few-lines = let a = inv .lines in let b = inv .within in omega arith
+
+    -- what was printed, and then these bytes, are all
+    finished : (last : List ℕ) (most : ℕ) (after : List ℕ) (r : ℕ) → most ≤ stepRoom → Wrote most out after (now .at) last r → printsFrom p listing n start (progressOf store now) ≡ last
+        → Wrote maxOutput before after 0 (printsFrom p listing 2 from atStart) r
+    finished last most after r m w e =
+        let a = inv .within in
+        let b = inv .room in
+        let c : now .at ≡ 0 + length (inv .bytes) = inv .wrote .behind in
+        let g : Wrote (length (inv .bytes)) before out 0 (inv .bytes) (now .at) = record { written = inv .wrote .written; behind = inv .wrote .behind; short = omega arith } in
+        within (said (then g w (omega (arith, has-room))) (sym (inv .whole ∙ ap (λ (xs : List ℕ). inv .bytes ++ xs) e))) (omega arith)
+
+    pub ran : (last : List ℕ) (most : ℕ) (store′ after : List ℕ) (r : ℕ) → store′ ≡ store → most ≤ stepRoom → Wrote most out after (now .at) last r
+        → printsFrom p listing n start (progressOf store now) ≡ last → leavesFrom p listing start (progressOf store now) ≡ storeIn store
+        → (mapping′ : List ℕ) → mapping′ ≡ emptyWords → Ran p listing from store′ mapping′ before after r
+    ran last most store′ after r s m w e f mapping′ q =
         record {
-          sound = sound;
-          empty = e;
-          bytes = [];
-          wrote = nothing (5 * from) before 0;
-          whole = ap (λ (s : Store). printsFrom p listing 2 from (record { store = s; tally = noTally })) (sym reads);
-          store-left = ap (λ (s : Store). leavesFrom p listing from (record { store = s; tally = noTally })) (sym reads);
-          room = omega arith;
-          within = h;
-          part = omega arith;
-          few = omega arith;
-          lines = omega arith;
+          wrote = finished last most after r m w e;
+          left = ap storeIn s ∙ sym (inv .store-left ∙ f);
+          sound = subst IsSound (sym s) (inv .sound);
+          empty = q;
         }
 
-    module _ (store mapping out : List ℕ) (now : Progress) (n start : ℕ) (inv : Running store mapping out now n start) where
-      pub counts : TallyFits now
-      counts =
-          let a = inv .few in
-          let b = inv .within in
-          record { part = inv .part; few = omega arith }
+    pub ran-out : (after : List ℕ) (r : ℕ) → length listing ≤ start → Wrote shareRoom out after (now .at) (closes p (now .tally)) r → Ran p listing from store mapping before after r
+    unfolding progressOf
+    ran-out after r l w =
+        let a = inv .within in
+        let e : start ≡ length listing = omega arith in
+        ran (closes p (now .tally)) shareRoom store after r refl (omega arith) w
+        (closes-here p listing n start (progressOf store now) e ∙ closing p store now)
+        (leaves-here p listing n start (progressOf store now) e)
+        mapping (inv .empty)
 
-      pub has-room : now .at + 50 ≤ length before
-      has-room = let a = inv .room in let b = inv .within in omega arith
-
-      pub few-lines : n ≤ maxListing
-      few-lines = let a = inv .lines in let b = inv .within in omega arith
-
-      -- what was printed, and then these bytes, are all
-      finished : (last : List ℕ) (most : ℕ) (after : List ℕ) (r : ℕ) → most ≤ 40 → Wrote most out after (now .at) last r → printsFrom p listing n start (progressOf store now) ≡ last
-          → Wrote maxOutput before after 0 (printsFrom p listing 2 from atStart) r
-      finished last most after r m w e =
-          let a = inv .within in
-          let b = inv .room in
-          let c : now .at ≡ 0 + length (inv .bytes) = inv .wrote .behind in
-          let g : Wrote (length (inv .bytes)) before out 0 (inv .bytes) (now .at) = record { written = inv .wrote .written; behind = inv .wrote .behind; short = omega arith } in
-          within (said (then g w (omega (arith, has-room))) (sym (inv .whole ∙ ap (λ (xs : List ℕ). inv .bytes ++ xs) e))) (omega arith)
-
-      pub ran : (last : List ℕ) (most : ℕ) (store′ after : List ℕ) (r : ℕ) → store′ ≡ store → most ≤ 40 → Wrote most out after (now .at) last r
-          → printsFrom p listing n start (progressOf store now) ≡ last → leavesFrom p listing start (progressOf store now) ≡ storeIn store
-          → (mapping′ : List ℕ) → mapping′ ≡ emptyWords → Ran p listing from store′ mapping′ before after r
-      ran last most store′ after r s m w e f mapping′ q =
-          record {
-            wrote = finished last most after r m w e;
-            left = ap storeIn s ∙ sym (inv .store-left ∙ f);
-            sound = subst IsSound (sym s) (inv .sound);
-            empty = q;
-          }
-
-      pub ran-out : (after : List ℕ) (r : ℕ) → length listing ≤ start → Wrote 17 out after (now .at) (closes p now) r → Ran p listing from store mapping before after r
+    module _ (e : ℕ) (end : PieceEnd listing start lineFeed e) (l : start < length listing) where
+      pub ran-unended : (after : List ℕ) (r : ℕ) → e ≡ length listing → Wrote refusalRoom out after (now .at) (refusal n 11) r → Ran p listing from store mapping before after r
       unfolding progressOf
-      ran-out after r l w =
-          let a = inv .within in
-          let e : start ≡ length listing = omega arith in
-          ran (closes p now) 17 store after r refl (omega arith) w
-          (closes-here p listing n start (progressOf store now) e ∙ closing p store now)
-          (leaves-here p listing n start (progressOf store now) e)
+      ran-unended after r q w =
+          ran (refusal n 11) refusalRoom store after r refl (omega arith) w
+          (unended p listing n start e end (progressOf store now) l q)
+          (nothing-more p listing n start e end (progressOf store now) l q)
           mapping (inv .empty)
 
-      module _ (e : ℕ) (end : PieceEnd listing start lineFeed e) (l : start < length listing) where
-        pub ran-unended : (after : List ℕ) (r : ℕ) → e ≡ length listing → Wrote 30 out after (now .at) (refusal n 11) r → Ran p listing from store mapping before after r
-        unfolding progressOf
-        ran-unended after r q w =
-            ran (refusal n 11) 30 store after r refl (omega arith) w
-            (unended p listing n start e end (progressOf store now) l q)
-            (nothing-more p listing n start e end (progressOf store now) l q)
-            mapping (inv .empty)
+      module _ (m : e ≡ length listing → ⊥) (store′ out′ : List ℕ) where
+        ended : e < length listing
+        ended = let w : e ≤ length listing = end .within in omega arith
 
-        module _ (m : e ≡ length listing → ⊥) (store′ out′ : List ℕ) where
-          ended : e < length listing
-          ended = let w : e ≤ length listing = end .within in omega arith
+        module _ (k : ℕ) (did : LineDoes p (slice listing start e) store store′ out out′ now (Stopped k)) where
+          stops-there : does (programOf p) (progressOf store now) (slice listing start e) ≡ stops k
+          unfolding outcomeOf
+          stops-there = did .step .does
 
-          module _ (k : ℕ) (did : LineDoes p (slice listing start e) store store′ out out′ now (Stopped k)) where
-            stops-there : does (programOf p) (progressOf store now) (slice listing start e) ≡ stops k
-            unfolding outcomeOf
-            stops-there = did .step .does
+          pub same-out : out′ ≡ out
+          unfolding Goes
+          same-out = did .step .goes
 
-            pub same-out : out′ ≡ out
-            unfolding Goes
-            same-out = did .step .goes
+          pub ran-stopped : (mapping′ after : List ℕ) (r : ℕ) → mapping′ ≡ emptyWords → Wrote refusalRoom out′ after (now .at) (refusal n k) r → Ran p listing from store′ mapping′ before after r
+          unfolding progressOf
+          ran-stopped mapping′ after r q w =
+              ran (refusal n k) refusalRoom store′ after r (did .unchanged k refl) (omega arith) (subst (λ (xs : List ℕ). Wrote refusalRoom xs after (now .at) (refusal n k) r) same-out w)
+              (stops-here p listing n start e end (progressOf store now) ended k stops-there)
+              (left-here p listing n start e end (progressOf store now) ended k stops-there)
+              mapping′ q
 
-            pub ran-stopped : (mapping′ after : List ℕ) (r : ℕ) → mapping′ ≡ emptyWords → Wrote 30 out′ after (now .at) (refusal n k) r → Ran p listing from store′ mapping′ before after r
-            unfolding progressOf
-            ran-stopped mapping′ after r q w =
-                ran (refusal n k) 30 store′ after r (did .unchanged k refl) (omega arith) (subst (λ (xs : List ℕ). Wrote 30 xs after (now .at) (refusal n k) r) same-out w)
-                (stops-here p listing n start e end (progressOf store now) ended k stops-there)
-                (left-here p listing n start e end (progressOf store now) ended k stops-there)
-                mapping′ q
+        module _ (next : Progress) (did : LineDoes p (slice listing start e) store store′ out out′ now (On next)) where
+          goes-there : does (programOf p) (progressOf store now) (slice listing start e) ≡ prints (did .step .bytes) (progressOf store′ next)
+          unfolding outcomeOf
+          goes-there = did .step .does
 
-          module _ (next : Progress) (did : LineDoes p (slice listing start e) store store′ out out′ now (On next)) where
-            goes-there : does (programOf p) (progressOf store now) (slice listing start e) ≡ prints (did .step .bytes) (progressOf store′ next)
-            unfolding outcomeOf
-            goes-there = did .step .does
+          more : Wrote stepRoom out out′ (now .at) (did .step .bytes) (next .at)
+          unfolding Goes
+          more = did .step .goes .0
 
-            more : Wrote 40 out out′ (now .at) (did .step .bytes) (next .at)
-            unfolding Goes
-            more = did .step .goes .0
+          further : Further (now .tally) (next .tally)
+          unfolding Goes
+          further = did .step .goes .1
 
-            further : Further now next
-            unfolding Goes
-            further = did .step .goes .1
-
-            pub running-turn : (mapping′ : List ℕ) → mapping′ ≡ emptyWords → Running store′ mapping′ out′ next (n + 1) (e + 1)
-            running-turn mapping′ q =
-                let a = inv .room in
-                let b = inv .within in
-                let f : start ≤ e = end .behind in
-                let w = has-room in
-                let x : now .at ≡ 0 + length (inv .bytes) = inv .wrote .behind in
-                let y : next .at ≡ now .at + length (did .step .bytes) = more .behind in
-                let z : length (did .step .bytes) + 5 * start ≤ 5 * (e + 1) = line-short p listing n start e end (progressOf store now) ended (did .step .bytes) (progressOf store′ next) goes-there in
-                let g : Wrote (length (inv .bytes)) before out 0 (inv .bytes) (now .at) = record { written = inv .wrote .written; behind = inv .wrote .behind; short = omega arith } in
-                let h : Wrote (length (did .step .bytes)) out out′ (now .at) (did .step .bytes) (next .at) = record { written = more .written; behind = more .behind; short = omega arith } in
-                let u = inv .few in
-                let v = further .few in
-                let t = inv .lines in
-                let i = ended in
-                record {
-                  sound = did .sound;
-                  empty = q;
-                  bytes = inv .bytes ++ did .step .bytes;
-                  wrote = within (then g h (omega arith)) (omega arith);
-                  whole =
-                      front (inv .bytes) (did .step .bytes) _
-                      (inv .whole ∙ ap (λ (xs : List ℕ). inv .bytes ++ xs) (printed-on p listing n start e end (progressOf store now) ended (did .step .bytes) (progressOf store′ next) goes-there));
-                  store-left = inv .store-left ∙ left-on p listing n start e end (progressOf store now) ended (did .step .bytes) (progressOf store′ next) goes-there;
-                  room = omega arith;
-                  within = omega arith;
-                  part = further .part;
-                  few = omega arith;
-                  lines = omega arith;
-                }
+          pub running-turn : (mapping′ : List ℕ) → mapping′ ≡ emptyWords → Running p listing from before store′ mapping′ out′ next (n + 1) (e + 1)
+          running-turn mapping′ q =
+              let a = inv .room in
+              let b = inv .within in
+              let f : start ≤ e = end .behind in
+              let w = has-room in
+              let x : now .at ≡ 0 + length (inv .bytes) = inv .wrote .behind in
+              let y : next .at ≡ now .at + length (did .step .bytes) = more .behind in
+              let z : length (did .step .bytes) + perByte * start ≤ perByte * (e + 1) = line-short p listing n start e end (progressOf store now) ended (did .step .bytes) (progressOf store′ next) goes-there in
+              let g : Wrote (length (inv .bytes)) before out 0 (inv .bytes) (now .at) = record { written = inv .wrote .written; behind = inv .wrote .behind; short = omega arith } in
+              let h : Wrote (length (did .step .bytes)) out out′ (now .at) (did .step .bytes) (next .at) = record { written = more .written; behind = more .behind; short = omega arith } in
+              let u = inv .few in
+              let v = further .few in
+              let t = inv .lines in
+              let i = ended in
+              record {
+                sound = did .sound;
+                empty = q;
+                bytes = inv .bytes ++ did .step .bytes;
+                wrote = within (then g h (omega arith)) (omega arith);
+                whole =
+                    front (inv .bytes) (did .step .bytes) _
+                    (inv .whole ∙ ap (λ (xs : List ℕ). inv .bytes ++ xs) (printed-on p listing n start e end (progressOf store now) ended (did .step .bytes) (progressOf store′ next) goes-there));
+                store-left = inv .store-left ∙ left-on p listing n start e end (progressOf store now) ended (did .step .bytes) (progressOf store′ next) goes-there;
+                room = omega arith;
+                within = omega arith;
+                part = further .part;
+                few = omega arith;
+                lines = omega arith;
+              }

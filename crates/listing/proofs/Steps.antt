@@ -20,12 +20,14 @@ use Rattle.layout.specs.declared.causes.Cause.the-variants.{None, Is}
 use Rattle.lines.specs.Reading.{fieldsLeft, oneByte}
 use Rattle.lines.proofs.Letters.{no-letter, letter-is, other-letter}
 use Rattle.listing.specs.declared.types.Program.{Program}
+use Rattle.listing.specs.declared.types.Tally.{Tally}
 use Rattle.listing.specs.declared.types.Progress.{Progress}
 use Rattle.listing.specs.declared.types.LineResult.{LineResult}
 use Rattle.listing.specs.declared.types.LineResult.the-variants.{On, Stopped}
-use Rattle.listing.specs.Progress.{programOf, tallyOf, progressOf, TallyFits, Further}
+use Rattle.listing.specs.Tally.{tallyOf, TallyFits, Further}
+use Rattle.listing.specs.Progress.{programOf, progressOf}
 use Rattle.listing.specs.Building.{buildingLine, ledTo, LineDid}
-use Rattle.listing.specs.Asking.{outcomeOf, Goes, Stepped}
+use Rattle.listing.specs.Asking.{stepRoom, outcomeOf, Goes, Stepped}
 use Rattle.listing.specs.Stepping.{LineDoes}
 use Rattle.lines.proofs.Joined.{nothing}
 
@@ -39,7 +41,7 @@ pub same-outcome : {o p : LineOutcome} {store before after : List ℕ} {now : Pr
 same-outcome e s = record { bytes = s .bytes; does = e ∙ s .does; goes = s .goes }
 
 -- nothing is counted
-same-count : (now : Progress) → TallyFits now → Further now now
+same-count : (now : Tally) → TallyFits now → Further now now
 same-count now h = record { part = h .part; few = omega arith }
 
 abbrev isOn : LineResult → Bool
@@ -96,7 +98,7 @@ module _ (p : Program) (line store out : List ℕ) (now : Progress) (sound : IsS
   module _ (exit : List ℕ) (meant : Option Line) (r : Cause) (e : does (programOf p) (progressOf store now) line ≡ lineDoes (programOf p) (progressOf store now) meant) (did : LineDid store exit meant r) where
     led : does (programOf p) (progressOf store now) line ≡ ledTo (progressOf exit now) (causeOf r)
     unfolding progressOf
-    led = e ∙ did .does (programOf p) (tallyOf now)
+    led = e ∙ did .does (programOf p) (tallyOf (now .tally))
 
     pub line-refused : (k : ℕ) → r ≡ Is k → LineDoes p line store exit out out now (Stopped k)
     unfolding ledTo causeOf
@@ -107,7 +109,7 @@ module _ (p : Program) (line store out : List ℕ) (now : Progress) (sound : IsS
           unchanged = λ cause z. did .unchanged k q;
         }
 
-    pub line-built : TallyFits now → r ≡ None → LineDoes p line store exit out out now (On now)
+    pub line-built : TallyFits (now .tally) → r ≡ None → LineDoes p line store exit out out now (On now)
     unfolding ledTo causeOf outcomeOf Goes
     line-built h q =
         record {
@@ -115,7 +117,7 @@ module _ (p : Program) (line store out : List ℕ) (now : Progress) (sound : IsS
               record {
                 bytes = [];
                 does = led ∙ ap (λ (x : Cause). ledTo (progressOf exit now) (causeOf x)) q;
-                goes = (nothing 40 out (now .at), same-count now h);
+                goes = (nothing stepRoom out (now .at), same-count (now .tally) h);
               };
           sound = did .sound;
           unchanged = λ cause z. absurd (goes-on z);

@@ -34,10 +34,12 @@ use Rattle.equivalence.proofs.Unmapped.{empty-words}
 use Rattle.lines.specs.Parsing.{queryOf}
 use Rattle.lines.specs.Wrote.{Wrote}
 use Rattle.lines.specs.declared.parsing.Query.{Query}
+use Rattle.listing.specs.declared.types.Tally.{Tally}
 use Rattle.listing.specs.declared.types.Progress.{Progress}
 use Rattle.listing.specs.declared.types.LineResult.the-variants.{On, Stopped}
-use Rattle.listing.specs.Progress.{progressOf, tallyOf, TallyFits}
-use Rattle.listing.specs.Asking.{isEq, verdictLine, answerTo, QueryCompared, CountedMore, outcomeOf, Goes, Stepped}
+use Rattle.listing.specs.Tally.{tallyOf, TallyFits, CountedMore}
+use Rattle.listing.specs.Progress.{progressOf}
+use Rattle.listing.specs.Asking.{isEq, verdictLine, answerTo, QueryCompared, stepRoom, outcomeOf, Goes, Stepped}
 use Rattle.listing.proofs.Counts.{further}
 use Rattle.listing.proofs.Emptied.{empty-length}
 
@@ -119,26 +121,30 @@ unfolding twinsAnswer answerOf outcomeOf Goes
 twins-stops b out now q r cause same e =
     record { bytes = []; does = twins-asks b now q ∙ rw (← same, e) refl; goes = refl }
 
-prints-on : (b : List ℕ) (now next : Progress) (q : Query) (r : EqResult) (at : ℕ) → NotRefused r
-    → CountedMore now at (isEq (answerOf r)) (opsIn (storeIn b) (sortOf (q .sort)) (q .right)) next
-    → twinsAnswer (answerOf r) (sortOf (q .sort)) (q .right) (progressOf b now) ≡ prints (verdictLine (answerOf r)) (progressOf b next)
-unfolding twinsAnswer tallied verdictLine isEq answerOf progressOf tallyOf
-prints-on b now next q (Eq n) at k m = rw (m .equal, m .all) refl
-prints-on b now next q (FirstNEQOps x y n) at k m = rw (m .equal, m .all) refl
-prints-on b now next q (FirstNEQRegions x y n) at k m = rw (m .equal, m .all) refl
-prints-on b now next q (FirstNEQBlocks x y n) at k m = rw (m .equal, m .all) refl
-prints-on b now next q (Refused c) at k m = absurd (answers (Refused c) k c refl)
+module _ (b : List ℕ) (now : Progress) (next : Tally) (q : Query) (at : ℕ) where
+  abbrev Counted : EqResult → Type 0
+  Counted r = CountedMore (now .tally) (isEq (answerOf r)) (opsIn (storeIn b) (sortOf (q .sort)) (q .right)) next
 
-pub twins-goes : (b out out′ : List ℕ) (now next : Progress) (q : Query) (r : EqResult) (at : ℕ) → answerOf r ≡ answerTo b q → NotRefused r
-    → TallyFits now → Wrote 40 out out′ (now .at) (verdictLine (answerOf r)) at
-    → CountedMore now at (isEq (answerOf r)) (opsIn (storeIn b) (sortOf (q .sort)) (q .right)) next
-    → Stepped (lineDoes twinsProgram (progressOf b now) (some (queryOf q))) b out out′ now (On next)
-unfolding outcomeOf Goes
-twins-goes b out out′ now next q r at same k h w m =
-    record {
-      bytes = verdictLine (answerOf r);
-      does =
-          twins-asks b now q
-          ∙ subst (λ x. twinsAnswer x (sortOf (q .sort)) (q .right) (progressOf b now) ≡ prints (verdictLine (answerOf r)) (progressOf b next)) same (prints-on b now next q r at k m);
-      goes = (subst (λ (n : ℕ). Wrote 40 out out′ (now .at) (verdictLine (answerOf r)) n) (sym (m .printed)) w, further h m);
-    }
+  abbrev after : Progress
+  after = record { at = at; tally = next }
+
+  prints-on : (r : EqResult) → NotRefused r → Counted r
+      → twinsAnswer (answerOf r) (sortOf (q .sort)) (q .right) (progressOf b now) ≡ prints (verdictLine (answerOf r)) (progressOf b after)
+  unfolding twinsAnswer tallied verdictLine isEq answerOf progressOf tallyOf
+  prints-on (Eq n) k m = rw (m .equal, m .all) refl
+  prints-on (FirstNEQOps x y n) k m = rw (m .equal, m .all) refl
+  prints-on (FirstNEQRegions x y n) k m = rw (m .equal, m .all) refl
+  prints-on (FirstNEQBlocks x y n) k m = rw (m .equal, m .all) refl
+  prints-on (Refused c) k m = absurd (answers (Refused c) k c refl)
+
+  pub twins-goes : (out out′ : List ℕ) (r : EqResult) → answerOf r ≡ answerTo b q → NotRefused r → TallyFits (now .tally) → Wrote stepRoom out out′ (now .at) (verdictLine (answerOf r)) at → Counted r
+      → Stepped (lineDoes twinsProgram (progressOf b now) (some (queryOf q))) b out out′ now (On after)
+  unfolding outcomeOf Goes
+  twins-goes out out′ r same k h w m =
+      record {
+        bytes = verdictLine (answerOf r);
+        does =
+            twins-asks b now q
+            ∙ subst (λ x. twinsAnswer x (sortOf (q .sort)) (q .right) (progressOf b now) ≡ prints (verdictLine (answerOf r)) (progressOf b after)) same (prints-on r k m);
+        goes = (w, further h m);
+      }

@@ -18,6 +18,7 @@ use Rattle.layout.specs.declared.causes.Cause.{Cause}
 use Rattle.layout.specs.declared.causes.Cause.the-variants.{None, Is}
 use Rattle.lines.specs.Pieces.{piecesFrom}
 use Rattle.lines.specs.Wrote.{Wrote}
+use Rattle.lines.specs.Room.{refusalRoom}
 use Rattle.lines.proofs.Joined.{said, within}
 use Rattle.equivalence.specs.MappingWords.{mappingLength, emptyWords}
 use Rattle.listing.specs.declared.types.Program.{Program}
@@ -34,7 +35,7 @@ module _ (p : Program) (listing store mapping out after : List ℕ) (n k : ℕ) 
   unfolding causeOf
   refused-for = sym (h .same) ∙ ap causeOf e
 
-  pub first-refused : Wrote 30 out after 0 (refusal 1 k) n → PrintsListing (programOf p) listing (buffers store mapping out) (buffers store mapping after) n
+  pub first-refused : Wrote refusalRoom out after 0 (refusal 1 k) n → PrintsListing (programOf p) listing (buffers store mapping out) (buffers store mapping after) n
   unfolding buffers rules.listed unless
   first-refused w =
       let clash : listingCause listing ≡ none → ⊥ = λ q. Option·none-ne-some k (sym q ∙ refused-for) in

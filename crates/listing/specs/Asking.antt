@@ -1,6 +1,6 @@
 -- What a `q` prints and leaves.
-use Prim.Native.Nat.{ℕ, _+_, _≤_}
-use mathlib.Core.Bool.{Bool, true, false, cond}
+use Prim.Native.Nat.{ℕ}
+use mathlib.Core.Bool.{Bool, true, false}
 use mathlib.Core.List.{List, []}
 use mathlib.Core.Path.{_≡_}
 use Rattle.rules.specs.Answers.{Compared, eq, neq, refused, comparison}
@@ -13,11 +13,13 @@ use Rattle.equivalence.specs.MappingWords.{emptyWords}
 use Rattle.equivalence.specs.Walked.{answerOf}
 use Rattle.equivalence.specs.declared.types.EqResult.{EqResult}
 use Rattle.lines.specs.Wrote.{Wrote}
+use Rattle.lines.specs.Room.{unequalRoom}
 use Rattle.lines.specs.declared.parsing.Query.{Query}
 use Rattle.listing.specs.declared.types.Progress.{Progress}
 use Rattle.listing.specs.declared.types.LineResult.{LineResult}
 use Rattle.listing.specs.declared.types.LineResult.the-variants.{On, Stopped}
-use Rattle.listing.specs.Progress.{progressOf, Further}
+use Rattle.listing.specs.Tally.{Further}
+use Rattle.listing.specs.Progress.{progressOf}
 
 -- ---- a comparison
 
@@ -41,22 +43,18 @@ pub record QueryCompared (store mapping : List ℕ) (q : Query) (r : EqResult) :
   pub same : answerOf r ≡ answerTo store q
   pub empty : mapping ≡ emptyWords
 
--- a right fragment more, with so many operations, found equal or not, and so many bytes printed
-pub record CountedMore (now : Progress) (at : ℕ) (found : Bool) (ops : ℕ) (next : Progress) : Type 0 where
-  pub printed : next .at ≡ at
-  pub equal : next .equal ≡ now .equal + cond found ops 0
-  pub all : next .all ≡ now .all + ops
-  -- a 32-bit number of operations
-  pub few : ops ≤ 4294967295
-
 -- ---- a step: what is printed goes behind what was printed, and the rules' outcome is this
+
+-- the most that is printed for a line of the listing: no line is longer than that of two unequal fragments
+abbrev pub stepRoom : ℕ
+stepRoom = unequalRoom
 
 unfoldable pub outcomeOf : List ℕ → List ℕ → LineResult → LineOutcome
 outcomeOf store bytes (On next) = prints bytes (progressOf store next)
 outcomeOf store bytes (Stopped cause) = stops cause
 
 unfoldable pub Goes : List ℕ → List ℕ → Progress → List ℕ → LineResult → Type 0
-Goes before after now bytes (On next) = Wrote 40 before after (now .at) bytes (next .at) × Further now next
+Goes before after now bytes (On next) = Wrote stepRoom before after (now .at) bytes (next .at) × Further (now .tally) (next .tally)
 Goes before after now bytes (Stopped cause) = after ≡ before
 
 -- of a step that leaves this store

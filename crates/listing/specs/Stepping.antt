@@ -15,11 +15,13 @@ use Rattle.lines.specs.Pieces.{piecesFrom}
 use Rattle.lines.specs.Wrote.{Wrote}
 use Rattle.listing.specs.declared.types.Program.{Program}
 use Rattle.listing.specs.declared.types.Program.the-variants.{Twins, Sums}
+use Rattle.listing.specs.declared.types.Tally.{Tally}
 use Rattle.listing.specs.declared.types.Progress.{Progress}
 use Rattle.listing.specs.declared.types.LineResult.{LineResult}
 use Rattle.listing.specs.declared.types.LineResult.the-variants.{Stopped}
 use Rattle.listing.specs.Asking.{Stepped}
-use Rattle.listing.specs.Progress.{programOf, tallyOf, progressOf}
+use Rattle.listing.specs.Tally.{tallyOf}
+use Rattle.listing.specs.Progress.{programOf, progressOf}
 
 -- ---- the first line
 
@@ -40,7 +42,7 @@ pub record Headed (listing : List ℕ) (r : Cause) : Type 0 where
   pub begun : r ≡ None → StartsWithHeader listing
 
 -- what is printed behind the last line
-unfoldable pub closes : Program → Progress → List ℕ
+unfoldable pub closes : Program → Tally → List ℕ
 closes Twins now = shareLine (tallyOf now)
 closes Sums now = []
 

@@ -14,8 +14,9 @@ ghost use Rattle.rules.specs.Listings.{lineDoes};
 ghost use Rattle.layout.specs.Soundness.{IsSound};
 ghost use Rattle.equivalence.specs.MappingWords.{emptyWords};
 ghost use Rattle.lines.specs.Reading.{fieldsLeft};
-ghost use Rattle.listing.specs.Progress.{programOf, progressOf, TallyFits};
-ghost use Rattle.listing.specs.Asking.{Stepped};
+ghost use Rattle.listing.specs.Tally.{TallyFits};
+ghost use Rattle.listing.specs.Progress.{programOf, progressOf};
+ghost use Rattle.listing.specs.Asking.{Stepped, stepRoom};
 
 // A line `q`, which is read from `at` on, behind its letter.
 pub fn query_does(
@@ -29,8 +30,8 @@ pub fn query_does(
 ) -> LineResult
     requires { ⌜ IsSound (now store) ⌝ }
     requires { ⌜ now mapping ≡ emptyWords ⌝ }
-    requires { ⌜ (progress .at) + 40 ≤ length (now out) ⌝ }
-    requires { ⌜ TallyFits progress ⌝ }
+    requires { ⌜ (progress .at) + stepRoom ≤ length (now out) ⌝ }
+    requires { ⌜ TallyFits (progress .tally) ⌝ }
     ensures { λ r. ⌜ Stepped (lineDoes (programOf program) (progressOf (now (store .entry)) progress) (wholly (queryLine (fieldsLeft (now (line .entry)) at)))) (now (store .entry)) (now (out .entry)) (now (out .exit)) progress r ⌝ }
     ensures { λ r. ⌜ now (mapping .exit) ≡ emptyWords ⌝ }
 {

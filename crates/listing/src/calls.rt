@@ -8,7 +8,8 @@ ghost use Rattle.rules.specs.Listings.{twinsProgram, sumsProgram};
 ghost use Rattle.equivalence.specs.MappingWords.{emptyWords};
 ghost use Rattle.listing.specs.Calls.{Answered, buffers};
 
-// How many words a store has, how many words a mapping has, and how many bytes are enough for all that may be printed.
+// How many words a store has, how many words a mapping has, and how many bytes are enough for all that may be printed: five for each byte of
+// the longest listing.
 pub const STORE: usize = layout::columns::STORE_LENGTH;
 
 pub const MAPPING: usize = equivalence::mapping::MAPPING_LENGTH;

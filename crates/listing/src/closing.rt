@@ -5,17 +5,19 @@ use lines::printing::put_share;
 ghost use Prim.Native.Nat.{_+_, _≤_};
 ghost use lib.ListN.{length};
 ghost use Rattle.lines.specs.Wrote.{Wrote};
-ghost use Rattle.listing.specs.Progress.{TallyFits};
+ghost use Rattle.lines.specs.Room.{shareRoom};
+ghost use Rattle.listing.specs.Tally.{TallyFits};
 ghost use Rattle.listing.specs.Stepping.{closes};
 
 // `twins` prints the share, `sums` nothing.
 pub fn close(program: Program, out: &mut [u8], progress: Progress) -> usize
-    requires { ⌜ (progress .at) + 17 ≤ length (now out) ⌝ }
-    requires { ⌜ TallyFits progress ⌝ }
-    ensures { λ r. ⌜ Wrote 17 (now (out .entry)) (now (out .exit)) (progress .at) (closes program progress) r ⌝ }
+    requires { ⌜ (progress .at) + shareRoom ≤ length (now out) ⌝ }
+    requires { ⌜ TallyFits (progress .tally) ⌝ }
+    ensures { λ r. ⌜ Wrote shareRoom (now (out .entry)) (now (out .exit)) (progress .at) (closes program (progress .tally)) r ⌝ }
 {
+    let tally = progress.tally;
     match program {
-        Program::Twins => put_share(out, progress.at, progress.equal, progress.all),
+        Program::Twins => put_share(out, progress.at, tally.equal, tally.all),
         Program::Sums => progress.at,
     }
 }

@@ -19,8 +19,9 @@ ghost use Rattle.equivalence.specs.MappingWords.{emptyWords};
 ghost use Rattle.equivalence.specs.Walked.{answerOf};
 ghost use Rattle.lines.specs.Parsing.{queryOf};
 ghost use Rattle.lines.specs.Wrote.{Wrote};
-ghost use Rattle.listing.specs.Progress.{progressOf, TallyFits};
-ghost use Rattle.listing.specs.Asking.{verdictLine, QueryCompared, Stepped};
+ghost use Rattle.listing.specs.Tally.{TallyFits};
+ghost use Rattle.listing.specs.Progress.{progressOf};
+ghost use Rattle.listing.specs.Asking.{verdictLine, QueryCompared, Stepped, stepRoom};
 
 // Compares the fragments of a query. The mapping is empty before, and is emptied again afterwards.
 fn compare(store: &[u32], mapping: &mut [u32], query: Query) -> EqResult
@@ -37,8 +38,8 @@ fn compare(store: &[u32], mapping: &mut [u32], query: Query) -> EqResult
 
 // The line of a comparison; a refused one has none.
 fn put_verdict(out: &mut [u8], at: usize, result: EqResult) -> usize
-    requires { ⌜ at + 40 ≤ length (now out) ⌝ }
-    ensures { λ r. ⌜ Wrote 40 (now (out .entry)) (now (out .exit)) at (verdictLine (answerOf result)) r ⌝ }
+    requires { ⌜ at + stepRoom ≤ length (now out) ⌝ }
+    ensures { λ r. ⌜ Wrote stepRoom (now (out .entry)) (now (out .exit)) at (verdictLine (answerOf result)) r ⌝ }
 {
     match result {
         EqResult::Eq(paired) => put_equal(out, at, paired),
@@ -59,8 +60,8 @@ pub fn twins_does(
 ) -> LineResult
     requires { ⌜ IsSound (now store) ⌝ }
     requires { ⌜ now mapping ≡ emptyWords ⌝ }
-    requires { ⌜ (progress .at) + 40 ≤ length (now out) ⌝ }
-    requires { ⌜ TallyFits progress ⌝ }
+    requires { ⌜ (progress .at) + stepRoom ≤ length (now out) ⌝ }
+    requires { ⌜ TallyFits (progress .tally) ⌝ }
     ensures { λ r. ⌜ Stepped (lineDoes twinsProgram (progressOf (now (store .entry)) progress) (some (queryOf query))) (now (store .entry)) (now (out .entry)) (now (out .exit)) progress r ⌝ }
     ensures { λ r. ⌜ now (mapping .exit) ≡ emptyWords ⌝ }
 {
@@ -70,5 +71,9 @@ pub fn twins_does(
     }
     let at = put_verdict(out, progress.at, result);
     let sort = query.sort;
-    LineResult::On(counted(store, progress, at, sort, query.right, result))
+    let tally = progress.tally;
+    LineResult::On(Progress {
+        at,
+        tally: counted(store, tally, sort, query.right, result),
+    })
 }

@@ -1,5 +1,5 @@
 // What the share is computed from: the operations inside right fragments, and how many of these are in fragments that were found equal.
-use crate::types::Progress;
+use crate::types::Tally;
 use equivalence::types::EqResult;
 use fragments::sorts::size;
 use fragments::types::Size;
@@ -12,8 +12,8 @@ ghost use Rattle.layout.specs.Reading.{storeIn};
 ghost use Rattle.layout.specs.Soundness.{IsSound};
 ghost use Rattle.fragments.specs.Sorts.{sortOf};
 ghost use Rattle.equivalence.specs.Walked.{answerOf};
-ghost use Rattle.listing.specs.Progress.{TallyFits};
-ghost use Rattle.listing.specs.Asking.{isEq, CountedMore};
+ghost use Rattle.listing.specs.Tally.{TallyFits, CountedMore};
+ghost use Rattle.listing.specs.Asking.{isEq};
 
 // The operations inside a fragment.
 fn ops_in(store: &[u32], sort: Sort, n: u32) -> u32
@@ -36,39 +36,28 @@ fn is_eq(result: EqResult) -> bool
     }
 }
 
-// The progress with one more right fragment, of `ops` operations and found equal or not, when `at` bytes are printed.
-fn count(progress: Progress, at: usize, found: bool, ops: u32) -> Progress
-    requires { ⌜ TallyFits progress ⌝ }
-    ensures { λ r. ⌜ CountedMore progress at found ops r ⌝ }
+// The tally with one more right fragment, of `ops` operations and found equal or not.
+fn count(tally: Tally, found: bool, ops: u32) -> Tally
+    requires { ⌜ TallyFits tally ⌝ }
+    ensures { λ r. ⌜ CountedMore tally found ops r ⌝ }
 {
-    let all = progress.all + ops as u64;
+    let all = tally.all + ops as u64;
     if found {
-        return Progress {
-            at,
-            equal: progress.equal + ops as u64,
-            all,
-        };
+        let equal = tally.equal + ops as u64;
+        return Tally { equal, all };
     }
-    Progress {
-        at,
-        equal: progress.equal,
+    Tally {
+        equal: tally.equal,
         all,
     }
 }
 
-// The progress with the right fragment of a comparison.
-pub fn counted(
-    store: &[u32],
-    progress: Progress,
-    at: usize,
-    sort: Sort,
-    r: u32,
-    result: EqResult,
-) -> Progress
+// The tally with the right fragment of a comparison.
+pub fn counted(store: &[u32], tally: Tally, sort: Sort, r: u32, result: EqResult) -> Tally
     requires { ⌜ IsSound (now store) ⌝ }
     requires { ⌜ exists (storeIn (now store)) (sortOf sort) r ≡ true ⌝ }
-    requires { ⌜ TallyFits progress ⌝ }
-    ensures { λ q. ⌜ CountedMore progress at (isEq (answerOf result)) (opsIn (storeIn (now (store .entry))) (sortOf sort) r) q ⌝ }
+    requires { ⌜ TallyFits tally ⌝ }
+    ensures { λ q. ⌜ CountedMore tally (isEq (answerOf result)) (opsIn (storeIn (now (store .entry))) (sortOf sort) r) q ⌝ }
 {
-    count(progress, at, is_eq(result), ops_in(store, sort, r))
+    count(tally, is_eq(result), ops_in(store, sort, r))
 }

@@ -10,6 +10,7 @@ use crate::header::header_cause;
 use crate::types::LineResult;
 use crate::types::Program;
 use crate::types::Progress;
+use crate::types::Tally;
 use layout::causes::Cause;
 use lines::pieces::piece_end;
 use lines::printing::put_refusal;
@@ -24,7 +25,9 @@ ghost use Rattle.layout.specs.Columns.{bufferLength};
 ghost use Rattle.layout.specs.Reading.{storeIn};
 ghost use Rattle.layout.specs.Soundness.{IsSound};
 ghost use Rattle.equivalence.specs.MappingWords.{mappingLength, emptyWords};
-ghost use Rattle.listing.specs.Progress.{programOf, TallyFits};
+ghost use Rattle.listing.specs.Tally.{TallyFits};
+ghost use Rattle.listing.specs.Progress.{programOf};
+ghost use Rattle.listing.specs.Asking.{stepRoom};
 ghost use Rattle.listing.specs.Stepping.{secondLine, LineDoes, Ran};
 ghost use Rattle.listing.specs.Calls.{PrintsListing, buffers};
 
@@ -39,8 +42,8 @@ fn line_does(
 ) -> LineResult
     requires { ⌜ IsSound (now store) ⌝ }
     requires { ⌜ now mapping ≡ emptyWords ⌝ }
-    requires { ⌜ (progress .at) + 40 ≤ length (now out) ⌝ }
-    requires { ⌜ TallyFits progress ⌝ }
+    requires { ⌜ (progress .at) + stepRoom ≤ length (now out) ⌝ }
+    requires { ⌜ TallyFits (progress .tally) ⌝ }
     ensures { λ r. ⌜ LineDoes program (now (line .entry)) (now (store .entry)) (now (store .exit)) (now (out .entry)) (now (out .exit)) progress r ⌝ }
     ensures { λ r. ⌜ now (mapping .exit) ≡ emptyWords ⌝ }
 {
@@ -79,8 +82,7 @@ fn run(
 {
     let mut progress = Progress {
         at: 0,
-        equal: 0,
-        all: 0,
+        tally: Tally { equal: 0, all: 0 },
     };
     let mut number = 2;
     let mut start = from;

@@ -11,13 +11,14 @@ ghost use lib.ListN.{length};
 ghost use Rattle.rules.specs.Listings.{sumsProgram, lineDoes};
 ghost use Rattle.layout.specs.Soundness.{IsSound};
 ghost use Rattle.lines.specs.Parsing.{queryOf};
-ghost use Rattle.listing.specs.Progress.{progressOf, TallyFits};
-ghost use Rattle.listing.specs.Asking.{Stepped};
+ghost use Rattle.listing.specs.Tally.{TallyFits};
+ghost use Rattle.listing.specs.Progress.{progressOf};
+ghost use Rattle.listing.specs.Asking.{Stepped, stepRoom};
 
 pub fn sums_does(store: &[u32], out: &mut [u8], progress: Progress, query: Query) -> LineResult
     requires { ⌜ IsSound (now store) ⌝ }
-    requires { ⌜ (progress .at) + 40 ≤ length (now out) ⌝ }
-    requires { ⌜ TallyFits progress ⌝ }
+    requires { ⌜ (progress .at) + stepRoom ≤ length (now out) ⌝ }
+    requires { ⌜ TallyFits (progress .tally) ⌝ }
     ensures { λ r. ⌜ Stepped (lineDoes sumsProgram (progressOf (now (store .entry)) progress) (some (queryOf query))) (now (store .entry)) (now (out .entry)) (now (out .exit)) progress r ⌝ }
 {
     let sort = query.sort;
@@ -30,11 +31,8 @@ pub fn sums_does(store: &[u32], out: &mut [u8], progress: Progress, query: Query
             Hashed::Refused(cause) => LineResult::Stopped(cause),
             Hashed::Hash(r) => {
                 let at = put_hashes(out, progress.at, l, r);
-                LineResult::On(Progress {
-                    at,
-                    equal: progress.equal,
-                    all: progress.all,
-                })
+                let tally = progress.tally;
+                LineResult::On(Progress { at, tally })
             }
         },
     }

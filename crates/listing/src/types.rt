@@ -5,11 +5,16 @@ pub enum Program {
     Sums,
 }
 
-// How many bytes are printed, the operations in right fragments found equal, and those in all right fragments.
-pub struct Progress {
-    pub at: usize,
+// What the share is computed from: the operations in right fragments found equal, and those in all right fragments.
+pub struct Tally {
     pub equal: u64,
     pub all: u64,
+}
+
+// How many bytes are printed, and what is counted.
+pub struct Progress {
+    pub at: usize,
+    pub tally: Tally,
 }
 
 // What a line results in: the progress behind it, or the cause for which it is refused.

@@ -79,7 +79,7 @@ pub fn sound_rows(series: Series<Lent, 1>) -> Vec<Soundness> {
 /// The words in use: the counts, and the rows of everything that there is.
 fn live(store: &Store) -> u32 {
     let t = store.totals();
-    7 + 13 * t.operations + 3 * t.regions + 8 * t.blocks + 2 * t.values + t.operands + t.successors + 3 * t.attributes
+    7 + 14 * t.operations + 3 * t.regions + 9 * t.blocks + 2 * t.values + t.operands + t.successors + 3 * t.attributes
 }
 
 /// The test of a lent mapping. No call does that alone: a comparison of what doesn't exist tests the store, then the mapping, and is

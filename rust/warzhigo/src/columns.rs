@@ -12,6 +12,7 @@ pub(crate) enum Column {
     ValueType, ValueOwner,
     OperandWords, SuccessorWords,
     SlotKey, SlotKind, SlotContent,
+    OpNext, BlockNext,
 }
 
 /// How many there are of each thing: the words of the first column.
@@ -30,7 +31,7 @@ pub(crate) enum Count {
 pub(crate) const SLOTS: usize = 8;
 pub(crate) const BLOCK_SLOTS: usize = 512 * SLOTS;
 
-const COLUMNS: usize = 32;
+const COLUMNS: usize = 34;
 
 #[rustfmt::skip] // as the enum above
 const SIZES: [usize; COLUMNS] = [
@@ -42,6 +43,7 @@ const SIZES: [usize; COLUMNS] = [
     2048, 2048,
     2048, 512,
     6144, 6144, 6144,
+    512, 256,
 ];
 
 /// Where each column begins.
@@ -85,12 +87,12 @@ mod tests {
     use super::*;
     use alloc::vec::Vec;
 
-    /// The library's own table of bases, in its source.
+    /// The library's own bases, in its source.
     #[test]
     fn bases_are_the_librarys() {
         let source = include_str!("../../../crates/layout/src/columns.rt");
-        let table = source.split("const BASES: [usize; 32] = [").nth(1).unwrap().split(']').next().unwrap();
-        let bases: Vec<usize> = table.split(',').map(str::trim).filter(|n| !n.is_empty()).map(|n| n.parse().unwrap()).collect();
+        let table = source.split("match column {").nth(1).unwrap().split('}').next().unwrap();
+        let bases: Vec<usize> = table.split("=>").skip(1).map(|arm| arm.split(',').next().unwrap().trim().parse().unwrap()).collect();
         assert_eq!(bases, BASES);
         assert_eq!(BASES[COLUMNS - 1] + SIZES[COLUMNS - 1], crate::ffi::lent::store_words());
     }

@@ -78,6 +78,7 @@ impl<Op, Region, Block> EqResult<Op, Region, Block> {
     }
 
     /// How many operations and blocks were entered.
+    #[inline]
     pub fn paired(&self) -> u32 {
         match self {
             EqResult::Eq { paired }

@@ -53,6 +53,9 @@ impl Mapping {
     /// or words from elsewhere made it, all 2,816 entries.
     #[inline]
     pub fn clear(&mut self) {
+        if self.touched.is_empty() {
+            return;
+        }
         for entries in &self.touched.0 {
             self.words.remove(entries.clone());
         }

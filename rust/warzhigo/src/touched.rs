@@ -20,6 +20,7 @@ impl Touched {
         Touched([all::<ValueId>(), all::<BlockId>(), all::<OpId>()])
     }
 
+    #[inline]
     pub(crate) fn is_empty(&self) -> bool {
         self.0.iter().all(Range::is_empty)
     }
@@ -58,7 +59,19 @@ fn cover(entries: &mut Range<usize>, numbers: Range<u32>, base: usize) {
 /// Where a comparison of this left fragment has made its entries, so many of operations and blocks, in a mapping that was empty.
 #[inline]
 pub(crate) fn entered(store: &[u32], mapping: &[u32], sort: Sort, lhs: u32, paired: u32) -> Touched {
+    if let (Sort::Op, 1) = (sort, paired) {
+        return alone(store, lhs);
+    }
     Entered { store, mapping, left: paired, touched: Touched::NOTHING }.fragment(sort, lhs)
+}
+
+/// The entries of one operation and its results: an operation is entered before anything inside it.
+#[inline]
+fn alone(store: &[u32], n: u32) -> Touched {
+    let mut touched = Touched::NOTHING;
+    touched.op(n);
+    touched.values(range(store, OpResultFirst, OpResultEnd, n as usize));
+    touched
 }
 
 /// The search for these entries, by the entries themselves, from the left fragment's number on, until so many are found.
@@ -93,11 +106,12 @@ impl Entered<'_> {
     /// The blocks of a region that are entered; gives the smallest number that an operation in them may have.
     fn region(&mut self, r: u32) -> u32 {
         let mut from = u32::MAX;
-        for b in range(self.store, RegionBlockFirst, RegionBlockEnd, r as usize) {
-            if at(self.store, BlockRegion, b as usize) == r {
-                self.block(b);
-                from = from.min(self.first_op(b));
-            }
+        let mut blocks = range(self.store, RegionBlockFirst, RegionBlockEnd, r as usize);
+        let mut next = blocks.find(|b| at(self.store, BlockRegion, *b as usize) == r);
+        while let Some(b) = next {
+            self.block(b);
+            from = from.min(self.first_op(b));
+            next = Some(at(self.store, BlockNext, b as usize)).filter(|link| *link != 0);
         }
         from
     }

@@ -11,13 +11,15 @@ use Rattle.rules.specs.Lists.{sum}
 use Rattle.rules.specs.Store.{Block, ofBlock, maxBlocks, maxValues}
 use Rattle.rules.specs.Building.{newBlock, applied, valuesFor}
 use Rattle.rules.proofs.Basics.Tests.{and-both}
-use Rattle.layout.specs.Columns.{Cols, at, opOperandEnd, opSuccessorEnd, opAttributes, regionOp, regionBlockFirst, regionBlockEnd, blockRegion, blockLabel, blockLocation, blockArgumentFirst, blockArgumentEnd, blockOpEnd, blockAttributes}
+use Rattle.layout.specs.Columns.{Cols, at, opOperandEnd, opSuccessorEnd, opAttributes, regionOp, regionBlockFirst, regionBlockEnd, blockRegion, blockLabel, blockLocation, blockArgumentFirst, blockArgumentEnd, blockOpEnd, blockAttributes, opNext}
 use Rattle.layout.specs.Reading.{tabulate, opCount, blockCount, regionCount, valueCount, operandCount, successorCount, attributeCount, slotsOf, opOf, blockOf, valueOf, storeOf}
 use Rattle.layout.specs.Soundness.{endBefore, inOwner, attributeSum}
 use Rattle.layout.proofs.Laid.{InRange, BlockLaid, Laid, within-of}
 use Rattle.layout.proofs.Tabulate.{blocks-length}
-use Rattle.building.proofs.Adding.Grew.{Grew, op-same, block-same, end-kept, op-kept, block-kept, region-kept}
+use Rattle.building.proofs.Adding.Grew.{Grew, EntriesKept, op-same, block-same, end-kept, op-kept, block-kept, region-kept}
 use Rattle.building.proofs.Adding.Rows.{ValuesAdded, values-read, values-laid, no-attributes, new-owned, old-or-last, rows-last, rows-kept, sum-last}
+use Rattle.building.proofs.Adding.NextChild.{op-links-kept}
+use Rattle.building.proofs.Adding.ChildrenLinked.{BlockPut, blocks-linked}
 
 -- D is C with this block
 pub record BlockAdded (C D : Cols) (region label location : ℕ) (types : List ℕ) : Type 0 where
@@ -106,8 +108,8 @@ module _ (C D : Cols) (region label location : ℕ) (types : List ℕ) (h : Laid
       (ap sum (rows-last (blockCount D) (blockCount C) (at D blockAttributes) (at C blockAttributes) (a .grew .blockKeys) 0 (a .blockCounted) (a .keys)) ∙ sum-last _)
       ∙ h .attributes ∙ sym (a .attributeCounted)
 
-  pub added-laid : BlockRoom C types → InRegionRange → region < regionCount C → Laid D
-  added-laid room place r =
+  pub added-laid : BlockRoom C types → InRegionRange → region < regionCount C → BlockPut C D region → EntriesKept C D opNext (opCount C) → EntriesKept C D blockOpEnd (blockCount C) → Laid D
+  added-laid room place r put links ends =
       let c = h .counts in
       let e1 = a .opCounted in
       let e2 = a .blockCounted in
@@ -124,4 +126,6 @@ module _ (C D : Cols) (region label location : ℕ) (types : List ℕ) (h : Laid
         operandEnd = last-end opOperandEnd (a .grew .operandEnd) ∙ h .operandEnd ∙ sym e5;
         successorEnd = last-end opSuccessorEnd (a .grew .successorEnd) ∙ h .successorEnd ∙ sym e6;
         attributes = keys-counted;
+        opLink = op-links-kept C D h e1 (a .grew .parent) links ends;
+        blockLink = blocks-linked C D region h put;
       }

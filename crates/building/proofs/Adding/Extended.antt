@@ -79,11 +79,11 @@ module _ (C : Cols) (first end owner n : ℕ) where
     unfolding at
     first-else m ne = ap (λ (xs : List ℕ). getD xs m 0) first-column ∙ getD-set-other (C first) owner m new 0 ne
 
-    end-own : owner < length (C end) → at (extended C first end owner n) end owner ≡ n + 1
+    pub end-own : owner < length (C end) → at (extended C first end owner n) end owner ≡ n + 1
     unfolding at
     end-own l = ap (λ (xs : List ℕ). getD xs owner 0) end-column ∙ getD-set-same (C end) owner (n + 1) 0 l
 
-    end-else : (m : ℕ) → (m ≡ owner → ⊥) → at (extended C first end owner n) end m ≡ at C end m
+    pub end-else : (m : ℕ) → (m ≡ owner → ⊥) → at (extended C first end owner n) end m ≡ at C end m
     unfolding at
     end-else m ne = ap (λ (xs : List ℕ). getD xs m 0) end-column ∙ getD-set-other (C end) owner m (n + 1) 0 ne
 

@@ -1,24 +1,26 @@
 -- The call that adds an operation writes its row, its regions, its results and its lists behind the old ones, and extends its parent's range; so it does what the rules say and keeps the columns laid out. Assumes nothing.
-use Prim.Native.Nat.{ℕ, _<_, _≤_}
+use Prim.Native.Nat.{ℕ, _+_, _<_, _≤_}
 use native.Mathlib.Omega.{arith}
 use mathlib.Core.Bool.{false}
 use mathlib.Core.Option.{Option, none, some}
 use mathlib.Core.List.{List}
-use mathlib.Core.Path.{_≡_, refl, sym, subst, _∙_}
+use mathlib.Core.Path.{_≡_, refl, sym, ap, subst, _∙_}
 use lib.Dec.{eqb}
 use lib.ListN.{length, replicate, length-replicate, getD-replicate}
 use Rattle.rules.specs.Building.{newOperation, applied}
-use Rattle.layout.specs.Columns.{Cols, at, write, writeRange, counts, regionBlockEnd, blockRegion, blockLabel, blockLocation, blockArgumentFirst, blockArgumentEnd, blockOpFirst, blockOpEnd, blockAttributes, slotKey, slotKind, slotContent}
+use Rattle.layout.specs.Columns.{Cols, at, write, writeRange, counts, opParent, opNext, regionBlockEnd, blockRegion, blockLabel, blockLocation, blockArgumentFirst, blockArgumentEnd, blockOpFirst, blockOpEnd, blockAttributes, slotKey, slotKind, slotContent, blockNext}
 use Rattle.layout.specs.Reading.{opCount, blockCount, regionCount, valueCount, operandCount, successorCount, attributeCount, storeOf}
 use Rattle.layout.proofs.Laid.{Shaped, InRange, Laid}
-use Rattle.building.specs.Raw.{withRow, withValues, parentBelow, opPlaced, withRegions, withSlice, opRow, opWritten, withOperation}
+use Rattle.building.specs.Raw.{withRow, withValues, parentCode, parentBelow, opPlaced, withRegions, withSlice, opRow, opWritten, withOperation}
 use Rattle.building.proofs.Adding.Entries.{Run, same}
 use Rattle.building.proofs.Adding.Grew.{Grew}
 use Rattle.building.proofs.Adding.OperationAdded.{OperationAdded, added-reads}
 use Rattle.building.proofs.Adding.OperationLaid.{RoomFor, added-laid}
-use Rattle.building.proofs.Adding.Extended.{Wider, wider-same, extended-wider, extended-place}
+use Rattle.building.proofs.Adding.Extended.{Wider, wider-same}
+use Rattle.building.proofs.Adding.ChildPlaced.{placed-wider, placed-place, placed-end, placed-end-else, placed-new, placed-last, placed-else}
 use Rattle.building.proofs.Adding.OperationColumns.{OpRowPut, row-puts, around-run, first-run, end-run, type-run, owner-run, operand-run, successor-run, values-added}
-use Rattle.building.proofs.Adding.OperationWritten.{row, placed, made, placed-other, counts-else, ops-count, regions-counted, values-counted, operands-counted, successors-counted}
+use Rattle.building.proofs.Adding.OperationWritten.{ops-apart, row, placed, made, placed-other, counts-else, ops-count, regions-counted, values-counted, operands-counted, successors-counted}
+use Rattle.building.proofs.Adding.ChildrenLinked.{endUnder, OpPut}
 
 -- ---- the parent's range
 
@@ -26,14 +28,41 @@ wider-under : (C : Cols) (parent : Option ℕ) (n m : ℕ) → m < length (C blo
     → Wider (at C blockOpFirst m) (at C blockOpEnd m) (at (opPlaced C parent n) blockOpFirst m) (at (opPlaced C parent n) blockOpEnd m) n
 unfolding opPlaced
 wider-under C none n m lf le l = wider-same _ _ _ _ n refl refl l
-wider-under C (some b) n m lf le l = extended-wider C blockOpFirst blockOpEnd b n refl refl m lf le l
+wider-under C (some b) n m lf le l = placed-wider C opParent opNext blockOpFirst blockOpEnd b (b + 1) n ops-apart m lf le l
 
 place-under : (C : Cols) (parent : Option ℕ) (n b : ℕ) → parent ≡ some b → b < length (C blockOpFirst) → b < length (C blockOpEnd) → at C blockOpEnd b ≤ n
     → InRange (at (opPlaced C parent n) blockOpFirst b) (at (opPlaced C parent n) blockOpEnd b) n
 unfolding opPlaced
 place-under C parent n b e lf le l =
     subst (λ (p : Option ℕ). InRange (at (opPlaced C p n) blockOpFirst b) (at (opPlaced C p n) blockOpEnd b) n) (sym e)
-    (extended-place C blockOpFirst blockOpEnd b n refl refl lf le l)
+    (placed-place C opParent opNext blockOpFirst blockOpEnd b (b + 1) n ops-apart lf le l)
+
+end-under : (C : Cols) (parent : Option ℕ) (n b : ℕ) → (parent ≡ some b → ⊥) → at (opPlaced C parent n) blockOpEnd b ≡ at C blockOpEnd b
+unfolding opPlaced
+end-under C none n b ne = refl
+end-under C (some q) n b ne = placed-end-else C opParent opNext blockOpFirst blockOpEnd q (q + 1) n ops-apart b (λ e. ne (ap {B = Option ℕ} some (sym e)))
+
+end-new : (C : Cols) (parent : Option ℕ) (n b : ℕ) → parent ≡ some b → b < length (C blockOpEnd) → at (opPlaced C parent n) blockOpEnd b ≡ n + 1
+unfolding opPlaced
+end-new C parent n b e le =
+    subst (λ (p : Option ℕ). at (opPlaced C p n) blockOpEnd b ≡ n + 1) (sym e) (placed-end C opParent opNext blockOpFirst blockOpEnd b (b + 1) n ops-apart le)
+
+-- ---- the links
+
+link-new : (C : Cols) (parent : Option ℕ) (n b : ℕ) → n < length (C opNext) → parent ≡ some b → at (opPlaced C parent n) opNext n ≡ 0
+unfolding opPlaced
+link-new C parent n b l e =
+    subst (λ (p : Option ℕ). at (opPlaced C p n) opNext n ≡ 0) (sym e) (placed-new C opParent opNext blockOpFirst blockOpEnd b (b + 1) n ops-apart l)
+
+link-last : (C : Cols) (parent : Option ℕ) (n i : ℕ) → n < length (C opNext) → i < n → at C opParent i ≡ parentCode parent → i + 1 ≡ endUnder C parent → at (opPlaced C parent n) opNext i ≡ n
+unfolding opPlaced endUnder parentCode
+link-last C none n i long l e q = absurd (let w : ⊥ = omega arith in w)
+link-last C (some b) n i long l e q = placed-last C opParent opNext blockOpFirst blockOpEnd b (b + 1) n ops-apart long i l e q
+
+link-else : (C : Cols) (parent : Option ℕ) (n i : ℕ) → n < length (C opNext) → i < n → (at C opParent i ≡ parentCode parent → i + 1 ≡ endUnder C parent → ⊥) → at (opPlaced C parent n) opNext i ≡ at C opNext i
+unfolding opPlaced endUnder parentCode
+link-else C none n i long l ne = refl
+link-else C (some b) n i long l ne = placed-else C opParent opNext blockOpFirst blockOpEnd b (b + 1) n ops-apart long i l ne
 
 module _ (C : Cols) (kind : ℕ) (parent : Option ℕ) (location regions : ℕ) (types operands successors : List ℕ) (sh : Shaped C) (room : RoomFor C regions types operands successors) where
   abbrev D : Cols
@@ -49,7 +78,7 @@ module _ (C : Cols) (kind : ℕ) (parent : Option ℕ) (location regions : ℕ) 
   ends : Run C D regionBlockEnd (regionCount C) (replicate regions 0)
   ends = end-run C kind parent location regions types operands successors sh room
 
-  unwritten : (j : ℕ) → eqb j blockOpFirst ≡ false → eqb j blockOpEnd ≡ false → placed C kind parent location regions types operands successors j ≡ row C kind parent location regions types operands successors j
+  unwritten : (j : ℕ) → eqb j blockOpFirst ≡ false → eqb j blockOpEnd ≡ false → eqb j opNext ≡ false → placed C kind parent location regions types operands successors j ≡ row C kind parent location regions types operands successors j
   unwritten = placed-other C kind parent location regions types operands successors
 
   module _ (h : Laid C) where
@@ -99,19 +128,19 @@ module _ (C : Cols) (kind : ℕ) (parent : Option ℕ) (location regions : ℕ) 
           successorEnd = puts .successorEnd .old;
           keys = puts .keys .old;
           around = around-run C kind parent location regions types operands successors sh room .old;
-          region = λ i l. same C D blockRegion (unwritten blockRegion refl refl) i;
-          label = λ i l. same C D blockLabel (unwritten blockLabel refl refl) i;
-          blockPlace = λ i l. same C D blockLocation (unwritten blockLocation refl refl) i;
-          argumentFirst = λ i l. same C D blockArgumentFirst (unwritten blockArgumentFirst refl refl) i;
-          argumentEnd = λ i l. same C D blockArgumentEnd (unwritten blockArgumentEnd refl refl) i;
-          blockKeys = λ i l. same C D blockAttributes (unwritten blockAttributes refl refl) i;
+          region = λ i l. same C D blockRegion (unwritten blockRegion refl refl refl) i;
+          label = λ i l. same C D blockLabel (unwritten blockLabel refl refl refl) i;
+          blockPlace = λ i l. same C D blockLocation (unwritten blockLocation refl refl refl) i;
+          argumentFirst = λ i l. same C D blockArgumentFirst (unwritten blockArgumentFirst refl refl refl) i;
+          argumentEnd = λ i l. same C D blockArgumentEnd (unwritten blockArgumentEnd refl refl refl) i;
+          blockKeys = λ i l. same C D blockAttributes (unwritten blockAttributes refl refl refl) i;
           type = type-run C kind parent location regions types operands successors sh room .old;
           owner = owner-run C kind parent location regions types operands successors sh room .old;
           operandParts = operand-run C kind parent location regions types operands successors sh room .slices;
           successorParts = successor-run C kind parent location regions types operands successors sh room .slices;
-          slotKeys = unwritten slotKey refl refl;
-          slotKinds = unwritten slotKind refl refl;
-          slotContents = unwritten slotContent refl refl;
+          slotKeys = unwritten slotKey refl refl refl;
+          slotKinds = unwritten slotKind refl refl refl;
+          slotContents = unwritten slotContent refl refl refl;
           opsIn = λ m n l w. range-wider m l .holds n w;
           blocksIn = λ r m l w. let f = first-run C kind parent location regions types operands successors sh room .old r l in let e = ends .old r l in record { from = omega arith; below = omega arith };
           opEnds = λ m l. let w = range-wider m l .ends in omega arith;
@@ -149,6 +178,44 @@ module _ (C : Cols) (kind : ℕ) (parent : Option ℕ) (location regions : ℕ) 
           successorPart = successor-run C kind parent location regions types operands successors sh room .last;
         }
 
+    -- ---- the links
+
+    -- the row has the parent of each operation of before, and the ends of ranges
+    row-parent : (i : ℕ) → i < opCount C → at (row C kind parent location regions types operands successors) opParent i ≡ at C opParent i
+    unfolding withOperation opWritten withRegions withValues withSlice opRow withRow write writeRange
+    row-parent i l = sym (same (row C kind parent location regions types operands successors) D opParent (unwritten opParent refl refl refl) i) ∙ puts .parentPut .old i l
+
+    row-end : (p : Option ℕ) → endUnder (row C kind parent location regions types operands successors) p ≡ endUnder C p
+    unfolding endUnder opRow withRow write at
+    row-end none = refl
+    row-end (some b) = refl
+
+    blockNext-column : D blockNext ≡ C blockNext
+    unfolding withOperation opWritten withRegions withValues withSlice opRow withRow write writeRange
+    blockNext-column = unwritten blockNext refl refl refl
+
+    op-put : parentBelow (blockCount C) parent → OpPut C D parent
+    unfolding withOperation opWritten withRegions withValues withSlice opRow withRow write writeRange at opCount parentBelow
+    op-put below =
+        let R = row C kind parent location regions types operands successors in
+        let k = h .counts .blocks in
+        let e : length (C blockOpEnd) ≡ 256 = sh blockOpEnd in
+        let x : length (C opNext) ≡ 512 = sh opNext in
+        let o = room .ops in
+        record {
+          child =
+              record {
+                kept = puts .parentPut .old;
+                owner = puts .parentPut .new;
+                last = λ i l q z. link-last R parent (opCount C) i (omega arith) l (row-parent i l ∙ q) (z ∙ sym (row-end parent));
+                others = λ i l ne. link-else R parent (opCount C) i (omega arith) l (λ q z. ne (sym (row-parent i l) ∙ q) (z ∙ row-end parent));
+              };
+          count = ops-count C kind parent location regions types operands successors sh room;
+          link = λ b q. link-new R parent (opCount C) b (omega arith) q;
+          end = λ b q. let lb : b < blockCount C = subst (parentBelow (blockCount C)) q below in end-new R parent (opCount C) b q (omega arith);
+          ends = λ b l ne. end-under R parent (opCount C) b ne;
+        }
+
     -- ---- the call
 
     pub operation-reads : storeOf (withOperation C kind parent location regions types operands successors) ≡ applied (storeOf C) (newOperation kind parent location regions types operands successors)
@@ -156,4 +223,4 @@ module _ (C : Cols) (kind : ℕ) (parent : Option ℕ) (location regions : ℕ) 
 
     pub operation-laid : parentBelow (blockCount C) parent → Laid (withOperation C kind parent location regions types operands successors)
     unfolding parentBelow
-    operation-laid p = added-laid C D kind parent location regions types operands successors h operation-added room (λ b e. range-place b e (subst (parentBelow (blockCount C)) e p)) p
+    operation-laid p = added-laid C D kind parent location regions types operands successors h operation-added room (λ b e. range-place b e (subst (parentBelow (blockCount C)) e p)) p (op-put p) (λ i l. same C D blockNext blockNext-column i) (ends .old)

@@ -8,7 +8,7 @@ use mathlib.Core.Path.{_≡_, refl, ap₂, _∙_}
 use lib.Dec.{eqb}
 use lib.ListN.{length, set, replicate, length-replicate, getD-replicate}
 use Rattle.rules.specs.Store.{ofOp}
-use Rattle.layout.specs.Columns.{Cols, at, pasted, write, writeRange, opKind, opParent, opLocation, opDepth, opRegionFirst, opRegionEnd, opResultFirst, opResultEnd, opOperandFirst, opOperandEnd, opSuccessorFirst, opSuccessorEnd, opAttributes, regionOp, regionBlockFirst, regionBlockEnd, blockOpFirst, blockOpEnd, valueType, valueOwner, operandWords, successorWords}
+use Rattle.layout.specs.Columns.{Cols, at, pasted, write, writeRange, opKind, opParent, opLocation, opDepth, opRegionFirst, opRegionEnd, opResultFirst, opResultEnd, opOperandFirst, opOperandEnd, opSuccessorFirst, opSuccessorEnd, opAttributes, regionOp, regionBlockFirst, regionBlockEnd, blockOpFirst, blockOpEnd, valueType, valueOwner, operandWords, successorWords, opNext}
 use Rattle.layout.specs.Reading.{opCount, regionCount, valueCount, operandCount, successorCount, ownerCode}
 use Rattle.layout.proofs.Laid.{Shaped}
 use Rattle.building.specs.Raw.{withRow, withValues, parentCode, depthUnder, withRegions, withSlice, opRow, opWritten, withOperation}
@@ -37,7 +37,7 @@ module _ (C : Cols) (kind : ℕ) (parent : Option ℕ) (location regions : ℕ) 
   abbrev pub D : Cols
   D = made C kind parent location regions types operands successors
 
-  pub other : (j : ℕ) → eqb j blockOpFirst ≡ false → eqb j blockOpEnd ≡ false → placed C kind parent location regions types operands successors j ≡ row C kind parent location regions types operands successors j
+  pub other : (j : ℕ) → eqb j blockOpFirst ≡ false → eqb j blockOpEnd ≡ false → eqb j opNext ≡ false → placed C kind parent location regions types operands successors j ≡ row C kind parent location regions types operands successors j
   other = placed-other C kind parent location regions types operands successors
 
   row-put : (k v : ℕ) → length (C k) ≡ 512 → D k ≡ set (C k) (opCount C) v → Put C D k (opCount C) v
@@ -47,19 +47,19 @@ module _ (C : Cols) (kind : ℕ) (parent : Option ℕ) (location regions : ℕ) 
   unfolding withOperation opWritten withRegions withValues withSlice opRow withRow write writeRange at regionCount valueCount operandCount successorCount
   row-puts =
       record {
-        kindPut = row-put opKind kind (sh opKind) (other opKind refl refl);
-        parentPut = row-put opParent (parentCode parent) (sh opParent) (other opParent refl refl);
-        locationPut = row-put opLocation location (sh opLocation) (other opLocation refl refl);
-        depthPut = row-put opDepth (depthUnder C parent) (sh opDepth) (other opDepth refl refl);
-        regionFirst = row-put opRegionFirst (regionCount C) (sh opRegionFirst) (other opRegionFirst refl refl);
-        regionEnd = row-put opRegionEnd (regionCount C + regions) (sh opRegionEnd) (other opRegionEnd refl refl);
-        resultFirst = row-put opResultFirst (valueCount C) (sh opResultFirst) (other opResultFirst refl refl);
-        resultEnd = row-put opResultEnd (valueCount C + length types) (sh opResultEnd) (other opResultEnd refl refl);
-        operandFirst = row-put opOperandFirst (operandCount C) (sh opOperandFirst) (other opOperandFirst refl refl);
-        operandEnd = row-put opOperandEnd (operandCount C + length operands) (sh opOperandEnd) (other opOperandEnd refl refl);
-        successorFirst = row-put opSuccessorFirst (successorCount C) (sh opSuccessorFirst) (other opSuccessorFirst refl refl);
-        successorEnd = row-put opSuccessorEnd (successorCount C + length successors) (sh opSuccessorEnd) (other opSuccessorEnd refl refl);
-        keys = row-put opAttributes 0 (sh opAttributes) (other opAttributes refl refl);
+        kindPut = row-put opKind kind (sh opKind) (other opKind refl refl refl);
+        parentPut = row-put opParent (parentCode parent) (sh opParent) (other opParent refl refl refl);
+        locationPut = row-put opLocation location (sh opLocation) (other opLocation refl refl refl);
+        depthPut = row-put opDepth (depthUnder C parent) (sh opDepth) (other opDepth refl refl refl);
+        regionFirst = row-put opRegionFirst (regionCount C) (sh opRegionFirst) (other opRegionFirst refl refl refl);
+        regionEnd = row-put opRegionEnd (regionCount C + regions) (sh opRegionEnd) (other opRegionEnd refl refl refl);
+        resultFirst = row-put opResultFirst (valueCount C) (sh opResultFirst) (other opResultFirst refl refl refl);
+        resultEnd = row-put opResultEnd (valueCount C + length types) (sh opResultEnd) (other opResultEnd refl refl refl);
+        operandFirst = row-put opOperandFirst (operandCount C) (sh opOperandFirst) (other opOperandFirst refl refl refl);
+        operandEnd = row-put opOperandEnd (operandCount C + length operands) (sh opOperandEnd) (other opOperandEnd refl refl refl);
+        successorFirst = row-put opSuccessorFirst (successorCount C) (sh opSuccessorFirst) (other opSuccessorFirst refl refl refl);
+        successorEnd = row-put opSuccessorEnd (successorCount C + length successors) (sh opSuccessorEnd) (other opSuccessorEnd refl refl refl);
+        keys = row-put opAttributes 0 (sh opAttributes) (other opAttributes refl refl refl);
       }
 
   -- its row is written, and its parent's range
@@ -75,21 +75,21 @@ module _ (C : Cols) (kind : ℕ) (parent : Option ℕ) (location regions : ℕ) 
 
   pub around-run : Run C D regionOp (regionCount C) (replicate regions (opCount C))
   unfolding withOperation opWritten withRegions withValues withSlice opRow withRow write writeRange
-  around-run = region-run regionOp (opCount C) (sh regionOp) refl (other regionOp refl refl)
+  around-run = region-run regionOp (opCount C) (sh regionOp) refl (other regionOp refl refl refl)
 
   pub first-run : Run C D regionBlockFirst (regionCount C) (replicate regions 0)
   unfolding withOperation opWritten withRegions withValues withSlice opRow withRow write writeRange
-  first-run = region-run regionBlockFirst 0 (sh regionBlockFirst) refl (other regionBlockFirst refl refl)
+  first-run = region-run regionBlockFirst 0 (sh regionBlockFirst) refl (other regionBlockFirst refl refl refl)
 
   pub end-run : Run C D regionBlockEnd (regionCount C) (replicate regions 0)
   unfolding withOperation opWritten withRegions withValues withSlice opRow withRow write writeRange
-  end-run = region-run regionBlockEnd 0 (sh regionBlockEnd) refl (other regionBlockEnd refl refl)
+  end-run = region-run regionBlockEnd 0 (sh regionBlockEnd) refl (other regionBlockEnd refl refl refl)
 
   pub type-run : Run C D valueType (valueCount C) types
   unfolding withOperation opWritten withRegions withValues withSlice opRow withRow write writeRange valueCount
   type-run =
       run C D valueType (valueCount C) types
-      (ap₂ (λ (l : List ℕ) (n : ℕ). pasted l n types) (other valueType refl refl) (k₁ C kind parent location regions types operands successors sh room 3 (λ q. omega arith)))
+      (ap₂ (λ (l : List ℕ) (n : ℕ). pasted l n types) (other valueType refl refl refl) (k₁ C kind parent location regions types operands successors sh room 3 (λ q. omega arith)))
       (let e : length (C valueType) ≡ 2048 = sh valueType in let l = room .values in omega arith)
 
   pub owner-run : Run C D valueOwner (valueCount C) (replicate (length types) (ownerCode (ofOp (opCount C))))
@@ -97,21 +97,21 @@ module _ (C : Cols) (kind : ℕ) (parent : Option ℕ) (location regions : ℕ) 
   owner-run =
       let vs = replicate (length types) (ownerCode (ofOp (opCount C))) in
       run C D valueOwner (valueCount C) vs
-      (ap₂ (λ (l : List ℕ) (n : ℕ). pasted l n vs) (other valueOwner refl refl) (k₁ C kind parent location regions types operands successors sh room 3 (λ q. omega arith)))
+      (ap₂ (λ (l : List ℕ) (n : ℕ). pasted l n vs) (other valueOwner refl refl refl) (k₁ C kind parent location regions types operands successors sh room 3 (λ q. omega arith)))
       (let e : length (C valueOwner) ≡ 2048 = sh valueOwner in let l = room .values in rw length-replicate (omega arith))
 
   pub operand-run : Run C D operandWords (operandCount C) operands
   unfolding withOperation opWritten withRegions withValues withSlice opRow withRow write writeRange operandCount
   operand-run =
       run C D operandWords (operandCount C) operands
-      (ap₂ (λ (l : List ℕ) (n : ℕ). pasted l n operands) (other operandWords refl refl) (k₂ C kind parent location regions types operands successors sh room 4 (λ q. omega arith) (λ q. omega arith)))
+      (ap₂ (λ (l : List ℕ) (n : ℕ). pasted l n operands) (other operandWords refl refl refl) (k₂ C kind parent location regions types operands successors sh room 4 (λ q. omega arith) (λ q. omega arith)))
       (let e : length (C operandWords) ≡ 2048 = sh operandWords in let l = room .operands in omega arith)
 
   pub successor-run : Run C D successorWords (successorCount C) successors
   unfolding withOperation opWritten withRegions withValues withSlice opRow withRow write writeRange successorCount
   successor-run =
       run C D successorWords (successorCount C) successors
-      (ap₂ (λ (l : List ℕ) (n : ℕ). pasted l n successors) (other successorWords refl refl) (k₃ C kind parent location regions types operands successors sh room 5 (λ q. omega arith) (λ q. omega arith) (λ q. omega arith)))
+      (ap₂ (λ (l : List ℕ) (n : ℕ). pasted l n successors) (other successorWords refl refl refl) (k₃ C kind parent location regions types operands successors sh room 5 (λ q. omega arith) (λ q. omega arith) (λ q. omega arith)))
       (let e : length (C successorWords) ≡ 512 = sh successorWords in let l = room .successors in omega arith)
 
   pub values-added : ValuesAdded C D (ofOp (opCount C)) types

@@ -12,14 +12,16 @@ use lib.ListN.{length}
 use Rattle.rules.specs.Lists.{sum}
 use Rattle.rules.specs.Store.{ofOp}
 use Rattle.rules.proofs.Basics.Tests.{and-both}
-use Rattle.layout.specs.Columns.{Cols, at, opRegionFirst, opRegionEnd, opResultFirst, opResultEnd, opOperandEnd, opSuccessorEnd, opAttributes, regionOp, blockOpFirst, blockOpEnd, blockAttributes}
+use Rattle.layout.specs.Columns.{Cols, at, opRegionFirst, opRegionEnd, opResultFirst, opResultEnd, opOperandEnd, opSuccessorEnd, opAttributes, regionOp, blockOpFirst, blockOpEnd, blockAttributes, blockNext, regionBlockEnd}
 use Rattle.layout.specs.Reading.{opCount, blockCount, regionCount, valueCount, attributeCount, parentFrom}
 use Rattle.layout.specs.Soundness.{endBefore, placed, inOwner, attributeSum}
 use Rattle.layout.proofs.Laid.{InRange, OpLaid, RegionLaid, Laid, within-of}
 use Rattle.building.specs.Raw.{OpRoom, parentBelow, depthUnder}
-use Rattle.building.proofs.Adding.Grew.{placed-under, end-kept, op-kept, block-kept, region-kept}
+use Rattle.building.proofs.Adding.Grew.{EntriesKept, placed-under, end-kept, op-kept, block-kept, region-kept}
 use Rattle.building.proofs.Adding.Rows.{values-laid, new-owned, old-or-last, old-or-new, rows-last, rows-kept, sum-last}
 use Rattle.building.proofs.Adding.OperationAdded.{OperationAdded, parent-read}
+use Rattle.building.proofs.Adding.NextChild.{block-links-kept}
+use Rattle.building.proofs.Adding.ChildrenLinked.{OpPut, ops-linked}
 
 -- there is room for an operation with so many regions and with these lists
 abbrev pub RoomFor : Cols → ℕ → List ℕ → List ℕ → List ℕ → Type 0
@@ -105,8 +107,8 @@ module _ (C D : Cols) (kind : ℕ) (parent : Option ℕ) (location regions : ℕ
       (ap sum (rows-kept (blockCount D) (blockCount C) (at D blockAttributes) (at C blockAttributes) (a .grew .blockKeys) (a .blockCounted)))
       ∙ h .attributes ∙ sym (a .attributeCounted)
 
-  pub added-laid : RoomFor C regions types operands successors → InBlockRange → parentBelow (blockCount C) parent → Laid D
-  added-laid room place p =
+  pub added-laid : RoomFor C regions types operands successors → InBlockRange → parentBelow (blockCount C) parent → OpPut C D parent → EntriesKept C D blockNext (blockCount C) → EntriesKept C D regionBlockEnd (regionCount C) → Laid D
+  added-laid room place p put links ends =
       let c = h .counts in
       let e1 = a .opCounted in
       let e2 = a .blockCounted in
@@ -123,4 +125,6 @@ module _ (C D : Cols) (kind : ℕ) (parent : Option ℕ) (location regions : ℕ
         operandEnd = last-end opOperandEnd ∙ a .operandEnd ∙ sym e5;
         successorEnd = last-end opSuccessorEnd ∙ a .successorEnd ∙ sym e6;
         attributes = keys-counted;
+        opLink = ops-linked C D parent h put;
+        blockLink = block-links-kept C D h e2 (a .grew .region) links ends;
       }

@@ -8,25 +8,29 @@ use mathlib.Core.Path.{_≡_, refl, ap, _∙_}
 use lib.Dec.{eqb}
 use lib.ListN.{length, getD}
 use Rattle.rules.specs.Store.{ofOp}
-use Rattle.layout.specs.Columns.{Cols, columnSize, at, write, counts, opKind, blockOpFirst, blockOpEnd, operandWords, successorWords}
+use Rattle.layout.specs.Columns.{Cols, columnSize, at, write, counts, opKind, blockOpFirst, blockOpEnd, operandWords, successorWords, opParent, opNext}
 use Rattle.layout.specs.Reading.{opCount, regionCount, valueCount, operandCount, successorCount}
 use Rattle.layout.proofs.Buffer.{write-shaped}
 use Rattle.layout.proofs.Laid.{Shaped}
 use Rattle.building.specs.Raw.{withRow, withValues, parentCode, depthUnder, opPlaced, withRegions, withSlice, opRow, opWritten, withOperation}
 use Rattle.building.proofs.Adding.RowWritten.{row-shaped}
 use Rattle.building.proofs.Adding.OperationLaid.{RoomFor}
-use Rattle.building.proofs.Adding.Extended.{extended-shaped, extended-other}
+use Rattle.building.proofs.Adding.ChildPlaced.{Apart, placed-shaped, placed-other as child-other}
 use Rattle.building.proofs.Adding.Layers.{count-same, count-other, regions-shaped, regions-count, regions-counts, values-shaped, values-count, values-counts, slice-shaped, slice-count, slice-counts}
 
-other-under : (C : Cols) (parent : Option ℕ) (n j : ℕ) → eqb j blockOpFirst ≡ false → eqb j blockOpEnd ≡ false → opPlaced C parent n j ≡ C j
+-- the columns of operations in blocks
+pub ops-apart : Apart opParent opNext blockOpFirst blockOpEnd
+ops-apart = record { firstEnd = refl; endFirst = refl; firstLinks = refl; endLinks = refl; linksFirst = refl; linksEnd = refl }
+
+other-under : (C : Cols) (parent : Option ℕ) (n j : ℕ) → eqb j blockOpFirst ≡ false → eqb j blockOpEnd ≡ false → eqb j opNext ≡ false → opPlaced C parent n j ≡ C j
 unfolding opPlaced
-other-under C none n j e q = refl
-other-under C (some b) n j e q = extended-other C blockOpFirst blockOpEnd b n refl refl j e q
+other-under C none n j e q r = refl
+other-under C (some b) n j e q r = child-other C opParent opNext blockOpFirst blockOpEnd b (b + 1) n ops-apart j e q r
 
 shaped-under : (C : Cols) (parent : Option ℕ) (n : ℕ) → Shaped C → Shaped (opPlaced C parent n)
 unfolding opPlaced
 shaped-under C none n sh = sh
-shaped-under C (some b) n sh = extended-shaped C blockOpFirst blockOpEnd b n sh
+shaped-under C (some b) n sh = placed-shaped C opParent opNext blockOpFirst blockOpEnd b (b + 1) n ops-apart sh
 
 module _ (C : Cols) (kind : ℕ) (parent : Option ℕ) (location regions : ℕ) (types operands successors : List ℕ) where
   -- the operation's row, and its parent's range
@@ -52,12 +56,12 @@ module _ (C : Cols) (kind : ℕ) (parent : Option ℕ) (location regions : ℕ) 
   abbrev pub made : Cols
   made = withOperation C kind parent location regions types operands successors
 
-  pub placed-other : (j : ℕ) → eqb j blockOpFirst ≡ false → eqb j blockOpEnd ≡ false → placed j ≡ row j
-  placed-other j e q = other-under row parent (opCount C) j e q
+  pub placed-other : (j : ℕ) → eqb j blockOpFirst ≡ false → eqb j blockOpEnd ≡ false → eqb j opNext ≡ false → placed j ≡ row j
+  placed-other j e q r = other-under row parent (opCount C) j e q r
 
   pub counts-placed : (j : ℕ) → at placed counts j ≡ at C counts j
   unfolding at opRow withRow write
-  counts-placed j = ap (λ (l : List ℕ). getD l j 0) (placed-other counts refl refl)
+  counts-placed j = ap (λ (l : List ℕ). getD l j 0) (placed-other counts refl refl refl)
 
   module _ (sh : Shaped C) (room : RoomFor C regions types operands successors) where
     -- ---- layer by layer

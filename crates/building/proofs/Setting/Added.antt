@@ -12,7 +12,7 @@ use lib.Seq.{getD-set-same, getD-set-other}
 use Rattle.rules.specs.Lists.{any}
 use Rattle.rules.specs.Store.{Attribute, Owner, ofOp, ofBlock, maxOwnKeys, maxAttributes}
 use Rattle.rules.specs.Building.{putAttribute}
-use Rattle.layout.specs.Columns.{Cols, at, write, writeRange, columnSize, counts, opAttributes, blockAttributes, operandWords, slotKey, slotKind, slotContent}
+use Rattle.layout.specs.Columns.{Cols, at, write, writeRange, columnSize, counts, opAttributes, blockAttributes, operandWords, slotKey, slotKind, slotContent, slotCount}
 use Rattle.layout.specs.Reading.{slotsOf, attributeCount, attributeAt, attributesFrom}
 use Rattle.layout.specs.Owners.{keyCount, countColumn, ownerNumber}
 use Rattle.layout.proofs.Laid.{Shaped, Laid}
@@ -91,7 +91,7 @@ module _ (C : Cols) (w : Owner) (a : Attribute) (sh : Shaped C) (h : Laid C) (l 
   low : s ≤ e
   low = slot-low C w (a .key)
 
-  high : (k : ℕ) → columnSize k ≡ 6144 → e < length (C k)
+  high : (k : ℕ) → columnSize k ≡ slotCount → e < length (C k)
   high k z = omega (arith, sh k, z, slots-fit C w h l)
 
   -- the three columns go alike

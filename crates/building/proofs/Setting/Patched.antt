@@ -16,6 +16,7 @@ use Rattle.layout.specs.Reading.{tabulateFrom, tabulate, opCount, blockCount, r
 use Rattle.layout.specs.Soundness.{endBefore, placed, inOwner, valueLaid, attributeSum}
 use Rattle.layout.proofs.Laid.{Laid, OpLaid, BlockLaid}
 use Rattle.layout.proofs.Tabulate.{length-tabulate, getD-tabulate, tabulate-cong}
+use Rattle.building.proofs.Adding.NextChild.{op-links-kept, block-links-kept}
 
 -- the columns that may change, but for the counts
 unfoldable pub touched : ℕ → Bool
@@ -128,4 +129,6 @@ module _ (C D : Cols) where
         operandEnd = before-same opOperandEnd (opCount C) refl refl ∙ h .operandEnd;
         successorEnd = before-same opSuccessorEnd (opCount C) refl refl ∙ h .successorEnd;
         attributes = total;
+        opLink = op-links-kept C (patched C D) h refl (λ i l. refl) (λ i l. refl) (λ i l. refl);
+        blockLink = block-links-kept C (patched C D) h refl (λ i l. refl) (λ i l. refl) (λ i l. refl);
       }

@@ -9,7 +9,7 @@ use mathlib.Core.Path.{_≡_, refl, sym, ap, subst, _∙_}
 use lib.ListN.{length}
 use Rattle.rules.specs.Store.{Attribute, Owner, ownerExists, maxOwnKeys}
 use Rattle.rules.specs.Building.{setAttribute, tests, firstFailed, acceptance}
-use Rattle.layout.specs.Columns.{Cols, columns}
+use Rattle.layout.specs.Columns.{Cols, columns, slotCount}
 use Rattle.layout.specs.Reading.{slotsOf, storeOf, storeIn}
 use Rattle.layout.specs.Soundness.{IsSound}
 use Rattle.layout.specs.Owners.{keyCount}
@@ -32,7 +32,7 @@ failing b w a = firstFailed (tests (storeIn b) (setAttribute w a))
 
 pub record Replacing (b : List ℕ) (w : Owner) (a : Attribute) (slot : ℕ) : Type 0 where
   pub clear : failing b w a ≡ none
-  pub reached : slot < 6144
+  pub reached : slot < slotCount
   pub written : replaced (columns b) slot a ≡ withAttribute (columns b) w a
 
 pub record Adding (b : List ℕ) (w : Owner) (a : Attribute) (slot : ℕ) : Type 0 where

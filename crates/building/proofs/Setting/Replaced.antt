@@ -8,7 +8,7 @@ use lib.Seq.{getD-set-same, getD-set-other}
 use Rattle.rules.specs.Lists.{any}
 use Rattle.rules.specs.Store.{Attribute, Owner, ofOp, ofBlock}
 use Rattle.rules.specs.Building.{putAttribute}
-use Rattle.layout.specs.Columns.{Cols, at, write, counts, slotKey, slotKind, slotContent}
+use Rattle.layout.specs.Columns.{Cols, at, write, counts, slotKey, slotKind, slotContent, slotCount}
 use Rattle.layout.specs.Reading.{slotsOf, attributeCount, attributeAt, attributesFrom}
 use Rattle.layout.specs.Owners.{keyCount, countColumn, ownerNumber}
 use Rattle.layout.proofs.Laid.{Shaped, Laid}
@@ -45,7 +45,7 @@ module _ (C : Cols) (w : Owner) (a : Attribute) (sh : Shaped C) (h : Laid C) (l 
   slot-there : attributeAt D s ≡ a
   unfolding attributeAt replaced write at
   slot-there =
-      let fits : s < 6144 = omega (arith, slot-high, slots-fit C w h l) in
+      let fits : s < slotCount = omega (arith, slot-high, slots-fit C w h l) in
       attribute-same (attributeAt D s) a (ap (at C slotKey) (slot-found C w (a .key)) ∙ there-key C w (a .key) t)
       (getD-set-same (C slotKind) s (a .kind) 0 (omega (arith, sh slotKind)))
       (getD-set-same (C slotContent) s (a .content) 0 (omega (arith, sh slotContent)))

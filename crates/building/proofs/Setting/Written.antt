@@ -6,7 +6,7 @@ use mathlib.Core.Logic.{_⊎_, inl, inr}
 use mathlib.Core.Path.{_≡_, sym, ap}
 use Rattle.rules.specs.Store.{Attribute, Owner, ofOp, ofBlock, maxOwnKeys, maxAttributes}
 use Rattle.rules.specs.Building.{putAttribute}
-use Rattle.layout.specs.Columns.{Cols, operandWords}
+use Rattle.layout.specs.Columns.{Cols, operandWords, firstBlockSlot}
 use Rattle.layout.specs.Reading.{attributeCount, slotsOf, attributeAt, attributesFrom}
 use Rattle.layout.specs.Owners.{keyCount}
 use Rattle.layout.proofs.Laid.{Laid}
@@ -55,6 +55,6 @@ slots-apart C (ofOp n) (ofBlock m) h l k ne = inl (omega (arith, h .counts .ops)
 slots-apart C (ofBlock n) (ofOp m) h l k ne = inr (omega (arith, h .counts .ops))
 slots-apart C (ofBlock n) (ofBlock m) h l k ne = go (decLt n m)
   where
-    go : Dec (n < m) → (4096 + 8 * n + 8 ≤ 4096 + 8 * m) ⊎ (4096 + 8 * m + 8 ≤ 4096 + 8 * n)
+    go : Dec (n < m) → (firstBlockSlot + 8 * n + 8 ≤ firstBlockSlot + 8 * m) ⊎ (firstBlockSlot + 8 * m + 8 ≤ firstBlockSlot + 8 * n)
     go (yes b) = inl (omega arith)
     go (no b) = let ne′ : n ≡ m → ⊥ = λ e. ne (ap ofBlock e) in inr (omega arith)

@@ -185,9 +185,14 @@ impl AllowedWords {
         Ok(())
     }
 
-    /// Takes entries out.
+    /// Takes entries out. A few of them are written one by one: to call a fill for each costs more.
     #[inline]
     pub(crate) fn remove(&mut self, entries: core::ops::Range<usize>) {
-        self.words[entries].fill(NONE);
+        match &mut self.words[entries] {
+            [] => {}
+            [a] => *a = NONE,
+            [a, b] => (*a, *b) = (NONE, NONE),
+            many => many.fill(NONE),
+        }
     }
 }

@@ -4,21 +4,21 @@ use native.Mathlib.Omega.{arith}
 use mathlib.Core.List.{List}
 use mathlib.Core.Path.{_≡_, ap, ap₂, _∙_}
 use lib.ListN.{length}
-use Rattle.layout.specs.Columns.{Cols, columns, write, counts, regionBlockFirst, regionBlockEnd}
+use Rattle.layout.specs.Columns.{Cols, columns, write, counts}
 use Rattle.layout.specs.Reading.{blockCount, valueCount, ownerCode}
-use Rattle.building.specs.Raw.{withValues, withValuesBy, extended, blockWritten, withBlock}
+use Rattle.building.specs.Raw.{withValues, withValuesBy, blockWritten, blockPlaced, withBlock}
 use Rattle.building.proofs.Adding.NewBlock.{counts-placed}
 use borrow.Author.Needs.{needs}
 use Rattle.building.proofs.blocks.put_block.Statement.{statement}
 use Rattle.building.proofs.blocks.put_block.Tie as tie
 
 -- the columns once the row and the place in the region are written
-placed : (C X Y : Cols) (m region label location : ℕ) (types : List ℕ) → X ≡ blockWritten C m region label location (length types) → Y ≡ extended X regionBlockFirst regionBlockEnd region m
+placed : (C X Y : Cols) (m region label location : ℕ) (types : List ℕ) → X ≡ blockWritten C m region label location (length types) → Y ≡ blockPlaced X region m
     → m ≡ blockCount C
-    → Y ≡ extended (blockWritten C (blockCount C) region label location (length types)) regionBlockFirst regionBlockEnd region (blockCount C)
+    → Y ≡ blockPlaced (blockWritten C (blockCount C) region label location (length types)) region (blockCount C)
 placed C X Y m region label location types row place e =
     place
-    ∙ ap₂ (λ (Z : Cols) (k : ℕ). extended Z regionBlockFirst regionBlockEnd region k)
+    ∙ ap₂ (λ (Z : Cols) (k : ℕ). blockPlaced Z region k)
     (row ∙ ap (λ (k : ℕ). blockWritten C k region label location (length types)) e) e
 
 number-requires : tie.Need-number-requires
@@ -28,9 +28,9 @@ put-block-row-requires : tie.Need-put-block-row-requires
 unfolding blockCount
 put-block-row-requires c κs = omega arith
 
-extend-requires : tie.Need-extend-requires
+place-block-requires : tie.Need-place-block-requires
 unfolding blockCount
-extend-requires c κs = omega arith
+place-block-requires c κs = omega arith
 
 mul-put-values : tie.Need-mul-put-values
 unfolding blockCount
@@ -49,8 +49,8 @@ unfolding blockCount valueCount
 put-values-requires c κs =
     let a = c .before .before .before .before .before .before .before .before .before .before .before .before .before .args in
     let there = placed (columns (a .store .now)) _ _ _ (a .region) (a .label) (a .location) (a .types .now) (c .before .before .before .before .before .before .before .put-block-row .ensures)
-    (c .before .before .before .extend .ensures) (c .before .before .before .before .before .before .before .before .before .number .ensures) in
-    let e : valueCount (columns (c .before .before .before .extend .last .0)) ≡ valueCount (columns (a .store .now)) = ap valueCount there ∙ counts-placed (columns (a .store .now)) (a .region) (a .label) (a .location) (a .types .now) 3 in
+    (c .before .before .before .place-block .ensures) (c .before .before .before .before .before .before .before .before .before .number .ensures) in
+    let e : valueCount (columns (c .before .before .before .place-block .last .0)) ≡ valueCount (columns (a .store .now)) = ap valueCount there ∙ counts-placed (columns (a .store .now)) (a .region) (a .label) (a .location) (a .types .now) 3 in
     omega arith
 
 add-put : tie.Need-add-put
@@ -76,7 +76,7 @@ returns c =
     let n = r .before .before in
     let s = n .before .before .before .before in
     let a = s .args in
-    let there = placed (columns (a .store .now)) _ _ _ (a .region) (a .label) (a .location) (a .types .now) (r .put-block-row .ensures) (e .extend .ensures) (n .number .ensures) in
+    let there = placed (columns (a .store .now)) _ _ _ (a .region) (a .label) (a .location) (a .types .now) (r .put-block-row .ensures) (e .place-block .ensures) (n .number .ensures) in
     c .before .before .put .ensures
     ∙ ap₂ (λ (X : Cols) (k : ℕ). write X counts 1 (k + 1))
     (v .put-values .ensures
@@ -89,7 +89,7 @@ put-block-spec =
     (tie.spec
     number-requires
     put-block-row-requires
-    extend-requires
+    place-block-requires
     mul-put-values
     add-put-values
     cast-put-values

@@ -41,16 +41,20 @@ put-regions-requires c κs =
 mul-put-values : tie.Need-mul-put-values
 unfolding opCount
 mul-put-values c =
-    let s = c .before .before .before .before .before .before .before .before .before .before .before .before .before .before .before in
-    let room = s .pre .1 .1 in
-    omega (arith, room .ops, c .before .before .before .before .before .before .before .before .before .number .ensures)
+    let r = c .before .before .before in
+    let o = r .before .before .before .before in
+    let n = o .before .before in
+    let s = n .before .before .before .before .before .before in
+    omega (arith, s .pre .1 .1 .ops, n .number .ensures)
 
 cast-put-values : tie.Need-cast-put-values
 unfolding opCount
 cast-put-values c =
-    let s = c .before .before .before .before .before .before .before .before .before .before .before .before .before .before .before in
-    let room = s .pre .1 .1 in
-    omega (arith, room .ops, c .before .before .before .before .before .before .before .before .before .number .ensures)
+    let r = c .before .before .before in
+    let o = r .before .before .before .before in
+    let n = o .before .before in
+    let s = n .before .before .before .before .before .before in
+    omega (arith, s .pre .1 .1 .ops, n .number .ensures)
 
 put-values-requires : tie.Need-put-values-requires
 unfolding opWritten opCount
@@ -140,16 +144,26 @@ put-slice-requires-2 c κs =
 add-put : tie.Need-add-put
 unfolding opCount
 add-put c =
-    let s = c .before .before .before .before .before .before .before .before .before .before .before .before .before .before .before .before .before .before .before .before .before .before .before .before .before .before .before in
-    let room = s .pre .1 .1 in
-    omega (arith, room .ops, c .before .before .before .before .before .before .before .before .before .before .before .before .before .before .before .before .before .before .before .before .before .number .ensures)
+    let q₂ = c .before .before .before in
+    let q₁ = q₂ .before .before .before .before in
+    let v = q₁ .before .before .before .before in
+    let r = v .before .before .before .before in
+    let o = r .before .before .before .before in
+    let n = o .before .before in
+    let s = n .before .before .before .before .before .before in
+    omega (arith, s .pre .1 .1 .ops, n .number .ensures)
 
 cast-put : tie.Need-cast-put
 unfolding opCount
 cast-put c =
-    let s = c .before .before .before .before .before .before .before .before .before .before .before .before .before .before .before .before .before .before .before .before .before .before .before .before .before .before .before in
-    let room = s .pre .1 .1 in
-    omega (arith, room .ops, c .before .before .before .before .before .before .before .before .before .before .before .before .before .before .before .before .before .before .before .before .before .number .ensures)
+    let q₂ = c .before .before .before in
+    let q₁ = q₂ .before .before .before .before in
+    let v = q₁ .before .before .before .before in
+    let r = v .before .before .before .before in
+    let o = r .before .before .before .before in
+    let n = o .before .before in
+    let s = n .before .before .before .before .before .before in
+    omega (arith, s .pre .1 .1 .ops, n .number .ensures)
 
 put-requires : tie.Need-put-requires
 put-requires c κs =
@@ -158,7 +172,8 @@ put-requires c κs =
     let v = q₁ .before .before .before .before in
     let r = v .before .before .before .before in
     let o = r .before .before .before .before in
-    let s = c .before .before .before .before .before .before .before .before .before .before .before .before .before .before .before .before .before .before .before .before .before .before .before .before .before .before .before in (
+    let n = o .before .before in
+    let s = n .before .before .before .before .before .before in (
       omega (
         arith,
         s .pre .0 .sized,

@@ -1,68 +1,72 @@
--- `entries_allowed` meets its contract: the entries that were passed are allowed, and the first that is not ends the scan. Assumes nothing.
-use Prim.Native.Nat.{_-_, _≤_}
+-- `entries_allowed` meets its contract: the entries of numbers that exist are tested, and then that the others have no image. Assumes nothing.
 use native.Mathlib.Omega.{arith}
 use mathlib.Core.Path.{sym, _∙_}
-use borrow.Author.Tests.{not-true, not-false}
-use lib.ListN.{length}
-use Rattle.layout.proofs.Scans.{Before, before-zero, before-next}
-use Rattle.equivalence.proofs.Entries.{Whole, table-pass, table-fail}
+use Rattle.layout.proofs.Scans.{failed, held}
+use Rattle.equivalence.proofs.Entries.{table-short, table-fails, table-rest}
 use borrow.Author.Needs.{needs}
 use Rattle.equivalence.proofs.mapping.entries_allowed.Statement.{statement}
 use Rattle.equivalence.proofs.mapping.entries_allowed.Tie as tie
 
-abbrev Inv-loop : tie.InvT-loop
-Inv-loop count entries i₀ i = (i ≤ length entries) × Before (Whole count entries) i
+images-allowed-requires : tie.Need-images-allowed-requires
+images-allowed-requires c κs = search needs
 
-abbrev μ-loop : tie.MeasureT-loop
-μ-loop count entries i₀ i = length entries - i
-
-loop-holds : tie.Need-loop-holds Inv-loop μ-loop
-loop-holds c = (omega arith, before-zero _)
-
-mul-entry-allowed : tie.Need-mul-entry-allowed Inv-loop μ-loop
-mul-entry-allowed c = search needs
-
-shared-slice-read-entry-allowed : tie.Need-shared-slice-read-entry-allowed Inv-loop μ-loop
-shared-slice-read-entry-allowed c = search needs
-
-entry-allowed-requires : tie.Need-entry-allowed-requires Inv-loop μ-loop
-entry-allowed-requires c κs = search needs
-
-returns : tie.Need-returns Inv-loop μ-loop
+returns : tie.Need-returns
 returns c =
-    let a = c .before .before .before .before .before .before .args in
-    let i = c .before .before .before .before .loop .i in
-    sym (table-fail (a .count) (a .entries .now) i (c .before .before .before .loop-test .taken) (sym (c .before .entry-allowed .ensures) ∙ not-true _ (c .if1 .taken)))
-
-add-i : tie.Need-add-i Inv-loop μ-loop
-add-i c = search needs
-
-loop-less : tie.Need-loop-less Inv-loop μ-loop
-loop-less c = omega arith
-
-loop-again : tie.Need-loop-again Inv-loop μ-loop
-loop-again c =
-    let a = c .before .before .before .before .before .before .args in
-    let i = c .before .before .before .before .loop .i in
-    (omega arith, before-next (Whole (a .count) (a .entries .now)) i (c .before .before .before .before .loop .inv .1) (sym (c .before .entry-allowed .ensures) ∙ not-false _ (c .if1 .left)))
-
-returns-2 : tie.Need-returns-2 Inv-loop μ-loop
-returns-2 c =
     let a = c .before .before .before .args in
-    sym (table-pass (a .count) (a .entries .now) (λ k l. c .before .loop .inv .1 k (omega arith)))
+    c .images-allowed .ensures ∙ sym (table-short (a .count) (a .entries .now) (omega arith))
+
+sub-images-allowed : tie.Need-sub-images-allowed
+sub-images-allowed c = search needs
+
+part-images-allowed-start : tie.Need-part-images-allowed-start
+part-images-allowed-start c = search needs
+
+part-images-allowed-end : tie.Need-part-images-allowed-end
+part-images-allowed-end c = search needs
+
+images-allowed-requires-2 : tie.Need-images-allowed-requires-2
+images-allowed-requires-2 c κs = search needs
+
+returns-2 : tie.Need-returns-2
+returns-2 c =
+    let a = c .before .before .before .before .before .args in
+    sym (table-fails (a .count) (a .entries .now) (failed (c .before .images-allowed2 .ensures) (c .if2 .taken)))
+
+mul-none-mapped : tie.Need-mul-none-mapped
+mul-none-mapped c = search needs
+
+sub-none-mapped : tie.Need-sub-none-mapped
+sub-none-mapped c = search needs
+
+part-none-mapped-start : tie.Need-part-none-mapped-start
+part-none-mapped-start c = search needs
+
+part-none-mapped-end : tie.Need-part-none-mapped-end
+part-none-mapped-end c = search needs
+
+none-mapped-requires : tie.Need-none-mapped-requires
+none-mapped-requires c κs = search needs
+
+returns-3 : tie.Need-returns-3
+returns-3 c =
+    let s = c .before .before in
+    let a = s .before .before .before .before .before .args in
+    c .none-mapped .ensures ∙ sym (table-rest (a .count) (a .entries .now) (held (s .before .images-allowed2 .ensures) (s .if2 .left)))
 
 pub entries-allowed-spec : {M : Type 1} → statement M
 entries-allowed-spec =
     tie.close
     (tie.spec
-    Inv-loop
-    μ-loop
-    loop-holds
-    mul-entry-allowed
-    shared-slice-read-entry-allowed
-    entry-allowed-requires
+    images-allowed-requires
     returns
-    add-i
-    loop-less
-    loop-again
-    returns-2)
+    sub-images-allowed
+    part-images-allowed-start
+    part-images-allowed-end
+    images-allowed-requires-2
+    returns-2
+    mul-none-mapped
+    sub-none-mapped
+    part-none-mapped-start
+    part-none-mapped-end
+    none-mapped-requires
+    returns-3)

@@ -1,13 +1,20 @@
 -- `fragment_hash` meets its contract: it answers the cause, or the word that the fragment's steps are fed into. Assumes nothing.
-use mathlib.Core.Path.{sym, ap, _∙_}
-use lib.ListN.{length-replicate}
+use mathlib.Core.Bool.{true}
+use mathlib.Core.Option.{none}
+use mathlib.Core.Path.{_≡_, sym, ap, subst, _∙_}
+use Rattle.rules.specs.Fragments.{Sort, op, exists}
+use Rattle.rules.specs.Building.{firstFailed}
+use Rattle.rules.specs.Hash.{hash}
+use Rattle.layout.specs.Columns.{columns}
 use Rattle.layout.specs.Reading.{storeIn}
 use Rattle.layout.specs.Causes.{causeOf}
 use Rattle.fragments.specs.Sorts.{sortOf}
 use Rattle.fragments.specs.Ignoring.{ignoreOf}
-use Rattle.hashing.specs.Words.{noNumber}
-use Rattle.hashing.proofs.Feeding.{stands-start}
-use Rattle.hashing.proofs.Answering.{existing, begin-room, all-hash, refused, answered}
+use Rattle.fragments.proofs.There.{there}
+use Rattle.hashing.specs.Calls.{fragmentTests}
+use Rattle.numbering.proofs.Counting.{room-start, stands-start}
+use Rattle.hashing.proofs.Feeding.{fed-hash}
+use Rattle.hashing.proofs.Answering.{existing, refused, answered}
 use borrow.Author.Needs.{needs}
 use Rattle.hashing.proofs.hashes.fragment_hash.Statement.{statement}
 use Rattle.hashing.proofs.hashes.fragment_hash.Tie as tie
@@ -28,32 +35,53 @@ returns c =
 enum-told : tie.Need-enum-told
 enum-told c = search needs
 
-slice-aggregate-hash-steps : tie.Need-slice-aggregate-hash-steps
-slice-aggregate-hash-steps c = search needs
+-- where nothing is refused: the fragment exists
+module _ (c : tie.After-enum-told) where
+  abbrev begun : tie.Start
+  begun = c .before .before .before .before
 
-at-start-requires : tie.Need-at-start-requires
-at-start-requires c κs = search needs
+  passed : firstFailed (fragmentTests (storeIn (begun .args .store .now)) (sortOf (begun .args .sort)) (begun .args .n)) ≡ none
+  unfolding causeOf
+  passed = sym (c .before .before .hash-cause .ensures) ∙ ap causeOf (c .enum-told .given .1)
 
-hash-steps-requires : tie.Need-hash-steps-requires
-unfolding causeOf
-hash-steps-requires c κs =
-    let s = c .before .before .before .before .before .before in
+  here : exists (storeIn (begun .args .store .now)) (sortOf (begun .args .sort)) (begun .args .n) ≡ true
+  here = existing (storeIn (begun .args .store .now)) (sortOf (begun .args .sort)) (begun .args .n) passed
+
+holds-nothing-requires : tie.Need-holds-nothing-requires
+holds-nothing-requires c κs = (begun c .pre, here c)
+
+hash-alone-requires : tie.Need-hash-alone-requires
+hash-alone-requires c κs =
+    let f = c .before .before in
+    let s = begun f in
     let a = s .args in
-    let S = storeIn (a .store .now) in
-    let f = sortOf (a .sort) in
-    let e = existing S f (a .n) (sym (c .before .before .before .before .hash-cause .ensures) ∙ ap causeOf (c .before .before .enum-told .given .1)) in
-    (record { sound = s .pre; long = length-replicate 2304 noNumber }, (e, begin-room S f (a .n) (c .at-start .ensures) (s .pre .ruled) e))
+    let alone = c .before .holds-nothing .ensures (c .if1 .taken) in
+    (s .pre, (there (columns (a .store .now)) op (a .n) (subst (λ (x : Sort). exists (storeIn (a .store .now)) x (a .n) ≡ true) (alone .0) (here f)), alone .1))
 
 returns-2 : tie.Need-returns-2
-unfolding causeOf
 returns-2 c =
-    let s = c .before .before .before .before .before .before .before .before in
+    let f = c .before .before .before in
+    let s = begun f in
+    let a = s .args in
+    let ig = ignoreOf (a .ignore) in
+    let alone = c .before .before .holds-nothing .ensures (c .before .if1 .taken) in
+    answered (a .store .now) ig (sortOf (a .sort)) (a .n) (s .pre) (c .hash-alone .result) (passed f)
+    (c .hash-alone .ensures ∙ ap (λ (x : Sort). hash (storeIn (a .store .now)) ig x (a .n)) (sym (alone .0)))
+
+hash-steps-requires : tie.Need-hash-steps-requires
+hash-steps-requires c κs =
+    let f = c .before .before .before in
+    let s = begun f in
+    (s .pre, (here f, room-start (storeIn (s .args .store .now)) (s .pre .ruled) (sortOf (s .args .sort)) (s .args .n) (here f)))
+
+returns-3 : tie.Need-returns-3
+returns-3 c =
+    let f = c .before .before .before .before in
+    let s = begun f in
     let a = s .args in
     let S = storeIn (a .store .now) in
-    let f = sortOf (a .sort) in
     let ig = ignoreOf (a .ignore) in
-    let none = sym (c .before .before .before .before .before .before .hash-cause .ensures) ∙ ap causeOf (c .before .before .before .before .enum-told .given .1) in
-    answered (a .store .now) ig f (a .n) (s .pre) (c .before .hash-steps .result .word) none (all-hash S f (a .n) (c .before .before .at-start .ensures) ig stands-start (c .before .hash-steps .ensures))
+    answered (a .store .now) ig (sortOf (a .sort)) (a .n) (s .pre) (c .hash-steps .result) (passed f) (fed-hash S ig (sortOf (a .sort)) (a .n) (stands-start S) (c .hash-steps .ensures))
 
 pub fragment-hash-spec : {M : Type 1} → statement M
 fragment-hash-spec =
@@ -63,7 +91,8 @@ fragment-hash-spec =
     enum-known-cause
     returns
     enum-told
-    slice-aggregate-hash-steps
-    at-start-requires
+    holds-nothing-requires
+    hash-alone-requires
+    returns-2
     hash-steps-requires
-    returns-2)
+    returns-3)

@@ -1,42 +1,37 @@
 -- `hash_op` meets its contract: an operation's steps are its shell and then the rest. Assumes nothing.
 use mathlib.Core.List.{[], _∷_}
-use mathlib.Core.Path.{_∙_}
 use Rattle.rules.specs.Store.{ofOp}
 use Rattle.rules.specs.Fragments.{op, shell}
 use Rattle.layout.specs.Reading.{storeIn}
 use Rattle.fragments.specs.Ignoring.{ignoreOf}
 use Rattle.hashing.specs.Walked.{fullSteps}
-use Rattle.hashing.proofs.Feeding.{room-first, room-rest, fed-then}
+use Rattle.numbering.proofs.Counting.{room-first, room-rest}
+use Rattle.hashing.proofs.Feeding.{fed-then}
 use Rattle.hashing.proofs.Answering.{op-steps, steps-room, steps-fed}
-use borrow.Author.Needs.{needs}
 use Rattle.hashing.proofs.hashes.hash_op.Statement.{statement}
 use Rattle.hashing.proofs.hashes.hash_op.Tie as tie
 
 hash-op-shell-requires : tie.Need-hash-op-shell-requires
 hash-op-shell-requires c κs =
-    let s = c .before .before .before in
+    let s = c .before .before in
     let S = storeIn (s .args .store .now) in
     let n = s .args .n in
     (s .pre .0, (s .pre .1 .0, room-first S (shell (ofOp n) ∷ []) (fullSteps S n) (steps-room S op n _ (op-steps S n) (s .pre .1 .1))))
 
 hash-op-full-requires : tie.Need-hash-op-full-requires
 hash-op-full-requires c κs =
-    let s = c .before .before .before .before .before .before .before in
+    let s = c .before .before .before .before in
     let S = storeIn (s .args .store .now) in
     let n = s .args .n in
-    let h = c .before .before .before .hash-op-shell in
-    (record { sound = s .pre .0 .sound; long = h .kept .1 .0 ∙ s .pre .0 .long }, (s .pre .1 .0, room-rest S (shell (ofOp n) ∷ []) (fullSteps S n) (steps-room S op n _ (op-steps S n) (s .pre .1 .1)) (h .ensures)))
-
-same-length : tie.Need-same-length
-same-length c = search needs
+    let shells = c .before .hash-op-shell .ensures in
+    (s .pre .0, (s .pre .1 .0, room-rest S (shell (ofOp n) ∷ []) (fullSteps S n) (steps-room S op n _ (op-steps S n) (s .pre .1 .1)) (shells .numbers)))
 
 returns : tie.Need-returns
 returns c =
-    let s = c .before .before .before .before .before .before .before .before .before .before in
+    let s = c .before .before .before .before .before in
     let S = storeIn (s .args .store .now) in
     let n = s .args .n in
-    steps-fed S op n _ (op-steps S n) (fed-then S (ignoreOf (s .args .ignore)) (shell (ofOp n) ∷ []) (fullSteps S n) (c .before .before .before .before .before .before .hash-op-shell .ensures) (c .before .before .hash-op-full .ensures))
+    steps-fed S op n _ (op-steps S n) (fed-then S (ignoreOf (s .args .ignore)) (shell (ofOp n) ∷ []) (fullSteps S n) (c .before .before .hash-op-shell .ensures) (c .hash-op-full .ensures))
 
 pub hash-op-spec : {M : Type 1} → statement M
-hash-op-spec =
-    tie.close (tie.spec hash-op-shell-requires hash-op-full-requires same-length returns)
+hash-op-spec = tie.close (tie.spec hash-op-shell-requires hash-op-full-requires returns)

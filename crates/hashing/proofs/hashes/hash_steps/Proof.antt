@@ -7,7 +7,7 @@ use Rattle.layout.specs.Reading.{storeIn}
 use Rattle.fragments.specs.Sorts.{sortOf}
 use Rattle.fragments.specs.Order.{BlocksExist}
 use Rattle.fragments.proofs.There.{there}
-use Rattle.hashing.specs.Walked.{DefinitionsFit}
+use Rattle.numbering.specs.Numbered.{DefinitionsFit}
 use Rattle.hashing.proofs.Answering.{block-steps, region-steps, steps-room, steps-fed}
 use borrow.Author.Needs.{needs}
 use Rattle.hashing.proofs.hashes.hash_steps.Statement.{statement}
@@ -19,12 +19,12 @@ enum-told c = search needs
 hash-op-requires : tie.Need-hash-op-requires
 unfolding sortOf
 hash-op-requires c κs =
-    let s = c .before .before .before .before .before in
+    let s = c .before .before .before .before in
     let b = s .args .store .now in
     let n = s .args .n in
     let sort = c .before .enum-told .given .1 in
     let e = subst (λ x. exists (storeIn b) (sortOf x) n ≡ true) sort (s .pre .1 .0) in
-    let room = subst (λ x. DefinitionsFit (storeIn b) (steps (storeIn b) (sortOf x) n) (s .args .st)) sort (s .pre .1 .1) in
+    let room = subst (λ x. DefinitionsFit (storeIn b) (steps (storeIn b) (sortOf x) n) (s .args .numbers .now)) sort (s .pre .1 .1) in
     (s .pre .0, (there (columns b) op n e, room))
 
 enum-told-2 : tie.Need-enum-told-2
@@ -33,12 +33,12 @@ enum-told-2 c = search needs
 hash-blocks-full-requires : tie.Need-hash-blocks-full-requires
 unfolding sortOf BlocksExist
 hash-blocks-full-requires c κs =
-    let s = c .before .before .before .before .before in
+    let s = c .before .before .before .before in
     let b = s .args .store .now in
     let n = s .args .n in
     let sort = c .before .enum-told2 .given .1 in
     let e = subst (λ x. exists (storeIn b) (sortOf x) n ≡ true) sort (s .pre .1 .0) in
-    let room = subst (λ x. DefinitionsFit (storeIn b) (steps (storeIn b) (sortOf x) n) (s .args .st)) sort (s .pre .1 .1) in
+    let room = subst (λ x. DefinitionsFit (storeIn b) (steps (storeIn b) (sortOf x) n) (s .args .numbers .now)) sort (s .pre .1 .1) in
     (s .pre .0, (there (columns b) block n e, steps-room (storeIn b) block n _ (block-steps (storeIn b) n) room))
 
 enum-told-3 : tie.Need-enum-told-3
@@ -47,40 +47,31 @@ enum-told-3 c = search needs
 hash-blocks-full-requires-2 : tie.Need-hash-blocks-full-requires-2
 unfolding sortOf BlocksExist
 hash-blocks-full-requires-2 c κs =
-    let s = c .before .before .before .before .before in
+    let s = c .before .before .before .before in
     let b = s .args .store .now in
     let n = s .args .n in
     let sort = c .before .enum-told3 .given .1 in
     let e = subst (λ x. exists (storeIn b) (sortOf x) n ≡ true) sort (s .pre .1 .0) in
-    let room = subst (λ x. DefinitionsFit (storeIn b) (steps (storeIn b) (sortOf x) n) (s .args .st)) sort (s .pre .1 .1) in
-    (s .pre .0, (there (columns b) region n e, steps-room (storeIn b) region n _ (region-steps (storeIn b) (s .pre .0 .sound .ruled) n) room))
-
-same-length : tie.Need-same-length
-same-length c = search needs
+    let room = subst (λ x. DefinitionsFit (storeIn b) (steps (storeIn b) (sortOf x) n) (s .args .numbers .now)) sort (s .pre .1 .1) in
+    (s .pre .0, (there (columns b) region n e, steps-room (storeIn b) region n _ (region-steps (storeIn b) (s .pre .0 .ruled) n) room))
 
 returns : tie.Need-returns
 unfolding sortOf
-returns c = rw (c .before .before .before .before .enum-told .given .1) (c .before .before .hash-op .ensures)
-
-same-length-2 : tie.Need-same-length-2
-same-length-2 c = search needs
+returns c = rw (c .before .before .enum-told .given .1) (c .hash-op .ensures)
 
 returns-2 : tie.Need-returns-2
 unfolding sortOf
 returns-2 c =
-    let s = c .before .before .before .before .before .before .before .before in
+    let s = c .before .before .before .before .before in
     let S = storeIn (s .args .store .now) in
-    rw (c .before .before .before .before .enum-told2 .given .1) (steps-fed S block (s .args .n) _ (block-steps S (s .args .n)) (c .before .before .hash-blocks-full .ensures))
-
-same-length-3 : tie.Need-same-length-3
-same-length-3 c = search needs
+    rw (c .before .before .enum-told2 .given .1) (steps-fed S block (s .args .n) _ (block-steps S (s .args .n)) (c .hash-blocks-full .ensures))
 
 returns-3 : tie.Need-returns-3
 unfolding sortOf
 returns-3 c =
-    let s = c .before .before .before .before .before .before .before .before in
+    let s = c .before .before .before .before .before in
     let S = storeIn (s .args .store .now) in
-    rw (c .before .before .before .before .enum-told3 .given .1) (steps-fed S region (s .args .n) _ (region-steps S (s .pre .0 .sound .ruled) (s .args .n)) (c .before .before .hash-blocks-full2 .ensures))
+    rw (c .before .before .enum-told3 .given .1) (steps-fed S region (s .args .n) _ (region-steps S (s .pre .0 .ruled) (s .args .n)) (c .hash-blocks-full2 .ensures))
 
 pub hash-steps-spec : {M : Type 1} → statement M
 hash-steps-spec =
@@ -92,9 +83,6 @@ hash-steps-spec =
     hash-blocks-full-requires
     enum-told-3
     hash-blocks-full-requires-2
-    same-length
     returns
-    same-length-2
     returns-2
-    same-length-3
     returns-3)

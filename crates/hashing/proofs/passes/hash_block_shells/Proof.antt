@@ -1,54 +1,43 @@
--- `hash_block_shells` meets its contract: what is fed so far, and the shells of the blocks that are left, are the whole. Assumes nothing.
-use Prim.Native.Nat.{ℕ, _+_, _-_, _<_, _≤_}
+-- `hash_block_shells` meets its contract: a pass through the list, whose step is a block's shell. Assumes nothing.
+use Prim.Native.Nat.{ℕ, _-_, _<_}
 use native.Mathlib.Omega.{arith}
-use mathlib.Core.List.{List, [], _∷_}
-use mathlib.Core.Path.{_≡_, refl, sym, ap, subst, _∙_}
-use lib.ListN.{length}
-use Rattle.rules.specs.Store.{Store, ofBlock}
-use Rattle.rules.specs.Fragments.{Step, shell}
+use mathlib.Core.List.{List}
+use Rattle.rules.specs.Store.{Store}
 use Rattle.layout.specs.Columns.{Cols, columns}
 use Rattle.layout.specs.Reading.{blockCount, storeIn}
-use Rattle.layout.specs.Children.{onFrom}
 use Rattle.layout.proofs.Laid.{laid-facts}
-use Rattle.layout.proofs.Seeking.{NextChild, from-zero, none-next}
+use Rattle.layout.proofs.Seeking.{NextChild, none-next}
 use Rattle.fragments.specs.Ignoring.{ignoreOf}
 use Rattle.fragments.specs.Order.{blockList}
 use Rattle.fragments.proofs.Ordered.{next-in-list, block-in}
 use Rattle.hashing.specs.Walked.{blockShells}
-use Rattle.hashing.proofs.Parting.{Partly, none-fed, all-fed, part-room, part-fed, map-left}
+use Rattle.hashing.proofs.Parting.{Passing, pass-begun, pass-over, pass-room, pass-again}
+use Rattle.hashing.proofs.Rounds.{block-shells}
 use borrow.Author.Needs.{needs}
 use Rattle.hashing.proofs.passes.hash_block_shells.Statement.{statement}
 use Rattle.hashing.proofs.passes.hash_block_shells.Tie as tie
 
 abbrev Inv-loop : tie.InvT-loop
-Inv-loop store numbers₀ blocks ignore fed₀ from₀ numbers fed from =
-    (length numbers ≡ length numbers₀)
-    × Partly (storeIn store) (ignoreOf ignore) (blockShells (blockList (storeIn store) blocks)) (blockShells (onFrom from (blockList (storeIn store) blocks))) numbers₀ numbers fed₀ fed
+Inv-loop store numbers₀ blocks ignore word fed₀ from₀ numbers fed from = Passing (storeIn store) (ignoreOf ignore) blockShells (blockList (storeIn store) blocks) from numbers₀ numbers word fed
 
 abbrev μ-loop : tie.MeasureT-loop
-μ-loop store numbers₀ blocks ignore fed₀ from₀ numbers fed from = 256 - from
+μ-loop store numbers₀ blocks ignore word fed₀ from₀ numbers fed from = 256 - from
 
--- the list that is gone through, and its steps
 module _ (s : tie.Start Inv-loop μ-loop) where
-  abbrev cols : Cols
-  cols = columns (s .args .store .now)
-
   abbrev store : Store
   store = storeIn (s .args .store .now)
 
+  -- the list that is gone through
   abbrev list : List ℕ
   list = blockList store (s .args .blocks)
 
-  abbrev stepsOf : List ℕ → List Step
-  stepsOf xs = blockShells xs
-
 -- in the loop, with the next one found
-abbrev NextFound : Type 0
-NextFound = tie.After-known-told Inv-loop μ-loop
-
-module _ (c : NextFound) where
+module _ (c : tie.After-known-told Inv-loop μ-loop) where
   abbrev begun : tie.Start Inv-loop μ-loop
-  begun = c .before .before .before .before .before .before .before
+  begun = c .before .before .before .before .before .before
+
+  abbrev cols : Cols
+  cols = columns (begun .args .store .now)
 
   abbrev n : ℕ
   n = c .before .b .given .0 .0
@@ -56,23 +45,21 @@ module _ (c : NextFound) where
   found : NextChild (list begun) (c .before .before .before .before .loop .from) n
   found = next-in-list (store begun) (begun .args .blocks) (c .before .before .before .before .loop .from) n _ (c .before .before .before .next-in .ensures) (c .before .b .given .1)
 
-  here : n < blockCount (cols begun)
-  here = block-in (cols begun) (begun .args .blocks) n (begun .pre .1 .0) (found .child)
+  here : n < blockCount cols
+  here = block-in cols (begun .args .blocks) n (begun .pre .1 .0) (found .child)
 
-  few : blockCount (cols begun) ≤ 256
-  few = laid-facts (cols begun) (begun .pre .0 .sound .laid) .counts .blocks
+  few : n < 256
+  few = omega (arith, here, laid-facts cols (begun .pre .0 .laid) .counts .blocks)
 
 loop-holds : tie.Need-loop-holds Inv-loop μ-loop
-unfolding blockShells
 loop-holds c =
-    let s = c .before .before in
-    let a = s .args in
-    (refl, subst (λ (l : List Step). Partly (store s) (ignoreOf (a .ignore)) (stepsOf s (list s)) l (a .numbers .now) (a .numbers .now) (a .st) (a .st)) (ap (stepsOf s) (sym (from-zero (list s)))) none-fed)
+    let s = c .before in
+    pass-begun block-shells (list s)
 
 next-in-requires : tie.Need-next-in-requires Inv-loop μ-loop
 next-in-requires c κs =
-    let p = c .before .before .before .pre in
-    (p .0 .sound, p .1 .0)
+    let p = c .before .before .pre in
+    (p .0, p .1 .0)
 
 enum-known-b : tie.Need-enum-known-b Inv-loop μ-loop
 enum-known-b c = search needs
@@ -80,39 +67,32 @@ enum-known-b c = search needs
 enum-told : tie.Need-enum-told Inv-loop μ-loop
 enum-told c = search needs
 
-same-length : tie.Need-same-length Inv-loop μ-loop
-same-length c = c .before .before .before .loop .inv .0
-
 returns : tie.Need-returns Inv-loop μ-loop
-unfolding blockShells
 returns c =
-    let s = c .before .before .before .before .before .before in
+    let s = c .before .before .before .before .before in
     let m = c .before .before .before .loop in
-    all-fed (m .inv .1) (ap (stepsOf s) (none-next (m .from) (list s) _ (c .before .before .next-in .ensures) (c .enum-told .given .1)))
+    pass-over block-shells (list s) (m .from) (m .inv) (none-next (m .from) (list s) _ (c .before .before .next-in .ensures) (c .enum-told .given .1))
 
 hash-block-shell-requires : tie.Need-hash-block-shell-requires Inv-loop μ-loop
-unfolding blockShells
 hash-block-shell-requires c κs =
-    let s = c .before .before .before .before .before .before .before .before in
-    let p = s .pre in
     let f = c .before in
-    let m = c .before .before .before .before .before .loop in
-    (record { sound = p .0 .sound; long = m .inv .0 ∙ p .0 .long }, (here f, part-room (m .inv .1) (shell (ofBlock (n f)) ∷ []) (stepsOf s (onFrom (n f + 1) (list s))) (map-left (found f) (λ (b : ℕ). shell (ofBlock b))) (p .1 .1)))
+    let s = begun f in
+    let m = f .before .before .before .before .loop in
+    (s .pre .0, (here f, pass-room block-shells (list s) (m .from) (m .inv) (found f) (s .pre .1 .1)))
 
 add-from : tie.Need-add-from Inv-loop μ-loop
-add-from c = record { fits = omega (arith, here (c .before .before .before .before), few (c .before .before .before .before)) }
+add-from c = record { fits = omega (arith, few (c .before .before)) }
 
 loop-less : tie.Need-loop-less Inv-loop μ-loop
-loop-less c = omega (arith, here (c .before .before .before .before), few (c .before .before .before .before), found (c .before .before .before .before) .later)
+loop-less c =
+    let f = c .before .before in
+    omega (arith, few f, found f .later)
 
 loop-again : tie.Need-loop-again Inv-loop μ-loop
-unfolding blockShells
 loop-again c =
-    let s = c .before .before .before .before .before .before .before .before .before .before .before in
-    let f = c .before .before .before .before in
-    let m = c .before .before .before .before .before .before .before .before .loop in
-    let fed = c .before .before .hash-block-shell in
-    (fed .kept .1 .0 ∙ m .inv .0, part-fed (m .inv .1) (shell (ofBlock (n f)) ∷ []) (stepsOf s (onFrom (n f + 1) (list s))) (map-left (found f) (λ (b : ℕ). shell (ofBlock b))) (fed .ensures))
+    let f = c .before .before in
+    let m = f .before .before .before .before .loop in
+    pass-again block-shells (list (begun f)) (m .from) (m .inv) (found f) (c .hash-block-shell .ensures)
 
 pub hash-block-shells-spec : {M : Type 1} → statement M
 hash-block-shells-spec =
@@ -124,7 +104,6 @@ hash-block-shells-spec =
     next-in-requires
     enum-known-b
     enum-told
-    same-length
     returns
     hash-block-shell-requires
     add-from

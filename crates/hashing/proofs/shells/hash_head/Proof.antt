@@ -2,7 +2,7 @@
 use native.Mathlib.Omega.{arith}
 use Rattle.layout.specs.Columns.{columns}
 use Rattle.layout.proofs.Laid.{laid-facts}
-use Rattle.hashing.proofs.Reading.{head-fed}
+use Rattle.hashing.proofs.Reading.{regions-few, head-fed}
 use borrow.Author.Needs.{needs}
 use Rattle.hashing.proofs.shells.hash_head.Statement.{statement}
 use Rattle.hashing.proofs.shells.hash_head.Tie as tie
@@ -15,6 +15,11 @@ at-requires c κs =
 op-regions-requires : tie.Need-op-regions-requires
 op-regions-requires c κs = search needs
 
+cast-with-head : tie.Need-cast-with-head
+cast-with-head c =
+    let s = c .before .before .before in
+    record { fits = omega (arith, c .op-regions .ensures, regions-few (columns (s .args .store .now)) (s .pre .0 .ruled) (s .args .n) (s .pre .1)) }
+
 with-head-requires : tie.Need-with-head-requires
 with-head-requires c κs = search needs
 
@@ -24,4 +29,4 @@ returns c =
     head-fed (columns (s .args .store .now)) (s .args .n) (s .pre .1) (s .args .word) (c .before .before .at .ensures) (c .before .op-regions .ensures) (c .with-head .ensures)
 
 pub hash-head-spec : {M : Type 1} → statement M
-hash-head-spec = tie.close (tie.spec at-requires op-regions-requires with-head-requires returns)
+hash-head-spec = tie.close (tie.spec at-requires op-regions-requires cast-with-head with-head-requires returns)

@@ -1,5 +1,5 @@
 -- `with_count` meets its contract: it lends the record to `hash_count` alone, as in `Lent.Single`. Assumes nothing.
-use mir.Syntax.{w64}
+use mir.Syntax.{w32}
 use contract.Running.{givenOf, tables, tablesOf}
 use denote.Triple.Spec.{tripleOf}
 use denote.Triple.Table.{entered, cited}
@@ -19,5 +19,5 @@ unfolding code.routine tablesOf
 with-count-spec 𝓤 H 𝓜 𝓖 𝓡 =
     entered 𝓤 H (tripleOf 𝓤 H (𝓖 .A) with′.signature (with′.spec 𝓤 H (𝓖 .A) (𝓜 .mem) (𝓡 .run)))
     (tables 𝓤 H 𝓜 𝓡 code.env .C) (tables 𝓤 H 𝓜 𝓡 code.env .Λ) #with code.function (code.unfolded 𝓤 H 𝓜 𝓡)
-    (meets w64 count 𝓤 H (𝓖 .A) (givenOf 𝓤 H 𝓜 𝓖) #hash (tablesOf 𝓤 H 𝓜 (tables 𝓤 H 𝓜 𝓡 code.env))
-    (cited 𝓤 H (FeedLent w64 count 𝓤 H (𝓖 .A)) 𝓜 𝓡 code.env #hash hash-def.routine code.calls-hashing·state·hash-count (hash-thm.met 𝓤 H 𝓜 𝓖 𝓡)))
+    (meets w32 count 𝓤 H (𝓖 .A) (givenOf 𝓤 H 𝓜 𝓖) #hash (tablesOf 𝓤 H 𝓜 (tables 𝓤 H 𝓜 𝓡 code.env))
+    (cited 𝓤 H (FeedLent w32 count 𝓤 H (𝓖 .A)) 𝓜 𝓡 code.env #hash hash-def.routine code.calls-hashing·state·hash-count (hash-thm.met 𝓤 H 𝓜 𝓖 𝓡)))

@@ -62,9 +62,37 @@ counts-laid-requires c κs =
     )
 
 returns-6 : tie.Need-returns-6
+unfolding laidOut
+returns-6 c = sym (fails _ 5 (failed (c .before .counts-laid .ensures) (c .if6 .taken)))
+
+ops-linked-requires : tie.Need-ops-linked-requires
+unfolding rowLaid opCount
+ops-linked-requires c κs =
+    let in2 = c .before .before .before .before .before .before .before .before in
+    let in1 = in2 .before .before in (
+      record { sized = in1 .before .before .before .pre; counted = held (in1 .before .counts-hold .ensures) (in1 .if1 .left) },
+      held (in2 .before .rows-laid .ensures) (in2 .if2 .left),
+    )
+
+returns-7 : tie.Need-returns-7
+unfolding laidOut opCount
+returns-7 c = sym (fails _ 6 (failed (c .before .ops-linked .ensures) (c .if7 .taken)))
+
+blocks-linked-requires : tie.Need-blocks-linked-requires
+unfolding rowLaid blockCount
+blocks-linked-requires c κs =
+    let in3 = c .before .before .before .before .before .before .before .before in
+    let in1 = in3 .before .before .before .before in (
+      record { sized = in1 .before .before .before .pre; counted = held (in1 .before .counts-hold .ensures) (in1 .if1 .left) },
+      held (in3 .before .rows-laid2 .ensures) (in3 .if3 .left),
+    )
+
+returns-8 : tie.Need-returns-8
 unfolding laidOut rowLaid opCount blockCount regionCount valueCount
-returns-6 c =
-    let in5 = c .before in
+returns-8 c =
+    let in7 = c .before in
+    let in6 = in7 .before .before in
+    let in5 = in6 .before .before in
     let in4 = in5 .before .before in
     let in3 = in4 .before .before in
     let in2 = in3 .before .before in
@@ -75,7 +103,9 @@ returns-6 c =
     (next _ _ (held (in3 .before .rows-laid2 .ensures) (in3 .if3 .left))
     (next _ _ (held (in4 .before .rows-laid3 .ensures) (in4 .if4 .left))
     (next _ _ (held (in5 .before .rows-laid4 .ensures) (in5 .if5 .left))
-    (last _ (sym (c .counts-laid .ensures))))))))
+    (next _ _ (held (in6 .before .counts-laid .ensures) (in6 .if6 .left))
+    (next _ _ (held (in7 .before .ops-linked .ensures) (in7 .if7 .left))
+    (last _ (sym (c .blocks-linked .ensures))))))))))
 
 pub laid-out-spec : {M : Type 1} → statement M
 laid-out-spec =
@@ -92,4 +122,8 @@ laid-out-spec =
     rows-laid-requires-4
     returns-5
     counts-laid-requires
-    returns-6)
+    returns-6
+    ops-linked-requires
+    returns-7
+    blocks-linked-requires
+    returns-8)

@@ -4,7 +4,7 @@ use native.Mathlib.Omega.{arith}
 use mathlib.Core.Path.{_≡_, sym, ap₂, _∙_}
 use borrow.Author.Needs.{needs}
 use Rattle.rules.specs.Store.{attributesHold}
-use Rattle.layout.specs.Columns.{columns}
+use Rattle.layout.specs.Columns.{columns, firstBlockSlot}
 use Rattle.layout.specs.Reading.{slotsOf, attributesFrom, blockOf}
 use Rattle.layout.specs.Soundness.{blockRules}
 use Rattle.layout.specs.Owners.{ownerOf}
@@ -51,7 +51,7 @@ unfolding slotsOf ownerOf
 attributes-hold-requires c κs =
     let s = c .before .before .before .before .before .before .before in
     let h = laid-facts (columns (s .args .store .now)) (s .pre .0 .laid) in
-    let first : c .before .first-slot .result ≡ 4096 + 8 * s .args .m = c .before .first-slot .ensures in
+    let first : c .before .first-slot .result ≡ firstBlockSlot + 8 * s .args .m = c .before .first-slot .ensures in
     (s .pre .0 .sized, (omega (arith, c .number .ensures, h .block (s .args .m) (s .pre .1) .keys), omega (arith, h .counts .blocks)))
 
 returns-3 : tie.Need-returns-3

@@ -1,6 +1,12 @@
 -- `attribute_line` meets its contract: its line is an owner, three numbers, and nothing more. Assumes nothing.
+use Prim.Native.Nat.{ℕ}
+use mathlib.Core.Option.{some}
+use mathlib.Core.List.{List, [], _∷_}
+use mathlib.Core.Path.{_≡_}
+use Rattle.rules.specs.Lines.{numbers}
+use Rattle.layout.specs.Owners.{ownerOf}
 use Rattle.lines.specs.Reading.{fieldsLeft}
-use Rattle.lines.specs.Parsing.{threeOf, ownerRead, attributeLineOf}
+use Rattle.lines.specs.Parsing.{threeOf, ownerFields, ownerRead, attributeLineOf}
 use Rattle.building.specs.Types.{attributeOf}
 use Rattle.layout.proofs.Scans.{failed, held}
 use Rattle.lines.proofs.Answers.{told}
@@ -8,6 +14,30 @@ use Rattle.lines.proofs.Meaning.{unread, more-left, all-read, attribute
 use borrow.Author.Needs.{needs}
 use Rattle.lines.proofs.parsing.attribute_line.Statement.{statement}
 use Rattle.lines.proofs.parsing.attribute_line.Tie as tie
+
+-- the owner is known
+module _ (c : tie.After-owner) where
+  abbrev begun : tie.Start
+  begun = c .before .before .before .before
+
+  abbrev fields : List (List ℕ)
+  fields = fieldsLeft (begun .args .line .now) (begun .args .at)
+
+  abbrev behind : List (List ℕ)
+  behind = fieldsLeft (begun .args .line .now) (c .owner .given .0 .1 .0)
+
+  owner-is : ownerFields fields ≡ some (ownerOf (c .owner .given .0 .0), behind)
+  unfolding ownerRead
+  owner-is = told (ownerRead (begun .args .line .now)) (c .before .before .read-owner .ensures) (c .owner .given .1)
+
+-- then the three numbers
+module _ (c : tie.After-key) where
+  abbrev owner-known : tie.After-owner
+  owner-known = c .before .before .before .before
+
+  three-are : numbers 3 (behind owner-known) ≡ some (c .key .given .0 .0 ∷ c .key .given .0 .1 .0 ∷ c .key .given .0 .1 .1 .0 ∷ [], fieldsLeft (begun owner-known .args .line .now) (c .key .given .0 .1 .1 .1 .0))
+  unfolding threeOf
+  three-are = told (threeOf (begun owner-known .args .line .now)) (c .before .before .read-three .ensures) (c .key .given .1)
 
 read-owner-requires : tie.Need-read-owner-requires
 read-owner-requires c κs = search needs
@@ -21,8 +51,10 @@ enum-told c = search needs
 returns : tie.Need-returns
 unfolding ownerRead attributeLineOf
 returns c =
-    let line = c .before .before .before .before .args .line .now in
-    unread (attribute-ownerless (fieldsLeft line (c .before .before .before .before .args .at)) (told (ownerRead line) (c .before .before .read-owner .ensures) (c .enum-told .given .1)))
+    let owner-read = c .before .before in
+    let s = owner-read .before .before in
+    let line = s .args .line .now in
+    unread (attribute-ownerless (fieldsLeft line (s .args .at)) (told (ownerRead line) (owner-read .read-owner .ensures) (c .enum-told .given .1)))
 
 read-three-requires : tie.Need-read-three-requires
 read-three-requires c κs = search needs
@@ -34,30 +66,30 @@ enum-told-2 : tie.Need-enum-told-2
 enum-told-2 c = search needs
 
 returns-2 : tie.Need-returns-2
-unfolding threeOf ownerRead attributeLineOf
+unfolding threeOf attributeLineOf
 returns-2 c =
-    let line = c .before .before .before .before .before .before .before .before .args .line .now in
-    let o = told (ownerRead line) (c .before .before .before .before .before .before .read-owner .ensures) (c .before .before .before .before .owner .given .1) in
-    unread (attribute-bad (fieldsLeft line (c .before .before .before .before .before .before .before .before .args .at)) o (told (threeOf line) (c .before .before .read-three .ensures) (c .enum-told2 .given .1)))
+    let read = c .before .before in
+    let o = read .before .before in
+    unread (attribute-bad (fields o) (owner-is o) (told (threeOf (begun o .args .line .now)) (read .read-three .ensures) (c .enum-told2 .given .1)))
 
 ended-at-requires : tie.Need-ended-at-requires
 ended-at-requires c κs = search needs
 
 returns-3 : tie.Need-returns-3
-unfolding threeOf ownerRead attributeLineOf
+unfolding attributeLineOf
 returns-3 c =
-    let line = c .before .before .before .before .before .before .before .before .before .before .before .args .line .now in
-    let o = told (ownerRead line) (c .before .before .before .before .before .before .before .before .before .read-owner .ensures) (c .before .before .before .before .before .before .before .owner .given .1) in
-    let t = told (threeOf line) (c .before .before .before .before .before .read-three .ensures) (c .before .before .before .key .given .1) in
-    more-left _ (attribute-read (fieldsLeft line (c .before .before .before .before .before .before .before .before .before .before .before .args .at)) o t) (failed (c .before .ended-at .ensures) (c .if1 .taken))
+    let ended = c .before in
+    let three = ended .before .before in
+    let o = owner-known three in
+    more-left _ (attribute-read (fields o) (owner-is o) (three-are three)) (failed (ended .ended-at .ensures) (c .if1 .taken))
 
 returns-4 : tie.Need-returns-4
-unfolding threeOf ownerRead attributeLineOf attributeOf
+unfolding attributeLineOf attributeOf
 returns-4 c =
-    let line = c .before .before .before .before .before .before .before .before .before .before .before .args .line .now in
-    let o = told (ownerRead line) (c .before .before .before .before .before .before .before .before .before .read-owner .ensures) (c .before .before .before .before .before .before .before .owner .given .1) in
-    let t = told (threeOf line) (c .before .before .before .before .before .read-three .ensures) (c .before .before .before .key .given .1) in
-    all-read _ (attribute-read (fieldsLeft line (c .before .before .before .before .before .before .before .before .before .before .before .args .at)) o t) (held (c .before .ended-at .ensures) (c .if1 .left))
+    let ended = c .before in
+    let three = ended .before .before in
+    let o = owner-known three in
+    all-read _ (attribute-read (fields o) (owner-is o) (three-are three)) (held (ended .ended-at .ensures) (c .if1 .left))
 
 pub attribute-line-spec : {M : Type 1} → statement M
 attribute-line-spec =

@@ -8,6 +8,22 @@ use borrow.Author.Needs.{needs}
 use Rattle.lines.proofs.parsing.block_line.Statement.{statement}
 use Rattle.lines.proofs.parsing.block_line.Tie as tie
 
+-- from a place that is cited back to the one before it
+abbrev to-start : tie.After-read-three → tie.Start
+to-start c = c .before .before .before
+
+abbrev to-three-known : tie.After-items-at → tie.After-region
+to-three-known c = c .before .before .before
+
+abbrev to-three-read : tie.After-region → tie.After-read-three
+to-three-read c = c .before .before
+
+abbrev to-types-known : tie.After-ended-at → tie.After-count
+to-types-known c = c .before .before
+
+abbrev to-types-read : tie.After-count → tie.After-items-at
+to-types-read c = c .before .before .before .before
+
 read-three-requires : tie.Need-read-three-requires
 read-three-requires c κs = search needs
 
@@ -20,8 +36,10 @@ enum-told c = search needs
 returns : tie.Need-returns
 unfolding threeOf blockLineOf ArgumentsFit
 returns c =
-    let line = c .before .before .before .before .before .args .line .now in
-    record { same = unread (block-bad (fieldsLeft line (c .before .before .before .before .before .args .at)) (told (threeOf line) (c .before .before .read-three .ensures) (c .enum-told .given .1))); fit = tt }
+    let three-read = c .before .before in
+    let s = to-start three-read in
+    let line = s .args .line .now in
+    record { same = unread (block-bad (fieldsLeft line (s .args .at)) (told (threeOf line) (three-read .read-three .ensures) (c .enum-told .given .1))); fit = tt }
 
 items-at-requires : tie.Need-items-at-requires
 items-at-requires c κs = search needs
@@ -38,9 +56,13 @@ same-length c = search needs
 returns-2 : tie.Need-returns-2
 unfolding threeOf blockLineOf ArgumentsFit
 returns-2 c =
-    let line = c .before .before .before .before .before .before .before .before .before .before .before .before .args .line .now in
-    let t = told (threeOf line) (c .before .before .before .before .before .before .before .before .before .read-three .ensures) (c .before .before .before .before .before .before .before .region .given .1) in
-    record { same = unread (block-untyped (fieldsLeft line (c .before .before .before .before .before .before .before .before .before .before .before .before .args .at)) t (items-nothing (c .before .before .before .before .items-at .ensures) (c .enum-told2 .given .1))); fit = tt }
+    let types-read = c .before .before .before .before in
+    let three-known = to-three-known types-read in
+    let three-read = to-three-read three-known in
+    let s = to-start three-read in
+    let line = s .args .line .now in
+    let t = told (threeOf line) (three-read .read-three .ensures) (three-known .region .given .1) in
+    record { same = unread (block-untyped (fieldsLeft line (s .args .at)) t (items-nothing (types-read .items-at .ensures) (c .enum-told2 .given .1))); fit = tt }
 
 ended-at-requires : tie.Need-ended-at-requires
 ended-at-requires c κs = search needs
@@ -51,10 +73,16 @@ same-length-2 c = search needs
 returns-3 : tie.Need-returns-3
 unfolding threeOf blockLineOf ArgumentsFit
 returns-3 c =
-    let line = c .before .before .before .before .before .before .before .before .before .before .before .before .before .before .before .args .line .now in
-    let t = told (threeOf line) (c .before .before .before .before .before .before .before .before .before .before .before .before .read-three .ensures) (c .before .before .before .before .before .before .before .before .before .before .region .given .1) in
-    let i = read-items (c .before .before .before .before .before .before .before .items-at .ensures) _ _ (c .before .before .before .count .given .1) in
-    record { same = more-left _ (block-read (fieldsLeft line (c .before .before .before .before .before .before .before .before .before .before .before .before .before .before .before .args .at)) t i) (failed (c .before .ended-at .ensures) (c .if1 .taken)); fit = tt }
+    let end-asked = c .before in
+    let types-known = to-types-known end-asked in
+    let types-read = to-types-read types-known in
+    let three-known = to-three-known types-read in
+    let three-read = to-three-read three-known in
+    let s = to-start three-read in
+    let line = s .args .line .now in
+    let t = told (threeOf line) (three-read .read-three .ensures) (three-known .region .given .1) in
+    let i = read-items (types-read .items-at .ensures) _ _ (types-known .count .given .1) in
+    record { same = more-left _ (block-read (fieldsLeft line (s .args .at)) t i) (failed (end-asked .ended-at .ensures) (c .if1 .taken)); fit = tt }
 
 same-length-3 : tie.Need-same-length-3
 same-length-3 c = search needs
@@ -62,10 +90,16 @@ same-length-3 c = search needs
 returns-4 : tie.Need-returns-4
 unfolding threeOf blockLineOf ArgumentsFit
 returns-4 c =
-    let line = c .before .before .before .before .before .before .before .before .before .before .before .before .before .before .before .args .line .now in
-    let t = told (threeOf line) (c .before .before .before .before .before .before .before .before .before .before .before .before .read-three .ensures) (c .before .before .before .before .before .before .before .before .before .before .region .given .1) in
-    let i = read-items (c .before .before .before .before .before .before .before .items-at .ensures) _ _ (c .before .before .before .count .given .1) in
-    record { same = all-read _ (block-read (fieldsLeft line (c .before .before .before .before .before .before .before .before .before .before .before .before .before .before .before .args .at)) t i) (held (c .before .ended-at .ensures) (c .if1 .left)); fit = items-fit (c .before .before .before .before .before .before .before .items-at .ensures) _ _ (c .before .before .before .count .given .1) }
+    let end-asked = c .before in
+    let types-known = to-types-known end-asked in
+    let types-read = to-types-read types-known in
+    let three-known = to-three-known types-read in
+    let three-read = to-three-read three-known in
+    let s = to-start three-read in
+    let line = s .args .line .now in
+    let t = told (threeOf line) (three-read .read-three .ensures) (three-known .region .given .1) in
+    let i = read-items (types-read .items-at .ensures) _ _ (types-known .count .given .1) in
+    record { same = all-read _ (block-read (fieldsLeft line (s .args .at)) t i) (held (end-asked .ended-at .ensures) (c .if1 .left)); fit = items-fit (types-read .items-at .ensures) _ _ (types-known .count .given .1) }
 
 pub block-line-spec : {M : Type 1} → statement M
 block-line-spec =

@@ -20,8 +20,10 @@ enum-told c = search needs
 returns : tie.Need-returns
 unfolding threeOf operandLineOf
 returns c =
-    let line = c .before .before .before .before .args .line .now in
-    unread (operand-bad (fieldsLeft line (c .before .before .before .before .args .at)) (told (threeOf line) (c .before .before .read-three .ensures) (c .enum-told .given .1)))
+    let three-read = c .before .before in
+    let s = three-read .before .before in
+    let line = s .args .line .now in
+    unread (operand-bad (fieldsLeft line (s .args .at)) (told (threeOf line) (three-read .read-three .ensures) (c .enum-told .given .1)))
 
 ended-at-requires : tie.Need-ended-at-requires
 ended-at-requires c κs = search needs
@@ -29,16 +31,24 @@ ended-at-requires c κs = search needs
 returns-2 : tie.Need-returns-2
 unfolding threeOf operandLineOf
 returns-2 c =
-    let line = c .before .before .before .before .before .before .before .args .line .now in
-    let t = told (threeOf line) (c .before .before .before .before .before .read-three .ensures) (c .before .before .before .n .given .1) in
-    more-left _ (operand-read (fieldsLeft line (c .before .before .before .before .before .before .before .args .at)) t) (failed (c .before .ended-at .ensures) (c .if1 .taken))
+    let end-asked = c .before in
+    let three-known = end-asked .before .before in
+    let three-read = three-known .before .before in
+    let s = three-read .before .before in
+    let line = s .args .line .now in
+    let t = told (threeOf line) (three-read .read-three .ensures) (three-known .n .given .1) in
+    more-left _ (operand-read (fieldsLeft line (s .args .at)) t) (failed (end-asked .ended-at .ensures) (c .if1 .taken))
 
 returns-3 : tie.Need-returns-3
 unfolding threeOf operandLineOf
 returns-3 c =
-    let line = c .before .before .before .before .before .before .before .args .line .now in
-    let t = told (threeOf line) (c .before .before .before .before .before .read-three .ensures) (c .before .before .before .n .given .1) in
-    all-read _ (operand-read (fieldsLeft line (c .before .before .before .before .before .before .before .args .at)) t) (held (c .before .ended-at .ensures) (c .if1 .left))
+    let end-asked = c .before in
+    let three-known = end-asked .before .before in
+    let three-read = three-known .before .before in
+    let s = three-read .before .before in
+    let line = s .args .line .now in
+    let t = told (threeOf line) (three-read .read-three .ensures) (three-known .n .given .1) in
+    all-read _ (operand-read (fieldsLeft line (s .args .at)) t) (held (end-asked .ended-at .ensures) (c .if1 .left))
 
 pub operand-line-spec : {M : Type 1} → statement M
 operand-line-spec =

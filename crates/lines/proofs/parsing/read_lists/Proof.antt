@@ -8,6 +8,25 @@ use borrow.Author.Needs.{needs}
 use Rattle.lines.proofs.parsing.read_lists.Statement.{statement}
 use Rattle.lines.proofs.parsing.read_lists.Tie as tie
 
+-- from a place that is cited back to the one before it
+abbrev to-types-known : tie.After-items-at2 → tie.After-a
+to-types-known c = c .before .before .before
+
+abbrev to-types-read : tie.After-a → tie.After-items-at
+to-types-read c = c .before .before .before .before
+
+abbrev to-operands-known : tie.After-items-at3 → tie.After-b
+to-operands-known c = c .before .before .before
+
+abbrev to-operands-read : tie.After-b → tie.After-items-at2
+to-operands-read c = c .before .before .before .before
+
+abbrev to-successors-known : tie.After-ended-at → tie.After-c
+to-successors-known c = c .before .before
+
+abbrev to-successors-read : tie.After-c → tie.After-items-at3
+to-successors-read c = c .before .before .before .before
+
 items-at-requires : tie.Need-items-at-requires
 items-at-requires c κs = search needs
 
@@ -42,8 +61,11 @@ same-length-3 c = search needs
 returns-2 : tie.Need-returns-2
 unfolding operationLists listsOf ListsFit
 returns-2 c =
-    let t = read-items (c .before .before .before .before .before .before .before .before .before .before .before .items-at .ensures) _ _ (c .before .before .before .before .before .before .before .a .given .1) in
-    record { same = unread (goes _ t (stops _ (items-nothing (c .before .before .before .before .items-at2 .ensures) (c .enum-told2 .given .1)))); fit = tt }
+    let operands-read = c .before .before .before .before in
+    let types-known = to-types-known operands-read in
+    let types-read = to-types-read types-known in
+    let t = read-items (types-read .items-at .ensures) _ _ (types-known .a .given .1) in
+    record { same = unread (goes _ t (stops _ (items-nothing (operands-read .items-at2 .ensures) (c .enum-told2 .given .1)))); fit = tt }
 
 items-at-requires-3 : tie.Need-items-at-requires-3
 items-at-requires-3 c κs = search needs
@@ -66,9 +88,14 @@ same-length-6 c = search needs
 returns-3 : tie.Need-returns-3
 unfolding operationLists listsOf ListsFit
 returns-3 c =
-    let t = read-items (c .before .before .before .before .before .before .before .before .before .before .before .before .before .before .before .before .before .before .items-at .ensures) _ _ (c .before .before .before .before .before .before .before .before .before .before .before .before .before .before .a .given .1) in
-    let o = read-items (c .before .before .before .before .before .before .before .before .before .before .before .items-at2 .ensures) _ _ (c .before .before .before .before .before .before .before .b .given .1) in
-    record { same = unread (goes _ t (goes _ o (stops _ (items-nothing (c .before .before .before .before .items-at3 .ensures) (c .enum-told3 .given .1))))); fit = tt }
+    let successors-read = c .before .before .before .before in
+    let operands-known = to-operands-known successors-read in
+    let operands-read = to-operands-read operands-known in
+    let types-known = to-types-known operands-read in
+    let types-read = to-types-read types-known in
+    let t = read-items (types-read .items-at .ensures) _ _ (types-known .a .given .1) in
+    let o = read-items (operands-read .items-at2 .ensures) _ _ (operands-known .b .given .1) in
+    record { same = unread (goes _ t (goes _ o (stops _ (items-nothing (successors-read .items-at3 .ensures) (c .enum-told3 .given .1))))); fit = tt }
 
 ended-at-requires : tie.Need-ended-at-requires
 ended-at-requires c κs = search needs
@@ -85,10 +112,17 @@ same-length-9 c = search needs
 returns-4 : tie.Need-returns-4
 unfolding operationLists listsOf ListsFit
 returns-4 c =
-    let t = read-items (c .before .before .before .before .before .before .before .before .before .before .before .before .before .before .before .before .before .before .before .before .before .items-at .ensures) _ _ (c .before .before .before .before .before .before .before .before .before .before .before .before .before .before .before .before .before .a .given .1) in
-    let o = read-items (c .before .before .before .before .before .before .before .before .before .before .before .before .before .before .items-at2 .ensures) _ _ (c .before .before .before .before .before .before .before .before .before .before .b .given .1) in
-    let s = read-items (c .before .before .before .before .before .before .before .items-at3 .ensures) _ _ (c .before .before .before .c .given .1) in
-    record { same = more-left _ (goes _ t (goes _ o (goes _ s refl))) (failed (c .before .ended-at .ensures) (c .if1 .taken)); fit = tt }
+    let end-asked = c .before in
+    let successors-known = to-successors-known end-asked in
+    let successors-read = to-successors-read successors-known in
+    let operands-known = to-operands-known successors-read in
+    let operands-read = to-operands-read operands-known in
+    let types-known = to-types-known operands-read in
+    let types-read = to-types-read types-known in
+    let t = read-items (types-read .items-at .ensures) _ _ (types-known .a .given .1) in
+    let o = read-items (operands-read .items-at2 .ensures) _ _ (operands-known .b .given .1) in
+    let s = read-items (successors-read .items-at3 .ensures) _ _ (successors-known .c .given .1) in
+    record { same = more-left _ (goes _ t (goes _ o (goes _ s refl))) (failed (end-asked .ended-at .ensures) (c .if1 .taken)); fit = tt }
 
 same-length-10 : tie.Need-same-length-10
 same-length-10 c = search needs
@@ -102,10 +136,17 @@ same-length-12 c = search needs
 returns-5 : tie.Need-returns-5
 unfolding operationLists listsOf ListsFit
 returns-5 c =
-    let t = read-items (c .before .before .before .before .before .before .before .before .before .before .before .before .before .before .before .before .before .before .before .before .before .items-at .ensures) _ _ (c .before .before .before .before .before .before .before .before .before .before .before .before .before .before .before .before .before .a .given .1) in
-    let o = read-items (c .before .before .before .before .before .before .before .before .before .before .before .before .before .before .items-at2 .ensures) _ _ (c .before .before .before .before .before .before .before .before .before .before .b .given .1) in
-    let s = read-items (c .before .before .before .before .before .before .before .items-at3 .ensures) _ _ (c .before .before .before .c .given .1) in
-    record { same = all-read _ (goes _ t (goes _ o (goes _ s refl))) (held (c .before .ended-at .ensures) (c .if1 .left)); fit = (items-fit (c .before .before .before .before .before .before .before .before .before .before .before .before .before .before .before .before .before .before .before .before .before .items-at .ensures) _ _ (c .before .before .before .before .before .before .before .before .before .before .before .before .before .before .before .before .before .a .given .1), items-fit (c .before .before .before .before .before .before .before .before .before .before .before .before .before .before .items-at2 .ensures) _ _ (c .before .before .before .before .before .before .before .before .before .before .b .given .1), items-fit (c .before .before .before .before .before .before .before .items-at3 .ensures) _ _ (c .before .before .before .c .given .1)) }
+    let end-asked = c .before in
+    let successors-known = to-successors-known end-asked in
+    let successors-read = to-successors-read successors-known in
+    let operands-known = to-operands-known successors-read in
+    let operands-read = to-operands-read operands-known in
+    let types-known = to-types-known operands-read in
+    let types-read = to-types-read types-known in
+    let t = read-items (types-read .items-at .ensures) _ _ (types-known .a .given .1) in
+    let o = read-items (operands-read .items-at2 .ensures) _ _ (operands-known .b .given .1) in
+    let s = read-items (successors-read .items-at3 .ensures) _ _ (successors-known .c .given .1) in
+    record { same = all-read _ (goes _ t (goes _ o (goes _ s refl))) (held (end-asked .ended-at .ensures) (c .if1 .left)); fit = (items-fit (types-read .items-at .ensures) _ _ (types-known .a .given .1), items-fit (operands-read .items-at2 .ensures) _ _ (operands-known .b .given .1), items-fit (successors-read .items-at3 .ensures) _ _ (successors-known .c .given .1)) }
 
 pub read-lists-spec : {M : Type 1} → statement M
 read-lists-spec =

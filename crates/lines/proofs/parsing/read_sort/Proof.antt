@@ -24,36 +24,50 @@ enum-told c = search needs
 returns : tie.Need-returns
 unfolding wordOf sortRead
 returns c =
-    let line = c .before .before .before .before .args .line .now in
-    no-sort (fieldsLeft line (c .before .before .before .before .args .at)) (told (wordOf line) (c .before .before .word-at .ensures) (c .enum-told .given .1))
+    let letter-read = c .before .before in
+    let s = letter-read .before .before in
+    let line = s .args .line .now in
+    no-sort (fieldsLeft line (s .args .at)) (told (wordOf line) (letter-read .word-at .ensures) (c .enum-told .given .1))
 
 returns-2 : tie.Need-returns-2
 unfolding wordOf sortRead sortOf sort field oneOf isText sameList
 returns-2 c =
-    let line = c .before .before .before .before .before .before .args .line .now in
-    let w = told (wordOf line) (c .before .before .before .before .word-at .ensures) (c .before .before .letter .given .1) in
-    sym (by-byte sort (fieldsLeft line (c .before .before .before .before .before .before .args .at)) (fieldsLeft line (c .before .before .letter .given .0 .1 .0)) (c .before .before .letter .given .0 .0) w 111 (c .match2 .keys1))
+    let letter-known = c .before .before in
+    let letter-read = letter-known .before .before in
+    let s = letter-read .before .before in
+    let line = s .args .line .now in
+    let w = told (wordOf line) (letter-read .word-at .ensures) (letter-known .letter .given .1) in
+    sym (by-byte sort (fieldsLeft line (s .args .at)) (fieldsLeft line (letter-known .letter .given .0 .1 .0)) (letter-known .letter .given .0 .0) w 111 (c .match2 .keys1))
 
 returns-3 : tie.Need-returns-3
 unfolding wordOf sortRead sortOf sort field oneOf isText sameList
 returns-3 c =
-    let line = c .before .before .before .before .before .before .args .line .now in
-    let w = told (wordOf line) (c .before .before .before .before .word-at .ensures) (c .before .before .letter .given .1) in
-    sym (by-byte sort (fieldsLeft line (c .before .before .before .before .before .before .args .at)) (fieldsLeft line (c .before .before .letter .given .0 .1 .0)) (c .before .before .letter .given .0 .0) w 98 (c .match2 .keys2))
+    let letter-known = c .before .before in
+    let letter-read = letter-known .before .before in
+    let s = letter-read .before .before in
+    let line = s .args .line .now in
+    let w = told (wordOf line) (letter-read .word-at .ensures) (letter-known .letter .given .1) in
+    sym (by-byte sort (fieldsLeft line (s .args .at)) (fieldsLeft line (letter-known .letter .given .0 .1 .0)) (letter-known .letter .given .0 .0) w 98 (c .match2 .keys2))
 
 returns-4 : tie.Need-returns-4
 unfolding wordOf sortRead sortOf sort field oneOf isText sameList
 returns-4 c =
-    let line = c .before .before .before .before .before .before .args .line .now in
-    let w = told (wordOf line) (c .before .before .before .before .word-at .ensures) (c .before .before .letter .given .1) in
-    sym (by-byte sort (fieldsLeft line (c .before .before .before .before .before .before .args .at)) (fieldsLeft line (c .before .before .letter .given .0 .1 .0)) (c .before .before .letter .given .0 .0) w 114 (c .match2 .keys3))
+    let letter-known = c .before .before in
+    let letter-read = letter-known .before .before in
+    let s = letter-read .before .before in
+    let line = s .args .line .now in
+    let w = told (wordOf line) (letter-read .word-at .ensures) (letter-known .letter .given .1) in
+    sym (by-byte sort (fieldsLeft line (s .args .at)) (fieldsLeft line (letter-known .letter .given .0 .1 .0)) (letter-known .letter .given .0 .0) w 114 (c .match2 .keys3))
 
 returns-5 : tie.Need-returns-5
 unfolding wordOf sortRead
 returns-5 c =
-    let line = c .before .before .before .before .before .before .args .line .now in
-    let w = told (wordOf line) (c .before .before .before .before .word-at .ensures) (c .before .before .letter .given .1) in
-    other-sort (fieldsLeft line (c .before .before .before .before .before .before .args .at)) (fieldsLeft line (c .before .before .letter .given .0 .1 .0)) (c .before .before .letter .given .0 .0) w (c .match2 .rest .0 .0 .1) (c .match2 .rest .0 .1) (c .match2 .rest .1)
+    let letter-known = c .before .before in
+    let letter-read = letter-known .before .before in
+    let s = letter-read .before .before in
+    let line = s .args .line .now in
+    let w = told (wordOf line) (letter-read .word-at .ensures) (letter-known .letter .given .1) in
+    other-sort (fieldsLeft line (s .args .at)) (fieldsLeft line (letter-known .letter .given .0 .1 .0)) (letter-known .letter .given .0 .0) w (c .match2 .rest .0 .0 .1) (c .match2 .rest .0 .1) (c .match2 .rest .1)
 
 pub read-sort-spec : {M : Type 1} → statement M
 read-sort-spec =

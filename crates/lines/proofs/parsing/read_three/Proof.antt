@@ -48,16 +48,27 @@ enum-told-3 c = search needs
 returns-3 : tie.Need-returns-3
 unfolding threeOf numbers
 returns-3 c =
-    let a = read-number (c .before .before .before .before .before .before .before .before .before .before .number-at .ensures) _ _ (c .before .before .before .before .before .before .before .before .a .given .1) in
-    let b = read-number (c .before .before .before .before .before .before .number-at2 .ensures) _ _ (c .before .before .before .before .b .given .1) in
-    sym (goes _ a (stops _ (goes _ b (stops _ (stops _ (read-nothing (c .before .before .number-at3 .ensures) (c .enum-told3 .given .1)))))))
+    let c-read = c .before .before in
+    let b-known = c-read .before .before in
+    let b-read = b-known .before .before in
+    let a-known = b-read .before .before in
+    let a-read = a-known .before .before in
+    let a = read-number (a-read .number-at .ensures) _ _ (a-known .a .given .1) in
+    let b = read-number (b-read .number-at2 .ensures) _ _ (b-known .b .given .1) in
+    sym (goes _ a (stops _ (goes _ b (stops _ (stops _ (read-nothing (c-read .number-at3 .ensures) (c .enum-told3 .given .1)))))))
 
 returns-4 : tie.Need-returns-4
 unfolding threeOf numbers
 returns-4 c =
-    let a = read-number (c .before .before .before .before .before .before .before .before .before .before .before .number-at .ensures) _ _ (c .before .before .before .before .before .before .before .before .before .a .given .1) in
-    let b = read-number (c .before .before .before .before .before .before .before .number-at2 .ensures) _ _ (c .before .before .before .before .before .b .given .1) in
-    let third = read-number (c .before .before .before .number-at3 .ensures) _ _ (c .before .c .given .1) in
+    let c-known = c .before in
+    let c-read = c-known .before .before in
+    let b-known = c-read .before .before in
+    let b-read = b-known .before .before in
+    let a-known = b-read .before .before in
+    let a-read = a-known .before .before in
+    let a = read-number (a-read .number-at .ensures) _ _ (a-known .a .given .1) in
+    let b = read-number (b-read .number-at2 .ensures) _ _ (b-known .b .given .1) in
+    let third = read-number (c-read .number-at3 .ensures) _ _ (c-known .c .given .1) in
     sym (goes _ a (goes _ (goes _ b (goes _ (goes _ third refl) refl)) refl))
 
 pub read-three-spec : {M : Type 1} → statement M

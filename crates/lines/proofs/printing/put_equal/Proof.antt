@@ -19,7 +19,11 @@ same-length : tie.Need-same-length
 same-length c = search needs
 
 returns : tie.Need-returns
-returns c = said (then (c .before .before .before .before .before .before .put-text .ensures) (c .before .before .put-last .ensures) (omega arith)) (equal-line (c .before .before .before .before .before .before .before .before .before .before .args .paired))
+returns c =
+    let last-put = c .before .before in
+    let text-put = last-put .before .before .before .before in
+    let s = text-put .before .before .before .before in
+    said (then (text-put .put-text .ensures) (last-put .put-last .ensures) (omega arith)) (equal-line (s .args .paired))
 
 pub put-equal-spec : {M : Type 1} → statement M
 put-equal-spec =

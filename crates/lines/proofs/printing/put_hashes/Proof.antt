@@ -23,10 +23,15 @@ same-length c = search needs
 
 returns : tie.Need-returns
 returns c =
-    let a = c .before .before .before .before .before .before .before .before .before .before .before .before .before .before .before .before .before .args in
-    let two = then (c .before .before .before .before .before .before .before .before .before .before .before .before .before .before .put-hexadecimal .ensures) (c .before .before .before .before .before .before .before .before .before .before .put-byte .ensures) (omega arith) in
-    let three = then two (c .before .before .before .before .before .before .put-hexadecimal2 .ensures) (omega arith) in
-    said (then three (c .before .before .put-byte2 .ensures) (omega arith)) (hashes-line (a .l) (a .r))
+    let feed-put = c .before .before in
+    let right-put = feed-put .before .before .before .before in
+    let comma-put = right-put .before .before .before .before in
+    let left-put = comma-put .before .before .before .before in
+    let s = left-put .before .before .before in
+    let a = s .args in
+    let two = then (left-put .put-hexadecimal .ensures) (comma-put .put-byte .ensures) (omega arith) in
+    let three = then two (right-put .put-hexadecimal2 .ensures) (omega arith) in
+    said (then three (feed-put .put-byte2 .ensures) (omega arith)) (hashes-line (a .l) (a .r))
 
 pub put-hashes-spec : {M : Type 1} → statement M
 put-hashes-spec =

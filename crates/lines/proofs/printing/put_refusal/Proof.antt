@@ -23,8 +23,12 @@ same-length c = search needs
 
 returns : tie.Need-returns
 returns c =
-    let a = c .before .before .before .before .before .before .before .before .before .before .before .before .before .before .args in
-    said (then (then (c .before .before .before .before .before .before .before .before .before .before .put-text .ensures) (c .before .before .before .before .before .before .put-field .ensures) (omega arith)) (c .before .before .put-last .ensures) (omega arith)) (refusal-line (a .line) (a .cause))
+    let cause-put = c .before .before in
+    let line-put = cause-put .before .before .before .before in
+    let text-put = line-put .before .before .before .before in
+    let s = text-put .before .before .before .before in
+    let a = s .args in
+    said (then (then (text-put .put-text .ensures) (line-put .put-field .ensures) (omega arith)) (cause-put .put-last .ensures) (omega arith)) (refusal-line (a .line) (a .cause))
 
 pub put-refusal-spec : {M : Type 1} → statement M
 put-refusal-spec =

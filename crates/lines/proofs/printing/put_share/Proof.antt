@@ -23,8 +23,12 @@ same-length c = search needs
 
 returns : tie.Need-returns
 returns c =
-    let a = c .before .before .before .before .before .before .before .before .before .before .before .args in
-    said (then (c .before .before .before .before .before .before .put-text .ensures) (c .before .before .put-last .ensures) (omega arith)) (share-line (a .equal) (a .all) (c .before .before .before .before .before .before .before .before .before .per-cent .result) (c .before .before .before .before .before .before .before .before .before .per-cent .ensures))
+    let last-put = c .before .before in
+    let text-put = last-put .before .before .before .before in
+    let share-known = text-put .before .before .before in
+    let s = share-known .before .before in
+    let a = s .args in
+    said (then (text-put .put-text .ensures) (last-put .put-last .ensures) (omega arith)) (share-line (a .equal) (a .all) (share-known .per-cent .result) (share-known .per-cent .ensures))
 
 pub put-share-spec : {M : Type 1} → statement M
 put-share-spec =

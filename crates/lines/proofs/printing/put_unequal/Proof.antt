@@ -24,10 +24,15 @@ same-length c = search needs
 
 returns : tie.Need-returns
 returns c =
-    let a = c .before .before .before .before .before .before .before .before .before .before .before .before .before .before .before .before .before .args in
-    let two = then (c .before .before .before .before .before .before .before .before .before .before .before .before .before .before .put-sort .ensures) (c .before .before .before .before .before .before .before .before .before .before .put-field .ensures) (omega arith) in
-    let three = then two (c .before .before .before .before .before .before .put-field2 .ensures) (omega arith) in
-    said (then three (c .before .before .put-last .ensures) (omega arith)) (unequal-line (sortOf (a .sort)) (a .l) (a .r) (a .paired))
+    let last-put = c .before .before in
+    let right-put = last-put .before .before .before .before in
+    let left-put = right-put .before .before .before .before in
+    let sort-put = left-put .before .before .before .before in
+    let s = sort-put .before .before .before in
+    let a = s .args in
+    let two = then (sort-put .put-sort .ensures) (left-put .put-field .ensures) (omega arith) in
+    let three = then two (right-put .put-field2 .ensures) (omega arith) in
+    said (then three (last-put .put-last .ensures) (omega arith)) (unequal-line (sortOf (a .sort)) (a .l) (a .r) (a .paired))
 
 pub put-unequal-spec : {M : Type 1} → statement M
 put-unequal-spec =

@@ -38,9 +38,12 @@ digit-value-requires c κs = search needs
 returns-2 : tie.Need-returns-2 Inv-loop μ-loop
 unfolding numberOf
 returns-2 c =
-    let s = c .before .before .before .before .before .before .before .before in
-    let w = c .before .before .before .before .loop in
-    no-digit (s .args .line .now) (s .args .a) (s .args .e) (s .args .most) (w .n) (w .i) (w .inv) (c .before .before .before .loop-test .taken) (s .pre .1 .0) _ (c .before .digit-value .ensures) (c .if2 .taken)
+    let digit-read = c .before in
+    let tested = digit-read .before .before in
+    let turn = tested .before in
+    let s = turn .before .before .before .before in
+    let w = turn .loop in
+    no-digit (s .args .line .now) (s .args .a) (s .args .e) (s .args .most) (w .n) (w .i) (w .inv) (tested .loop-test .taken) (s .pre .1 .0) _ (digit-read .digit-value .ensures) (c .if2 .taken)
 
 sub-if3 : tie.Need-sub-if3 Inv-loop μ-loop
 sub-if3 c = search needs
@@ -48,9 +51,13 @@ sub-if3 c = search needs
 returns-3 : tie.Need-returns-3 Inv-loop μ-loop
 unfolding numberOf
 returns-3 c =
-    let s = c .before .before .before .before .before .before .before .before .before in
-    let w = c .before .before .before .before .before .loop in
-    over-most (s .args .line .now) (s .args .a) (s .args .e) (s .args .most) (w .n) (w .i) (w .inv) (c .before .before .before .before .loop-test .taken) (s .pre .1 .0) _ (c .before .before .digit-value .ensures) (c .before .if2 .left) (c .if3 .taken)
+    let digit-tested = c .before in
+    let digit-read = digit-tested .before in
+    let tested = digit-read .before .before in
+    let turn = tested .before in
+    let s = turn .before .before .before .before in
+    let w = turn .loop in
+    over-most (s .args .line .now) (s .args .a) (s .args .e) (s .args .most) (w .n) (w .i) (w .inv) (tested .loop-test .taken) (s .pre .1 .0) _ (digit-read .digit-value .ensures) (digit-tested .if2 .left) (c .if3 .taken)
 
 mul-n : tie.Need-mul-n Inv-loop μ-loop
 mul-n c = search needs
@@ -66,9 +73,13 @@ loop-less c = search needs
 
 loop-again : tie.Need-loop-again Inv-loop μ-loop
 loop-again c =
-    let s = c .before .before .before .before .before .before .before .before .before in
-    let w = c .before .before .before .before .before .loop in
-    reading-turn (s .args .line .now) (s .args .a) (s .args .e) (s .args .most) (w .n) (w .i) (w .inv) (c .before .before .before .before .loop-test .taken) (s .pre .1 .0) _ (c .before .before .digit-value .ensures) (c .before .if2 .left) (s .pre .1 .1) (c .if3 .left)
+    let digit-tested = c .before in
+    let digit-read = digit-tested .before in
+    let tested = digit-read .before .before in
+    let turn = tested .before in
+    let s = turn .before .before .before .before in
+    let w = turn .loop in
+    reading-turn (s .args .line .now) (s .args .a) (s .args .e) (s .args .most) (w .n) (w .i) (w .inv) (tested .loop-test .taken) (s .pre .1 .0) _ (digit-read .digit-value .ensures) (digit-tested .if2 .left) (s .pre .1 .1) (c .if3 .left)
 
 returns-4 : tie.Need-returns-4 Inv-loop μ-loop
 unfolding numberOf

@@ -15,6 +15,19 @@ Inv-loop line at list₀ count first p₀ i₀ list p i = Filling line list₀ c
 abbrev μ-loop : tie.MeasureT-loop
 μ-loop line at list₀ count first p₀ i₀ list p i = count - i
 
+-- from a place that is cited back to the one before it
+abbrev to-count-known : tie.At-loop Inv-loop μ-loop → tie.After-count Inv-loop μ-loop
+to-count-known c = c .before .before
+
+abbrev to-count-read : tie.After-count Inv-loop μ-loop → tie.After-read-number Inv-loop μ-loop
+to-count-read c = c .before .before
+
+abbrev to-start : tie.After-read-number Inv-loop μ-loop → tie.Start Inv-loop μ-loop
+to-start c = c .before .before .before
+
+abbrev to-item-read : tie.After-x Inv-loop μ-loop → tie.After-read-number2 Inv-loop μ-loop
+to-item-read c = c .before .before
+
 read-number-requires : tie.Need-read-number-requires Inv-loop μ-loop
 read-number-requires c κs = search needs
 
@@ -62,32 +75,43 @@ same-length c = c .before .before .before .before .loop .inv .kept
 returns-2 : tie.Need-returns-2 Inv-loop μ-loop
 unfolding itemsOf Fit
 returns-2 c =
-    let s = c .before .before .before .before .before .before .before .before .before .before .before in
+    let item-read = c .before .before in
+    let tested = item-read .before in
+    let turn = tested .before in
+    let count-known = to-count-known turn in
+    let count-read = to-count-read count-known in
+    let s = to-start count-read in
     let line = s .args .line .now in
     let at = s .args .at in
     let list₀ = s .args .list .now in
     let room : length line ≤ length list₀ = s .pre in
-    let count = c .before .before .before .before .before .before .count .given .0 .0 in
-    let first = c .before .before .before .before .before .before .count .given .0 .1 .0 in
-    let q = read-number (c .before .before .before .before .before .before .before .before .read-number .ensures) count first (c .before .before .before .before .before .before .count .given .1) in
-    let m = c .before .before .before .before .loop in
-    record { same = filling-bad line list₀ room count first (m .list) (m .p) (m .i) (m .inv) (c .before .before .before .loop-test .taken) (read-nothing (c .before .before .read-number2 .ensures) (c .enum-told2 .given .1)) ∙ sym (items-some (fieldsLeft line at) (fieldsLeft line first) count q); fit = tt }
+    let count = count-known .count .given .0 .0 in
+    let first = count-known .count .given .0 .1 .0 in
+    let q = read-number (count-read .read-number .ensures) count first (count-known .count .given .1) in
+    let m = turn .loop in
+    record { same = filling-bad line list₀ room count first (m .list) (m .p) (m .i) (m .inv) (tested .loop-test .taken) (read-nothing (item-read .read-number2 .ensures) (c .enum-told2 .given .1)) ∙ sym (items-some (fieldsLeft line at) (fieldsLeft line first) count q); fit = tt }
 
 mul-list : tie.Need-mul-list Inv-loop μ-loop
 mul-list c = search needs
 
 slice-write-list : tie.Need-slice-write-list Inv-loop μ-loop
 slice-write-list c =
-    let s = c .before .before .before .before .before .before .before .before .before .before .before .before in
+    let item-known = c .before in
+    let item-read = to-item-read item-known in
+    let tested = item-read .before in
+    let turn = tested .before in
+    let count-known = to-count-known turn in
+    let count-read = to-count-read count-known in
+    let s = to-start count-read in
     let line = s .args .line .now in
     let list₀ = s .args .list .now in
     let room : length line ≤ length list₀ = s .pre in
-    let count = c .before .before .before .before .before .before .before .count .given .0 .0 in
-    let first = c .before .before .before .before .before .before .before .count .given .0 .1 .0 in
-    let m = c .before .before .before .before .before .loop in
-    let x = c .before .x .given .0 .0 in
-    let next = c .before .x .given .0 .1 .0 in
-    let o = read-on (c .before .before .before .read-number2 .ensures) x next (c .before .x .given .1) in
+    let count = count-known .count .given .0 .0 in
+    let first = count-known .count .given .0 .1 .0 in
+    let m = turn .loop in
+    let x = item-known .x .given .0 .0 in
+    let next = item-known .x .given .0 .1 .0 in
+    let o = read-on (item-read .read-number2 .ensures) x next (item-known .x .given .1) in
     filling-room line list₀ room count first (m .list) (m .p) (m .i) (m .inv) x next o
 
 add-i : tie.Need-add-i Inv-loop μ-loop
@@ -95,33 +119,45 @@ add-i c = search needs
 
 loop-less : tie.Need-loop-less Inv-loop μ-loop
 loop-less c =
-    let s = c .before .before .before .before .before .before .before .before .before .before .before .before in
+    let item-known = c .before in
+    let item-read = to-item-read item-known in
+    let tested = item-read .before in
+    let turn = tested .before in
+    let count-known = to-count-known turn in
+    let count-read = to-count-read count-known in
+    let s = to-start count-read in
     let line = s .args .line .now in
     let list₀ = s .args .list .now in
     let room : length line ≤ length list₀ = s .pre in
-    let count = c .before .before .before .before .before .before .before .count .given .0 .0 in
-    let first = c .before .before .before .before .before .before .before .count .given .0 .1 .0 in
-    let q = read-number (c .before .before .before .before .before .before .before .before .before .read-number .ensures) count first (c .before .before .before .before .before .before .before .count .given .1) in
-    let m = c .before .before .before .before .before .loop in
-    let x = c .before .x .given .0 .0 in
-    let next = c .before .x .given .0 .1 .0 in
-    let o = read-on (c .before .before .before .read-number2 .ensures) x next (c .before .x .given .1) in
-    let l : m .i < count = c .before .before .before .before .loop-test .taken in
+    let count = count-known .count .given .0 .0 in
+    let first = count-known .count .given .0 .1 .0 in
+    let q = read-number (count-read .read-number .ensures) count first (count-known .count .given .1) in
+    let m = turn .loop in
+    let x = item-known .x .given .0 .0 in
+    let next = item-known .x .given .0 .1 .0 in
+    let o = read-on (item-read .read-number2 .ensures) x next (item-known .x .given .1) in
+    let l : m .i < count = tested .loop-test .taken in
     omega arith
 
 loop-again : tie.Need-loop-again Inv-loop μ-loop
 loop-again c =
-    let s = c .before .before .before .before .before .before .before .before .before .before .before .before in
+    let item-known = c .before in
+    let item-read = to-item-read item-known in
+    let tested = item-read .before in
+    let turn = tested .before in
+    let count-known = to-count-known turn in
+    let count-read = to-count-read count-known in
+    let s = to-start count-read in
     let line = s .args .line .now in
     let list₀ = s .args .list .now in
     let room : length line ≤ length list₀ = s .pre in
-    let count = c .before .before .before .before .before .before .before .count .given .0 .0 in
-    let first = c .before .before .before .before .before .before .before .count .given .0 .1 .0 in
-    let m = c .before .before .before .before .before .loop in
-    let x = c .before .x .given .0 .0 in
-    let next = c .before .x .given .0 .1 .0 in
-    let o = read-on (c .before .before .before .read-number2 .ensures) x next (c .before .x .given .1) in
-    filling-turn line list₀ room count first (m .list) (m .p) (m .i) (m .inv) x next o (c .before .before .before .before .loop-test .taken) (read-number (c .before .before .before .read-number2 .ensures) x next (c .before .x .given .1))
+    let count = count-known .count .given .0 .0 in
+    let first = count-known .count .given .0 .1 .0 in
+    let m = turn .loop in
+    let x = item-known .x .given .0 .0 in
+    let next = item-known .x .given .0 .1 .0 in
+    let o = read-on (item-read .read-number2 .ensures) x next (item-known .x .given .1) in
+    filling-turn line list₀ room count first (m .list) (m .p) (m .i) (m .inv) x next o (tested .loop-test .taken) (read-number (item-read .read-number2 .ensures) x next (item-known .x .given .1))
 
 same-length-2 : tie.Need-same-length-2 Inv-loop μ-loop
 same-length-2 c = c .before .loop .inv .kept
@@ -129,15 +165,18 @@ same-length-2 c = c .before .loop .inv .kept
 returns-3 : tie.Need-returns-3 Inv-loop μ-loop
 unfolding itemsOf Fit
 returns-3 c =
-    let s = c .before .before .before .before .before .before .before .before in
+    let turn = c .before in
+    let count-known = to-count-known turn in
+    let count-read = to-count-read count-known in
+    let s = to-start count-read in
     let line = s .args .line .now in
     let at = s .args .at in
     let list₀ = s .args .list .now in
     let room : length line ≤ length list₀ = s .pre in
-    let count = c .before .before .before .count .given .0 .0 in
-    let first = c .before .before .before .count .given .0 .1 .0 in
-    let q = read-number (c .before .before .before .before .before .read-number .ensures) count first (c .before .before .before .count .given .1) in
-    let m = c .before .loop in
+    let count = count-known .count .given .0 .0 in
+    let first = count-known .count .given .0 .1 .0 in
+    let q = read-number (count-read .read-number .ensures) count first (count-known .count .given .1) in
+    let m = turn .loop in
     record { same = filling-done line list₀ room count first (m .list) (m .p) (m .i) (m .inv) (c .loop-test .left) ∙ sym (items-some (fieldsLeft line at) (fieldsLeft line first) count q); fit = filling-fits line list₀ room count first (m .list) (m .p) (m .i) (m .inv) }
 
 pub read-items-spec : {M : Type 1} → statement M

@@ -51,13 +51,16 @@ enum-told c = search needs
 returns-2 : tie.Need-returns-2
 unfolding readOf ReadOn numberOf number
 returns-2 c =
-    let s = c .before .before .before .before .before .before .before in
+    let number-known = c .before in
+    let number-read = number-known .before .before in
+    let field-cut = number-read .before in
+    let s = field-cut .before .before .before in
     let line = s .args .line .now in
     let at = s .args .at in
-    let e = c .before .before .before .before .field-end .result in
-    let f : FieldEnd line at e = c .before .before .before .before .field-end .ensures in
-    let n = c .before .n .given .0 .0 in
-    let q : numberBelow (2 ^ 32) (slice line at e) ≡ some n = sym (c .before .before .before .number-to .ensures) ∙ ap numberOf (c .before .n .given .1) in
+    let e = field-cut .field-end .result in
+    let f : FieldEnd line at e = field-cut .field-end .ensures in
+    let n = number-known .n .given .0 .0 in
+    let q : numberBelow (2 ^ 32) (slice line at e) ≡ some n = sym (number-read .number-to .ensures) ∙ ap numberOf (number-known .n .given .1) in
     let a : at ≤ e = f .from in
     let w : e ≤ length line = f .within in
     record { same = field-good (numberBelow (2 ^ 32)) line at e f n q; on = (omega arith, omega arith) }

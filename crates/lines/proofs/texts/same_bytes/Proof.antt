@@ -42,9 +42,11 @@ loop-less c = omega arith
 
 loop-again : tie.Need-loop-again Inv-loop μ-loop
 loop-again c =
-    let args = c .before .before .before .before .before .before .args in
-    let i = c .before .before .before .before .loop .i in
-    (omega arith, before-next (AtBoth eqb (args .a .now) (args .b .now)) i (c .before .before .before .before .loop .inv .1) (eq-eqb _ _ (c .if2 .left)))
+    let turn = c .before .before .before .before in
+    let s = turn .before .before in
+    let args = s .args in
+    let i = turn .loop .i in
+    (omega arith, before-next (AtBoth eqb (args .a .now) (args .b .now)) i (turn .loop .inv .1) (eq-eqb _ _ (c .if2 .left)))
 
 returns-3 : tie.Need-returns-3 Inv-loop μ-loop
 returns-3 c =

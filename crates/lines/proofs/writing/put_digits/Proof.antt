@@ -39,18 +39,22 @@ digit-requires c κs =
 
 add-out : tie.Need-add-out Inv-loop μ-loop
 add-out c =
-    let a = c .before .before .before .before .args in
-    let room = c .before .before .before .before .pre .0 in
-    let long = filling-length (a .out .now) (a .at) (a .base) (a .count) (a .n) room (c .before .before .loop .out) (c .before .before .loop .rest) (c .before .before .loop .left) (c .before .before .loop .inv) in
-    let w = c .before .before .loop .inv .whole in
+    let turn = c .before .before in
+    let s = turn .before .before in
+    let a = s .args in
+    let room = s .pre .0 in
+    let long = filling-length (a .out .now) (a .at) (a .base) (a .count) (a .n) room (turn .loop .out) (turn .loop .rest) (turn .loop .left) (turn .loop .inv) in
+    let w = turn .loop .inv .whole in
     omega arith
 
 slice-write-out : tie.Need-slice-write-out Inv-loop μ-loop
 slice-write-out c =
-    let a = c .before .before .before .before .args in
-    let room = c .before .before .before .before .pre .0 in
-    let long = filling-length (a .out .now) (a .at) (a .base) (a .count) (a .n) room (c .before .before .loop .out) (c .before .before .loop .rest) (c .before .before .loop .left) (c .before .before .loop .inv) in
-    let w = c .before .before .loop .inv .whole in
+    let turn = c .before .before in
+    let s = turn .before .before in
+    let a = s .args in
+    let room = s .pre .0 in
+    let long = filling-length (a .out .now) (a .at) (a .base) (a .count) (a .n) room (turn .loop .out) (turn .loop .rest) (turn .loop .left) (turn .loop .inv) in
+    let w = turn .loop .inv .whole in
     omega arith
 
 div-rest : tie.Need-div-rest Inv-loop μ-loop
@@ -61,8 +65,11 @@ loop-less c = search needs
 
 loop-again : tie.Need-loop-again Inv-loop μ-loop
 loop-again c =
-    let a = c .before .before .before .before .args in
-    filling-turn (a .out .now) (a .at) (a .base) (a .count) (a .n) (c .before .before .before .before .pre .0) (c .before .before .loop .out) (c .before .before .loop .rest) (c .before .before .loop .left) (c .before .loop-test .taken) (c .before .before .loop .inv) (c .digit .result) (c .digit .ensures)
+    let tested = c .before in
+    let turn = tested .before in
+    let s = turn .before .before in
+    let a = s .args in
+    filling-turn (a .out .now) (a .at) (a .base) (a .count) (a .n) (s .pre .0) (turn .loop .out) (turn .loop .rest) (turn .loop .left) (tested .loop-test .taken) (turn .loop .inv) (c .digit .result) (c .digit .ensures)
 
 add-result : tie.Need-add-result Inv-loop μ-loop
 add-result c =

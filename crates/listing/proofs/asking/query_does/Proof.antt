@@ -20,11 +20,13 @@ enum-told c = search needs
 returns : tie.Need-returns
 unfolding queryLineOf lineDoes
 returns c =
-    let a = c .before .before .before .before .before .before .before .args in
+    let query-read = c .before .before in
+    let s = query-read .before .before .before .before .before in
+    let a = s .args in
     let store = a .store .now in
     let out = a .out .now in
     let now = a .progress in
-    (stopped _ store out now 10 (sym (ap (lineDoes (programOf (a .program)) (progressOf store now)) (ap queryLineOf (sym (c .enum-told .given .1)) ∙ c .before .before .query-line .ensures))), c .before .before .before .before .before .before .before .pre .1 .0)
+    (stopped _ store out now 10 (sym (ap (lineDoes (programOf (a .program)) (progressOf store now)) (ap queryLineOf (sym (c .enum-told .given .1)) ∙ query-read .query-line .ensures))), s .pre .1 .0)
 
 enum-told-2 : tie.Need-enum-told-2
 enum-told-2 c = search needs
@@ -47,10 +49,15 @@ same-length-2 c = search needs
 returns-2 : tie.Need-returns-2
 unfolding queryLineOf programOf
 returns-2 c =
-    let a = c .before .before .before .before .before .before .before .before .before .before .before .before .before .before .before .before .before .args in
+    let query-done = c .before .before .before .before in
+    let program-known = query-done .before .before .before in
+    let query-known = program-known .before .before .before in
+    let query-read = query-known .before .before in
+    let s = query-read .before .before .before .before .before in
+    let a = s .args in
     let store = a .store .now in
     let now = a .progress in
-    (same-outcome (ap₂ (λ p l. lineDoes p (progressOf store now) l) (ap programOf (c .before .before .before .before .before .before .before .enum-told2 .given .1)) (sym (c .before .before .before .before .before .before .before .before .before .before .before .before .query-line .ensures) ∙ ap queryLineOf (c .before .before .before .before .before .before .before .before .before .before .query .given .1))) (c .before .before .before .before .twins-does .ensures .0), c .before .before .before .before .twins-does .ensures .1)
+    (same-outcome (ap₂ (λ p l. lineDoes p (progressOf store now) l) (ap programOf (program-known .enum-told2 .given .1)) (sym (query-read .query-line .ensures) ∙ ap queryLineOf (query-known .query .given .1))) (query-done .twins-does .ensures .0), query-done .twins-does .ensures .1)
 
 same-length-3 : tie.Need-same-length-3
 same-length-3 c = search needs
@@ -58,10 +65,15 @@ same-length-3 c = search needs
 returns-3 : tie.Need-returns-3
 unfolding queryLineOf programOf
 returns-3 c =
-    let a = c .before .before .before .before .before .before .before .before .before .before .before .before .before .before .args in
+    let query-done = c .before .before in
+    let program-known = query-done .before .before in
+    let query-known = program-known .before .before .before in
+    let query-read = query-known .before .before in
+    let s = query-read .before .before .before .before .before in
+    let a = s .args in
     let store = a .store .now in
     let now = a .progress in
-    (same-outcome (ap₂ (λ p l. lineDoes p (progressOf store now) l) (ap programOf (c .before .before .before .before .enum-told3 .given .1)) (sym (c .before .before .before .before .before .before .before .before .before .query-line .ensures) ∙ ap queryLineOf (c .before .before .before .before .before .before .before .query .given .1))) (c .before .before .sums-does .ensures), c .before .before .before .before .before .before .before .before .before .before .before .before .before .before .pre .1 .0)
+    (same-outcome (ap₂ (λ p l. lineDoes p (progressOf store now) l) (ap programOf (program-known .enum-told3 .given .1)) (sym (query-read .query-line .ensures) ∙ ap queryLineOf (query-known .query .given .1))) (query-done .sums-does .ensures), s .pre .1 .0)
 
 pub query-does-spec : {M : Type 1} → statement M
 query-does-spec =

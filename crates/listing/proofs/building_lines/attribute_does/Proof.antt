@@ -32,7 +32,10 @@ same-length c = search needs
 returns-2 : tie.Need-returns-2
 unfolding attributeLineOf
 returns-2 c =
-    line-built _ _ _ _ _ (c .before .before .before .set-attribute .ensures) (c .refusal-in .ensures) _ (ap attributeLineOf (sym (c .before .before .before .before .before .before .owner .given .1)) ∙ c .before .before .before .before .before .before .before .before .attribute-line .ensures)
+    let attribute-set = c .before .before .before in
+    let line-known = attribute-set .before .before .before in
+    let line-read = line-known .before .before in
+    line-built _ _ _ _ _ (attribute-set .set-attribute .ensures) (c .refusal-in .ensures) _ (ap attributeLineOf (sym (line-known .owner .given .1)) ∙ line-read .attribute-line .ensures)
 
 pub attribute-does-spec : {M : Type 1} → statement M
 attribute-does-spec =

@@ -38,7 +38,11 @@ same-length : tie.Need-same-length
 same-length c = search needs
 
 returns-2 : tie.Need-returns-2
-returns-2 c = line-built _ _ _ _ _ (c .before .before .before .new-block .ensures) (c .refusal-in .ensures) _ (block-meant (c .before .before .before .before .before .before .before .before .before .before .block-line .ensures) (c .before .before .before .before .before .before .before .region .given .1))
+returns-2 c =
+    let block-made = c .before .before .before in
+    let line-known = block-made .before .before .before .before in
+    let line-read = line-known .before .before .before in
+    line-built _ _ _ _ _ (block-made .new-block .ensures) (c .refusal-in .ensures) _ (block-meant (line-read .block-line .ensures) (line-known .region .given .1))
 
 pub block-does-spec : {M : Type 1} → statement M
 block-does-spec =

@@ -32,7 +32,10 @@ same-length c = search needs
 returns-2 : tie.Need-returns-2
 unfolding operandLineOf
 returns-2 c =
-    line-built _ _ _ _ _ (c .before .before .before .set-operand .ensures) (c .refusal-in .ensures) _ (ap operandLineOf (sym (c .before .before .before .before .before .before .n .given .1)) ∙ c .before .before .before .before .before .before .before .before .operand-line .ensures)
+    let operand-set = c .before .before .before in
+    let line-known = operand-set .before .before .before in
+    let line-read = line-known .before .before in
+    line-built _ _ _ _ _ (operand-set .set-operand .ensures) (c .refusal-in .ensures) _ (ap operandLineOf (sym (line-known .n .given .1)) ∙ line-read .operand-line .ensures)
 
 pub operand-does-spec : {M : Type 1} → statement M
 operand-does-spec =

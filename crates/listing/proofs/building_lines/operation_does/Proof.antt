@@ -37,27 +37,41 @@ enum-known-lists c = search needs
 enum-told-2 : tie.Need-enum-told-2
 enum-told-2 c = search needs
 
+-- from where the lists are known back to where they were read
+abbrev lists-read : tie.After-lists → tie.After-read-lists
+lists-read c = c .before .before .before .before .before
+
 returns-2 : tie.Need-returns-2
 returns-2 c =
-    unread _ _ (listless _ _ _ (c .before .before .before .before .before .before .before .before .before .before .before .before .read-op-fields .ensures) _ _ _ _ _ (c .before .before .before .before .before .before .before .before .before .before .kind .given .1) _ _ _ _ (c .before .before .before .before .before .read-lists .ensures) (c .enum-told2 .given .1)) (c .before .before .before .before .before .before .before .before .before .before .before .before .before .before .before .pre .0)
+    let read = c .before .before .before .before .before in
+    let fields-known = read .before .before .before .before .before in
+    let fields-read = fields-known .before .before in
+    let s = fields-read .before .before .before in
+    unread _ _ (listless _ _ _ (fields-read .read-op-fields .ensures) _ _ _ _ _ (fields-known .kind .given .1) _ _ _ _ (read .read-lists .ensures) (c .enum-told2 .given .1)) (s .pre .0)
 
 array-share-prefix-types : tie.Need-array-share-prefix-types
-array-share-prefix-types c = types-fit (c .before .before .before .before .before .before .before .read-lists .ensures) (c .before .before .lists .given .1)
+array-share-prefix-types c =
+    let known = c .before .before in
+    types-fit (lists-read known .read-lists .ensures) (known .lists .given .1)
 
 slice-aggregate-new-operation : tie.Need-slice-aggregate-new-operation
-slice-aggregate-new-operation c = sym (length-take-le _ _ (types-fit (c .before .before .before .before .before .before .before .before .read-lists .ensures) (c .before .before .before .lists .given .1)))
+slice-aggregate-new-operation c = sym (length-take-le _ _ (array-share-prefix-types (c .before)))
 
 array-share-prefix-operands : tie.Need-array-share-prefix-operands
-array-share-prefix-operands c = operands-fit (c .before .before .before .before .before .before .before .before .read-lists .ensures) (c .before .before .before .lists .given .1)
+array-share-prefix-operands c =
+    let known = c .before .before .before in
+    operands-fit (lists-read known .read-lists .ensures) (known .lists .given .1)
 
 slice-aggregate-new-operation-2 : tie.Need-slice-aggregate-new-operation-2
-slice-aggregate-new-operation-2 c = sym (length-take-le _ _ (operands-fit (c .before .before .before .before .before .before .before .before .before .read-lists .ensures) (c .before .before .before .before .lists .given .1)))
+slice-aggregate-new-operation-2 c = sym (length-take-le _ _ (array-share-prefix-operands (c .before)))
 
 array-share-prefix-successors : tie.Need-array-share-prefix-successors
-array-share-prefix-successors c = successors-fit (c .before .before .before .before .before .before .before .before .before .read-lists .ensures) (c .before .before .before .before .lists .given .1)
+array-share-prefix-successors c =
+    let known = c .before .before .before .before in
+    successors-fit (lists-read known .read-lists .ensures) (known .lists .given .1)
 
 slice-aggregate-new-operation-3 : tie.Need-slice-aggregate-new-operation-3
-slice-aggregate-new-operation-3 c = sym (length-take-le _ _ (successors-fit (c .before .before .before .before .before .before .before .before .before .before .read-lists .ensures) (c .before .before .before .before .before .lists .given .1)))
+slice-aggregate-new-operation-3 c = sym (length-take-le _ _ (array-share-prefix-successors (c .before)))
 
 new-operation-requires : tie.Need-new-operation-requires
 new-operation-requires c κs = search needs
@@ -70,7 +84,12 @@ same-length c = search needs
 
 returns-3 : tie.Need-returns-3
 returns-3 c =
-    line-built _ _ _ _ _ (c .before .before .before .new-operation .ensures) (c .refusal-in .ensures) _ (operation-meant _ _ _ (c .before .before .before .before .before .before .before .before .before .before .before .before .before .before .before .before .before .before .before .before .before .read-op-fields .ensures) _ _ _ _ _ (c .before .before .before .before .before .before .before .before .before .before .before .before .before .before .before .before .before .before .before .kind .given .1) _ _ _ _ (c .before .before .before .before .before .before .before .before .before .before .before .before .before .before .read-lists .ensures) _ _ _ (c .before .before .before .before .before .before .before .before .before .lists .given .1))
+    let operation-made = c .before .before .before in
+    let lists-known = operation-made .before .before .before .before .before .before in
+    let read = lists-read lists-known in
+    let fields-known = read .before .before .before .before .before in
+    let fields-read = fields-known .before .before in
+    line-built _ _ _ _ _ (operation-made .new-operation .ensures) (c .refusal-in .ensures) _ (operation-meant _ _ _ (fields-read .read-op-fields .ensures) _ _ _ _ _ (fields-known .kind .given .1) _ _ _ _ (read .read-lists .ensures) _ _ _ (lists-known .lists .given .1))
 
 pub operation-does-spec : {M : Type 1} → statement M
 operation-does-spec =

@@ -39,11 +39,15 @@ same-length-2 c = search needs
 returns-3 : tie.Need-returns-3
 unfolding programOf emptyWords
 returns-3 c =
-    let a = c .before .before .before .before .before .before .before .before .before .before .before .before .before .before .args in
+    let printed = c .before .before .before .before .before in
+    let room-tested = printed .before .before .before .before in
+    let store-tested = room-tested .before in
+    let s = store-tested .before .before .before .before in
+    let a = s .args in
     let listing = a .listing .now in
     let store = a .store .now in
     let out = a .out .now in
-    answered sumsProgram listing store emptyWords out (c .before .before .before .before .before .before .before .before .before .before .if1 .left) empty-length _ _ (c .before .before .before .before .before .before .before .before .before .if2 .left) (unmapped sumsProgram listing store out _ _ _ _ (c .before .before .before .before .before .listed .ensures))
+    answered sumsProgram listing store emptyWords out (store-tested .if1 .left) empty-length _ _ (room-tested .if2 .left) (unmapped sumsProgram listing store out _ _ _ _ (printed .listed .ensures))
 
 pub sums-spec : {M : Type 1} → statement M
 sums-spec =

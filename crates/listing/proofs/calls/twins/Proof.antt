@@ -48,12 +48,17 @@ same-length-3 c = search needs
 returns-4 : tie.Need-returns-4
 unfolding programOf
 returns-4 c =
-    let a = c .before .before .before .before .before .before .before .before .before .before .before .before .before .before .before .before .before .args in
+    let printed = c .before .before .before .before .before .before in
+    let room-tested = printed .before .before .before .before in
+    let mapping-tested = room-tested .before in
+    let store-tested = mapping-tested .before in
+    let s = store-tested .before .before .before .before .before in
+    let a = s .args in
     let listing = a .listing .now in
     let store = a .store .now in
     let mapping = a .mapping .now in
     let out = a .out .now in
-    answered twinsProgram listing store mapping out (c .before .before .before .before .before .before .before .before .before .before .before .before .if1 .left) (c .before .before .before .before .before .before .before .before .before .before .before .if2 .left) _ _ (c .before .before .before .before .before .before .before .before .before .before .if3 .left) (c .before .before .before .before .before .before .listed .ensures)
+    answered twinsProgram listing store mapping out (store-tested .if1 .left) (mapping-tested .if2 .left) _ _ (room-tested .if3 .left) (printed .listed .ensures)
 
 pub twins-spec : {M : Type 1} → statement M
 twins-spec =

@@ -1,5 +1,6 @@
 -- `close` meets its contract, program by program. Assumes nothing.
-use Rattle.listing.specs.Progress.{tallyOf}
+use Rattle.lines.specs.Room.{shareRoom}
+use Rattle.listing.specs.Tally.{tallyOf}
 use Rattle.listing.specs.Stepping.{closes}
 use Rattle.lines.proofs.Joined.{nothing}
 use borrow.Author.Needs.{needs}
@@ -24,7 +25,7 @@ returns c = rw (c .before .before .before .before .enum-told .given .1) (c .befo
 
 returns-2 : tie.Need-returns-2
 unfolding closes
-returns-2 c = rw (c .enum-told2 .given .1) (nothing 17 _ _)
+returns-2 c = rw (c .enum-told2 .given .1) (nothing shareRoom _ _)
 
 pub close-spec : {M : Type 1} → statement M
 close-spec =

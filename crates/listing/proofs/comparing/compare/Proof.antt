@@ -12,8 +12,9 @@ fragments-eq-requires c κs =
 
 empty-mapping-requires : tie.Need-empty-mapping-requires
 empty-mapping-requires c κs =
-    let s = c .before .before .before .before .before .before .before .before in
-    let told = c .before .before .before .fragments-eq in
+    let compared = c .before .before .before in
+    let s = compared .before .before .before .before .before in
+    let told = compared .fragments-eq in
     as-many (s .args .mapping .now) (told .last .1 .0) (s .pre .1) (told .kept .1 .0)
 
 same-length : tie.Need-same-length
@@ -21,10 +22,12 @@ same-length c = search needs
 
 returns : tie.Need-returns
 returns c =
-    let s = c .before .before .before .before .before .before .before .before .before .before .before in
+    let emptied = c .before .before in
+    let compared = emptied .before .before .before .before in
+    let s = compared .before .before .before .before .before in
     let a = s .args in
-    let told = c .before .before .before .before .before .before .fragments-eq in
-    compares (a .store .now) (a .mapping .now) (told .last .1 .0) _ (a .query) (told .result) (s .pre .0) (s .pre .1) (told .ensures) (c .before .before .empty-mapping .ensures)
+    let told = compared .fragments-eq in
+    compares (a .store .now) (a .mapping .now) (told .last .1 .0) _ (a .query) (told .result) (s .pre .0) (s .pre .1) (told .ensures) (emptied .empty-mapping .ensures)
 
 pub compare-spec : {M : Type 1} → statement M
 compare-spec = tie.close (tie.spec fragments-eq-requires empty-mapping-requires same-length returns)

@@ -2,7 +2,7 @@
 use native.Mathlib.Omega.{arith}
 use Rattle.fragments.specs.Sorts.{sortOf}
 use Rattle.equivalence.specs.Walked.{answerOf}
-use Rattle.listing.specs.Asking.{verdictLine}
+use Rattle.listing.specs.Asking.{stepRoom, verdictLine}
 use Rattle.lines.proofs.Joined.{within, nothing}
 use borrow.Author.Needs.{needs}
 use Rattle.listing.proofs.comparing.put_verdict.Statement.{statement}
@@ -65,7 +65,7 @@ returns-4 c = rw (c .before .before .before .before .before .result4 .given .1) 
 
 returns-5 : tie.Need-returns-5
 unfolding verdictLine answerOf
-returns-5 c = rw (c .enum-told .given .1) (nothing 40 _ _)
+returns-5 c = rw (c .enum-told .given .1) (nothing stepRoom _ _)
 
 pub put-verdict-spec : {M : Type 1} → statement M
 put-verdict-spec =

@@ -18,18 +18,25 @@ same-length c = search needs
 
 returns : tie.Need-returns
 returns c =
-    let a = c .before .before .before .before .before .before .before .before .before .before .args in
-    let compared = c .before .before .before .before .before .compare in
-    (twins-stops (a .store .now) (a .out .now) (a .progress) (a .query) (compared .result) _ (compared .ensures .same) (c .before .result .given .1), compared .ensures .empty)
+    let result-known = c .before in
+    let asked = result-known .before .before .before .before in
+    let s = asked .before .before .before .before .before in
+    let a = s .args in
+    let compared = asked .compare in
+    (twins-stops (a .store .now) (a .out .now) (a .progress) (a .query) (compared .result) _ (compared .ensures .same) (result-known .result .given .1), compared .ensures .empty)
 
 put-verdict-requires : tie.Need-put-verdict-requires
-put-verdict-requires c κs = c .before .before .before .before .before .before .before .before .before .pre .1 .1 .0
+put-verdict-requires c κs =
+    let asked = c .before .before .before .before in
+    let s = asked .before .before .before .before .before in
+    s .pre .1 .1 .0
 
 counted-requires : tie.Need-counted-requires
 counted-requires c κs =
-    let s = c .before .before .before .before .before .before .before .before .before .before .before .before in
-    let compared = c .before .before .before .before .before .before .before .compare in
-    let there = right-exists (s .args .store .now) (s .args .query) (compared .result) (compared .ensures .same) (c .before .before .before .before .match .keys2) in
+    let answered = c .before .before .before .before .before in
+    let compared = answered .before .before .before in
+    let s = compared .before .before .before .before .before in
+    let there = right-exists (s .args .store .now) (s .args .query) (compared .compare .result) (compared .compare .ensures .same) (answered .match .keys2) in
     (s .pre .0, (there, s .pre .1 .1 .1))
 
 same-length-2 : tie.Need-same-length-2
@@ -40,13 +47,16 @@ same-length-3 c = search needs
 
 returns-2 : tie.Need-returns-2
 returns-2 c =
-    let s = c .before .before .before .before .before .before .before .before .before .before .before .before .before in
+    let printed = c .before .before .before .before in
+    let answered = printed .before .before in
+    let compared = answered .before .before .before in
+    let s = compared .before .before .before .before .before in
     let a = s .args in
-    let compared = c .before .before .before .before .before .before .before .before .compare in
-    let put = c .before .before .before .put-verdict in (
-      twins-goes (a .store .now) (a .out .now) (put .last .0) (a .progress) (c .counted .result) (a .query) (compared .result) (put .result)
-          (compared .ensures .same) (c .before .before .before .before .before .match .keys2) (s .pre .1 .1 .1) (put .ensures) (c .counted .ensures),
-      compared .ensures .empty,
+    let put = printed .put-verdict in
+    let told = compared .compare in (
+      twins-goes (a .store .now) (a .progress) (c .counted .result) (a .query) (put .result) (a .out .now) (put .last .0) (told .result)
+          (told .ensures .same) (answered .match .keys2) (s .pre .1 .1 .1) (put .ensures) (c .counted .ensures),
+      told .ensures .empty,
     )
 
 pub twins-does-spec : {M : Type 1} → statement M

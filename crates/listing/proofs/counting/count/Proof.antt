@@ -8,18 +8,18 @@ use Rattle.listing.proofs.counting.count.Tie as tie
 add-all : tie.Need-add-all
 add-all c = search needs
 
-add-t9 : tie.Need-add-t9
-add-t9 c = search needs
+add-equal : tie.Need-add-equal
+add-equal c = search needs
 
 returns : tie.Need-returns
 returns c =
     let a = c .before .before .before .args in
-    found-more (a .progress) (a .at) (a .found) (a .ops) (omega arith) (c .before .if1 .taken)
+    found-more (a .tally) (a .found) (a .ops) (omega arith) (c .before .if1 .taken)
 
 returns-2 : tie.Need-returns-2
 returns-2 c =
     let a = c .before .before .args in
-    other-more (a .progress) (a .at) (a .found) (a .ops) (omega arith) (c .if1 .left)
+    other-more (a .tally) (a .found) (a .ops) (omega arith) (c .if1 .left)
 
 pub count-spec : {M : Type 1} → statement M
-count-spec = tie.close (tie.spec add-all add-t9 returns returns-2)
+count-spec = tie.close (tie.spec add-all add-equal returns returns-2)

@@ -45,15 +45,27 @@ same-bytes-requires c κs = search needs
 
 returns-5 : tie.Need-returns-5
 returns-5 c =
-    let a = c .before .before .before .before .before .before .before .before .before .before .args in
+    let bytes-compared = c .before in
+    let line-tested = bytes-compared .before .before .before in
+    let end-tested = line-tested .before in
+    let line-cut = end-tested .before in
+    let listing-tested = line-cut .before .before in
+    let s = listing-tested .before .before in
+    let a = s .args in
     let listing = a .listing .now in
-    other-line listing (c .before .before .before .before .before .before .before .before .if1 .left) _ (c .before .before .before .before .before .before .piece-end .ensures) (c .before .before .before .before .before .if3 .left) (c .before .before .before .before .if4 .left) (failed (c .before .same-bytes .ensures) (c .if5 .taken))
+    other-line listing (listing-tested .if1 .left) _ (line-cut .piece-end .ensures) (end-tested .if3 .left) (line-tested .if4 .left) (failed (bytes-compared .same-bytes .ensures) (c .if5 .taken))
 
 returns-6 : tie.Need-returns-6
 returns-6 c =
-    let a = c .before .before .before .before .before .before .before .before .before .before .args in
+    let bytes-compared = c .before in
+    let line-tested = bytes-compared .before .before .before in
+    let end-tested = line-tested .before in
+    let line-cut = end-tested .before in
+    let listing-tested = line-cut .before .before in
+    let s = listing-tested .before .before in
+    let a = s .args in
     let listing = a .listing .now in
-    header listing (c .before .before .before .before .before .before .before .before .if1 .left) _ (c .before .before .before .before .before .before .piece-end .ensures) (c .before .before .before .before .before .if3 .left) (c .before .before .before .before .if4 .left) (held (c .before .same-bytes .ensures) (c .if5 .left))
+    header listing (listing-tested .if1 .left) _ (line-cut .piece-end .ensures) (end-tested .if3 .left) (line-tested .if4 .left) (held (bytes-compared .same-bytes .ensures) (c .if5 .left))
 
 pub header-cause-spec : {M : Type 1} → statement M
 header-cause-spec =

@@ -1,20 +1,51 @@
 -- `line_does` meets its contract: it tests the length, then the letter, and then does what the letter says. Assumes nothing.
-use Rattle.lines.specs.Reading.{fieldsLeft, wordOf}
+use Prim.Native.Nat.{ℕ, _≤_}
+use mathlib.Core.Option.{some}
+use mathlib.Core.List.{List}
+use mathlib.Core.Path.{_≡_}
+use lib.ListN.{length}
+use Rattle.rules.specs.Lines.{field}
+use Rattle.rules.specs.Listings.{lineDoes, does, maxLine}
+use Rattle.lines.specs.Reading.{fieldsLeft, oneByte, wordOf}
 use Rattle.lines.proofs.Answers.{told}
 use Rattle.listing.specs.Progress.{programOf, progressOf}
+use Rattle.listing.specs.Building.{buildingLine}
 use Rattle.listing.proofs.Steps.{too-long, unlettered, asks, builds, line-stopped, line-asked, line-refused, line-built}
 use borrow.Author.Needs.{needs}
 use Rattle.listing.proofs.running.line_does.Statement.{statement}
 use Rattle.listing.proofs.running.line_does.Tie as tie
 
+-- a line that is short enough and has a letter
+module _ (k : tie.After-known-told) where
+  abbrev lettered : tie.After-word-at
+  lettered = k .before .before .before
+
+  abbrev begun : tie.Start
+  begun = lettered .before .before .before .before .before .before
+
+  abbrev letter : ℕ
+  letter = k .before .letter .given .0 .0
+
+  abbrev fields : List (List ℕ)
+  fields = fieldsLeft (begun .args .line .now) (k .before .letter .given .0 .1 .0)
+
+  short : length (begun .args .line .now) ≤ maxLine
+  short = lettered .before .if1 .left
+
+  read : field oneByte (fieldsLeft (begun .args .line .now) 0) ≡ some (letter, fields)
+  unfolding wordOf
+  read = told (wordOf (begun .args .line .now)) (lettered .word-at .ensures) (k .before .letter .given .1)
+
+  -- a letter that builds
+  module _ (n : letter ≡ 113 → ⊥) where
+    built : does (programOf (begun .args .program)) (progressOf (begun .args .store .now) (begun .args .progress)) (begun .args .line .now) ≡ lineDoes (programOf (begun .args .program)) (progressOf (begun .args .store .now) (begun .args .progress)) (buildingLine letter fields)
+    built = builds (programOf (begun .args .program)) (progressOf (begun .args .store .now) (begun .args .progress)) (begun .args .line .now) short letter fields read n
+
 returns : tie.Need-returns
 returns c =
-    let a = c .before .before .before .before .before .args in
-    let line = a .line .now in
-    let store = a .store .now in
-    let out = a .out .now in
-    let now = a .progress in
-    (line-stopped (a .program) line store out now (c .before .before .before .before .before .pre .0) 11 (too-long (programOf (a .program)) (progressOf store now) line (c .if1 .taken)), c .before .before .before .before .before .pre .1 .0)
+    let s = c .before .before .before .before .before in
+    let a = s .args in
+    (line-stopped (a .program) (a .line .now) (a .store .now) (a .out .now) (a .progress) (s .pre .0) 11 (too-long (programOf (a .program)) (progressOf (a .store .now) (a .progress)) (a .line .now) (c .if1 .taken)), s .pre .1 .0)
 
 word-at-requires : tie.Need-word-at-requires
 word-at-requires c κs = search needs
@@ -28,12 +59,12 @@ enum-told c = search needs
 returns-2 : tie.Need-returns-2
 unfolding wordOf
 returns-2 c =
-    let a = c .before .before .before .before .before .before .before .before .args in
+    let lettered = c .before .before in
+    let tested = lettered .before in
+    let s = tested .before .before .before .before .before in
+    let a = s .args in
     let line = a .line .now in
-    let store = a .store .now in
-    let out = a .out .now in
-    let now = a .progress in
-    (line-stopped (a .program) line store out now (c .before .before .before .before .before .before .before .before .pre .0) 10 (unlettered (programOf (a .program)) (progressOf store now) line (c .before .before .before .if1 .left) (told (wordOf line) (c .before .before .word-at .ensures) (c .enum-told .given .1))), c .before .before .before .before .before .before .before .before .pre .1 .0)
+    (line-stopped (a .program) line (a .store .now) (a .out .now) (a .progress) (s .pre .0) 10 (unlettered (programOf (a .program)) (progressOf (a .store .now) (a .progress)) line (tested .if1 .left) (told (wordOf line) (lettered .word-at .ensures) (c .enum-told .given .1))), s .pre .1 .0)
 
 query-does-requires : tie.Need-query-does-requires
 query-does-requires c κs = search needs
@@ -48,17 +79,13 @@ same-length-3 : tie.Need-same-length-3
 same-length-3 c = search needs
 
 returns-3 : tie.Need-returns-3
-unfolding wordOf
 returns-3 c =
-    let a = c .before .before .before .before .before .before .before .before .before .before .before .before .before .before .before .before .before .before .args in
-    let line = a .line .now in
-    let store = a .store .now in
-    let out = a .out .now in
-    let now = a .progress in
-    let letter = c .before .before .before .before .before .before .before .before .before .before .letter .given .0 .0 in
-    let gs = fieldsLeft line (c .before .before .before .before .before .before .before .before .before .before .letter .given .0 .1 .0) in
-    let read = told (wordOf line) (c .before .before .before .before .before .before .before .before .before .before .before .before .word-at .ensures) (c .before .before .before .before .before .before .before .before .before .before .letter .given .1) in
-    (line-asked (a .program) line store out now (c .before .before .before .before .before .before .before .before .before .before .before .before .before .before .before .before .before .before .pre .0) _ _ _ (asks (programOf (a .program)) (progressOf store now) line (c .before .before .before .before .before .before .before .before .before .before .before .before .before .if1 .left) letter gs read (c .before .before .before .before .before .before .before .before .if2 .taken)) (c .before .before .before .before .query-does .ensures .0), c .before .before .before .before .query-does .ensures .1)
+    let asked = c .before .before .before .before in
+    let tested = asked .before .before .before .before in
+    let k = tested .before in
+    let s = begun k in
+    let a = s .args in
+    (line-asked (a .program) (a .line .now) (a .store .now) (a .out .now) (a .progress) (s .pre .0) _ _ _ (asks (programOf (a .program)) (progressOf (a .store .now) (a .progress)) (a .line .now) (short k) (letter k) (fields k) (read k) (tested .if2 .taken)) (asked .query-does .ensures .0), asked .query-does .ensures .1)
 
 building-does-requires : tie.Need-building-does-requires
 building-does-requires c κs = search needs
@@ -73,33 +100,24 @@ same-length-4 : tie.Need-same-length-4
 same-length-4 c = search needs
 
 returns-4 : tie.Need-returns-4
-unfolding wordOf
 returns-4 c =
-    let a = c .before .before .before .before .before .before .before .before .before .before .before .before .before .before .before .before .before .args in
-    let line = a .line .now in
-    let store = a .store .now in
-    let out = a .out .now in
-    let now = a .progress in
-    let letter = c .before .before .before .before .before .before .before .before .before .letter .given .0 .0 in
-    let gs = fieldsLeft line (c .before .before .before .before .before .before .before .before .before .letter .given .0 .1 .0) in
-    let read = told (wordOf line) (c .before .before .before .before .before .before .before .before .before .before .before .word-at .ensures) (c .before .before .before .before .before .before .before .before .before .letter .given .1) in
-    (line-refused (a .program) line store out now (c .before .before .before .before .before .before .before .before .before .before .before .before .before .before .before .before .before .pre .0) _ _ _ (builds (programOf (a .program)) (progressOf store now) line (c .before .before .before .before .before .before .before .before .before .before .before .before .if1 .left) letter gs read (c .before .before .before .before .before .before .before .if2 .left)) (c .before .before .before .before .before .building-does .ensures) _ (c .before .cause .given .1), c .before .before .before .before .before .before .before .before .before .before .before .before .before .before .before .before .before .pre .1 .0)
+    let refused = c .before in
+    let done = refused .before .before .before .before in
+    let tested = done .before .before in
+    let s = begun (tested .before) in
+    let a = s .args in
+    (line-refused (a .program) (a .line .now) (a .store .now) (a .out .now) (a .progress) (s .pre .0) _ _ _ (built (tested .before) (tested .if2 .left)) (done .building-does .ensures) _ (refused .cause .given .1), s .pre .1 .0)
 
 same-length-5 : tie.Need-same-length-5
 same-length-5 c = search needs
 
 returns-5 : tie.Need-returns-5
-unfolding wordOf
 returns-5 c =
-    let a = c .before .before .before .before .before .before .before .before .before .before .before .before .before .before .before .before .args in
-    let line = a .line .now in
-    let store = a .store .now in
-    let out = a .out .now in
-    let now = a .progress in
-    let letter = c .before .before .before .before .before .before .before .before .letter .given .0 .0 in
-    let gs = fieldsLeft line (c .before .before .before .before .before .before .before .before .letter .given .0 .1 .0) in
-    let read = told (wordOf line) (c .before .before .before .before .before .before .before .before .before .before .word-at .ensures) (c .before .before .before .before .before .before .before .before .letter .given .1) in
-    (line-built (a .program) line store out now (c .before .before .before .before .before .before .before .before .before .before .before .before .before .before .before .before .pre .0) _ _ _ (builds (programOf (a .program)) (progressOf store now) line (c .before .before .before .before .before .before .before .before .before .before .before .if1 .left) letter gs read (c .before .before .before .before .before .before .if2 .left)) (c .before .before .before .before .building-does .ensures) (c .before .before .before .before .before .before .before .before .before .before .before .before .before .before .before .before .pre .1 .1 .1) (c .enum-told2 .given .1), c .before .before .before .before .before .before .before .before .before .before .before .before .before .before .before .before .pre .1 .0)
+    let done = c .before .before .before .before in
+    let tested = done .before .before in
+    let s = begun (tested .before) in
+    let a = s .args in
+    (line-built (a .program) (a .line .now) (a .store .now) (a .out .now) (a .progress) (s .pre .0) _ _ _ (built (tested .before) (tested .if2 .left)) (done .building-does .ensures) (s .pre .1 .1 .1) (c .enum-told2 .given .1), s .pre .1 .0)
 
 pub line-does-spec : {M : Type 1} → statement M
 line-does-spec =

@@ -19,12 +19,16 @@ same-length c = search needs
 
 returns : tie.Need-returns
 returns c =
-    let a = c .before .before .before .before .before .before .before .before .before .before .before .before .args in
+    let refusal-put = c .before .before in
+    let cause-known = refusal-put .before .before .before in
+    let header-read = cause-known .before .before in
+    let s = header-read .before .before .before .before .before in
+    let a = s .args in
     let listing = a .listing .now in
     let store = a .store .now in
     let mapping = a .mapping .now in
     let out = a .out .now in
-    first-refused (a .program) listing store mapping out _ _ _ _ (c .before .before .before .before .before .before .before .header-cause .ensures) (c .before .before .before .before .before .cause .given .1) (c .before .before .put-refusal .ensures)
+    first-refused (a .program) listing store mapping out _ _ _ _ (header-read .header-cause .ensures) (cause-known .cause .given .1) (refusal-put .put-refusal .ensures)
 
 enum-told : tie.Need-enum-told
 enum-told c = search needs
@@ -37,9 +41,14 @@ empty-mapping-requires c κs = search needs
 
 run-requires : tie.Need-run-requires
 run-requires c κs =
-    let h = c .before .before .before .before .before .before .before .before .before .before .before .before .before .before .before .before .before .before .pre in
-    let b = c .before .before .before .before .before .before .before .before .before .before .before .before .before .header-cause .ensures .begun (c .before .before .before .before .before .before .before .before .before .before .before .enum-told .given .1) in
-    (c .before .before .before .before .before .before .before .before .before .empty-store .ensures .0, (c .before .before .before .before .before .before .before .before .before .empty-store .ensures .1, (c .before .before .before .before .before .empty-mapping .ensures, (omega arith, (b .long, (b .short, h .1 .1))))))
+    let mapping-emptied = c .before .before .before .before .before in
+    let store-emptied = mapping-emptied .before .before .before .before in
+    let header-passed = store-emptied .before .before in
+    let header-read = header-passed .before .before in
+    let s = header-read .before .before .before .before .before in
+    let h = s .pre in
+    let b = header-read .header-cause .ensures .begun (header-passed .enum-told .given .1) in
+    (store-emptied .empty-store .ensures .0, (store-emptied .empty-store .ensures .1, (mapping-emptied .empty-mapping .ensures, (omega arith, (b .long, (b .short, h .1 .1))))))
 
 same-length-2 : tie.Need-same-length-2
 same-length-2 c = search needs
@@ -52,12 +61,17 @@ same-length-4 c = search needs
 
 returns-2 : tie.Need-returns-2
 returns-2 c =
-    let a = c .before .before .before .before .before .before .before .before .before .before .before .before .before .before .before .before .before .before .before .before .before .before .before .before .before .args in
+    let lines-run = c .before .before .before .before .before .before in
+    let mapping-emptied = lines-run .before .before .before .before .before .before in
+    let header-passed = mapping-emptied .before .before .before .before .before .before in
+    let header-read = header-passed .before .before in
+    let s = header-read .before .before .before .before .before in
+    let a = s .args in
     let listing = a .listing .now in
     let store = a .store .now in
     let mapping = a .mapping .now in
     let out = a .out .now in
-    all-ran (a .program) listing store mapping out _ _ _ _ _ (c .before .before .before .before .before .before .before .before .before .before .before .before .before .before .before .before .before .before .before .before .header-cause .ensures) (c .before .before .before .before .before .before .before .before .before .before .before .before .before .before .before .before .before .before .enum-told .given .1) (c .before .before .before .before .before .before .run .ensures)
+    all-ran (a .program) listing store mapping out _ _ _ _ _ (header-read .header-cause .ensures) (header-passed .enum-told .given .1) (lines-run .run .ensures)
 
 pub listed-spec : {M : Type 1} → statement M
 listed-spec =

@@ -1,5 +1,6 @@
 -- `run` meets its contract: what is printed so far, followed by what the rules print from here on, is all. Assumes nothing.
-use Prim.Native.Nat.{_-_}
+use Prim.Native.Nat.{_-_, _≤_}
+use Rattle.rules.specs.Listings.{maxListing, maxOutput}
 use Rattle.layout.specs.Reading.{slice}
 use Rattle.listing.proofs.Runs.{Running, running-starts, running-turn, counts, has-room, few-lines, as-known, ran-out, ran-unended, ran-stopped}
 use native.Mathlib.Omega.{arith}
@@ -17,11 +18,30 @@ abbrev μ-loop : tie.MeasureT-loop
 μ-loop program listing store₀ mapping₀ out₀ from progress₀ number₀ start₀ store mapping out progress number start =
     length listing - start
 
+-- what the function is lent
+module _ (s : tie.Start Inv-loop μ-loop) where
+  roomy : maxOutput ≤ length (s .args .out .now)
+  roomy = s .pre .1 .1 .1 .1 .1 .1
+
+  short : length (s .args .listing .now) ≤ maxListing
+  short = s .pre .1 .1 .1 .1 .1 .0
+
+-- from a turn of the loop back to the function's start
+abbrev begun : tie.At-loop Inv-loop μ-loop → tie.Start Inv-loop μ-loop
+begun t = t .before .before .before .before .before
+
+-- behind a line: back to where it was done, and from there to where it was seen to have a line feed
+abbrev line-done : tie.After-slice-known7 Inv-loop μ-loop → tie.After-line-does Inv-loop μ-loop
+line-done c = c .before .before .before .before .before .before
+
+abbrev line-ended : tie.After-line-does Inv-loop μ-loop → tie.Else1 Inv-loop μ-loop
+line-ended d = d .before .before .before .before .before
+
 loop-holds : tie.Need-loop-holds Inv-loop μ-loop
 loop-holds c =
-    let a = c .before .before .before .before .args in
-    let h = c .before .before .before .before .pre in (
-      running-starts (a .program) (a .listing .now) (a .from) (a .out .now) (h .1 .1 .1 .1 .1 .1) (h .1 .1 .1 .1 .1 .0) (a .store .now) (a .mapping .now) (h .0) (h .1 .0) (h .1 .1 .0) (h .1 .1 .1 .0) (h .1 .1 .1 .1 .0),
+    let s = c .before .before .before .before in
+    let h = s .pre in (
+      running-starts (roomy s) (short s) (s .args .store .now) (s .args .mapping .now) (h .0) (h .1 .0) (h .1 .1 .0) (h .1 .1 .1 .0) (h .1 .1 .1 .1 .0),
       refl,
       refl,
       refl,
@@ -44,15 +64,12 @@ same-length-3 c = search needs
 
 returns : tie.Need-returns Inv-loop μ-loop
 returns c =
-    let a = c .before .before .before .before .before .before .before .before .before .before .before .before .args in
-    let p = a .program in
-    let listing = a .listing .now in
-    let out = a .out .now in
-    let from = a .from in
-    let w = c .before .before .before .before .before .before .before .loop in
-    let i = w .inv .0 in
-    let h = c .before .before .before .before .before .before .before .before .before .before .before .before .pre in
-    ran-unended p listing from out (h .1 .1 .1 .1 .1 .1) (h .1 .1 .1 .1 .1 .0) (w .store) (w .mapping) (w .out) (w .progress) (w .number) (w .start) i _ (c .before .before .before .before .before .piece-end .ensures) (c .before .before .before .before .before .before .loop-test .taken) _ _ (c .before .before .before .before .if1 .taken) (c .before .before .put-refusal .ensures)
+    let refused = c .before .before in
+    let tested = refused .before .before in
+    let cut = tested .before in
+    let turn = cut .before in
+    let s = begun (turn .before) in
+    ran-unended (roomy s) (short s) (turn .before .loop .inv .0) _ (cut .piece-end .ensures) (turn .loop-test .taken) _ _ (tested .if1 .taken) (refused .put-refusal .ensures)
 
 sub-line-does : tie.Need-sub-line-does Inv-loop μ-loop
 sub-line-does c = search needs
@@ -65,17 +82,14 @@ part-line-does-end c = search needs
 
 line-does-requires : tie.Need-line-does-requires Inv-loop μ-loop
 line-does-requires c κs =
-    let a = c .before .before .before .before .before .before .before .before .before .before .before .before .args in
-    let p = a .program in
-    let listing = a .listing .now in
-    let out = a .out .now in
-    let from = a .from in
-    let w = c .before .before .before .before .before .before .before .loop in
+    let tested = c .before .before .before .before in
+    let turn = tested .before .before in
+    let w = turn .before .loop in
     let i = w .inv .0 in
-    let h = c .before .before .before .before .before .before .before .before .before .before .before .before .pre in
-    let r = has-room p listing from out (h .1 .1 .1 .1 .1 .1) (h .1 .1 .1 .1 .1 .0) (w .store) (w .mapping) (w .out) (w .progress) (w .number) (w .start) i in
+    let s = begun (turn .before) in
+    let r = has-room (roomy s) (short s) i in
     let e = w .inv .3 in
-    (i .sound, (i .empty, (omega arith, counts p listing from out (h .1 .1 .1 .1 .1 .1) (h .1 .1 .1 .1 .1 .0) (w .store) (w .mapping) (w .out) (w .progress) (w .number) (w .start) i)))
+    (i .sound, (i .empty, (omega arith, counts (roomy s) (short s) i)))
 
 enum-known-step : tie.Need-enum-known-step Inv-loop μ-loop
 enum-known-step c = search needs
@@ -95,15 +109,14 @@ same-length-6 c = search needs
 returns-2 : tie.Need-returns-2 Inv-loop μ-loop
 unfolding slice
 returns-2 c =
-    let a = c .before .before .before .before .before .before .before .before .before .before .before .before .before .before .before .before .before .before .before .before .before .before .before .before .before .before .args in
-    let p = a .program in
-    let listing = a .listing .now in
-    let out = a .out .now in
-    let from = a .from in
-    let w = c .before .before .before .before .before .before .before .before .before .before .before .before .before .before .before .before .before .before .before .before .before .loop in
-    let i = w .inv .0 in
-    let h = c .before .before .before .before .before .before .before .before .before .before .before .before .before .before .before .before .before .before .before .before .before .before .before .before .before .before .pre in
-    ran-stopped p listing from out (h .1 .1 .1 .1 .1 .1) (h .1 .1 .1 .1 .1 .0) (w .store) (w .mapping) (w .out) (w .progress) (w .number) (w .start) i _ (c .before .before .before .before .before .before .before .before .before .before .before .before .before .before .before .before .before .before .before .piece-end .ensures) (c .before .before .before .before .before .before .before .before .before .before .before .before .before .before .before .before .before .before .before .before .loop-test .taken) (c .before .before .before .before .before .before .before .before .before .before .before .before .before .before .before .before .before .before .if1 .left) _ _ _ (as-known (c .before .before .before .before .before .step .given .1) (c .before .before .before .before .before .before .before .before .before .before .before .before .before .line-does .ensures .0)) _ _ _ (c .before .before .before .before .before .before .before .before .before .before .before .before .before .line-does .ensures .1) (c .before .before .put-refusal2 .ensures)
+    let refused = c .before .before in
+    let known = refused .before .before .before in
+    let done = line-done (known .before .before) in
+    let tested = line-ended done in
+    let cut = tested .before in
+    let turn = cut .before in
+    let s = begun (turn .before) in
+    ran-stopped (roomy s) (short s) (turn .before .loop .inv .0) _ (cut .piece-end .ensures) (turn .loop-test .taken) (tested .if1 .left) _ _ _ (as-known (known .step .given .1) (done .line-does .ensures .0)) _ _ _ (done .line-does .ensures .1) (refused .put-refusal2 .ensures)
 
 enum-known-step-2 : tie.Need-enum-known-step-2 Inv-loop μ-loop
 enum-known-step-2 c = search needs
@@ -113,10 +126,10 @@ add-start c = search needs
 
 add-number : tie.Need-add-number Inv-loop μ-loop
 add-number c =
-    let a = c .before .before .before .before .before .before .before .before .before .before .before .before .before .before .before .before .before .before .before .before .before .before .args in
-    let w = c .before .before .before .before .before .before .before .before .before .before .before .before .before .before .before .before .before .loop in
-    let h = c .before .before .before .before .before .before .before .before .before .before .before .before .before .before .before .before .before .before .before .before .before .before .pre in
-    omega (arith, few-lines (a .program) (a .listing .now) (a .from) (a .out .now) (h .1 .1 .1 .1 .1 .1) (h .1 .1 .1 .1 .1 .0) (w .store) (w .mapping) (w .out) (w .progress) (w .number) (w .start) (w .inv .0))
+    let done = line-done (c .before .before .before) in
+    let turn = line-ended done .before .before in
+    let s = begun (turn .before) in
+    omega (arith, few-lines (roomy s) (short s) (turn .before .loop .inv .0))
 
 loop-less : tie.Need-loop-less Inv-loop μ-loop
 loop-less c = search needs
@@ -124,18 +137,18 @@ loop-less c = search needs
 loop-again : tie.Need-loop-again Inv-loop μ-loop
 unfolding slice
 loop-again c =
-    let a = c .before .before .before .before .before .before .before .before .before .before .before .before .before .before .before .before .before .before .before .before .before .before .args in
-    let p = a .program in
-    let listing = a .listing .now in
-    let out = a .out .now in
-    let from = a .from in
-    let w = c .before .before .before .before .before .before .before .before .before .before .before .before .before .before .before .before .before .loop in
-    let i = w .inv .0 in
-    let h = c .before .before .before .before .before .before .before .before .before .before .before .before .before .before .before .before .before .before .before .before .before .before .pre in (
-      running-turn p listing from out (h .1 .1 .1 .1 .1 .1) (h .1 .1 .1 .1 .1 .0) (w .store) (w .mapping) (w .out) (w .progress) (w .number) (w .start) i _ (c .before .before .before .before .before .before .before .before .before .before .before .before .before .before .before .piece-end .ensures) (c .before .before .before .before .before .before .before .before .before .before .before .before .before .before .before .before .loop-test .taken) (c .before .before .before .before .before .before .before .before .before .before .before .before .before .before .if1 .left) _ _ _ (as-known (c .before .step2 .given .1) (c .before .before .before .before .before .before .before .before .before .line-does .ensures .0)) _ (c .before .before .before .before .before .before .before .before .before .line-does .ensures .1),
-      c .before .before .before .before .before .before .before .before .before .line-does .kept .1 .0 ∙ w .inv .1,
-      c .before .before .before .before .before .before .before .before .before .line-does .kept .1 .1 .0 ∙ w .inv .2,
-      c .before .before .before .before .before .before .before .before .before .line-does .kept .1 .1 .1 .0 ∙ w .inv .3,
+    let known = c .before in
+    let done = line-done (known .before .before) in
+    let tested = line-ended done in
+    let cut = tested .before in
+    let turn = cut .before in
+    let w = turn .before .loop in
+    let s = begun (turn .before) in
+    let kept = done .line-does .kept .1 in (
+      running-turn (roomy s) (short s) (w .inv .0) _ (cut .piece-end .ensures) (turn .loop-test .taken) (tested .if1 .left) _ _ _ (as-known (known .step2 .given .1) (done .line-does .ensures .0)) _ (done .line-does .ensures .1),
+      kept .0 ∙ w .inv .1,
+      kept .1 .0 ∙ w .inv .2,
+      kept .1 .1 .0 ∙ w .inv .3,
     )
 
 close-requires : tie.Need-close-requires Inv-loop μ-loop
@@ -152,15 +165,10 @@ same-length-9 c = search needs
 
 returns-3 : tie.Need-returns-3 Inv-loop μ-loop
 returns-3 c =
-    let a = c .before .before .before .before .before .before .before .before .before .before .args in
-    let p = a .program in
-    let listing = a .listing .now in
-    let out = a .out .now in
-    let from = a .from in
-    let w = c .before .before .before .before .before .loop in
-    let i = w .inv .0 in
-    let h = c .before .before .before .before .before .before .before .before .before .before .pre in
-    ran-out p listing from out (h .1 .1 .1 .1 .1 .1) (h .1 .1 .1 .1 .1 .0) (w .store) (w .mapping) (w .out) (w .progress) (w .number) (w .start) i _ _ (c .before .before .before .before .loop-test .left) (c .before .before .close .ensures)
+    let closed = c .before .before in
+    let tested = closed .before .before in
+    let s = begun (tested .before) in
+    ran-out (roomy s) (short s) (tested .before .loop .inv .0) _ _ (tested .loop-test .left) (closed .close .ensures)
 
 pub run-spec : {M : Type 1} → statement M
 run-spec =

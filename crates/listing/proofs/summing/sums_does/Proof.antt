@@ -27,32 +27,43 @@ put-hashes-requires c κs = search needs
 
 returns : tie.Need-returns
 returns c =
-    let s = c .before .before .before .before .before .before .before .before in
+    let left-known = c .before in
+    let right-hashed = left-known .before .before in
+    let left-hashed = right-hashed .before in
+    let s = left-hashed .before .before .before .before in
     let a = s .args in
-    let left = c .before .before .before .before .fragment-hash in
-    let right = c .before .before .before .fragment-hash2 in
-    left-stops (a .store .now) (a .progress) (a .query) (left .result) (right .result) (s .pre .0) (left .ensures) (right .ensures) (a .out .now) _ (c .before .left .given .1)
+    let left = left-hashed .fragment-hash in
+    let right = right-hashed .fragment-hash2 in
+    left-stops (a .store .now) (a .progress) (a .query) (left .result) (right .result) (s .pre .0) (left .ensures) (right .ensures) (a .out .now) _ (left-known .left .given .1)
 
 returns-2 : tie.Need-returns-2
 returns-2 c =
-    let s = c .before .before .before .before .before .before .before .before .before .before .before in
+    let right-known = c .before in
+    let left-known = right-known .before .before .before in
+    let right-hashed = left-known .before .before in
+    let left-hashed = right-hashed .before in
+    let s = left-hashed .before .before .before .before in
     let a = s .args in
-    let left = c .before .before .before .before .before .before .before .fragment-hash in
-    let right = c .before .before .before .before .before .before .fragment-hash2 in
-    right-stops (a .store .now) (a .progress) (a .query) (left .result) (right .result) (s .pre .0) (left .ensures) (right .ensures) (a .out .now) _ _ (c .before .before .before .before .left2 .given .1) (c .before .right .given .1)
+    let left = left-hashed .fragment-hash in
+    let right = right-hashed .fragment-hash2 in
+    right-stops (a .store .now) (a .progress) (a .query) (left .result) (right .result) (s .pre .0) (left .ensures) (right .ensures) (a .out .now) _ _ (left-known .left2 .given .1) (right-known .right .given .1)
 
 same-length : tie.Need-same-length
 same-length c = search needs
 
 returns-3 : tie.Need-returns-3
 returns-3 c =
-    let s = c .before .before .before .before .before .before .before .before .before .before .before .before .before .before .before in
+    let printed = c .before .before .before in
+    let of-right = printed .before .before .before in
+    let of-left = of-right .before .before .before in
+    let both = of-left .before .before in
+    let s = both .before .before .before .before .before in
     let a = s .args in
-    let left = c .before .before .before .before .before .before .before .before .before .before .before .fragment-hash in
-    let right = c .before .before .before .before .before .before .before .before .before .before .fragment-hash2 in
-    let put = c .before .before .put-hashes in
+    let left = both .before .fragment-hash in
+    let right = both .fragment-hash2 in
+    let put = printed .put-hashes in
     sums-goes (a .store .now) (a .progress) (a .query) (left .result) (right .result) (s .pre .0) (left .ensures) (right .ensures) (a .out .now) _ _
-    (c .before .before .before .before .before .before .before .before .left2 .given .1) (c .before .before .before .before .before .right2 .given .1) (s .pre .1 .1) (put .last .0) (put .result) (put .ensures)
+    (of-left .left2 .given .1) (of-right .right2 .given .1) (s .pre .1 .1) (put .last .0) (put .result) (put .ensures)
 
 pub sums-does-spec : {M : Type 1} → statement M
 sums-does-spec =
