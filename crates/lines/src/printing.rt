@@ -9,7 +9,7 @@ ghost use mathlib.Core.List.{[], _∷_, _++_};
 ghost use Prim.Native.Nat.{_+_, _≤_};
 ghost use lib.ListN.{length};
 ghost use Rattle.rules.specs.Bytes.{comma, lineFeed, decimal};
-ghost use Rattle.rules.specs.Listings.{refusal, equalLine, sortText, unequalLine, hashesLine, perCent, shareLine};
+ghost use Rattle.rules.specs.Listings.{refusal, equalLine, sortText, unequalLine, hashesLine, roundedUp, perCent, shareLine};
 ghost use Rattle.rules.specs.Comparison.{pairOf};
 ghost use Rattle.fragments.specs.Sorts.{sortOf};
 ghost use Rattle.lines.specs.Wrote.{Wrote};
@@ -90,7 +90,20 @@ pub fn put_hashes(out: &mut [u8], at: usize, l: u64, r: u64) -> usize
     put_byte(out, end, LINE_FEED)
 }
 
-// How many per cent `part` is of `whole`, rounded down; 0 if there is nothing.
+// Whether a quotient is rounded up, 1 or 0, by twice the rest: past the half it is, at the half to the even number.
+fn rounded_up(quotient: u64, twice: u64, divisor: u64) -> u64
+    ensures { λ r. ⌜ r ≡ roundedUp quotient twice divisor ⌝ }
+{
+    if twice > divisor {
+        return 1;
+    }
+    if twice == divisor {
+        return quotient % 2;
+    }
+    0
+}
+
+// How many per cent `part` is of `whole`, to the nearest; 0 if there is nothing.
 fn per_cent(part: u64, whole: u64) -> u32
     requires { ⌜ part ≤ whole ⌝ }
     requires { ⌜ whole ≤ mostShared ⌝ }
@@ -99,7 +112,10 @@ fn per_cent(part: u64, whole: u64) -> u32
     if whole == 0 {
         return 0;
     }
-    (part * 100 / whole) as u32
+    let hundredths = part * 100;
+    let cent = hundredths / whole;
+    let twice = 2 * (hundredths % whole);
+    (cent + rounded_up(cent, twice, whole)) as u32
 }
 
 // The line of the share: how many per cent of all operations were found equal.

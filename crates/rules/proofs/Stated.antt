@@ -5,6 +5,7 @@ use Rattle.rules.specs.Statements as stated
 use Rattle.rules.proofs.Soundness.Kept as kept
 use Rattle.rules.proofs.Walking.Answered as walking
 use Rattle.rules.proofs.Walking.Paired as pairing
+use Rattle.rules.proofs.Listings.Nearest as nearest
 use Rattle.rules.proofs.Walking.Sizes as sizing
 use Rattle.rules.proofs.Form.Canonical as forms
 use Rattle.rules.proofs.Listings.Short as printing
@@ -56,3 +57,7 @@ size-most s sd f n size i e = sizing.size-most s sd f n size i e
 pub output-fits : stated.OutputFits
 unfolding stated.OutputFits
 output-fits bytes = (printing.twins-short bytes, printing.sums-short bytes)
+
+pub per-cent-nearest : stated.PerCentNearest
+unfolding stated.PerCentNearest
+per-cent-nearest part whole pos = nearest.per-cent-nearest part whole pos

@@ -1,12 +1,14 @@
 -- Listings and what the programs print for them: 01's example first, then each way in which a line is refused.
 use Prim.Native.Nat.{ℕ}
 use Prim.Native.String.{String}
+use mathlib.Core.Bool.{true}
 use mathlib.Core.List.{List, [], _∷_, _++_}
 use mathlib.Core.Path.{_≡_}
+use lib.Dec.{eqb}
 use lib.ListN.{replicate}
-use Rattle.rules.specs.Lists.{concatMap}
+use Rattle.rules.specs.Lists.{every, concatMap}
 use Rattle.rules.specs.Bytes.{text, lineFeed}
-use Rattle.rules.specs.Listings.{twins, sums}
+use Rattle.rules.specs.Listings.{perCent, twins, sums}
 
 -- these lines, each ended by its line feed
 unfoldable pub lines : List String → List ℕ
@@ -44,6 +46,16 @@ exampleListing =
 -- one operation, then these lines
 unfoldable pub withOne : List String → List ℕ
 withOne ls = lines ("opstore,1" ∷ "o,1,-,0,0,0,0,0" ∷ ls)
+
+-- one operation, and one of another kind with four or six in a block; then these lines
+unfoldable pub inBlock : List String
+inBlock = "o,3,0,0,0,0,0,0" ∷ "o,3,0,0,0,0,0,0" ∷ "o,3,0,0,0,0,0,0" ∷ "o,3,0,0,0,0,0,0" ∷ []
+
+unfoldable pub withFive : List String → List ℕ
+withFive rest = withOne ("o,2,-,0,1,0,0,0" ∷ "b,0,0,0,0" ∷ (inBlock ++ rest))
+
+unfoldable pub withSeven : List String → List ℕ
+withSeven rest = withFive ("o,3,0,0,0,0,0,0" ∷ "o,3,0,0,0,0,0,0" ∷ rest)
 
 unfoldable pub listingCases : List ListingCase
 listingCases =
@@ -97,4 +109,25 @@ listingCases =
     ∷ twinsPrints
     (withOne ("o,2,-,0,2,0,0,0" ∷ "b,0,0,0,0" ∷ "b,0,0,0,0" ∷ "b,1,0,0,0" ∷ "o,1,0,0,0,0,0,0" ∷ "q,r,0,1,0,0" ∷ "q,b,0,1,0,0" ∷ "q,b,1,2,0,0" ∷ []))
     ("region,0,1,1" ∷ "block,0,1,1" ∷ "eq,-,-,1" ∷ "share,0" ∷ [])
+    -- 1 and 3 of 8 operations: an exact half, to the even number
+    ∷ twinsPrints (withSeven ("q,o,0,0,0,0" ∷ "q,o,0,1,0,0" ∷ [])) ("eq,-,-,1" ∷ "op,0,1,0" ∷ "share,12" ∷ [])
+    ∷ twinsPrints
+    (withFive ("q,o,0,0,0,0" ∷ "q,o,0,0,0,0" ∷ "q,o,0,0,0,0" ∷ "q,o,0,1,0,0" ∷ []))
+    ("eq,-,-,1" ∷ "eq,-,-,1" ∷ "eq,-,-,1" ∷ "op,0,1,0" ∷ "share,38" ∷ [])
     ∷ []
+
+-- ---- the per cent
+
+unfoldable pub ShareCases : Type 0
+ShareCases =
+    every
+    (eqb (perCent 1 8) 12
+    ∷ eqb (perCent 3 8) 38
+    ∷ eqb (perCent 5 8) 62
+    ∷ eqb (perCent 7 8) 88
+    ∷ eqb (perCent 1 200) 0
+    ∷ eqb (perCent 3 200) 2
+    ∷ eqb (perCent 199 200) 100
+    ∷ eqb (perCent 0 0) 0
+    ∷ [])
+    ≡ true

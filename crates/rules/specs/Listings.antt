@@ -1,10 +1,10 @@
 -- 01, "Listings": the two programs, from the bytes of a listing to the bytes that are printed. "A program tests 11 (listing's length,
 -- line 1), then per line 11, 9, 10, then the call."
-use Prim.Native.Nat.{ℕ, suc, _+_, _*_, _/_}
+use Prim.Native.Nat.{ℕ, suc, _+_, _*_, _/_, _%_}
 use mathlib.Core.Bool.{Bool, true, false, cond}
 use mathlib.Core.Option.{Option, none, some, Option·getD}
 use mathlib.Core.List.{List, [], _∷_, _++_}
-use lib.Dec.{eqb, leb}
+use lib.Dec.{eqb, leb, ltb}
 use lib.ListN.{length}
 use Rattle.rules.specs.Store.{Store, emptyStore}
 use Rattle.rules.specs.Fragments.{Sort, op, block, region, fragmentSize}
@@ -45,7 +45,8 @@ unfoldable pub hashesLine : ℕ → ℕ → List ℕ
 hashesLine left right = printed (hexadecimal left ∷ hexadecimal right ∷ [])
 
 -- ---- "The share is the operations inside right fragments found equal, a fragment's own operation included, over those inside all right
--- fragments, in whole per cent rounded down; 0 over nothing."
+-- fragments, in whole per cent": to "the nearest per cent and an exact half to the even number". "The half is decided on whole numbers. 0
+-- over nothing is still 0."
 
 pub record Tally : Type 0 where
   pub equal : ℕ
@@ -62,8 +63,16 @@ opsIn s f n = Option·getD (fragmentSize s f n) 0
 unfoldable pub tallied : Bool → Store → Sort → ℕ → Tally → Tally
 tallied found s f n t = record { equal = t .equal + cond found (opsIn s f n) 0; all = t .all + opsIn s f n }
 
+-- whether a quotient is rounded up, 1 or 0: by twice the rest, beside the divisor
+unfoldable pub roundedUp : ℕ → ℕ → ℕ → ℕ
+roundedUp quotient twice divisor = cond (ltb divisor twice) 1 (cond (eqb twice divisor) (quotient % 2) 0)
+
+-- n over a divisor above 0, to the nearest whole number, an exact half to the even one
+unfoldable pub nearest : ℕ → ℕ → ℕ
+nearest n divisor = n / divisor + roundedUp (n / divisor) (2 * (n % divisor)) divisor
+
 unfoldable pub perCent : ℕ → ℕ → ℕ
-perCent part whole = cond (eqb whole 0) 0 (part * 100 / whole)
+perCent part whole = cond (eqb whole 0) 0 (nearest (part * 100) whole)
 
 unfoldable pub shareLine : Tally → List ℕ
 shareLine t = printed (text "share" ∷ decimal (perCent (t .equal) (t .all)) ∷ [])

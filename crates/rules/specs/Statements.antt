@@ -1,6 +1,6 @@
 -- What is proved of the rules, statement by statement, as the documents cite it; `proofs/Stated` has a proof of each, of the name that
 -- stands beside it. Demand 3 is in `Laws`, agreement with the Rust in `Agreement`, computed cases are in `Cases` and `ListingCases`.
-use Prim.Native.Nat.{ℕ, _+_, _≤_}
+use Prim.Native.Nat.{ℕ, _+_, _*_, _-_, _%_, _<_, _≤_}
 use mathlib.Core.Bool.{Bool, true, false}
 use mathlib.Core.List.{List, [], _∷_, _++_, map}
 use mathlib.Core.Logic.{_↔_, _⊎_}
@@ -17,7 +17,7 @@ use Rattle.rules.specs.Mapping.{Mapping, emptyMapping, allowed}
 use Rattle.rules.specs.Comparison.{State, standing, compare, compareBy}
 use Rattle.rules.specs.Hash.{hash}
 use Rattle.rules.specs.Answers.{eq, refused, comparisonOf, comparison, hashIs, hashed}
-use Rattle.rules.specs.Listings.{twins, sums, maxOutput}
+use Rattle.rules.specs.Listings.{perCent, twins, sums, maxOutput}
 use Rattle.rules.specs.Laws.{In, Equal, equal}
 use Rattle.rules.specs.Form.{canonical}
 use Rattle.rules.specs.Cases.{ignoring}
@@ -132,6 +132,18 @@ SizeMost = (s : Store) → sound s ≡ true → (f : Sort) (n size : ℕ) → In
 -- the output of a listing fits: `output-fits`
 unfoldable pub OutputFits : Type 0
 OutputFits = (bytes : List ℕ) → (length (twins bytes) ≤ maxOutput) × (length (sums bytes) ≤ maxOutput)
+
+-- how far two numbers are apart
+unfoldable pub apart : ℕ → ℕ → ℕ
+apart a b = (a - b) + (b - a)
+
+-- the per cent is the nearest whole number to a hundred times the part over the whole, and where two are equally near, the even one:
+-- `per-cent-nearest`
+unfoldable pub PerCentNearest : Type 0
+PerCentNearest =
+    (part whole : ℕ) → 0 < whole
+    → (2 * apart (perCent part whole * whole) (100 * part) ≤ whole)
+    × (2 * apart (perCent part whole * whole) (100 * part) ≡ whole → perCent part whole % 2 ≡ 0)
 
 -- ---- attributes
 
