@@ -51,6 +51,15 @@ typedef struct {
     uint32_t cause;
 } wz_output;
 
+/* Where a mapping has entries: at most in its words `value` up to `end`, which are of values, and `owner` up to `past`, which are of blocks and
+ * operations. Where the first number is not the smaller one, there are none. */
+typedef struct {
+    uint32_t value;
+    uint32_t end;
+    uint32_t owner;
+    uint32_t past;
+} wz_entries;
+
 /* The words of a store. */
 size_t wz_store_words(void);
 
@@ -65,6 +74,12 @@ bool wz_is_sound(const uint32_t *store, size_t words);
 
 /* Is the mapping allowed beside this store? */
 bool wz_known_is_allowed(const uint32_t *store, size_t words, const uint32_t *mapping, size_t entries);
+
+/* Where the entries are that one comparison, which answered `paired`, has made in an empty mapping: to set these words to 4294967295 empties it.
+ * `sort` is 0 for operations, 1 for blocks, 2 for regions, and `lhs` the left number. The mapping must have its entries from that comparison
+ * alone. */
+wz_entries wz_known_entered(const uint32_t *store, size_t words, const uint32_t *mapping, size_t entries, uint32_t sort, uint32_t lhs,
+                            uint32_t paired);
 
 /* A new operation, at the end of `block` if it is `placed` in one, with so many regions, with results of these types, operands (values) and
  * successors (blocks). */

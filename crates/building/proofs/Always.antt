@@ -18,23 +18,26 @@ use Rattle.layout.proofs.Buffer.{write-shaped, writeRange-shaped}
 use Rattle.layout.proofs.Filled.{filled}
 use Rattle.layout.proofs.Empty.{sound-facts}
 use Rattle.layout.proofs.Tabulate.{ops-length, blocks-length}
-use Rattle.building.specs.declared.types.Built.{Built}
-use Rattle.building.specs.declared.types.Built.the-variants as Builts
-use Rattle.building.specs.Types.{builtOf}
-use Rattle.building.specs.Raw.{withOperation, withBlock, withAttribute, withOperand, inserted, replaced, added, slotFor, keyThere}
-use Rattle.building.specs.Calls.{Did, Answered, Made, AlwaysMade}
-use Rattle.building.proofs.Facts.{shaped, laid}
-use Rattle.building.proofs.Doing.{did-refuse, did-work}
-use Rattle.building.proofs.Operating.{parent-in, allowed}
-use Rattle.building.proofs.Causes.{fits-block, there-operand}
-use Rattle.building.proofs.Adding.OperationWritten.{made-shaped}
-use Rattle.building.proofs.Adding.NewOperation.{operation-reads, operation-laid}
-use Rattle.building.proofs.Adding.NewBlock.{block-shaped, block-reads, block-laid}
-use Rattle.building.proofs.Setting.Owners.{reachable}
-use Rattle.building.proofs.Setting.KeySlot.{slot-low}
-use Rattle.building.proofs.Setting.Causes.{owner-there, room-there}
-use Rattle.building.proofs.Setting.Placed.{attribute-done}
-use Rattle.building.proofs.Setting.SetOperand.{operand-reads, operand-laid}
+use Rattle.calling.specs.declared.types.Built.{Built}
+use Rattle.calling.specs.declared.types.Built.the-variants as Builts
+use Rattle.calling.specs.Types.{builtOf}
+use Rattle.calling.specs.Doing.{Did}
+use Rattle.calling.proofs.Facts.{shaped, laid}
+use Rattle.calling.proofs.Doing.{did-refuse, did-work}
+use Rattle.adding.specs.Raw.{withOperation, withBlock}
+use Rattle.setting.specs.Raw.{withAttribute, withOperand, inserted, replaced, added, slotFor, keyThere}
+use Rattle.building.specs.Calls.{Answered, Made, AlwaysMade}
+use Rattle.adding.proofs.Operating.{parent-in, allowed}
+use Rattle.adding.proofs.BlockCauses.{fits-block}
+use Rattle.adding.proofs.OperationWritten.{made-shaped}
+use Rattle.adding.proofs.NewOperation.{operation-reads, operation-laid}
+use Rattle.adding.proofs.NewBlock.{block-shaped, block-reads, block-laid}
+use Rattle.setting.proofs.OperandCauses.{there-operand}
+use Rattle.setting.proofs.Owners.{reachable}
+use Rattle.setting.proofs.KeySlot.{slot-low}
+use Rattle.setting.proofs.AttributeCauses.{owner-there, room-there}
+use Rattle.setting.proofs.Placed.{attribute-done}
+use Rattle.setting.proofs.SetOperand.{operand-reads, operand-laid}
 use Rattle.building.proofs.Answering.{turned-down, taken-up}
 
 -- ---- what is set keeps the columns' lengths
@@ -91,33 +94,34 @@ module _ (b : List ℕ) (h : IsSound b) where
 
   work : (c : Call) → firstFailed (tests (storeIn b) c) ≡ none → Doing c
   unfolding acceptance builtOf opCount blockCount
-  work (newOperation kind p location regions types operands successors) e =
+  work (newOperation new) e =
       let C = columns b in
-      let ok = allowed b h kind p location regions types operands successors e in
-      let x = filled (withOperation C kind p location regions types operands successors) (made-shaped C kind p location regions types operands successors (shaped b h) (ok .room)) in (
+      let ok = allowed b h new e in
+      let x = filled (withOperation C new) (made-shaped C new (shaped b h) (ok .room)) in (
         x .0,
         Builts.Made (opCount C),
-        did-work b h _ _ (x .0) e (x .1 ∙ sym (h .sized))
-            (ap storeOf (x .2) ∙ operation-reads C kind p location regions types operands successors (shaped b h) (ok .room) (laid b h))
-            (subst Laid (sym (x .2)) (operation-laid C kind p location regions types operands successors (shaped b h) (ok .room) (laid b h) (parent-in b h p (ok .parent))))
+        did-work b h _ _ (x .0) e (x .1 ∙ sym (h .sized)) (ap storeOf (x .2) ∙ operation-reads C new (shaped b h) (ok .room) (laid b h))
+            (subst Laid (sym (x .2)) (operation-laid C new (shaped b h) (ok .room) (laid b h) (parent-in b h (new .parent) (ok .parent))))
             (ap made (sym (ops-length C))),
       )
-  work (newBlock region label location types) e =
+  work (newBlock new) e =
       let C = columns b in
-      let f = fits-block b h region label location types e in
-      let x = filled (withBlock C region label location types) (block-shaped C region label location types (shaped b h) (f .room)) in (
+      let f = fits-block b h new e in
+      let x = filled (withBlock C new) (block-shaped C new (shaped b h) (f .room)) in (
         x .0,
         Builts.Made (blockCount C),
-        did-work b h _ _ (x .0) e (x .1 ∙ sym (h .sized))
-            (ap storeOf (x .2) ∙ block-reads C region label location types (shaped b h) (f .room) (laid b h))
-            (subst Laid (sym (x .2)) (block-laid C region label location types (shaped b h) (f .room) (laid b h) (f .named)))
+        did-work b h _ _ (x .0) e (x .1 ∙ sym (h .sized)) (ap storeOf (x .2) ∙ block-reads C new (shaped b h) (f .room) (laid b h))
+            (subst Laid (sym (x .2)) (block-laid C new (shaped b h) (f .room) (laid b h) (f .named)))
             (ap made (sym (blocks-length C))),
       )
   work (setAttribute w a) e =
       let x = filled (withAttribute (columns b) w a) (attribute-shaped b h w a e) in
       (x .0, Builts.Accepted, attribute-done b h w a (x .0) e (x .1 ∙ sym (h .sized)) (x .2))
-  work (setOperand n i v) e =
+  work (setOperand u) e =
       let C = columns b in
+      let n = u .operation in
+      let i = u .index in
+      let v = u .value in
       let t = there-operand b h n i v e in
       let x = filled (withOperand C n i v) (operand-shaped C n i v (shaped b h)) in (
         x .0,

@@ -11,9 +11,10 @@ use Rattle.layout.specs.Reading.{storeIn}
 use Rattle.layout.specs.Columns.{emptyBuffer}
 use Rattle.layout.specs.Soundness.{soundBuffer}
 use Rattle.layout.proofs.Empty.{sound-of, zeros-read, zeros-sound}
-use Rattle.building.specs.declared.types.Built.{Built}
-use Rattle.building.specs.Types.{builtOf}
-use Rattle.building.specs.Calls.{Did, Answered, Made, IsEmpty, AfterCalls}
+use Rattle.calling.specs.declared.types.Built.{Built}
+use Rattle.calling.specs.Types.{builtOf}
+use Rattle.calling.specs.Doing.{Did}
+use Rattle.building.specs.Calls.{Answered, Made, IsEmpty, AfterCalls}
 
 module _ (b : List ℕ) (c : Call) (r : Built) where
   chosen : (t : Bool) → soundBuffer b ≡ t → cond (soundBuffer b) (answer (storeIn b) c) (refused 1) ≡ cond t (answer (storeIn b) c) (refused 1)

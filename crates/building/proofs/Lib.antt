@@ -1,9 +1,3 @@
--- The calls keep the buffer sound and do what the rules say.
-pub mod Adding
-pub mod Setting
-pub mod Facts
-pub mod Doing
-pub mod Causes
-pub mod Operating
+-- The offered calls answer what the rules say, always and in a row.
 pub mod Answering
 pub mod Always

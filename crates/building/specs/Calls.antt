@@ -6,17 +6,9 @@ use mathlib.Core.Path.{_≡_}
 use Rattle.rules.specs.Store.{emptyStore}
 use Rattle.rules.specs.Building.{Call, refused, answer, built, after}
 use Rattle.layout.specs.Reading.{storeIn}
-use Rattle.layout.specs.Soundness.{soundBuffer, IsSound}
-use Rattle.building.specs.declared.types.Built.{Built}
-use Rattle.building.specs.Types.{builtOf}
-
--- a call on a sound buffer: the answer and the store afterwards are the rules', the buffer is sound again, and a refused call has
--- changed no word
-pub record Did (entry exit : List ℕ) (c : Call) (r : Built) : Type 0 where
-  pub answered : builtOf r ≡ answer (storeIn entry) c
-  pub reads : storeIn exit ≡ built (storeIn entry) c
-  pub sound : IsSound exit
-  pub unchanged : (cause : ℕ) → builtOf r ≡ refused cause → exit ≡ entry
+use Rattle.layout.specs.Soundness.{soundBuffer}
+use Rattle.calling.specs.declared.types.Built.{Built}
+use Rattle.calling.specs.Types.{builtOf}
 
 -- a call on any buffer: cause 1 first, where it isn't sound
 pub record Answered (entry exit : List ℕ) (c : Call) (r : Built) : Type 0 where

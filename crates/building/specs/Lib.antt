@@ -1,4 +1,2 @@
--- The building calls over the columns of the buffer.
-pub mod Raw
-pub mod Types
+-- The building calls on any buffer.
 pub mod Calls

@@ -3,10 +3,11 @@ use crate::types::Attribute;
 use crate::types::Built;
 use crate::types::Owner;
 use crate::types::Parent;
+use calling::types::OpFields;
 use layout::sound::is_sound;
 ghost use Rattle.rules.specs.Building.{newOperation, newBlock, setAttribute, setOperand};
 ghost use Rattle.layout.specs.Owners.{ownerOf};
-ghost use Rattle.building.specs.Types.{parentOf, attributeOf};
+ghost use Rattle.calling.specs.Types.{parentOf, attributeOf};
 ghost use Rattle.building.specs.Calls.{Answered};
 
 pub fn new_operation(
@@ -19,30 +20,40 @@ pub fn new_operation(
     operands: &[u32],
     successors: &[u32],
 ) -> Built
-    ensures { λ r. ⌜ Answered (now (store .entry)) (now (store .exit)) (newOperation kind (parentOf parent) location regions (now (types .entry)) (now (operands .entry)) (now (successors .entry))) r ⌝ }
+    ensures { λ r. ⌜ Answered (now (store .entry)) (now (store .exit)) (newOperation (record {
+      kind = kind;
+      parent = parentOf parent;
+      location = location;
+      regions = regions;
+      types = now (types .entry);
+      operands = now (operands .entry);
+      successors = now (successors .entry);
+    })) r ⌝ }
 {
     if !is_sound(store) {
         return Built::Refused(1);
     }
-    crate::operations::new_operation(
-        store,
+    let fields = OpFields {
         kind,
         parent,
         location,
         regions,
-        types,
-        operands,
-        successors,
-    )
+    };
+    adding::operations::new_operation(store, fields, types, operands, successors)
 }
 
 pub fn new_block(store: &mut [u32], region: u32, label: u32, location: u32, types: &[u32]) -> Built
-    ensures { λ r. ⌜ Answered (now (store .entry)) (now (store .exit)) (newBlock region label location (now (types .entry))) r ⌝ }
+    ensures { λ r. ⌜ Answered (now (store .entry)) (now (store .exit)) (newBlock (record {
+      region = region;
+      label = label;
+      location = location;
+      types = now (types .entry);
+    })) r ⌝ }
 {
     if !is_sound(store) {
         return Built::Refused(1);
     }
-    crate::blocks::new_block(store, region, label, location, types)
+    adding::blocks::new_block(store, region, label, location, types)
 }
 
 pub fn set_attribute(store: &mut [u32], owner: Owner, attribute: Attribute) -> Built
@@ -51,15 +62,15 @@ pub fn set_attribute(store: &mut [u32], owner: Owner, attribute: Attribute) -> B
     if !is_sound(store) {
         return Built::Refused(1);
     }
-    crate::attributes::set_attribute(store, owner, attribute)
+    setting::attributes::set_attribute(store, owner, attribute)
 }
 
 // Operand i of operation n becomes value v.
 pub fn set_operand(store: &mut [u32], n: u32, i: u32, v: u32) -> Built
-    ensures { λ r. ⌜ Answered (now (store .entry)) (now (store .exit)) (setOperand n i v) r ⌝ }
+    ensures { λ r. ⌜ Answered (now (store .entry)) (now (store .exit)) (setOperand (record { operation = n; index = i; value = v })) r ⌝ }
 {
     if !is_sound(store) {
         return Built::Refused(1);
     }
-    crate::operands::set_operand(store, n, i, v)
+    setting::operands::set_operand(store, n, i, v)
 }

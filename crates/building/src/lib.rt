@@ -1,9 +1,3 @@
-// The building calls.
-pub mod attributes;
-pub mod blocks;
+// The building calls, on any buffer.
 pub mod calls;
-pub mod operands;
-pub mod operations;
-pub mod tests;
 pub mod types;
-pub mod writes;

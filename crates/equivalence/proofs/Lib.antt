@@ -12,3 +12,6 @@ pub mod Zipped
 pub mod Named
 pub mod Rounds
 pub mod Answering
+pub mod Searching
+pub mod Blanked
+pub mod AfterEmpty

@@ -5,3 +5,4 @@ pub mod Rows
 pub mod Walked
 pub mod Order
 pub mod Calls
+pub mod Unmapping

@@ -14,3 +14,4 @@ pub mod passes;
 pub mod regions;
 pub mod shells;
 pub mod types;
+pub mod unmapping;

@@ -1,3 +1,4 @@
--- What the offered calls answer meets demands 2 and 3.
+-- What the offered calls answer meets demands 2 and 3, and what they leave may be lent again.
 pub mod Obeyed
 pub mod Agreed
+pub mod Lent

@@ -97,7 +97,7 @@ module _ (C : Cols) (z : (i : ℕ) → i < 8 → at C counts i ≡ 0) where
 
 -- ---- the buffer of zeros
 
-zeros : (n i : ℕ) → getD {A = ℕ} (replicate n 0) i 0 ≡ 0
+pub zeros : (n i : ℕ) → getD {A = ℕ} (replicate n 0) i 0 ≡ 0
 zeros zero i = refl
 zeros (suc n) zero = refl
 zeros (suc n) (suc i) = zeros n i

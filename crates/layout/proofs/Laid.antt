@@ -9,7 +9,7 @@ use Rattle.rules.specs.Store.{ofOp, ofBlock, maxOps, maxBlocks, maxRegions, max
 use Rattle.rules.proofs.Basics.Tests.{and-left, and-right, and-both, passed, every-of, allBelow-at, allBelow-of}
 use Rattle.layout.specs.Columns.{Cols, columnSize, at, opParent, opRegionFirst, opRegionEnd, opResultFirst, opResultEnd, opOperandFirst, opOperandEnd, opSuccessorFirst, opSuccessorEnd, opAttributes, regionOp, regionBlockFirst, regionBlockEnd, blockRegion, blockArgumentFirst, blockArgumentEnd, blockOpEnd, blockAttributes, valueOwner}
 use Rattle.layout.specs.Reading.{opCount, blockCount, regionCount, valueCount, operandCount, successorCount, attributeCount, parentFrom, ownerCode}
-use Rattle.layout.specs.Soundness.{ranged, within, owned, ownedWithin, endBefore, tiled, placed, regionsOwned, resultsOwned, listsTiled, opLaid, blockLaid, regionLaid, valueLaid, attributeSum, countsHold, countsLaid, laidOut, opLinked, blockLinked}
+use Rattle.layout.specs.Soundness.{ranged, within, owned, ownedWithin, endBefore, tiled, placed, regionsOwned, resultsOwned, argumentsOwned, listsTiled, opLaid, blockLaid, regionLaid, valueLaid, attributeSum, countsHold, countsLaid, laidOut, opLinked, blockLinked}
 
 -- each column is as long as it should be
 abbrev pub Shaped : Cols → Type 0
@@ -132,7 +132,7 @@ op-of C n h =
     every-of _ (h .place, (owned-of C _ _ _ _ _ (h .regions), (owned-of C _ _ _ _ _ (h .results), (lists, (le-leb _ _ (h .keys), tt)))))
 
 pub block-facts : (C : Cols) (m : ℕ) → blockLaid C m ≡ true → BlockLaid C m
-unfolding blockLaid
+unfolding blockLaid argumentsOwned
 block-facts C m h =
     let p = passed _ h in
     record {
@@ -144,7 +144,7 @@ block-facts C m h =
     }
 
 pub block-of : (C : Cols) (m : ℕ) → BlockLaid C m → blockLaid C m ≡ true
-unfolding blockLaid
+unfolding blockLaid argumentsOwned
 block-of C m h =
     every-of _ (lt-ltb _ _ (h .regionIn), (within-of _ _ _ (h .place), (owned-of C _ _ _ _ _ (h .arguments), (le-leb _ _ (h .ops), (le-leb _ _ (h .keys), tt)))))
 

@@ -15,6 +15,8 @@ pub mod Rules
 pub mod ChildList
 pub mod Finds
 pub mod Linking
+pub mod Following
+pub mod Going
 pub mod Seeking
 pub mod Slots
 pub mod Empty

@@ -1,28 +1,21 @@
--- Links: what the test of a link says, that a link leads to the next child of the list, and how the next child of each owner is known when the children are gone through from the last to the first. Assumes nothing.
+-- Links: what the test of a link says, that a link leads to the next child, and what the links of a laid out buffer are. Assumes nothing.
 use Prim.Native.Nat.{ℕ, zero, suc, _+_, _-_, _<_, _≤_}
 use native.Mathlib.Decide.{ℕ-discrete}
 use native.Mathlib.Numerals.{add-one}
 use native.Mathlib.Omega.{arith}
 use mathlib.Core.Bool.{Bool, true, false, cond, _&&_}
-use mathlib.Core.List.{List}
 use mathlib.Core.Option.{Option, none, some}
-use mathlib.Core.Path.{_≡_, refl, sym, ap, ap₂, subst, _∙_}
+use mathlib.Core.Path.{_≡_, refl, sym, ap, subst, _∙_}
 use borrow.Author.Tests.{eqb-true, eq-eqb, ne-eqb, ltb-true, lt-ltb, le-ltb}
 use lib.Dec.{eqb, ltb}
-use lib.ListN.{length, getD, set, replicate, length-set}
-use lib.Seq.{getD-set-same, getD-set-other}
-use Rattle.rules.specs.Lists.{allBelow}
-use Rattle.rules.specs.Store.{opsOf, blocksOf}
-use Rattle.rules.proofs.Basics.Tests.{and-left, and-right, and-both, allBelow-of}
+use Rattle.rules.proofs.Basics.Tests.{and-left, and-right, and-both}
 use Rattle.layout.specs.Columns.{Cols, at, opParent, opNext, regionBlockEnd, blockRegion, blockOpEnd, blockNext}
-use Rattle.layout.specs.Reading.{opCount, blockCount, parentFrom, storeOf}
-use Rattle.layout.specs.declared.children.Found.{Found}
-use Rattle.layout.specs.declared.children.Found.the-variants.{At, Nothing}
-use Rattle.layout.specs.Children.{firstFrom, firstWord, wordFrom, foundFrom, linkFound, behindChild}
+use Rattle.layout.specs.Reading.{opCount, blockCount, parentFrom}
+use Rattle.layout.specs.declared.children.Found.the-variants.{At}
+use Rattle.layout.specs.Children.{firstWord, wordFrom, foundFrom, linkFound, behindChild}
 use Rattle.layout.specs.Soundness.{placed, nextChild, linkHolds, parentLinked, opLinked, blockLinked}
 use Rattle.layout.proofs.Laid.{Laid}
 use Rattle.layout.proofs.Nesting.{placed-facts}
-use Rattle.layout.proofs.Finds.{word-none, word-here, word-next, op-on, block-on}
 
 -- ---- the test of a link
 
@@ -137,95 +130,6 @@ module _ (C : Cols) (h : Laid C) where
   unfolding blockLinked
   block-link r m l e =
       link-facts _ _ _ m (subst (λ (x : ℕ). linkHolds (nextChild C blockRegion (blockCount C) m) (at C blockNext m) (at C regionBlockEnd x) m ≡ true) e (h .blockLink m l))
-
-  -- a child whose owner's word is w leads on among all children
-  leads : (owners count w from link : ℕ) → Behind C owners count w from → link ≡ nextChild C owners count (from - 1) → linkFound link ≡ foundFrom (firstWord C owners w from (count - from))
-  unfolding nextChild
-  leads owners count w from link b e =
-      let z : from - 1 + 1 ≡ from = let a = b .above in omega arith in
-      ap linkFound (e ∙ ap₂ (λ (v a : ℕ). wordFrom (firstWord C owners v a (count - a))) (b .word) z)
-      ∙ link-leads C owners w from (count - from) (b .above)
-
-  pub op-follows : (b from : ℕ) → behindChild C opParent (opCount C) (b + 1) from ≡ true → linkFound (at C opNext (from - 1)) ≡ foundFrom (firstFrom from (opsOf (storeOf C) b))
-  op-follows b from t =
-      let f = behind-facts C opParent (opCount C) (b + 1) from t in
-      leads opParent (opCount C) (b + 1) from _ f (op-link b (from - 1) (f .exists) (f .word) .link) ∙ ap foundFrom (sym (op-on C b from))
-
-  pub block-follows : (r from : ℕ) → behindChild C blockRegion (blockCount C) r from ≡ true → linkFound (at C blockNext (from - 1)) ≡ foundFrom (firstFrom from (blocksOf (storeOf C) r))
-  block-follows r from t =
-      let f = behind-facts C blockRegion (blockCount C) r from t in
-      leads blockRegion (blockCount C) r from _ f (block-link r (from - 1) (f .exists) (f .word) .link) ∙ ap foundFrom (sym (block-on C r from))
-
--- ---- from the last child to the first: the first child from n on with each word, and the test of each child
-
-module _ (C : Cols) (owners count : ℕ) where
-  abbrev pub Firsts : List ℕ → ℕ → Type 0
-  Firsts firsts n = (w : ℕ) → w < length firsts → getD firsts w 0 ≡ wordFrom (firstWord C owners w n (count - n))
-
-  pub firsts-none : (firsts : List ℕ) → ((w : ℕ) → getD firsts w 0 ≡ 0) → Firsts firsts count
-  unfolding wordFrom
-  firsts-none firsts z w l = z w ∙ sym (ap wordFrom (word-none C owners w count count (omega arith)))
-
-  pub firsts-next : (firsts : List ℕ) (n : ℕ) → n < count → Firsts firsts (n + 1) → Firsts (set firsts (at C owners n) n) n
-  unfolding wordFrom
-  firsts-next firsts n l known w lw = go (ℕ-discrete (at C owners n) w)
-    where
-      go : Dec (at C owners n ≡ w) → getD (set firsts (at C owners n) n) w 0 ≡ wordFrom (firstWord C owners w n (count - n))
-      go (yes e) =
-          ap (λ (i : ℕ). getD (set firsts i n) w 0) e ∙ getD-set-same firsts w n 0 (rw length-set at lw)
-          ∙ sym (ap wordFrom (word-here C owners w n count l e))
-      go (no ne) =
-          getD-set-other firsts (at C owners n) w n 0 (λ q. ne (sym q)) ∙ known w (rw length-set at lw)
-          ∙ sym (ap wordFrom (word-next C owners w n count l ne))
-
-pub zeros-at : (n i : ℕ) → getD {A = ℕ} (replicate n 0) i 0 ≡ 0
-zeros-at zero i = refl
-zeros-at (suc n) zero = refl
-zeros-at (suc n) (suc i) = zeros-at n i
-
--- the children from `left` on have passed the test
-pub record Going (C : Cols) (owners count size : ℕ) (test : ℕ → Bool) (firsts : List ℕ) (left : ℕ) : Type 0 where
-  pub low : left ≤ count
-  pub sized : length firsts ≡ size
-  pub known : Firsts C owners count firsts left
-  pub passed : (i : ℕ) → left ≤ i → i < count → test i ≡ true
-
-module _ (C : Cols) (owners count size : ℕ) (test : ℕ → Bool) where
-  pub going-starts : (firsts : List ℕ) (left : ℕ) → left ≡ count → length firsts ≡ size → ((w : ℕ) → getD firsts w 0 ≡ 0) → Going C owners count size test firsts left
-  going-starts firsts left e sized z =
-      record {
-        low = omega arith;
-        sized = sized;
-        known = subst (Firsts C owners count firsts) (sym e) (firsts-none C owners count firsts z);
-        passed = λ i l h. absurd (let w : ⊥ = omega arith in w);
-      }
-
-  module _ (firsts : List ℕ) (left : ℕ) (g : Going C owners count size test firsts left) where
-    -- the next child that is known for the word of the child before `left`
-    pub going-knows : (n w : ℕ) → n + 1 ≡ left → w ≡ at C owners n → w < size → getD firsts w 0 ≡ nextChild C owners count n
-    unfolding nextChild
-    going-knows n w e q l =
-        let s = g .sized in
-        g .known w (omega arith) ∙ ap₂ (λ (v a : ℕ). wordFrom (firstWord C owners v a (count - a))) q (sym e)
-
-    pub going-on : (n w v : ℕ) → n + 1 ≡ left → w ≡ at C owners n → v ≡ n → test n ≡ true → Going C owners count size test (set firsts w v) n
-    going-on n w v e q z t =
-        let l = g .low in
-        record {
-          low = omega arith;
-          sized = length-set firsts w v ∙ g .sized;
-          known =
-              subst (λ (xs : List ℕ). Firsts C owners count xs n) (sym (ap₂ (λ (i x : ℕ). set firsts i x) q z))
-              (firsts-next C owners count firsts n (omega arith) (subst (Firsts C owners count firsts) (sym e) (g .known)));
-          passed = λ i a b. go i a b (ℕ-discrete i n);
-        }
-      where
-        go : (i : ℕ) → n ≤ i → i < count → Dec (i ≡ n) → test i ≡ true
-        go i a b (yes k) = subst (λ (j : ℕ). test j ≡ true) (sym k) t
-        go i a b (no ne) = g .passed i (omega arith) b
-
-    pub going-done : left ≡ 0 → allBelow count test ≡ true
-    going-done z = allBelow-of count test (λ i l. g .passed i (omega arith) l)
 
 -- a parent's word is that of a block, or 0
 pub parent-low : (C : Cols) (n w : ℕ) → placed C n (parentFrom w) ≡ true → w ≤ blockCount C

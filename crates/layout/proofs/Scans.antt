@@ -1,13 +1,13 @@
 -- A scan that tests entry by entry: what has passed so far, one entry more, and what the end of the scan says of the whole. Assumes nothing.
 use Prim.Native.Nat.{ℕ, zero, suc, _+_, _-_, _<_, _≤_}
 use native.Mathlib.Decide.{ℕ-discrete}
-use native.Mathlib.Nat.{not-suc-le-zero, le-of-suc-le-suc}
+use native.Mathlib.Nat.{not-suc-le-zero}
 use native.Mathlib.Omega.{arith}
 use mathlib.Core.Bool.{Bool, true, false, not, _&&_}
 use mathlib.Core.List.{List, [], _∷_}
 use mathlib.Core.Path.{_≡_, refl, sym, ap, ap₂, subst, _∙_}
-use borrow.Author.Tests.{eqb-true, not-true, not-false}
-use lib.Dec.{eqb}
+use borrow.Author.Tests.{eqb-true, le-leb, lt-leb, not-true, not-false}
+use lib.Dec.{eqb, leb}
 use lib.ListN.{length, getD, drop, length-drop}
 use lib.Seq.{length-take-le, getD-take, getD-drop, ext-getD}
 use Rattle.rules.specs.Lists.{every, all, allBelow, sameList}
@@ -49,6 +49,25 @@ below-fails p (suc n) i l h = go (ℕ-discrete i n) (λ l′. below-fails p n i 
     go (yes e) rest = ap (λ (b : Bool). b && allBelow n p) (subst (λ (j : ℕ). p j ≡ false) e h)
     go (no ne) rest = and-false (p n) (allBelow n p) (rest (omega arith))
 
+-- a scan has come to i: it tests each of `count` numbers, which the code has as `total`
+pub record Scanned (p : ℕ → Bool) (count total i : ℕ) : Type 0 where
+  pub counted : total ≡ count
+  pub low : i ≤ total
+  pub passed : Before p i
+
+pub scan-starts : (p : ℕ → Bool) (count total : ℕ) → total ≡ count → Scanned p count total 0
+scan-starts p count total e = record { counted = e; low = omega arith; passed = before-zero p }
+
+module _ {p : ℕ → Bool} {count total i : ℕ} (g : Scanned p count total i) where
+  pub scan-on : i < total → p i ≡ true → Scanned p count total (i + 1)
+  scan-on l h = record { counted = g .counted; low = omega arith; passed = before-next p i (g .passed) h }
+
+  pub scan-fails : i < total → p i ≡ false → false ≡ allBelow count p
+  scan-fails l h = sym (below-fails p count i (omega (arith, g .counted)) h)
+
+  pub scan-done : total ≤ i → true ≡ allBelow count p
+  scan-done l = sym (below-all p count i (omega (arith, g .counted)) (g .passed))
+
 pub below-cong : (n : ℕ) (p q : ℕ → Bool) → ((i : ℕ) → i < n → p i ≡ q i) → allBelow n p ≡ allBelow n q
 unfolding allBelow
 below-cong zero p q same = refl
@@ -59,19 +78,10 @@ below-cong (suc n) p q same = ap₂ _&&_ (same n (omega arith)) (below-cong n p 
 abbrev pub At : (ℕ → Bool) → List ℕ → ℕ → Bool
 At p xs k = p (getD xs k 0)
 
-pub all-fails : (p : ℕ → Bool) (xs : List ℕ) (i : ℕ) → i < length xs → p (getD xs i 0) ≡ false → all p xs ≡ false
-unfolding all
-all-fails p [] i l h = absurd (not-suc-le-zero l)
-all-fails p (x ∷ xs) zero l h = ap (λ (b : Bool). b && all p xs) h
-all-fails p (x ∷ xs) (suc i) l h = and-false (p x) (all p xs) (all-fails p xs i (le-of-suc-le-suc l) h)
-
 pub all-passes : (p : ℕ → Bool) (xs : List ℕ) → Before (At p xs) (length xs) → all p xs ≡ true
 unfolding all
 all-passes p [] b = refl
 all-passes p (x ∷ xs) b = and-both (p x) (all p xs) (b 0 (omega arith)) (all-passes p xs (λ k h. b (suc k) (omega arith)))
-
-pub all-before : (p : ℕ → Bool) (xs : List ℕ) (i : ℕ) → length xs ≤ i → Before (At p xs) i → all p xs ≡ true
-all-before p xs i l b = all-passes p xs (λ k h. b k (omega arith))
 
 -- ---- lists of tests
 
@@ -89,6 +99,14 @@ failed {r = r} e h = sym e ∙ not-true r h
 
 pub held : {r t : Bool} → r ≡ t → not r ≡ false → t ≡ true
 held {r = r} e h = sym e ∙ not-false r h
+
+-- a number that was read, and compared with the most it may be
+module _ {r n m : ℕ} (e : r ≡ n) where
+  pub above : m < r → leb n m ≡ false
+  above l = lt-leb n m (omega (arith, e))
+
+  pub within : r ≤ m → leb n m ≡ true
+  within l = le-leb n m (omega (arith, e))
 
 -- one that fails is enough
 pub fails : (ts : List Bool) (i : ℕ) → getD ts i true ≡ false → every ts ≡ false
@@ -117,6 +135,14 @@ all-below p xs =
     same-tests (all p xs) (allBelow (length xs) (At p xs))
     (λ h. allBelow-of (length xs) (At p xs) (λ i l. all-at p xs h (mem-getD xs i 0 l)))
     (λ h. all-passes p xs (allBelow-at (length xs) (At p xs) h))
+
+-- a scan of the entries of a list
+module _ (p : ℕ → Bool) (xs : List ℕ) {i : ℕ} (g : Scanned (At p xs) (length xs) (length xs) i) where
+  pub entry-fails : i < length xs → At p xs i ≡ false → false ≡ all p xs
+  entry-fails l h = scan-fails g l h ∙ sym (all-below p xs)
+
+  pub entries-done : length xs ≤ i → true ≡ all p xs
+  entries-done l = scan-done g l ∙ sym (all-below p xs)
 
 pub slice-length : (xs : List ℕ) (a e : ℕ) → e ≤ length xs → length (slice xs a e) ≡ e - a
 unfolding slice

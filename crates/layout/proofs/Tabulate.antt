@@ -8,7 +8,6 @@ use mathlib.Core.Path.{_≡_, refl, sym, ap, ap₂, subst, _∙_}
 use borrow.Author.Tests.{ltb-true}
 use lib.Dec.{ltb}
 use lib.ListN.{length, getD}
-use lib.Seq.{ext-getD}
 use Rattle.rules.specs.Store.{Op, Block, noOp, noBlock, noValue, opAt, blockAt, valueAt, parentOf, opAround, opExists, blockExists, regionExists, valueExists}
 use Rattle.layout.specs.Columns.{Cols, at, opParent, regionOp, blockRegion}
 use Rattle.layout.specs.Reading.{tabulateFrom, tabulate, opCount, blockCount, regionCount, valueCount, around, parentFrom, opOf, blockOf, valueOf, storeOf}
@@ -66,12 +65,6 @@ pub map-from : {A B : Type 0} (g : A → B) (f : ℕ → A) (i n : ℕ) → map 
 unfolding tabulateFrom
 map-from g f i zero = refl
 map-from {B = B} g f i (suc n) = ap (λ (l : List B). g (f i) ∷ l) (map-from g f (suc i) n)
-
--- a list is tabulated by its entries
-pub tabulate-list : (n : ℕ) (xs : List ℕ) → length xs ≡ n → tabulate n (λ (i : ℕ). getD xs i 0) ≡ xs
-tabulate-list n xs e =
-    ext-getD 0 (tabulate n (λ (i : ℕ). getD xs i 0)) xs (length-tabulate n (λ (i : ℕ). getD xs i 0) ∙ sym e)
-    (λ i l. getD-tabulate n (λ (j : ℕ). getD xs j 0) i 0 (omega (arith, length-tabulate n (λ (j : ℕ). getD xs j 0))))
 
 -- ---- the store that the columns are read as
 

@@ -53,12 +53,15 @@ placed C n (some b) =
     ∷ within (at C blockOpFirst b) (at C blockOpEnd b) n
     ∷ [])
 
--- the regions in an operation's range are its own, and so are its results
+-- the regions in an operation's range are its own, and so are its results, and a block's arguments
 unfoldable pub regionsOwned : Cols → ℕ → Bool
 regionsOwned C n = ownedWithin C regionOp (at C opRegionFirst n) (at C opRegionEnd n) (regionCount C) n
 
 unfoldable pub resultsOwned : Cols → ℕ → Bool
 resultsOwned C n = ownedWithin C valueOwner (at C opResultFirst n) (at C opResultEnd n) (valueCount C) (ownerCode (ofOp n))
+
+unfoldable pub argumentsOwned : Cols → ℕ → Bool
+argumentsOwned C m = ownedWithin C valueOwner (at C blockArgumentFirst m) (at C blockArgumentEnd m) (valueCount C) (ownerCode (ofBlock m))
 
 -- its slices of the two shared lists
 unfoldable pub listsTiled : Cols → ℕ → Bool
@@ -79,7 +82,7 @@ blockLaid C m =
     every
     (ltb (at C blockRegion m) (regionCount C)
     ∷ within (at C regionBlockFirst (at C blockRegion m)) (at C regionBlockEnd (at C blockRegion m)) m
-    ∷ ownedWithin C valueOwner (at C blockArgumentFirst m) (at C blockArgumentEnd m) (valueCount C) (ownerCode (ofBlock m))
+    ∷ argumentsOwned C m
     ∷ leb (at C blockOpEnd m) (opCount C)
     ∷ leb (at C blockAttributes m) maxOwnKeys
     ∷ [])

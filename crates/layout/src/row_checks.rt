@@ -38,7 +38,7 @@ ghost use mathlib.Core.Option.{some};
 ghost use Prim.Native.Nat.{_<_, _+_};
 ghost use Rattle.layout.specs.Columns.{columns, at, opParent};
 ghost use Rattle.layout.specs.Reading.{parentFrom};
-ghost use Rattle.layout.specs.Soundness.{CountsBounded, placed, regionsOwned, resultsOwned, listsTiled, opLaid, blockLaid, regionLaid, valueLaid};
+ghost use Rattle.layout.specs.Soundness.{CountsBounded, placed, regionsOwned, resultsOwned, argumentsOwned, listsTiled, opLaid, blockLaid, regionLaid, valueLaid};
 
 // Operation n may stand in block b: the operation around b has a smaller number and is one region less deep, and n lies in b's range of
 // operations.
@@ -84,16 +84,10 @@ fn regions_owned(store: &[u32], n: usize) -> bool
     requires { ⌜ n < 512 ⌝ }
     ensures { λ r. ⌜ r ≡ regionsOwned (columns (now (store .entry))) n ⌝ }
 {
+    let first = number(store, OP_REGION_FIRST, n);
+    let end = number(store, OP_REGION_END, n);
     let total = number(store, COUNTS, REGIONS);
-    owns(
-        store,
-        OP_REGION_FIRST,
-        OP_REGION_END,
-        n,
-        REGION_OP,
-        total,
-        n as u32,
-    )
+    owns(store, REGION_OP, first, end, total, n as u32)
 }
 
 // The values in operation n's range are its results.
@@ -102,16 +96,22 @@ fn results_owned(store: &[u32], n: usize) -> bool
     requires { ⌜ n < 512 ⌝ }
     ensures { λ r. ⌜ r ≡ resultsOwned (columns (now (store .entry))) n ⌝ }
 {
+    let first = number(store, OP_RESULT_FIRST, n);
+    let end = number(store, OP_RESULT_END, n);
     let total = number(store, COUNTS, VALUES);
-    owns(
-        store,
-        OP_RESULT_FIRST,
-        OP_RESULT_END,
-        n,
-        VALUE_OWNER,
-        total,
-        2 * n as u32,
-    )
+    owns(store, VALUE_OWNER, first, end, total, 2 * n as u32)
+}
+
+// The values in block m's range are its arguments.
+fn arguments_owned(store: &[u32], m: usize) -> bool
+    requires { ⌜ CountsBounded (now store) ⌝ }
+    requires { ⌜ m < 256 ⌝ }
+    ensures { λ r. ⌜ r ≡ argumentsOwned (columns (now (store .entry))) m ⌝ }
+{
+    let first = number(store, BLOCK_ARGUMENT_FIRST, m);
+    let end = number(store, BLOCK_ARGUMENT_END, m);
+    let total = number(store, COUNTS, VALUES);
+    owns(store, VALUE_OWNER, first, end, total, 2 * m as u32 + 1)
 }
 
 // Operation n's slices of the two shared lists begin where those of the operation before it end.
@@ -162,16 +162,7 @@ pub fn block_laid(store: &[u32], m: usize) -> bool
     if !holds(store, REGION_BLOCK_FIRST, REGION_BLOCK_END, region, m) {
         return false;
     }
-    let values = number(store, COUNTS, VALUES);
-    if !owns(
-        store,
-        BLOCK_ARGUMENT_FIRST,
-        BLOCK_ARGUMENT_END,
-        m,
-        VALUE_OWNER,
-        values,
-        2 * m as u32 + 1,
-    ) {
+    if !arguments_owned(store, m) {
         return false;
     }
     if number(store, BLOCK_OP_END, m) > number(store, COUNTS, OPS) {

@@ -88,27 +88,13 @@ pub fn row_words(store: &[u32], first: usize, end: usize, row: usize, column: us
     )
 }
 
-// The range of a row is one of numbers below `total`, and each word of a column in it is `w`.
-pub fn owns(
-    store: &[u32],
-    first: usize,
-    end: usize,
-    row: usize,
-    column: usize,
-    total: usize,
-    w: u32,
-) -> bool
+// The range from `a` to `e` is one of numbers below `total`, and each word of a column in it is `w`.
+pub fn owns(store: &[u32], column: usize, a: usize, e: usize, total: usize, w: u32) -> bool
     requires { ⌜ length (now store) ≡ bufferLength ⌝ }
-    requires { ⌜ first < columnCount ⌝ }
-    requires { ⌜ end < columnCount ⌝ }
     requires { ⌜ column < columnCount ⌝ }
-    requires { ⌜ row < columnSize first ⌝ }
-    requires { ⌜ row < columnSize end ⌝ }
     requires { ⌜ total ≤ columnSize column ⌝ }
-    ensures { λ r. ⌜ r ≡ ownedWithin (columns (now (store .entry))) column (at (columns (now (store .entry))) first row) (at (columns (now (store .entry))) end row) total w ⌝ }
+    ensures { λ r. ⌜ r ≡ ownedWithin (columns (now (store .entry))) column a e total w ⌝ }
 {
-    let a = number(store, first, row);
-    let e = number(store, end, row);
     if !ranged(a, e, total) {
         return false;
     }

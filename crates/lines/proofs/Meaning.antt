@@ -15,7 +15,7 @@ use Rattle.rules.specs.Building.{newBlock, setAttribute, setOperand}
 use Rattle.rules.specs.Lines.{Line, Reader, building, query, andThen, giving, _>>=_, field, oneOf, number, numbers, items, ignoreBits, yesOrNo, owner, sort, operationLine, blockLine, attributeLine, operandLine, queryLine, allRead, wholly}
 use Rattle.rules.proofs.Basics.Tests.{clash}
 use Rattle.lines.specs.Reading.{Answer, nothingLeft, oneByte}
-use Rattle.lines.specs.Parsing.{OpFields, OpLists, ownerFields, operationFields, operationLists, operationOf}
+use Rattle.lines.specs.Parsing.{OpFields, OpLists, ownerFields, operationFields, operationLists, operationLineOf}
 use Rattle.lines.proofs.Answers.{byte-field}
 use Rattle.lines.proofs.Letters.{words, other-word, no-word}
 
@@ -113,30 +113,30 @@ given-read f (some got) = go (got .1)
     go (g ∷ gs) = refl
 
 abbrev withLists : OpFields → Reader Line
-withLists h = operationLists >>= λ l. giving (operationOf h l)
+withLists h = operationLists >>= λ l. giving (operationLineOf h l)
 
 module _ (fs : List (List ℕ)) where
   operation-parts : operationLine fs ≡ andThen (operationFields fs) withLists
-  unfolding operationLine operationFields operationLists operationOf
+  unfolding operationLine operationFields operationLists operationLineOf
   operation-parts = simp regroup
 
   pub operation-headless : operationFields fs ≡ none → none ≡ wholly (operationLine fs)
   operation-headless h = unread (operation-parts ∙ stops withLists h)
 
   module _ (head : OpFields) (gs : List (List ℕ)) (h : operationFields fs ≡ some (head, gs)) where
-    operation-lists : wholly (operationLine fs) ≡ Option·map (operationOf head) (wholly (operationLists gs))
-    operation-lists = ap wholly (operation-parts ∙ goes withLists h refl) ∙ given-read (operationOf head) (operationLists gs)
+    operation-lists : wholly (operationLine fs) ≡ Option·map (operationLineOf head) (wholly (operationLists gs))
+    operation-lists = ap wholly (operation-parts ∙ goes withLists h refl) ∙ given-read (operationLineOf head) (operationLists gs)
 
     pub operation-bad : wholly (operationLists gs) ≡ none → none ≡ wholly (operationLine fs)
-    operation-bad k = sym (operation-lists ∙ ap (Option·map (operationOf head)) k)
+    operation-bad k = sym (operation-lists ∙ ap (Option·map (operationLineOf head)) k)
 
-    pub operation-good : (lists : OpLists) → wholly (operationLists gs) ≡ some lists → some (operationOf head lists) ≡ wholly (operationLine fs)
-    operation-good lists k = sym (operation-lists ∙ ap (Option·map (operationOf head)) k)
+    pub operation-good : (lists : OpLists) → wholly (operationLists gs) ≡ some lists → some (operationLineOf head lists) ≡ wholly (operationLine fs)
+    operation-good lists k = sym (operation-lists ∙ ap (Option·map (operationLineOf head)) k)
 
 -- ---- the line of a block
 
 abbrev blockWith : ℕ → ℕ → ℕ → Reader Line
-blockWith around label location = items >>= λ types. giving (building (newBlock around label location types))
+blockWith around label location = items >>= λ types. giving (building (newBlock (record { region = around; label = label; location = location; types = types })))
 
 module _ (fs : List (List ℕ)) where
   pub block-bad : numbers 3 fs ≡ none → blockLine fs ≡ none
@@ -148,7 +148,7 @@ module _ (fs : List (List ℕ)) where
     unfolding blockLine
     block-untyped k = three-good blockWith fs h (stops _ k)
 
-    pub block-read : {types : List ℕ} {hs : List (List ℕ)} → items gs ≡ some (types, hs) → blockLine fs ≡ some (building (newBlock a b c types), hs)
+    pub block-read : {types : List ℕ} {hs : List (List ℕ)} → items gs ≡ some (types, hs) → blockLine fs ≡ some (building (newBlock (record { region = a; label = b; location = c; types = types })), hs)
     unfolding blockLine
     block-read k = three-good blockWith fs h (goes _ k refl)
 
@@ -179,14 +179,14 @@ module _ (fs : List (List ℕ)) where
 -- ---- the line of an operand
 
 abbrev operandWith : ℕ → ℕ → ℕ → Reader Line
-operandWith n index value = giving (building (setOperand n index value))
+operandWith n index value = giving (building (setOperand (record { operation = n; index = index; value = value })))
 
 module _ (fs : List (List ℕ)) where
   pub operand-bad : numbers 3 fs ≡ none → operandLine fs ≡ none
   unfolding operandLine
   operand-bad h = three-bad operandWith fs h
 
-  pub operand-read : {n index value : ℕ} {gs : List (List ℕ)} → numbers 3 fs ≡ some (n ∷ index ∷ value ∷ [], gs) → operandLine fs ≡ some (building (setOperand n index value), gs)
+  pub operand-read : {n index value : ℕ} {gs : List (List ℕ)} → numbers 3 fs ≡ some (n ∷ index ∷ value ∷ [], gs) → operandLine fs ≡ some (building (setOperand (record { operation = n; index = index; value = value })), gs)
   unfolding operandLine
   operand-read h = three-good operandWith fs h refl
 

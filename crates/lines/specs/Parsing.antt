@@ -9,7 +9,7 @@ use Rattle.rules.specs.Fragments as sorts
 use Rattle.rules.specs.Building.{newOperation, newBlock, setAttribute, setOperand}
 use Rattle.rules.specs.Lines.{Line, building, query, Reader, _>>=_, giving, number, items, parentBlock, owner, blockLine, wholly}
 use Rattle.layout.specs.Owners.{ownerOf}
-use Rattle.building.specs.Types.{parentOf, attributeOf}
+use Rattle.calling.specs.Types.{parentOf, attributeOf}
 use Rattle.fragments.specs.Sorts.{sortOf}
 use Rattle.fragments.specs.Ignoring.{ignoreOf}
 use Rattle.lines.specs.Reading.{Answer, fieldsLeft}
@@ -70,8 +70,8 @@ operationFields = do
   giving (record { kind = kind; parent = parent; location = location; regions = regions })
 
 unfoldable pub opFieldsOf : List ℕ → OpFieldsRead → Answer OpFields
-opFieldsOf line (OpFieldsAt kind parent location regions p) =
-    some (record { kind = kind; parent = parentOf parent; location = location; regions = regions }, fieldsLeft line p)
+opFieldsOf line (OpFieldsAt f p) =
+    some (record { kind = f .kind; parent = parentOf (f .parent); location = f .location; regions = f .regions }, fieldsLeft line p)
 opFieldsOf line NoOpFields = none
 
 -- an operation's lists
@@ -103,13 +103,22 @@ pub record ReadLists (line : List ℕ) (at : ℕ) (types operands successors : L
   pub fit : ListsFit types operands successors r
 
 -- the line that the two make
-unfoldable pub operationOf : OpFields → OpLists → Line
-operationOf h l = building (newOperation (h .kind) (h .parent) (h .location) (h .regions) (l .types) (l .operands) (l .successors))
+unfoldable pub operationLineOf : OpFields → OpLists → Line
+operationLineOf h l =
+    building (newOperation (record {
+      kind = h .kind;
+      parent = h .parent;
+      location = h .location;
+      regions = h .regions;
+      types = l .types;
+      operands = l .operands;
+      successors = l .successors;
+    }))
 
 -- ---- lines
 
 unfoldable pub blockLineOf : List ℕ → BlockLine → Option Line
-blockLineOf types (BlockIs region label location n) = some (building (newBlock region label location (take n types)))
+blockLineOf types (BlockIs region label location n) = some (building (newBlock (record { region = region; label = label; location = location; types = take n types })))
 blockLineOf types NoBlockLine = none
 
 unfoldable pub ArgumentsFit : List ℕ → BlockLine → Type 0
@@ -125,7 +134,7 @@ attributeLineOf (AttributeIs w a) = some (building (setAttribute (ownerOf w) (at
 attributeLineOf NoAttributeLine = none
 
 unfoldable pub operandLineOf : OperandLine → Option Line
-operandLineOf (Is n index value) = some (building (setOperand n index value))
+operandLineOf (Is n index value) = some (building (setOperand (record { operation = n; index = index; value = value })))
 operandLineOf NoOperandLine = none
 
 unfoldable pub queryOf : Query → Line

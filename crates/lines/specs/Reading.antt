@@ -9,7 +9,7 @@ use lib.ListN.{length, take, drop}
 use Rattle.rules.specs.Bytes.{isDigit, numberBelow}
 use Rattle.rules.specs.Lines.{fieldsOf, number, items}
 use Rattle.layout.specs.Reading.{slice}
-use Rattle.building.specs.Types.{parentOf}
+use Rattle.calling.specs.Types.{parentOf}
 use Rattle.lines.specs.declared.reading.Number.{Number}
 use Rattle.lines.specs.declared.reading.Number.the-variants.{Is, Bad as NoNumber}
 use Rattle.lines.specs.declared.reading.Read.{Read}

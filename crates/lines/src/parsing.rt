@@ -10,8 +10,8 @@ use crate::reading::Items;
 use crate::reading::ParentRead;
 use crate::reading::Read;
 use crate::reading::Word;
-use building::types::Attribute;
-use building::types::Parent;
+use calling::types::Attribute;
+use calling::types::OpFields;
 use fragments::ignoring::Ignore;
 use fragments::types::Sort;
 use layout::owners::Owner;
@@ -40,9 +40,9 @@ pub enum OwnerRead {
     Bad,
 }
 
-// An operation's kind, parent, location and number of regions, and where its lists begin.
+// An operation's fields, and where its lists begin.
 pub enum OpFieldsRead {
-    At(u32, Parent, u32, u32, usize),
+    At(OpFields, usize),
     Bad,
 }
 
@@ -146,7 +146,13 @@ pub fn read_op_fields(line: &[u8], at: usize) -> OpFieldsRead
     let Read::At(regions, next) = number_at(line, r) else {
         return OpFieldsRead::Bad;
     };
-    OpFieldsRead::At(kind, parent, location, regions, next)
+    let fields = OpFields {
+        kind,
+        parent,
+        location,
+        regions,
+    };
+    OpFieldsRead::At(fields, next)
 }
 
 // An operation's lists, each written to the start of the buffer for it.

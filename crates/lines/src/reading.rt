@@ -1,7 +1,7 @@
 // The fields of one line, read by position: each function reads the field that begins at `at`, and tells where the next one begins. A line
 // is its bytes before the line feed. A position one past its end says that no field is left.
 use crate::pieces::piece_end;
-use building::types::Parent;
+use calling::types::Parent;
 ghost use mathlib.Core.Path.{_≡_};
 ghost use Prim.Native.Nat.{_+_, _≤_};
 ghost use lib.ListN.{length};

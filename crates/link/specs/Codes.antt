@@ -7,16 +7,18 @@ use Rattle.rules.specs.Store as rules
 use Rattle.rules.specs.Shells.{Ignore}
 use Rattle.equivalence.specs.declared.types.EqResult.{EqResult}
 use Rattle.equivalence.specs.declared.types.EqResult.the-variants as EqResults
+use Rattle.equivalence.specs.declared.types.Entries as found
 use Rattle.hashing.specs.declared.types.Hashed.{Hashed}
 use Rattle.hashing.specs.declared.types.Hashed.the-variants as Hashes
-use Rattle.building.specs.declared.types.Built.{Built}
-use Rattle.building.specs.declared.types.Built.the-variants as Builts
+use Rattle.calling.specs.declared.types.Built.{Built}
+use Rattle.calling.specs.declared.types.Built.the-variants as Builts
 use Rattle.listing.specs.declared.types.Listed.{Listed}
 use Rattle.listing.specs.declared.types.Listed.the-variants as Listeds
 use Rattle.link.specs.declared.answers.Verdict.{Verdict}
 use Rattle.link.specs.declared.answers.Sum.{Sum}
 use Rattle.link.specs.declared.answers.Outcome.{Outcome}
 use Rattle.link.specs.declared.answers.Output.{Output}
+use Rattle.link.specs.declared.answers.Entries.{Entries}
 
 -- ---- answers
 
@@ -46,6 +48,9 @@ outputMeans o =
     cond (eqb (o .code) 0) (Listeds.Printed (o .bytes))
     (cond (eqb (o .code) 1) (Listeds.Refused (o .cause))
     Listeds.NoRoom)
+
+unfoldable pub entriesMean : Entries → found.Entries
+entriesMean e = record { value = e .value; end = e .end; owner = e .owner; past = e .past }
 
 -- ---- arguments
 

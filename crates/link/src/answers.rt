@@ -7,8 +7,8 @@ use layout::owners::Owner;
 use listing::types::Listed;
 ghost use mathlib.Core.Path.{_≡_};
 ghost use Rattle.layout.specs.Owners.{ownerOf};
-ghost use Rattle.building.specs.Types.{parentOf};
-ghost use Rattle.link.specs.Codes.{verdictMeans, sumMeans, outcomeMeans, outputMeans, parentFrom, ownerFrom};
+ghost use Rattle.calling.specs.Types.{parentOf};
+ghost use Rattle.link.specs.Codes.{entriesMean, verdictMeans, sumMeans, outcomeMeans, outputMeans, parentFrom, ownerFrom};
 
 // The codes of a verdict: equal, the first unequal operations, blocks or regions, and a refusal.
 const EQ: u32 = 0;
@@ -51,6 +51,27 @@ pub struct Output {
     pub bytes: usize,
     pub code: u32,
     pub cause: u32,
+}
+
+// Where entries are: words `value` up to `end` of the mapping, which are of values, and `owner` up to `past`, of blocks and operations. Where
+// the first number is not the smaller one, there are none.
+#[repr(C)]
+pub struct Entries {
+    pub value: u32,
+    pub end: u32,
+    pub owner: u32,
+    pub past: u32,
+}
+
+pub fn of_entries(e: equivalence::types::Entries) -> Entries
+    ensures { λ r. ⌜ entriesMean r ≡ e ⌝ }
+{
+    Entries {
+        value: e.value,
+        end: e.end,
+        owner: e.owner,
+        past: e.past,
+    }
 }
 
 pub fn of_verdict(q: EqResult) -> Verdict

@@ -1,30 +1,37 @@
 // The calls on a store that is known to be sound, and with a mapping that is known to be allowed: neither is tested.
+use crate::answers::Entries;
 use crate::answers::Outcome;
 use crate::answers::Sum;
 use crate::answers::Verdict;
 use crate::answers::of_built;
+use crate::answers::of_entries;
 use crate::answers::of_hash;
 use crate::answers::of_verdict;
 use crate::answers::owner;
 use crate::answers::parent;
 use building::types::Attribute;
+use calling::types::OpFields;
 use equivalence::comparison::fragments_eq;
 use equivalence::comparison::operations_eq;
+use equivalence::unmapping::entered;
 use fragments::ignoring::Ignore;
 use fragments::types::Sort;
 use hashing::hashes::fragment_hash;
 ghost use mathlib.Core.Bool.{true};
 ghost use mathlib.Core.Path.{_≡_};
+ghost use lib.ListN.{length};
 ghost use Rattle.rules.specs.Mapping.{allowed};
+ghost use Rattle.rules.specs.Entered.{EnteredBy};
 ghost use Rattle.layout.specs.Reading.{storeIn};
-ghost use Rattle.equivalence.specs.MappingWords.{mappingOf};
+ghost use Rattle.equivalence.specs.MappingWords.{mappingLength, mappingOf};
+ghost use Rattle.equivalence.specs.Unmapping.{EntriesIn};
 ghost use Rattle.rules.specs.Building.{newOperation, newBlock, setAttribute, setOperand};
 ghost use Rattle.rules.specs.Fragments.{op};
 ghost use Rattle.layout.specs.Soundness.{IsSound};
-ghost use Rattle.building.specs.Calls as building;
+ghost use Rattle.calling.specs.Doing.{Did};
 ghost use Rattle.equivalence.specs.Calls as comparing;
 ghost use Rattle.hashing.specs.Calls as hashing;
-ghost use Rattle.link.specs.Codes.{verdictMeans, sumMeans, outcomeMeans, ignoring, parentFrom, ownerFrom, attributeFrom};
+ghost use Rattle.link.specs.Codes.{entriesMean, verdictMeans, sumMeans, outcomeMeans, ignoring, parentFrom, ownerFrom, attributeFrom};
 
 // The test of a mapping that is to be lent beside this store.
 #[no_mangle]
@@ -33,6 +40,33 @@ pub extern "C" fn wz_known_is_allowed(store: &[u32], mapping: &[u32]) -> bool
     ensures { λ r. ⌜ r ≡ allowed (storeIn (now (store .entry))) (mappingOf (now (mapping .entry))) ⌝ }
 {
     equivalence::mapping::is_allowed(store, mapping)
+}
+
+// 0 is an operation, 1 a block, any other a region.
+fn sort_from(sort: u32) -> Sort {
+    match sort {
+        0 => Sort::Op,
+        1 => Sort::Block,
+        _ => Sort::Region,
+    }
+}
+
+// Where the entries are that a comparison has made in an empty mapping; `sort` and `lhs` are of its left fragment, and only time depends on
+// them, `paired` is its count.
+#[no_mangle]
+pub extern "C" fn wz_known_entered(
+    store: &[u32],
+    mapping: &[u32],
+    sort: u32,
+    lhs: u32,
+    paired: u32,
+) -> Entries
+    requires { ⌜ IsSound (now store) ⌝ }
+    requires { ⌜ length (now mapping) ≡ mappingLength ⌝ }
+    requires { ⌜ EnteredBy (storeIn (now store)) (mappingOf (now mapping)) paired ⌝ }
+    ensures { λ r. ⌜ EntriesIn (now (mapping .entry)) (entriesMean r) ⌝ }
+{
+    of_entries(entered(store, mapping, sort_from(sort), lhs, paired))
 }
 
 #[no_mangle]
@@ -48,18 +82,23 @@ pub extern "C" fn wz_known_new_operation(
     successors: &[u32],
 ) -> Outcome
     requires { ⌜ IsSound (now store) ⌝ }
-    ensures { λ r. ⌜ building.Did (now (store .entry)) (now (store .exit)) (newOperation kind (parentFrom placed block) location regions (now (types .entry)) (now (operands .entry)) (now (successors .entry))) (outcomeMeans r) ⌝ }
+    ensures { λ r. ⌜ Did (now (store .entry)) (now (store .exit)) (newOperation (record {
+      kind = kind;
+      parent = parentFrom placed block;
+      location = location;
+      regions = regions;
+      types = now (types .entry);
+      operands = now (operands .entry);
+      successors = now (successors .entry);
+    })) (outcomeMeans r) ⌝ }
 {
-    of_built(building::operations::new_operation(
-        store,
+    let fields = OpFields {
         kind,
-        parent(placed, block),
+        parent: parent(placed, block),
         location,
         regions,
-        types,
-        operands,
-        successors,
-    ))
+    };
+    of_built(adding::operations::new_operation(store, fields, types, operands, successors))
 }
 
 #[no_mangle]
@@ -71,9 +110,14 @@ pub extern "C" fn wz_known_new_block(
     types: &[u32],
 ) -> Outcome
     requires { ⌜ IsSound (now store) ⌝ }
-    ensures { λ r. ⌜ building.Did (now (store .entry)) (now (store .exit)) (newBlock region label location (now (types .entry))) (outcomeMeans r) ⌝ }
+    ensures { λ r. ⌜ Did (now (store .entry)) (now (store .exit)) (newBlock (record {
+      region = region;
+      label = label;
+      location = location;
+      types = now (types .entry);
+    })) (outcomeMeans r) ⌝ }
 {
-    of_built(building::blocks::new_block(store, region, label, location, types))
+    of_built(adding::blocks::new_block(store, region, label, location, types))
 }
 
 #[no_mangle]
@@ -86,9 +130,9 @@ pub extern "C" fn wz_known_set_attribute(
     content: u32,
 ) -> Outcome
     requires { ⌜ IsSound (now store) ⌝ }
-    ensures { λ r. ⌜ building.Did (now (store .entry)) (now (store .exit)) (setAttribute (ownerFrom blocks n) (attributeFrom key kind content)) (outcomeMeans r) ⌝ }
+    ensures { λ r. ⌜ Did (now (store .entry)) (now (store .exit)) (setAttribute (ownerFrom blocks n) (attributeFrom key kind content)) (outcomeMeans r) ⌝ }
 {
-    of_built(building::attributes::set_attribute(
+    of_built(setting::attributes::set_attribute(
         store,
         owner(blocks, n),
         Attribute { key, kind, content },
@@ -98,9 +142,9 @@ pub extern "C" fn wz_known_set_attribute(
 #[no_mangle]
 pub extern "C" fn wz_known_set_operand(store: &mut [u32], n: u32, i: u32, v: u32) -> Outcome
     requires { ⌜ IsSound (now store) ⌝ }
-    ensures { λ r. ⌜ building.Did (now (store .entry)) (now (store .exit)) (setOperand n i v) (outcomeMeans r) ⌝ }
+    ensures { λ r. ⌜ Did (now (store .entry)) (now (store .exit)) (setOperand (record { operation = n; index = i; value = v })) (outcomeMeans r) ⌝ }
 {
-    of_built(building::operands::set_operand(store, n, i, v))
+    of_built(setting::operands::set_operand(store, n, i, v))
 }
 
 #[no_mangle]

@@ -37,7 +37,15 @@ pub extern "C" fn wz_new_operation(
     operands: &[u32],
     successors: &[u32],
 ) -> Outcome
-    ensures { λ r. ⌜ building.Answered (now (store .entry)) (now (store .exit)) (newOperation kind (parentFrom placed block) location regions (now (types .entry)) (now (operands .entry)) (now (successors .entry))) (outcomeMeans r) ⌝ }
+    ensures { λ r. ⌜ building.Answered (now (store .entry)) (now (store .exit)) (newOperation (record {
+      kind = kind;
+      parent = parentFrom placed block;
+      location = location;
+      regions = regions;
+      types = now (types .entry);
+      operands = now (operands .entry);
+      successors = now (successors .entry);
+    })) (outcomeMeans r) ⌝ }
 {
     of_built(building::calls::new_operation(
         store,
@@ -59,7 +67,12 @@ pub extern "C" fn wz_new_block(
     location: u32,
     types: &[u32],
 ) -> Outcome
-    ensures { λ r. ⌜ building.Answered (now (store .entry)) (now (store .exit)) (newBlock region label location (now (types .entry))) (outcomeMeans r) ⌝ }
+    ensures { λ r. ⌜ building.Answered (now (store .entry)) (now (store .exit)) (newBlock (record {
+      region = region;
+      label = label;
+      location = location;
+      types = now (types .entry);
+    })) (outcomeMeans r) ⌝ }
 {
     of_built(building::calls::new_block(store, region, label, location, types))
 }
@@ -84,7 +97,7 @@ pub extern "C" fn wz_set_attribute(
 
 #[no_mangle]
 pub extern "C" fn wz_set_operand(store: &mut [u32], n: u32, i: u32, v: u32) -> Outcome
-    ensures { λ r. ⌜ building.Answered (now (store .entry)) (now (store .exit)) (setOperand n i v) (outcomeMeans r) ⌝ }
+    ensures { λ r. ⌜ building.Answered (now (store .entry)) (now (store .exit)) (setOperand (record { operation = n; index = i; value = v })) (outcomeMeans r) ⌝ }
 {
     of_built(building::calls::set_operand(store, n, i, v))
 }

@@ -12,9 +12,9 @@ use Rattle.layout.specs.Causes.{causeOf}
 use Rattle.layout.specs.Soundness.{IsSound}
 use Rattle.layout.specs.declared.causes.Cause.{Cause}
 use Rattle.layout.specs.declared.causes.Cause.the-variants.{Is}
-use Rattle.building.specs.Types.{builtOf}
-use Rattle.building.specs.Calls.{Did}
-use Rattle.building.specs.declared.types.Built as code
+use Rattle.calling.specs.Types.{builtOf}
+use Rattle.calling.specs.Doing.{Did}
+use Rattle.calling.specs.declared.types.Built as code
 use Rattle.listing.specs.Building.{refusalIn, ledTo, LineDid}
 
 -- a line that means nothing

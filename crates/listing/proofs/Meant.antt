@@ -7,10 +7,10 @@ use borrow.Author.Tests.{ne-eqb}
 use lib.ListN.{length, take}
 use Rattle.rules.specs.Building.{newOperation, newBlock}
 use Rattle.rules.specs.Lines.{building, operationLine, blockLine, wholly}
-use Rattle.building.specs.Types.{parentOf}
-use Rattle.building.specs.declared.types.Parent.{Parent}
+use Rattle.calling.specs.Types.{operationOf}
+use Rattle.calling.specs.declared.types.OpFields.{OpFields}
 use Rattle.lines.specs.Reading.{fieldsLeft}
-use Rattle.lines.specs.Parsing.{operationFields, opFieldsOf, listsOf, operationOf, ListsFit, ReadLists, blockLineOf, ArgumentsFit, ReadBlock}
+use Rattle.lines.specs.Parsing.{operationFields, opFieldsOf, listsOf, operationLineOf, ListsFit, ReadLists, blockLineOf, ArgumentsFit, ReadBlock}
 use Rattle.lines.specs.declared.parsing.OpFieldsRead.{OpFieldsRead}
 use Rattle.lines.specs.declared.parsing.OpFieldsRead.the-variants.{At, Bad}
 use Rattle.lines.specs.declared.parsing.OpListsRead.{OpListsRead}
@@ -28,14 +28,14 @@ module _ (line : List ℕ) (at : ℕ) (head : OpFieldsRead) (h : opFieldsOf line
   unfolding opFieldsOf
   headless e = operation-headless (fieldsLeft line at) (told (opFieldsOf line) h e)
 
-  module _ (kind : ℕ) (parent : Parent) (location regions next : ℕ) (e : head ≡ At kind parent location regions next) (types operands successors : List ℕ) (lists : OpListsRead) (r : ReadLists line next types operands successors lists) where
+  module _ (fields : OpFields) (next : ℕ) (e : head ≡ At fields next) (types operands successors : List ℕ) (lists : OpListsRead) (r : ReadLists line next types operands successors lists) where
     pub listless : lists ≡ NoLists → none ≡ wholly (operationLine (fieldsLeft line at))
     unfolding opFieldsOf listsOf
     listless q = operation-bad (fieldsLeft line at) _ (fieldsLeft line next) (told (opFieldsOf line) h e) (told (listsOf types operands successors) (r .same) q)
 
     pub operation-meant : (a b c : ℕ) → lists ≡ Are a b c
-        → some (building (newOperation kind (parentOf parent) location regions (take a types) (take b operands) (take c successors))) ≡ wholly (operationLine (fieldsLeft line at))
-    unfolding opFieldsOf listsOf operationOf
+        → some (building (newOperation (operationOf fields (take a types) (take b operands) (take c successors)))) ≡ wholly (operationLine (fieldsLeft line at))
+    unfolding opFieldsOf listsOf operationLineOf
     operation-meant a b c q =
         operation-good (fieldsLeft line at) _ (fieldsLeft line next) (told (opFieldsOf line) h e) _ (told (listsOf types operands successors) (r .same) q)
 
@@ -61,7 +61,7 @@ module _ {line : List ℕ} {at : ℕ} {types : List ℕ} {read : BlockLine} (r :
   blockless q = sym (ap (blockLineOf types) q) ∙ r .same
 
   module _ {region label location n : ℕ} (q : read ≡ Is region label location n) where
-    pub block-meant : some (building (newBlock region label location (take n types))) ≡ wholly (blockLine (fieldsLeft line at))
+    pub block-meant : some (building (newBlock (record { region = region; label = label; location = location; types = take n types }))) ≡ wholly (blockLine (fieldsLeft line at))
     unfolding blockLineOf
     block-meant = sym (ap (blockLineOf types) q) ∙ r .same
 

@@ -5,37 +5,34 @@ use crate::types::LineResult;
 use crate::types::Program;
 use crate::types::Progress;
 use lines::parsing::QueryLine;
-use lines::parsing::query_line;
 ghost use mathlib.Core.Path.{_≡_};
 ghost use Prim.Native.Nat.{_+_, _≤_};
 ghost use lib.ListN.{length};
-ghost use Rattle.rules.specs.Lines.{queryLine, wholly};
 ghost use Rattle.rules.specs.Listings.{lineDoes};
 ghost use Rattle.layout.specs.Soundness.{IsSound};
 ghost use Rattle.equivalence.specs.MappingWords.{emptyWords};
-ghost use Rattle.lines.specs.Reading.{fieldsLeft};
+ghost use Rattle.lines.specs.Parsing.{queryLineOf};
 ghost use Rattle.listing.specs.Tally.{TallyFits};
 ghost use Rattle.listing.specs.Progress.{programOf, progressOf};
 ghost use Rattle.listing.specs.Asking.{Stepped, stepRoom};
 
-// A line `q`, which is read from `at` on, behind its letter.
+// A line `q`, as it was read behind its letter.
 pub fn query_does(
     program: Program,
     store: &[u32],
     mapping: &mut [u32],
     out: &mut [u8],
     progress: Progress,
-    line: &[u8],
-    at: usize,
+    line: QueryLine,
 ) -> LineResult
     requires { ⌜ IsSound (now store) ⌝ }
     requires { ⌜ now mapping ≡ emptyWords ⌝ }
     requires { ⌜ (progress .at) + stepRoom ≤ length (now out) ⌝ }
     requires { ⌜ TallyFits (progress .tally) ⌝ }
-    ensures { λ r. ⌜ Stepped (lineDoes (programOf program) (progressOf (now (store .entry)) progress) (wholly (queryLine (fieldsLeft (now (line .entry)) at)))) (now (store .entry)) (now (out .entry)) (now (out .exit)) progress r ⌝ }
+    ensures { λ r. ⌜ Stepped (lineDoes (programOf program) (progressOf (now (store .entry)) progress) (queryLineOf line)) (now (store .entry)) (now (out .entry)) (now (out .exit)) progress r ⌝ }
     ensures { λ r. ⌜ now (mapping .exit) ≡ emptyWords ⌝ }
 {
-    let QueryLine::Is(query) = query_line(line, at) else {
+    let QueryLine::Is(query) = line else {
         return LineResult::Stopped(10);
     };
     match program {

@@ -1,6 +1,6 @@
 // The lines that build: each is read whole, and then its call is made. A list has no more items than its line has bytes.
 use crate::header::MAX_LINE;
-use building::types::Built;
+use calling::types::Built;
 use layout::causes::Cause;
 use lines::parsing::AttributeLine;
 use lines::parsing::BlockLine;
@@ -19,7 +19,7 @@ ghost use Rattle.rules.specs.Listings.{maxLine};
 ghost use Rattle.rules.specs.Lines.{operationLine, blockLine, attributeLine, operandLine, wholly};
 ghost use Rattle.layout.specs.Causes.{causeOf};
 ghost use Rattle.layout.specs.Soundness.{IsSound};
-ghost use Rattle.building.specs.Types.{builtOf};
+ghost use Rattle.calling.specs.Types.{builtOf};
 ghost use Rattle.lines.specs.Reading.{fieldsLeft};
 ghost use Rattle.listing.specs.Building.{refusalIn, LineDid, buildingLine};
 
@@ -39,7 +39,7 @@ fn operation_does(store: &mut [u32], line: &[u8], at: usize) -> Cause
     requires { ⌜ length (now line) ≤ maxLine ⌝ }
     ensures { λ r. ⌜ LineDid (now (store .entry)) (now (store .exit)) (wholly (operationLine (fieldsLeft (now (line .entry)) at))) r ⌝ }
 {
-    let OpFieldsRead::At(kind, parent, location, regions, next) = read_op_fields(line, at) else {
+    let OpFieldsRead::At(fields, next) = read_op_fields(line, at) else {
         return Cause::Is(10);
     };
     let mut types = [0; MAX_LINE];
@@ -49,12 +49,9 @@ fn operation_does(store: &mut [u32], line: &[u8], at: usize) -> Cause
     let OpListsRead::Are(a, b, c) = lists else {
         return Cause::Is(10);
     };
-    refusal_in(building::operations::new_operation(
+    refusal_in(adding::operations::new_operation(
         store,
-        kind,
-        parent,
-        location,
-        regions,
+        fields,
         &types[..a],
         &operands[..b],
         &successors[..c],
@@ -70,7 +67,7 @@ fn block_does(store: &mut [u32], line: &[u8], at: usize) -> Cause
     let BlockLine::Is(region, label, location, n) = block_line(line, at, &mut types) else {
         return Cause::Is(10);
     };
-    refusal_in(building::blocks::new_block(store, region, label, location, &types[..n]))
+    refusal_in(adding::blocks::new_block(store, region, label, location, &types[..n]))
 }
 
 fn attribute_does(store: &mut [u32], line: &[u8], at: usize) -> Cause
@@ -80,7 +77,7 @@ fn attribute_does(store: &mut [u32], line: &[u8], at: usize) -> Cause
     let AttributeLine::Is(owner, attribute) = attribute_line(line, at) else {
         return Cause::Is(10);
     };
-    refusal_in(building::attributes::set_attribute(store, owner, attribute))
+    refusal_in(setting::attributes::set_attribute(store, owner, attribute))
 }
 
 fn operand_does(store: &mut [u32], line: &[u8], at: usize) -> Cause
@@ -90,7 +87,7 @@ fn operand_does(store: &mut [u32], line: &[u8], at: usize) -> Cause
     let OperandLine::Is(n, index, value) = operand_line(line, at) else {
         return Cause::Is(10);
     };
-    refusal_in(building::operands::set_operand(store, n, index, value))
+    refusal_in(setting::operands::set_operand(store, n, index, value))
 }
 
 // A line that builds, which is read from `at` on, behind its letter; any other letter is unknown.

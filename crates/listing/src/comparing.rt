@@ -1,10 +1,11 @@
 // A `q` of `twins`: its fragments are compared, begun with an empty mapping, which is left empty.
 use crate::counting::counted;
-use crate::emptying::empty_mapping;
 use crate::types::LineResult;
 use crate::types::Progress;
 use equivalence::comparison::fragments_eq;
 use equivalence::types::EqResult;
+use equivalence::unmapping::paired_of;
+use equivalence::unmapping::unmap_entered;
 use fragments::types::Sort;
 use lines::parsing::Query;
 use lines::printing::put_equal;
@@ -23,7 +24,7 @@ ghost use Rattle.listing.specs.Tally.{TallyFits};
 ghost use Rattle.listing.specs.Progress.{progressOf};
 ghost use Rattle.listing.specs.Asking.{verdictLine, QueryCompared, Stepped, stepRoom};
 
-// Compares the fragments of a query. The mapping is empty before, and is emptied again afterwards.
+// Compares the fragments of a query. The mapping is empty before, and what was entered is taken out again.
 fn compare(store: &[u32], mapping: &mut [u32], query: Query) -> EqResult
     requires { ⌜ IsSound (now store) ⌝ }
     requires { ⌜ now mapping ≡ emptyWords ⌝ }
@@ -32,7 +33,7 @@ fn compare(store: &[u32], mapping: &mut [u32], query: Query) -> EqResult
     let sort = query.sort;
     let ignore = query.ignore;
     let result = fragments_eq(store, mapping, sort, query.left, query.right, ignore);
-    empty_mapping(mapping);
+    unmap_entered(store, mapping, sort, query.left, paired_of(result));
     result
 }
 

@@ -12,6 +12,7 @@ use crate::types::Program;
 use crate::types::Progress;
 use crate::types::Tally;
 use layout::causes::Cause;
+use lines::parsing::query_line;
 use lines::pieces::piece_end;
 use lines::printing::put_refusal;
 use lines::reader::word_at;
@@ -54,7 +55,8 @@ fn line_does(
         return LineResult::Stopped(10);
     };
     if letter == b'q' {
-        return query_does(program, store, mapping, out, progress, line, at);
+        let query = query_line(line, at);
+        return query_does(program, store, mapping, out, progress, query);
     }
     match building_does(store, line, letter, at) {
         Cause::Is(cause) => LineResult::Stopped(cause),

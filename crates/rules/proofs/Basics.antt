@@ -1,5 +1,6 @@
 -- Tests and lists.
 pub mod Tests
+pub mod Counts
 pub mod Distinct
 pub mod Pigeons
 pub mod Appended

@@ -5,6 +5,8 @@ use Rattle.rules.specs.Statements as stated
 use Rattle.rules.proofs.Soundness.Kept as kept
 use Rattle.rules.proofs.Walking.Answered as walking
 use Rattle.rules.proofs.Walking.Paired as pairing
+use Rattle.rules.proofs.Walking.Allowed as allowing
+use Rattle.rules.proofs.Walking.Entered as entering
 use Rattle.rules.proofs.Listings.Nearest as nearest
 use Rattle.rules.proofs.Walking.Sizes as sizing
 use Rattle.rules.proofs.Form.Canonical as forms
@@ -45,6 +47,14 @@ hashed-is s sd ig f n i = walking.hashed-is s sd ig f n i
 pub equal-answered : stated.EqualAnswered
 unfolding stated.EqualAnswered
 equal-answered s sd ig f a b ia ib = walking.equal-answered s sd ig f a b ia ib
+
+pub allowed-kept : stated.AllowedKept
+unfolding stated.AllowedKept
+allowed-kept s sd ig f m am l r il ir = allowing.allowed-kept s ig f l r il ir m am
+
+pub entered-by : stated.EntersPaired
+unfolding stated.EntersPaired
+entered-by s sd ig f l r il ir = entering.entered-by s sd ig f l r il ir
 
 pub paired-most : stated.PairedMost
 unfolding stated.PairedMost

@@ -1,4 +1,4 @@
--- Walks: their depth, their answers, the Rust's, and how far they count.
+-- Walks: their depth, their answers, the Rust's, how far they count, and what they keep.
 pub mod Walks
 pub mod Levels
 pub mod Deep
@@ -7,3 +7,6 @@ pub mod EnoughSteps
 pub mod Answered
 pub mod Paired
 pub mod Sizes
+pub mod Keeping
+pub mod Allowed
+pub mod Entered

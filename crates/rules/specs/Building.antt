@@ -9,15 +9,35 @@ use lib.ListN.{length, set, replicate}
 use Rattle.rules.specs.Lists.{every, all, any, updateAt}
 use Rattle.rules.specs.Store.{Store, Op, Block, Value, Attribute, Owner, ofOp, ofBlock, opAt, blockAt, opExists, blockExists, regionExists, valueExists, ownerExists, parentExists, nestingHolds, operandTotal, successorTotal, attributeTotal, maxOps, maxBlocks, maxRegions, maxValues, maxOperands, maxSuccessors, maxAttributes, maxOwnValues, maxOwnOperands, maxOwnRegions, maxOwnSuccessors, maxOwnKeys, maxAttributeKind}
 
+-- "kind, parent block or none, location, 0 to 8 regions, 0 to 16 result types, 0 to 16 operands, 0 to 8 successors"
+pub record NewOperation : Type 0 where
+  pub kind : ℕ
+  pub parent : Option ℕ
+  pub location : ℕ
+  pub regions : ℕ
+  pub types : List ℕ
+  pub operands : List ℕ
+  pub successors : List ℕ
+
+-- "region, label, location, 0 to 16 argument types"
+pub record NewBlock : Type 0 where
+  pub region : ℕ
+  pub label : ℕ
+  pub location : ℕ
+  pub types : List ℕ
+
+-- "operation, index, any existing value"
+pub record SetOperand : Type 0 where
+  pub operation : ℕ
+  pub index : ℕ
+  pub value : ℕ
+
 pub data Call : Type 0 where
-  -- "kind, parent block or none, location, 0 to 8 regions, 0 to 16 result types, 0 to 16 operands, 0 to 8 successors"
-  newOperation : ℕ → Option ℕ → ℕ → ℕ → List ℕ → List ℕ → List ℕ → Call
-  -- "region, label, location, 0 to 16 argument types"
-  newBlock : ℕ → ℕ → ℕ → List ℕ → Call
+  newOperation : NewOperation → Call
+  newBlock : NewBlock → Call
   -- "operation or block, key, attribute kind, content"
   setAttribute : Owner → Attribute → Call
-  -- "operation, index, any existing value"
-  setOperand : ℕ → ℕ → ℕ → Call
+  setOperand : SetOperand → Call
 
 -- ---- the tests
 
@@ -29,45 +49,46 @@ unfoldable pub hasKey : ℕ → List Attribute → Bool
 hasKey k as′ = any (λ (a : Attribute). eqb (a .key) k) as′
 
 -- everything that a new operation names exists
-unfoldable pub operationNames : Store → Option ℕ → List ℕ → List ℕ → Bool
-operationNames s parent operands successors = every (parentExists s parent ∷ all (valueExists s) operands ∷ all (blockExists s) successors ∷ [])
+unfoldable pub operationNames : Store → NewOperation → Bool
+operationNames s o =
+    every (parentExists s (o .parent) ∷ all (valueExists s) (o .operands) ∷ all (blockExists s) (o .successors) ∷ [])
 
 -- its lists and regions are within the limits of one owner
-unfoldable pub operationFits : ℕ → List ℕ → List ℕ → List ℕ → Bool
-operationFits regions types operands successors =
+unfoldable pub operationFits : NewOperation → Bool
+operationFits o =
     every
-    (leb regions maxOwnRegions
-    ∷ leb (length types) maxOwnValues
-    ∷ leb (length operands) maxOwnOperands
-    ∷ leb (length successors) maxOwnSuccessors
+    (leb (o .regions) maxOwnRegions
+    ∷ leb (length (o .types)) maxOwnValues
+    ∷ leb (length (o .operands)) maxOwnOperands
+    ∷ leb (length (o .successors)) maxOwnSuccessors
     ∷ [])
 
 -- no total would be passed
-unfoldable pub operationRoom : Store → ℕ → List ℕ → List ℕ → List ℕ → Bool
-operationRoom s regions types operands successors =
+unfoldable pub operationRoom : Store → NewOperation → Bool
+operationRoom s o =
     every
     (leb (length (s .ops) + 1) maxOps
-    ∷ leb (length (s .regions) + regions) maxRegions
-    ∷ leb (length (s .values) + length types) maxValues
-    ∷ leb (operandTotal s + length operands) maxOperands
-    ∷ leb (successorTotal s + length successors) maxSuccessors
+    ∷ leb (length (s .regions) + o .regions) maxRegions
+    ∷ leb (length (s .values) + length (o .types)) maxValues
+    ∷ leb (operandTotal s + length (o .operands)) maxOperands
+    ∷ leb (successorTotal s + length (o .successors)) maxSuccessors
     ∷ [])
 
-unfoldable pub blockRoom : Store → List ℕ → Bool
-blockRoom s types = every (leb (length (s .blocks) + 1) maxBlocks ∷ leb (length (s .values) + length types) maxValues ∷ [])
+unfoldable pub blockRoom : Store → NewBlock → Bool
+blockRoom s b = every (leb (length (s .blocks) + 1) maxBlocks ∷ leb (length (s .values) + length (b .types)) maxValues ∷ [])
 
 -- "Order for a call: 1, 8, 6, 2, 7, 4, 5, 3, 12"
 unfoldable pub tests : Store → Call → List (Bool × ℕ)
-tests s (newOperation kind parent location regions types operands successors) =
-    (operationNames s parent operands successors, 2)
-    ∷ (operationFits regions types operands successors, 4)
-    ∷ (nestingHolds s parent, 5)
-    ∷ (operationRoom s regions types operands successors, 3)
+tests s (newOperation o) =
+    (operationNames s o, 2)
+    ∷ (operationFits o, 4)
+    ∷ (nestingHolds s (o .parent), 5)
+    ∷ (operationRoom s o, 3)
     ∷ []
-tests s (newBlock region label location types) =
-    (regionExists s region, 2)
-    ∷ (leb (length types) maxOwnValues, 4)
-    ∷ (blockRoom s types, 3)
+tests s (newBlock b) =
+    (regionExists s (b .region), 2)
+    ∷ (leb (length (b .types)) maxOwnValues, 4)
+    ∷ (blockRoom s b, 3)
     ∷ []
 tests s (setAttribute w a) =
     (leb (a .kind) maxAttributeKind, 6)
@@ -75,9 +96,9 @@ tests s (setAttribute w a) =
     ∷ (hasKey (a .key) (attributesOf s w) || leb (length (attributesOf s w) + 1) maxOwnKeys, 4)
     ∷ (hasKey (a .key) (attributesOf s w) || leb (attributeTotal s + 1) maxAttributes, 3)
     ∷ []
-tests s (setOperand n i v) =
-    (every (opExists s n ∷ valueExists s v ∷ []), 2)
-    ∷ (ltb i (length (opAt s n .operands)), 7)
+tests s (setOperand u) =
+    (every (opExists s (u .operation) ∷ valueExists s (u .value) ∷ []), 2)
+    ∷ (ltb (u .index) (length (opAt s (u .operation) .operands)), 7)
     ∷ []
 
 -- the cause of the first test that fails
@@ -95,7 +116,14 @@ putAttribute a (b ∷ bs) =
 
 unfoldable pub opWithAttribute : Attribute → Op → Op
 opWithAttribute a o =
-    record { kind = o .kind; parent = o .parent; location = o .location; operands = o .operands; successors = o .successors; attributes = putAttribute a (o .attributes) }
+    record {
+      kind = o .kind;
+      parent = o .parent;
+      location = o .location;
+      operands = o .operands;
+      successors = o .successors;
+      attributes = putAttribute a (o .attributes);
+    }
 
 unfoldable pub blockWithAttribute : Attribute → Block → Block
 blockWithAttribute a b =
@@ -103,7 +131,14 @@ blockWithAttribute a b =
 
 unfoldable pub opWithOperand : ℕ → ℕ → Op → Op
 opWithOperand i v o =
-    record { kind = o .kind; parent = o .parent; location = o .location; operands = set (o .operands) i v; successors = o .successors; attributes = o .attributes }
+    record {
+      kind = o .kind;
+      parent = o .parent;
+      location = o .location;
+      operands = set (o .operands) i v;
+      successors = o .successors;
+      attributes = o .attributes;
+    }
 
 -- "Each result is a value", "Each argument is a value"
 unfoldable pub valuesFor : Owner → List ℕ → List Value
@@ -112,26 +147,34 @@ valuesFor w types = map (λ (t : ℕ). record { type = t; owner = w }) types
 -- "It goes to the end of its block", "It goes to the end of its region": the new one has the largest number, and children stand by
 -- rising number
 unfoldable pub applied : Store → Call → Store
-applied s (newOperation kind parent location regions types operands successors) =
+applied s (newOperation o) =
     record {
-      ops = s .ops ++ (record { kind = kind; parent = parent; location = location; operands = operands; successors = successors; attributes = [] } ∷ []);
+      ops =
+          s .ops ++ (record {
+            kind = o .kind;
+            parent = o .parent;
+            location = o .location;
+            operands = o .operands;
+            successors = o .successors;
+            attributes = [];
+          } ∷ []);
       blocks = s .blocks;
-      regions = s .regions ++ replicate regions (length (s .ops));
-      values = s .values ++ valuesFor (ofOp (length (s .ops))) types;
+      regions = s .regions ++ replicate (o .regions) (length (s .ops));
+      values = s .values ++ valuesFor (ofOp (length (s .ops))) (o .types);
     }
-applied s (newBlock region label location types) =
+applied s (newBlock b) =
     record {
       ops = s .ops;
-      blocks = s .blocks ++ (record { region = region; label = label; location = location; attributes = [] } ∷ []);
+      blocks = s .blocks ++ (record { region = b .region; label = b .label; location = b .location; attributes = [] } ∷ []);
       regions = s .regions;
-      values = s .values ++ valuesFor (ofBlock (length (s .blocks))) types;
+      values = s .values ++ valuesFor (ofBlock (length (s .blocks))) (b .types);
     }
 applied s (setAttribute (ofOp n) a) =
     record { ops = updateAt (opWithAttribute a) n (s .ops); blocks = s .blocks; regions = s .regions; values = s .values }
 applied s (setAttribute (ofBlock b) a) =
     record { ops = s .ops; blocks = updateAt (blockWithAttribute a) b (s .blocks); regions = s .regions; values = s .values }
-applied s (setOperand n i v) =
-    record { ops = updateAt (opWithOperand i v) n (s .ops); blocks = s .blocks; regions = s .regions; values = s .values }
+applied s (setOperand u) =
+    record { ops = updateAt (opWithOperand (u .index) (u .value)) (u .operation) (s .ops); blocks = s .blocks; regions = s .regions; values = s .values }
 
 -- ---- "Accepted, the first two return the new number, the other two only that they were accepted."
 
@@ -141,10 +184,10 @@ pub data Built : Type 0 where
   refused : ℕ → Built
 
 unfoldable pub acceptance : Store → Call → Built
-acceptance s (newOperation kind parent location regions types operands successors) = made (length (s .ops))
-acceptance s (newBlock region label location types) = made (length (s .blocks))
+acceptance s (newOperation o) = made (length (s .ops))
+acceptance s (newBlock b) = made (length (s .blocks))
 acceptance s (setAttribute w a) = accepted
-acceptance s (setOperand n i v) = accepted
+acceptance s (setOperand u) = accepted
 
 unfoldable pub answerBy : Option ℕ → Store → Call → Built
 answerBy none s c = acceptance s c

@@ -47,32 +47,53 @@ ignoring locations bits = record { locations = locations; bits = bits }
 unfoldable pub attribute : ℕ → ℕ → ℕ → Attribute
 attribute key kind content = record { key = key; kind = kind; content = content }
 
+-- an operation of this kind with these result types and operands, in no block and without regions
+unfoldable pub operation : ℕ → List ℕ → List ℕ → Call
+operation kind types operands =
+    newOperation (record { kind = kind; parent = none; location = 0; regions = 0; types = types; operands = operands; successors = [] })
+
+-- an operation of this kind with so many regions and these operands, in no block
+unfoldable pub enclosing : ℕ → ℕ → List ℕ → Call
+enclosing kind regions operands =
+    newOperation (record { kind = kind; parent = none; location = 0; regions = regions; types = []; operands = operands; successors = [] })
+
+-- a block in this region, with these argument types
+unfoldable pub blockIn : ℕ → List ℕ → Call
+blockIn r types = newBlock (record { region = r; label = 0; location = 0; types = types })
+
+-- the first operand of operation n becomes value v
+unfoldable pub firstOperand : ℕ → ℕ → Call
+firstOperand n v = setOperand (record { operation = n; index = 0; value = v })
+
+-- at this location an operation of kind 7, whose region and block have this number, and in it one of kind 8, whose operand is value v
+unfoldable pub nested : ℕ → ℕ → ℕ → List Call
+nested location n v =
+    newOperation (record { kind = 7; parent = none; location = location; regions = 1; types = []; operands = []; successors = [] })
+    ∷ newBlock (record { region = n; label = 0; location = location; types = 3 ∷ [] })
+    ∷ newOperation (record { kind = 8; parent = some n; location = location; regions = 0; types = 3 ∷ []; operands = v ∷ []; successors = [] })
+    ∷ []
+
 -- the listing of "Listings"
 unfoldable pub example : List Call
-example =
-    newOperation 7 none 5 1 [] [] []
-    ∷ newBlock 0 0 5 (3 ∷ [])
-    ∷ newOperation 8 (some 0) 5 0 (3 ∷ []) (0 ∷ []) []
-    ∷ newOperation 7 none 6 1 [] [] []
-    ∷ newBlock 1 0 6 (3 ∷ [])
-    ∷ newOperation 8 (some 1) 6 0 (3 ∷ []) (2 ∷ []) []
-    ∷ []
+example = nested 5 0 0 ++ nested 6 1 2
 
 -- an operation with two regions, that many blocks in the first and so many in the second
 unfoldable pub twoRegions : ℕ → ℕ → List Call
-twoRegions m n = newOperation 1 none 0 2 [] [] [] ∷ replicate m (newBlock 0 0 0 []) ++ replicate n (newBlock 1 0 0 [])
+twoRegions m n = enclosing 1 2 [] ∷ replicate m (blockIn 0 []) ++ replicate n (blockIn 1 [])
 
 -- two operations of one kind
 unfoldable pub twoOps : List Call
-twoOps = newOperation 1 none 0 0 [] [] [] ∷ newOperation 1 none 0 0 [] [] [] ∷ []
+twoOps = operation 1 [] [] ∷ operation 1 [] [] ∷ []
 
 -- two operations of one kind, after one with two results; each has one operand, the second one of this number
 unfoldable pub twoUsers : ℕ → List Call
-twoUsers v =
-    newOperation 1 none 0 0 (3 ∷ 3 ∷ []) [] []
-    ∷ newOperation 2 none 0 0 [] (0 ∷ []) []
-    ∷ newOperation 2 none 0 0 [] (v ∷ []) []
-    ∷ []
+twoUsers v = operation 1 (3 ∷ 3 ∷ []) [] ∷ operation 2 [] (0 ∷ []) ∷ operation 2 [] (v ∷ []) ∷ []
+
+-- two blocks in a region, the first with an operation
+unfoldable pub fullAndEmpty : List Call
+fullAndEmpty =
+    twoRegions 2 0
+    ++ (newOperation (record { kind = 2; parent = some 0; location = 0; regions = 0; types = []; operands = []; successors = [] }) ∷ [])
 
 unfoldable pub starred : List Case
 starred =
@@ -86,7 +107,7 @@ starred =
     ∷ compares (twoRegions 3 1) (ignoring false 0) region 0 1 (neq (pairOf region 0 1) 1)
     ∷ compares (twoRegions 1 2) (ignoring false 0) region 0 1 (neq (pairOf region 0 1) 1)
     -- one operation against none in a block: block
-    ∷ compares (twoRegions 2 0 ++ (newOperation 2 (some 0) 0 0 [] [] [] ∷ [])) (ignoring false 0) block 0 1 (neq (pairOf block 0 1) 1)
+    ∷ compares fullAndEmpty (ignoring false 0) block 0 1 (neq (pairOf block 0 1) 1)
     -- same keys set in another order: eq
     ∷ compares
     (twoOps
@@ -103,8 +124,8 @@ starred =
     ∷ compares (twoUsers 0) (ignoring false 0) op 1 2 (eq 1)
     ∷ compares (twoUsers 1) (ignoring false 0) op 1 2 (neq (pairOf op 1 2) 1)
     -- 16 results accepted, 17 give 4
-    ∷ builds [] (newOperation 1 none 0 0 (replicate 16 3) [] []) (made 0)
-    ∷ builds [] (newOperation 1 none 0 0 (replicate 17 3) [] []) (refused 4)
+    ∷ builds [] (operation 1 (replicate 16 3) []) (made 0)
+    ∷ builds [] (operation 1 (replicate 17 3) []) (refused 4)
     -- kind 63 accepted, 64 gives 6
     ∷ builds twoOps (setAttribute (ofOp 0) (attribute 1 63 10)) accepted
     ∷ builds twoOps (setAttribute (ofOp 0) (attribute 1 64 10)) (refused 6)
@@ -113,22 +134,18 @@ starred =
 -- two operations, each with a block in its one region; the operand of each is the argument of its own block
 unfoldable pub namesInner : List Call
 namesInner =
-    newOperation 1 none 0 0 (3 ∷ []) [] []
-    ∷ newOperation 2 none 0 1 [] (0 ∷ []) []
-    ∷ newBlock 0 0 0 (3 ∷ [])
-    ∷ newOperation 2 none 0 1 [] (0 ∷ []) []
-    ∷ newBlock 1 0 0 (3 ∷ [])
-    ∷ setOperand 1 0 1
-    ∷ setOperand 2 0 2
+    operation 1 (3 ∷ []) []
+    ∷ enclosing 2 1 (0 ∷ [])
+    ∷ blockIn 0 (3 ∷ [])
+    ∷ enclosing 2 1 (0 ∷ [])
+    ∷ blockIn 1 (3 ∷ [])
+    ∷ firstOperand 1 1
+    ∷ firstOperand 2 2
     ∷ []
 
 -- an operation with a result, and two of one kind, the first with that result as operand and the second with the first's
 unfoldable pub chained : List Call
-chained =
-    newOperation 1 none 0 0 (3 ∷ []) [] []
-    ∷ newOperation 2 none 0 0 (3 ∷ []) (0 ∷ []) []
-    ∷ newOperation 2 none 0 0 (3 ∷ []) (1 ∷ []) []
-    ∷ []
+chained = operation 1 (3 ∷ []) [] ∷ operation 2 (3 ∷ []) (0 ∷ []) ∷ operation 2 (3 ∷ []) (1 ∷ []) ∷ []
 
 -- "Mistakes a porter makes", and one of each kind of builder's mistake
 unfoldable pub mistakes : List Case
@@ -146,12 +163,12 @@ mistakes =
     ∷ begun (twoUsers 1) 2 0 (ignoring false 0) op 1 3 (refusedCompared 8)
     ∷ begun (twoUsers 1) 1 0 (ignoring false 0) op 1 3 (refusedCompared 2)
     -- a value that does not exist is found before a list that is too long
-    ∷ builds [] (newOperation 1 none 0 0 (replicate 17 3) (0 ∷ []) []) (refused 2)
+    ∷ builds [] (operation 1 (replicate 17 3) (0 ∷ [])) (refused 2)
     -- an attribute's kind before its owner
     ∷ builds [] (setAttribute (ofOp 0) (attribute 1 64 10)) (refused 6)
     ∷ builds [] (setAttribute (ofOp 0) (attribute 1 63 10)) (refused 2)
     -- an operand's value before its index
-    ∷ builds twoOps (setOperand 0 0 0) (refused 2)
-    ∷ builds (twoUsers 0) (setOperand 1 0 1) accepted
-    ∷ builds (twoUsers 0) (setOperand 1 1 1) (refused 7)
+    ∷ builds twoOps (firstOperand 0 0) (refused 2)
+    ∷ builds (twoUsers 0) (firstOperand 1 1) accepted
+    ∷ builds (twoUsers 0) (setOperand (record { operation = 1; index = 1; value = 1 })) (refused 7)
     ∷ []

@@ -16,6 +16,7 @@ pub mod Rust
 pub mod Agreement
 pub mod Laws
 pub mod Form
+pub mod Entered
 pub mod Statements
 pub mod Cases
 pub mod ListingCases

@@ -96,7 +96,15 @@ operationLine = do
   types ← items
   operands ← items
   successors ← items
-  giving (building (newOperation kind parent location regions types operands successors))
+  giving (building (newOperation (record {
+    kind = kind;
+    parent = parent;
+    location = location;
+    regions = regions;
+    types = types;
+    operands = operands;
+    successors = successors;
+  })))
 
 -- "`b` region, label, location, arguments"
 unfoldable pub blockLine : Reader Line
@@ -105,7 +113,7 @@ blockLine = do
   label ← number
   location ← number
   types ← items
-  giving (building (newBlock around label location types))
+  giving (building (newBlock (record { region = around; label = label; location = location; types = types })))
 
 -- "`a` o or b, number, key, kind, content"
 unfoldable pub attributeLine : Reader Line
@@ -123,7 +131,7 @@ operandLine = do
   n ← number
   index ← number
   value ← number
-  giving (building (setOperand n index value))
+  giving (building (setOperand (record { operation = n; index = index; value = value })))
 
 -- "`q` o, b or r, left, right, 1 to ignore locations or 0 not to, the 64 bits as one number"
 unfoldable pub queryLine : Reader Line

@@ -11,7 +11,7 @@ use lib.ListN.{length, replicate}
 use Rattle.rules.specs.Lists.{every, all, any, filter, sameList}
 use Rattle.rules.specs.Store.{Store, Attribute, emptyStore, sound, keysRise, maxOps}
 use Rattle.rules.specs.Fragments.{Sort, op, NamesNothingOf, fragmentSize}
-use Rattle.rules.specs.Building.{Call, newOperation, setOperand, tests, firstFailed, applied, built, after}
+use Rattle.rules.specs.Building.{Call, tests, firstFailed, applied, built, after}
 use Rattle.rules.specs.Shells.{Ignore, unignored, sameAttribute}
 use Rattle.rules.specs.Mapping.{Mapping, emptyMapping, allowed}
 use Rattle.rules.specs.Comparison.{State, standing, compare, compareBy}
@@ -20,7 +20,8 @@ use Rattle.rules.specs.Answers.{eq, refused, comparisonOf, comparison, h
 use Rattle.rules.specs.Listings.{perCent, twins, sums, maxOutput}
 use Rattle.rules.specs.Laws.{In, Equal, equal}
 use Rattle.rules.specs.Form.{canonical}
-use Rattle.rules.specs.Cases.{ignoring}
+use Rattle.rules.specs.Entered.{EnteredBy}
+use Rattle.rules.specs.Cases.{ignoring, operation, firstOperand}
 
 -- ---- equality is equality of canonical forms
 
@@ -44,11 +45,11 @@ CanonicalHash = (s : Store) (ig : Ignore) (f : Sort) (a b : ℕ) → canonical s
 
 -- an operation with a result, then so many of one kind, each with that result as operand and a result of its own
 unfoldable pub alike : ℕ → List Call
-alike n = newOperation 1 none 0 0 (3 ∷ []) [] [] ∷ replicate n (newOperation 2 none 0 0 (3 ∷ []) (0 ∷ []) [])
+alike n = operation 1 (3 ∷ []) [] ∷ replicate n (operation 2 (3 ∷ []) (0 ∷ []))
 
 -- two of them, and the operand of both is then the second one's result
 unfoldable pub tangled : List Call
-tangled = alike 2 ++ (setOperand 1 0 2 ∷ setOperand 2 0 2 ∷ [])
+tangled = alike 2 ++ (firstOperand 1 2 ∷ firstOperand 2 2 ∷ [])
 
 -- without it symmetry and equal hashes fail: `premise-needed`
 unfoldable pub PremiseNeeded : Type 0
@@ -60,7 +61,7 @@ PremiseNeeded =
 
 -- and a third one whose operand is its own result
 unfoldable pub tangledThree : List Call
-tangledThree = alike 3 ++ (setOperand 1 0 2 ∷ setOperand 2 0 2 ∷ setOperand 3 0 3 ∷ [])
+tangledThree = alike 3 ++ (firstOperand 1 2 ∷ firstOperand 2 2 ∷ firstOperand 3 3 ∷ [])
 
 -- and transitivity fails: `premise-needed-thrice`
 unfoldable pub PremiseNeededThrice : Type 0
@@ -106,6 +107,18 @@ unfoldable pub NeverRefused : Type 0
 NeverRefused =
     (s : Store) → sound s ≡ true → (ig : Ignore) (f : Sort) (m : Mapping) → allowed s m ≡ true → (l r : ℕ) → In s f l → In s f r
     → (cause : ℕ) → comparison true s m ig f l r .answer ≡ refused cause → ⊥
+
+-- it leaves the mapping allowed, so that it may be lent again: `allowed-kept`
+unfoldable pub AllowedKept : Type 0
+AllowedKept =
+    (s : Store) → sound s ≡ true → (ig : Ignore) (f : Sort) (m : Mapping) → allowed s m ≡ true → (l r : ℕ) → In s f l → In s f r
+    → allowed s (standing (compare s ig f l r m) .mapping) ≡ true
+
+-- begun with an empty mapping, it enters no more operations and blocks than it counts, and values only with their owner: `entered-by`
+unfoldable pub EntersPaired : Type 0
+EntersPaired =
+    (s : Store) → sound s ≡ true → (ig : Ignore) (f : Sort) (l r : ℕ) → In s f l → In s f r
+    → EnteredBy s (standing (compare s ig f l r emptyMapping) .mapping) (standing (compare s ig f l r emptyMapping) .paired)
 
 -- a hash of a fragment that exists is given: `hashed-is`
 unfoldable pub HashedIs : Type 0

@@ -42,6 +42,18 @@ pub(crate) struct Output {
     pub(crate) cause: u32,
 }
 
+/// Where a mapping has entries: words `value` up to `end`, of values, and `owner` up to `past`, of blocks and operations. Where the first
+/// number is not the smaller one, there are none.
+#[repr(C)]
+#[derive(Clone, Copy)]
+#[cfg_attr(not(test), allow(dead_code))] // for other callers: `touched` finds them here
+pub(crate) struct Entries {
+    pub(crate) value: u32,
+    pub(crate) end: u32,
+    pub(crate) owner: u32,
+    pub(crate) past: u32,
+}
+
 #[rustfmt::skip] // one function to a line, or two: the test `names` reads them
 unsafe extern "C" {
     fn wz_store_words() -> usize;
@@ -50,6 +62,8 @@ unsafe extern "C" {
 
     fn wz_is_sound(store: *const u32, words: usize) -> bool;
     fn wz_known_is_allowed(store: *const u32, words: usize, mapping: *const u32, entries: usize) -> bool;
+    #[cfg_attr(not(test), allow(dead_code))]
+    fn wz_known_entered(store: *const u32, words: usize, mapping: *const u32, entries: usize, sort: u32, lhs: u32, paired: u32) -> Entries;
 
     fn wz_new_operation(store: *mut u32, words: usize, kind: u32, placed: bool, block: u32, location: u32, regions: u32, types: *const u32, type_count: usize,
         operands: *const u32, operand_count: usize, successors: *const u32, successor_count: usize) -> Outcome;

@@ -87,6 +87,7 @@ fn from_c(declaration: &str) -> (String, String) {
         "wz_sum" => "Sum",
         "wz_outcome" => "Outcome",
         "wz_output" => "Output",
+        "wz_entries" => "Entries",
         other => panic!("{other} is no type that crosses"),
     };
     let pointer = match (declaration.contains('*'), word.starts_with("const ")) {
@@ -152,7 +153,7 @@ fn functions_are_the_same() {
 #[test]
 fn structs_are_the_same() {
     let rattle = structs(&RATTLE.concat());
-    assert_eq!(rattle.len(), 4);
+    assert_eq!(rattle.len(), 5);
     assert_eq!(rattle, structs(RUST));
     assert_eq!(rattle, header_structs());
 }

@@ -21,9 +21,9 @@ use Rattle.rules.proofs.Soundness.Room.{operation-allowed, block-allowe
 
 limits-hold : (s : Store) (c : Call) → Sound s → namesHold s c ≡ true → Sound (applied s c) → AllPassed (tests s c)
 unfolding namesHold ofNames any filter applied tests operationNames operationFits operationRoom blockRoom attributesOf attributeTotal opAt blockAt ownerExists opExists blockExists opWithAttribute blockWithAttribute
-limits-hold s (newOperation kind parent location regions types operands successors) h p u =
+limits-hold s (newOperation o) h p u =
     let names = passed _ (passed _ p .0) in
-    let c : OpAllowed s _ regions types = operation-allowed s _ regions types h u (names .0) (names .1 .0) (names .1 .1 .0) refl in (
+    let c : OpAllowed s _ (o .regions) (o .types) = operation-allowed s _ (o .regions) (o .types) h u (names .0) (names .1 .0) (names .1 .1 .0) refl in (
       passed _ p .0,
       (
         every-of _ (le-leb _ _ (c .ownRegions), (le-leb _ _ (c .ownResults), (le-leb _ _ (c .fit .operandsFit), (le-leb _ _ (c .fit .successorsFit), tt)))),
@@ -36,8 +36,8 @@ limits-hold s (newOperation kind parent location regions types operands successo
         ),
       ),
     )
-limits-hold s (newBlock region label location types) h p u =
-    let c : BlockAllowed s _ types = block-allowed s _ types h u (passed _ p .0) refl in
+limits-hold s (newBlock b) h p u =
+    let c : BlockAllowed s _ (b .types) = block-allowed s _ (b .types) h u (passed _ p .0) refl in
     (c .regionIn, (le-leb _ _ (c .ownArguments), (every-of _ (le-leb _ _ (c .blocksLeft), (le-leb _ _ (c .valuesLeft), tt)), tt)))
 limits-hold s (setAttribute (ofOp n) a) h p u =
     let names = passed _ p in
@@ -71,7 +71,7 @@ limits-hold s (setAttribute (ofBlock b) a) h p u =
         ),
       ),
     )
-limits-hold s (setOperand n i v) h p u = passed _ p
+limits-hold s (setOperand o) h p u = passed _ p
 
 pub accepted-exactly : AcceptedExactly
 unfolding AcceptedExactly

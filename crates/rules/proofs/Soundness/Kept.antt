@@ -23,11 +23,11 @@ use Rattle.rules.proofs.Soundness.KeptSet.{op-set, block-set}
 
 pub applied-sound : (s : Store) (c : Call) → Sound s → AllPassed (tests s c) → Sound (applied s c)
 unfolding applied tests operationNames operationFits operationRoom blockRoom attributesOf ownerExists opExists blockExists opWithAttribute blockWithAttribute opWithOperand
-applied-sound s (newOperation kind parent location regions types operands successors) h p =
+applied-sound s (newOperation o) h p =
     let names = passed _ (p .0) in
     let own = passed _ (p .1 .0) in
     let left = passed _ (p .1 .1 .1 .0) in
-    with-operation s _ regions types h (
+    with-operation s _ (o .regions) (o .types) h (
     record {
       fit =
           record {
@@ -49,9 +49,9 @@ applied-sound s (newOperation kind parent location regions types operands succes
       successorsLeft = leb-true _ _ (left .1 .1 .1 .1 .0);
     }
     )
-applied-sound s (newBlock region label location types) h p =
+applied-sound s (newBlock b) h p =
     let left = passed _ (p .1 .1 .0) in
-    with-block s _ types h (
+    with-block s _ (b .types) h (
     record {
       regionIn = p .0;
       bare = refl;
@@ -76,7 +76,10 @@ applied-sound s (setAttribute (ofBlock b) a) h p =
     let l : b < length (s .blocks) = ltb-true _ _ (p .1 .0) in
     let f = h .block b l .attributesFit in
     block-set s (blockWithAttribute a) b h l (λ o. refl) (put-holds a _ (p .0) (p .1 .1 .0) f) (put-within a _ (attributeTotal s) maxAttributes f (p .1 .1 .1 .0) (h .totals .attributes))
-applied-sound s (setOperand n i v) h p =
+applied-sound s (setOperand u) h p =
+    let n = u .operation in
+    let i = u .index in
+    let v = u .value in
     let names = passed _ (p .0) in
     let l : n < length (s .ops) = ltb-true _ _ (names .0) in
     let f : OpFits s (opAt s n) = fits s h n l in

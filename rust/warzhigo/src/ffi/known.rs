@@ -115,6 +115,16 @@ impl SoundWords {
         Ok(unsafe { call(store, words, map, entries, pair.0, pair.1, ignore.locations, ignore.bits) })
     }
 
+    /// Where the last comparison in this store has made its entries in the mapping, which was empty before it: of its left fragment and its
+    /// count. That a comparison leaves such a mapping is proved (`EntersPaired`).
+    #[cfg(test)]
+    fn entered(&self, mapping: &AllowedWords, sort: Sort, lhs: u32, paired: u32) -> Entries {
+        let (store, words) = (self.words.as_ptr(), self.words.len());
+        let (map, entries) = (mapping.words.as_ptr(), mapping.words.len());
+        // SAFETY: as above, and the tests below lend what one comparison has left of an empty mapping.
+        unsafe { wz_known_entered(store, words, map, entries, sort as u32, lhs, paired) }
+    }
+
     #[inline]
     pub(crate) fn hash(&self, sort: Sort, n: u32, ignore: &Ignore) -> Sum {
         let call = match sort {
@@ -193,6 +203,45 @@ impl AllowedWords {
             [a] => *a = NONE,
             [a, b] => (*a, *b) = (NONE, NONE),
             many => many.fill(NONE),
+        }
+    }
+}
+
+#[cfg(test)]
+mod tests {
+    use super::*;
+    use crate::{Mapping, OpId, Store, operation_eq};
+
+    /// An operation with a block of so many others, and as many strangers between it and them.
+    fn fragment(store: &mut Store, inner: usize, strangers: usize) -> OpId {
+        let plain = NewOperation { kind: 1, result_types: &[3], ..Default::default() };
+        let op = store.new_operation(&NewOperation { regions: 1, ..plain }).unwrap();
+        let region = store.operation(op).unwrap().regions().next().unwrap();
+        let block = store.new_block(region, 0, 0, &[4, 5]).unwrap();
+        for _ in 0..strangers {
+            store.new_operation(&plain).unwrap();
+        }
+        for _ in 0..inner {
+            store.new_operation(&NewOperation { parent: Some(block), ..plain }).unwrap();
+        }
+        op
+    }
+
+    #[test]
+    fn entries_that_are_found_are_all() {
+        for (inner, strangers) in [(0, 0), (1, 0), (7, 3), (20, 90), (100, 0)] {
+            let mut store = Store::new();
+            let [left, right] = [(); 2].map(|()| fragment(&mut store, inner, strangers));
+            for lhs in [left.number(), right.number(), 511, u32::MAX] {
+                let mut mapping = Mapping::new();
+                let answer = operation_eq(&store, &mut mapping, left, right, &Ignore::NOTHING).unwrap();
+                let found = store.sound.entered(&mapping.words, Sort::Op, lhs, answer.paired());
+                let mut words = mapping.words().to_vec();
+                for entries in [found.value..found.end, found.owner..found.past] {
+                    entries.for_each(|i| words[i as usize] = NONE);
+                }
+                assert!(answer.paired() as usize == inner + 2 && words.iter().all(|image| *image == NONE), "{inner}, {strangers}, {lhs}");
+            }
         }
     }
 }

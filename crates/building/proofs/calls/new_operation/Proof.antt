@@ -1,9 +1,8 @@
 -- `new_operation` meets its contract: by the soundness check, and by the call on a sound buffer. Assumes nothing.
 use mathlib.Core.Path.{refl}
-use Rattle.rules.specs.Building.{newOperation}
 use Rattle.layout.proofs.Scans.{failed, held}
 use Rattle.layout.proofs.Empty.{sound-facts}
-use Rattle.building.specs.Types.{builtOf, parentOf}
+use Rattle.calling.specs.Types.{builtOf}
 use Rattle.building.proofs.Answering.{turned-down, taken-up}
 use borrow.Author.Needs.{needs}
 use Rattle.building.proofs.calls.new_operation.Statement.{statement}
@@ -19,7 +18,7 @@ returns : tie.Need-returns
 unfolding builtOf
 returns c =
     let a = c .before .before .before .before .before .before .before .args in
-    turned-down (a .store .now) (newOperation (a .kind) (parentOf (a .parent)) (a .location) (a .regions) (a .types .now) (a .operands .now) (a .successors .now)) _ (failed (c .before .is-sound .ensures) (c .if1 .taken)) refl
+    turned-down (a .store .now) _ _ (failed (c .before .is-sound .ensures) (c .if1 .taken)) refl
 
 new-operation-requires : tie.Need-new-operation-requires
 new-operation-requires c κs = sound-facts _ (held (c .before .before .is-sound .ensures) (c .before .if1 .left))
@@ -29,11 +28,15 @@ same-length-2 c = search needs
 
 returns-2 : tie.Need-returns-2
 returns-2 c =
-    let a = c .before .before .before .before .before .before .before .before .before .before .before .args in
+    let after-new-operation = c .before .before in
+    let after-if1 = after-new-operation .before .before in
+    let after-is-sound = after-if1 .before in
+    let s = after-is-sound .before .before .before .before .before .before in
+    let a = s .args in
     taken-up (a .store .now)
-    (newOperation (a .kind) (parentOf (a .parent)) (a .location) (a .regions) (a .types .now) (a .operands .now) (a .successors .now)) _ _
-    (held (c .before .before .before .before .before .is-sound .ensures) (c .before .before .before .before .if1 .left))
-    (c .before .before .new-operation .ensures)
+    _ _ _
+    (held (after-is-sound .is-sound .ensures) (after-if1 .if1 .left))
+    (after-new-operation .new-operation .ensures)
 
 pub new-operation-spec : {M : Type 1} → statement M
 new-operation-spec =

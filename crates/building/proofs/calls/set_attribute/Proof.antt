@@ -4,7 +4,7 @@ use Rattle.rules.specs.Building.{setAttribute}
 use Rattle.layout.specs.Owners.{ownerOf}
 use Rattle.layout.proofs.Scans.{failed, held}
 use Rattle.layout.proofs.Empty.{sound-facts}
-use Rattle.building.specs.Types.{builtOf, attributeOf}
+use Rattle.calling.specs.Types.{builtOf, attributeOf}
 use Rattle.building.proofs.Answering.{turned-down, taken-up}
 use borrow.Author.Needs.{needs}
 use Rattle.building.proofs.calls.set_attribute.Statement.{statement}
@@ -30,10 +30,14 @@ same-length-2 c = search needs
 
 returns-2 : tie.Need-returns-2
 returns-2 c =
-    let a = c .before .before .before .before .before .before .before .before .args in
+    let after-set-attribute = c .before .before in
+    let after-if1 = after-set-attribute .before .before in
+    let after-is-sound = after-if1 .before in
+    let s = after-is-sound .before .before .before in
+    let a = s .args in
     taken-up (a .store .now)
-    (setAttribute (ownerOf (a .owner)) (attributeOf (a .attribute))) _ _ (held (c .before .before .before .before .before .is-sound .ensures) (c .before .before .before .before .if1 .left))
-    (c .before .before .set-attribute .ensures)
+    (setAttribute (ownerOf (a .owner)) (attributeOf (a .attribute))) _ _ (held (after-is-sound .is-sound .ensures) (after-if1 .if1 .left))
+    (after-set-attribute .set-attribute .ensures)
 
 pub set-attribute-spec : {M : Type 1} → statement M
 set-attribute-spec =

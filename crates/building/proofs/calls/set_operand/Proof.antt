@@ -1,9 +1,8 @@
 -- `set_operand` meets its contract: by the soundness check, and by the call on a sound buffer. Assumes nothing.
 use mathlib.Core.Path.{refl}
-use Rattle.rules.specs.Building.{setOperand}
 use Rattle.layout.proofs.Scans.{failed, held}
 use Rattle.layout.proofs.Empty.{sound-facts}
-use Rattle.building.specs.Types.{builtOf}
+use Rattle.calling.specs.Types.{builtOf}
 use Rattle.building.proofs.Answering.{turned-down, taken-up}
 use borrow.Author.Needs.{needs}
 use Rattle.building.proofs.calls.set_operand.Statement.{statement}
@@ -19,7 +18,7 @@ returns : tie.Need-returns
 unfolding builtOf
 returns c =
     let a = c .before .before .before .before .args in
-    turned-down (a .store .now) (setOperand (a .n) (a .i) (a .v)) _ (failed (c .before .is-sound .ensures) (c .if1 .taken)) refl
+    turned-down (a .store .now) _ _ (failed (c .before .is-sound .ensures) (c .if1 .taken)) refl
 
 set-operand-requires : tie.Need-set-operand-requires
 set-operand-requires c κs = sound-facts _ (held (c .before .before .is-sound .ensures) (c .before .if1 .left))
@@ -29,8 +28,12 @@ same-length-2 c = search needs
 
 returns-2 : tie.Need-returns-2
 returns-2 c =
-    let a = c .before .before .before .before .before .before .before .before .args in
-    taken-up (a .store .now) (setOperand (a .n) (a .i) (a .v)) _ _ (held (c .before .before .before .before .before .is-sound .ensures) (c .before .before .before .before .if1 .left)) (c .before .before .set-operand .ensures)
+    let after-set-operand = c .before .before in
+    let after-if1 = after-set-operand .before .before in
+    let after-is-sound = after-if1 .before in
+    let s = after-is-sound .before .before .before in
+    let a = s .args in
+    taken-up (a .store .now) _ _ _ (held (after-is-sound .is-sound .ensures) (after-if1 .if1 .left)) (after-set-operand .set-operand .ensures)
 
 pub set-operand-spec : {M : Type 1} → statement M
 set-operand-spec =

@@ -46,7 +46,8 @@ at-requires-5 c κs =
 
 at-requires-6 : tie.Need-at-requires-6
 at-requires-6 c κs =
-    let s = c .before .before .before .before .before .before .before .before in
+    let in2 = c .before in
+    let s = in2 .before .before .before .before .before .before .before in
     (s .pre .0, (omega arith, omega arith))
 
 returns-3 : tie.Need-returns-3

@@ -33,82 +33,95 @@ loop-holds c =
     let g = ignoreOf (a .ignore) in
     walk-begins C g (a .l) (a .lend) (a .r) (a .rend) _ _ (c .before .next-kept .ensures) (c .next-kept2 .ensures)
 
+-- the start, from a turn of the walk
+abbrev begun : tie.In-loop Inv-loop μ-loop → tie.Start Inv-loop μ-loop
+begun c = c .before .before .before .before .before
+
 returns : tie.Need-returns Inv-loop μ-loop
 returns c =
-    let s = c .before .before .before .before .before .before in
+    let turn = c .before in
+    let s = begun turn in
     let a = s .args in
     let C = columns (a .store .now) in
     let g = ignoreOf (a .ignore) in
-    let i = c .before .before .loop .i in
-    let j = c .before .before .loop .j in
-    let w = c .before .before .loop .inv in
-    let h = c .before .loop-test .taken in
+    let i = turn .before .loop .i in
+    let j = turn .before .loop .j in
+    let w = turn .before .loop .inv in
+    let h = turn .loop-test .taken in
     sym (w .same ∙ ended-right C g i (a .lend) j (a .rend) h (w .keptLeft h) (c .if1 .taken))
 
 attribute-eq-requires : tie.Need-attribute-eq-requires Inv-loop μ-loop
 attribute-eq-requires c κs =
-    let s = c .before .before .before .before .before .before in
-    let w = c .before .before .loop .inv in
-    let h = c .before .loop-test .taken in
+    let turn = c .before in
+    let s = begun turn in
+    let w = turn .before .loop .inv in
+    let h = turn .loop-test .taken in
     (s .pre .0, (omega (arith, s .pre .1 .0), omega (arith, s .pre .1 .1 .1 .1 .0, c .if1 .left)))
 
 returns-2 : tie.Need-returns-2 Inv-loop μ-loop
 returns-2 c =
-    let s = c .before .before .before .before .before .before .before .before in
+    let turn = c .before .before .before in
+    let s = begun turn in
     let a = s .args in
     let C = columns (a .store .now) in
     let g = ignoreOf (a .ignore) in
-    let i = c .before .before .before .before .loop .i in
-    let j = c .before .before .before .before .loop .j in
-    let w = c .before .before .before .before .loop .inv in
-    let h = c .before .before .before .loop-test .taken in
+    let i = turn .before .loop .i in
+    let j = turn .before .loop .j in
+    let w = turn .before .loop .inv in
+    let h = turn .loop-test .taken in
     let k : j < a .rend = omega (arith, c .before .before .if1 .left) in
     sym (w .same ∙ heads-differ C g i (a .lend) j (a .rend) h (w .keptLeft h) k (w .keptRight k) (failed (c .before .attribute-eq .ensures) (c .if2 .taken)))
 
 add-next-kept : tie.Need-add-next-kept Inv-loop μ-loop
 add-next-kept c =
-    let s = c .before .before .before .before .before .before .before .before in
-    let w = c .before .before .before .before .loop .inv in
+    let turn = c .before .before .before in
+    let s = begun turn in
+    let w = turn .before .loop .inv in
     omega (arith, s .pre .1 .0, s .pre .1 .1 .1 .1 .0, w .left .1, w .right .1)
 
 next-kept-requires-3 : tie.Need-next-kept-requires-3 Inv-loop μ-loop
 next-kept-requires-3 c κs =
-    let s = c .before .before .before .before .before .before .before .before in
-    let w = c .before .before .before .before .loop .inv in
-    let h = c .before .before .before .loop-test .taken in
+    let turn = c .before .before .before in
+    let s = begun turn in
+    let w = turn .before .loop .inv in
+    let h = turn .loop-test .taken in
     (s .pre .0, (s .pre .1 .0, (omega arith, λ k b e. s .pre .1 .1 .1 .0 k (omega (arith, w .left .0, b)) e)))
 
 add-next-kept-2 : tie.Need-add-next-kept-2 Inv-loop μ-loop
 add-next-kept-2 c =
-    let s = c .before .before .before .before .before .before .before .before .before in
-    let w = c .before .before .before .before .before .loop .inv in
+    let turn = c .before .before .before .before in
+    let s = begun turn in
+    let w = turn .before .loop .inv in
     omega (arith, s .pre .1 .0, s .pre .1 .1 .1 .1 .0, w .left .1, w .right .1)
 
 next-kept-requires-4 : tie.Need-next-kept-requires-4 Inv-loop μ-loop
 next-kept-requires-4 c κs =
-    let s = c .before .before .before .before .before .before .before .before .before in
-    let w = c .before .before .before .before .before .loop .inv in
+    let turn = c .before .before .before .before in
+    let s = begun turn in
+    let w = turn .before .loop .inv in
     let h = c .before .before .before .if1 .left in
     (s .pre .0, (s .pre .1 .1 .1 .1 .0, (omega arith, λ k b e. s .pre .1 .1 .1 .1 .1 .1 k (omega (arith, w .right .0, b)) e)))
 
 loop-less : tie.Need-loop-less Inv-loop μ-loop
 loop-less c =
-    let s = c .before .before .before .before .before .before .before .before .before .before in
-    let w = c .before .before .before .before .before .before .loop .inv in
-    let h = c .before .before .before .before .before .loop-test .taken in
+    let turn = c .before .before .before .before .before in
+    let s = begun turn in
+    let w = turn .before .loop .inv in
+    let h = turn .loop-test .taken in
     omega (arith, c .before .next-kept3 .ensures .from, c .before .next-kept3 .ensures .upTo)
 
 loop-again : tie.Need-loop-again Inv-loop μ-loop
 loop-again c =
-    let s = c .before .before .before .before .before .before .before .before .before .before in
+    let turn = c .before .before .before .before .before in
+    let s = begun turn in
     let a = s .args in
     let C = columns (a .store .now) in
     let g = ignoreOf (a .ignore) in
-    let i = c .before .before .before .before .before .before .loop .i in
-    let j = c .before .before .before .before .before .before .loop .j in
-    let w = c .before .before .before .before .before .before .loop .inv in
+    let i = turn .before .loop .i in
+    let j = turn .before .loop .j in
+    let w = turn .before .loop .inv in
     let k : j < a .rend = omega (arith, c .before .before .before .before .if1 .left) in
-    walk-goes-on C g (a .l) (a .lend) (a .r) (a .rend) i j _ _ w (c .before .before .before .before .before .loop-test .taken) k (held (c .before .before .before .attribute-eq .ensures) (c .before .before .if2 .left)) (c .before .next-kept3 .ensures) (c .next-kept4 .ensures)
+    walk-goes-on C g (a .l) (a .lend) (a .r) (a .rend) i j _ _ w (turn .loop-test .taken) k (held (c .before .before .before .attribute-eq .ensures) (c .before .before .if2 .left)) (c .before .next-kept3 .ensures) (c .next-kept4 .ensures)
 
 returns-3 : tie.Need-returns-3 Inv-loop μ-loop
 returns-3 c =

@@ -35,9 +35,9 @@ returns-2 c =
 
 fragments-eq-requires : tie.Need-fragments-eq-requires
 fragments-eq-requires c κs =
-    let s = c .before .before .before .before .before .before .before .before in
-    let a = s .args in
-    (sound-facts (a .store .now) (held (c .before .before .before .before .before .is-sound .ensures) (c .before .before .before .before .if1 .left)), held (c .before .before .is-allowed .ensures) (c .before .if2 .left))
+    let in1 = c .before .before .before .before in
+    let a = in1 .before .before .before .before .args in
+    (sound-facts (a .store .now) (held (in1 .before .is-sound .ensures) (in1 .if1 .left)), held (c .before .before .is-allowed .ensures) (c .before .if2 .left))
 
 same-length-2 : tie.Need-same-length-2
 same-length-2 c = c .before .before .fragments-eq .kept .1 .0

@@ -42,10 +42,12 @@ same-length c = c .before .before .walk-eq .kept .1 .0
 returns-2 : tie.Need-returns-2
 unfolding causeOf
 returns-2 c =
-    let s = c .before .before .before .before .before .before .before .before .before in
+    let told = c .before .before .before .before in
+    let tested = told .before .before in
+    let s = tested .before .before .before in
     let a = s .args in
     let b = a .store .now in
-    let none = sym (c .before .before .before .before .before .before .pair-cause .ensures) ∙ ap causeOf (c .before .before .before .before .enum-told .given .1) in
+    let none = sym (tested .pair-cause .ensures) ∙ ap causeOf (told .enum-told .given .1) in
     let r = c .before .before .walk-eq in
     walked b (a .mapping .now) (ignoreOf (a .ignore)) (sortOf (a .sort)) (a .lhs) (a .rhs) (sound-of b (s .pre .0)) (s .pre .1) (s .pre .0) (r .result) (r .last .1 .0) none (r .ensures)
 

@@ -33,27 +33,31 @@ returns c =
 
 op-eq-mapped-requires : tie.Need-op-eq-mapped-requires
 op-eq-mapped-requires c κs =
-    let s = c .before .before .before .before .before .before .before .before .before .before in
+    let known = c .before .before in
+    let paired = known .before .before .before .before in
+    let s = paired .before .before .before .before in
     let a = s .args in
     let p = s .pre in
     let S = storeIn (a .store .now) in
     let ig = ignoreOf (a .ignore) in
     let st = stateOf (a .mapping .now) 0 in
-    let m = c .before .before .before .before .before .before .op-eq-map in
-    let next = op-walk S ig (a .lhs) (a .rhs) st ∙ told-bind (pairOps S ig (a .lhs) (a .rhs) st) (opWalk S ig (a .lhs) (a .rhs)) (m .last .1 .0) (c .before .before .mapped .given .1) (m .ensures) in
+    let m = paired .op-eq-map in
+    let next = op-walk S ig (a .lhs) (a .rhs) st ∙ told-bind (pairOps S ig (a .lhs) (a .rhs) st) (opWalk S ig (a .lhs) (a .rhs)) (m .last .1 .0) (known .mapped .given .1) (m .ensures) in
     (record { sound = p .0 .sound; long = m .kept .1 .0 ∙ p .0 .long }, (p .1 .0, (p .1 .1 .0, subst (λ (w : Walk). PairedFits w) next (p .1 .1 .1))))
 
 same-length-2 : tie.Need-same-length-2
-same-length-2 c = c .before .before .op-eq-mapped .kept .1 .0 ∙ c .before .before .before .before .before .before .before .before .before .op-eq-map .kept .1 .0
+same-length-2 c = let known = c .before .before .before .before .before in c .before .before .op-eq-mapped .kept .1 .0 ∙ known .before .before .before .before .op-eq-map .kept .1 .0
 
 returns-2 : tie.Need-returns-2
 returns-2 c =
-    let a = c .before .before .before .before .before .before .before .before .before .before .before .before .before .args in
+    let known = c .before .before .before .before .before in
+    let paired = known .before .before .before .before in
+    let a = paired .before .before .before .before .args in
     let S = storeIn (a .store .now) in
     let ig = ignoreOf (a .ignore) in
     let st = stateOf (a .mapping .now) 0 in
-    let m = c .before .before .before .before .before .before .before .before .before .op-eq-map in
-    let next = op-walk S ig (a .lhs) (a .rhs) st ∙ told-bind (pairOps S ig (a .lhs) (a .rhs) st) (opWalk S ig (a .lhs) (a .rhs)) (m .last .1 .0) (c .before .before .before .before .before .mapped .given .1) (m .ensures) in
+    let m = paired .op-eq-map in
+    let next = op-walk S ig (a .lhs) (a .rhs) st ∙ told-bind (pairOps S ig (a .lhs) (a .rhs) st) (opWalk S ig (a .lhs) (a .rhs)) (m .last .1 .0) (known .mapped .given .1) (m .ensures) in
     let r = c .before .before .op-eq-mapped in
     subst (λ (w : Walk). Told w (r .result) (r .last .1 .0)) (sym next) (r .ensures)
 

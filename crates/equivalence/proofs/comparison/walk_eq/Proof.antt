@@ -75,9 +75,10 @@ same-length-2 c = search needs
 returns-2 : tie.Need-returns-2
 unfolding sortOf
 returns-2 c =
-    let a = c .before .before .before .before .before .before .before .before .args in
+    let told = c .before .before .before .before in
+    let a = told .before .before .before .before .args in
     let r = c .before .before .blocks-eq in
-    rw (c .before .before .before .before .enum-told2 .given .1)
+    rw (told .enum-told2 .given .1)
     (subst (λ (w : Walk). Told w (r .result) (r .last .1 .0)) (sym (block-walk (storeIn (a .store .now)) (ignoreOf (a .ignore)) (a .lhs) (a .rhs) (stateOf (a .mapping .now) 0))) (r .ensures))
 
 same-length-3 : tie.Need-same-length-3
@@ -86,9 +87,10 @@ same-length-3 c = search needs
 returns-3 : tie.Need-returns-3
 unfolding sortOf
 returns-3 c =
-    let a = c .before .before .before .before .before .before .before .before .args in
+    let told = c .before .before .before .before in
+    let a = told .before .before .before .before .args in
     let r = c .before .before .region-eq in
-    rw (c .before .before .before .before .enum-told3 .given .1)
+    rw (told .enum-told3 .given .1)
     (subst (λ (w : Walk). Told w (r .result) (r .last .1 .0)) (sym (region-walk (storeIn (a .store .now)) (ignoreOf (a .ignore)) (a .lhs) (a .rhs) (stateOf (a .mapping .now) 0))) (r .ensures))
 
 pub walk-eq-spec : {M : Type 1} → statement M

@@ -1,17 +1,16 @@
--- `successors_agree` meets its contract: the pairs that were passed agree, and the first that does not ends the scan. Assumes nothing.
-use Prim.Native.Nat.{_-_, _≤_}
-use native.Mathlib.Omega.{arith}
-use mathlib.Core.Path.{sym, _∙_}
-use borrow.Author.Tests.{not-true, not-false}
-use Rattle.layout.proofs.Scans.{Before, AtBoth, before-zero, before-next}
+-- `successors_agree` meets its contract: a scan up to the shorter end, which ends at the first pair that does not agree. Assumes nothing.
+use Prim.Native.Nat.{ℕ, _-_, _<_, min}
+use mathlib.Core.Bool.{Bool}
+use lib.ListN.{length}
+use Rattle.layout.proofs.Scans.{AtBoth, Scanned, scan-starts, scan-on, failed, held}
 use Rattle.equivalence.specs.MappingWords.{mappingOf, sameSuccessor}
-use Rattle.equivalence.proofs.Pairs.{pairs-pass, pairs-fail, below-at}
+use Rattle.equivalence.proofs.Pairs.{pair-in, pair-fails, pairs-done, below-at}
 use borrow.Author.Needs.{needs}
 use Rattle.equivalence.proofs.names.successors_agree.Statement.{statement}
 use Rattle.equivalence.proofs.names.successors_agree.Tie as tie
 
 abbrev Inv-loop : tie.InvT-loop
-Inv-loop mapping l r n i₀ i = (i ≤ n) × Before (AtBoth (sameSuccessor (mappingOf mapping)) l r) i
+Inv-loop mapping l r n i₀ i = Scanned (AtBoth (sameSuccessor (mappingOf mapping)) l r) (min (length l) (length r)) n i
 
 abbrev μ-loop : tie.MeasureT-loop
 μ-loop mapping l r n i₀ i = n - i
@@ -20,67 +19,61 @@ shorter-requires : tie.Need-shorter-requires Inv-loop μ-loop
 shorter-requires c κs = search needs
 
 loop-holds : tie.Need-loop-holds Inv-loop μ-loop
-loop-holds c = (omega arith, before-zero _)
+loop-holds c = scan-starts _ _ _ (c .shorter .ensures)
+
+abbrev agree : tie.Start Inv-loop μ-loop → ℕ → ℕ → Bool
+agree s = sameSuccessor (mappingOf (s .args .mapping .now))
+
+-- a turn of the loop
+module _ (c : tie.In-loop Inv-loop μ-loop) where
+  abbrev begun : tie.Start Inv-loop μ-loop
+  begun = c .before .before .before .before .before .before
+
+  abbrev i : ℕ
+  i = c .before .loop .i
+
+  here : (i < length (begun .args .l .now)) × (i < length (begun .args .r .now))
+  here = pair-in (agree begun) (begun .args .l .now) (begun .args .r .now) (c .before .loop .inv) (c .loop-test .taken)
 
 mul-block-agrees : tie.Need-mul-block-agrees Inv-loop μ-loop
 mul-block-agrees c = search needs
 
 shared-slice-read-block-agrees : tie.Need-shared-slice-read-block-agrees Inv-loop μ-loop
-shared-slice-read-block-agrees c =
-    let s = c .before .before .before .before .before .before .before in
-    let en = c .before .before .before .shorter .ensures in
-    let h = c .before .loop-test .taken in
-    omega arith
+shared-slice-read-block-agrees c = here (c .before) .0
 
 mul-block-agrees-2 : tie.Need-mul-block-agrees-2 Inv-loop μ-loop
 mul-block-agrees-2 c = search needs
 
 shared-slice-read-block-agrees-2 : tie.Need-shared-slice-read-block-agrees-2 Inv-loop μ-loop
-shared-slice-read-block-agrees-2 c =
-    let s = c .before .before .before .before .before .before .before .before in
-    let en = c .before .before .before .before .shorter .ensures in
-    let h = c .before .before .loop-test .taken in
-    omega arith
+shared-slice-read-block-agrees-2 c = here (c .before .before) .1
 
 block-agrees-requires : tie.Need-block-agrees-requires Inv-loop μ-loop
 block-agrees-requires c κs =
-    let s = c .before .before .before .before .before .before .before .before in
-    let a = s .args in
-    let i = c .before .before .before .loop .i in
-    let en = c .before .before .before .before .shorter .ensures in
-    let h = c .before .before .loop-test .taken in
-    (s .pre .0, below-at 256 (a .l .now) (s .pre .1) i (omega arith))
+    let turn = c .before .before in
+    let s = begun turn in
+    (s .pre .0, below-at 256 (s .args .l .now) (s .pre .1) (i turn) (here turn .0))
 
 returns : tie.Need-returns Inv-loop μ-loop
 returns c =
-    let s = c .before .before .before .before .before .before .before .before .before .before in
-    let a = s .args in
-    let i = c .before .before .before .before .before .loop .i in
-    let en = c .before .before .before .before .before .before .shorter .ensures in
-    let h = c .before .before .before .before .loop-test .taken in
-    sym (pairs-fail (sameSuccessor (mappingOf (a .mapping .now))) (a .l .now) (a .r .now) i (omega arith) (omega arith) (sym (c .before .block-agrees .ensures) ∙ not-true _ (c .if1 .taken)))
+    let turn = c .before .before .before .before in
+    let s = begun turn in
+    pair-fails (agree s) (s .args .l .now) (s .args .r .now) (turn .before .loop .inv) (turn .loop-test .taken) (failed (c .before .block-agrees .ensures) (c .if1 .taken))
 
 add-i : tie.Need-add-i Inv-loop μ-loop
 add-i c = search needs
 
 loop-less : tie.Need-loop-less Inv-loop μ-loop
-loop-less c = omega arith
+loop-less c = search needs
 
 loop-again : tie.Need-loop-again Inv-loop μ-loop
 loop-again c =
-    let s = c .before .before .before .before .before .before .before .before .before .before in
-    let a = s .args in
-    let i = c .before .before .before .before .before .loop .i in
-    let en = c .before .before .before .before .before .before .shorter .ensures in
-    let h = c .before .before .before .before .loop-test .taken in
-    (omega arith, before-next (AtBoth (sameSuccessor (mappingOf (a .mapping .now))) (a .l .now) (a .r .now)) i (c .before .before .before .before .before .loop .inv .1) (sym (c .before .block-agrees .ensures) ∙ not-false _ (c .if1 .left)))
+    let turn = c .before .before .before .before in
+    scan-on (turn .before .loop .inv) (turn .loop-test .taken) (held (c .before .block-agrees .ensures) (c .if1 .left))
 
 returns-2 : tie.Need-returns-2 Inv-loop μ-loop
 returns-2 c =
     let s = c .before .before .before .before .before .before in
-    let a = s .args in
-    let en = c .before .before .shorter .ensures in
-    sym (pairs-pass (sameSuccessor (mappingOf (a .mapping .now))) (a .l .now) (a .r .now) (c .before .loop .i) (omega (arith, c .loop-test .left)) (c .before .loop .inv .1))
+    pairs-done (agree s) (s .args .l .now) (s .args .r .now) (c .before .loop .inv) (c .loop-test .left)
 
 pub successors-agree-spec : {M : Type 1} → statement M
 successors-agree-spec =

@@ -27,14 +27,21 @@ module _ (s : tie.Start) where
   r-small : s .args .rhs < 256
   r-small = omega (arith, laid-facts cols (s .pre .0 .sound .laid) .counts .blocks, s .pre .1 .1 .0)
 
+-- the start, from behind the test of the shells; and that place, from behind the values
+abbrev begun : tie.Else1 → tie.Start
+begun c = c .before .before .before .before .before .before
+
+abbrev tested : tie.After-map-values → tie.Else1
+tested c = c .before .before .before .before .before .before .before
+
 -- the shells are compared by the rows
-alike : (c : tie.Else1) → sameShells (storeIn (c .before .before .before .before .before .before .args .store .now)) (ignoreOf (c .before .before .before .before .before .before .args .ignore)) (ofBlock (c .before .before .before .before .before .before .args .lhs)) (ofBlock (c .before .before .before .before .before .before .args .rhs)) ≡ true
-alike c = block-shells (ignoreOf (c .before .before .before .before .before .before .args .ignore)) (c .before .before .before .block-row .ensures) (c .before .before .block-row2 .ensures) ∙ held (c .before .rows-eq .ensures) (c .if1 .left)
+alike : (c : tie.Else1) → sameShells (storeIn (begun c .args .store .now)) (ignoreOf (begun c .args .ignore)) (ofBlock (begun c .args .lhs)) (ofBlock (begun c .args .rhs)) ≡ true
+alike c = block-shells (ignoreOf (begun c .args .ignore)) (c .before .before .before .block-row .ensures) (c .before .before .block-row2 .ensures) ∙ held (c .before .rows-eq .ensures) (c .if1 .left)
 
 -- where they are alike, the rows' values are ranges, as many
-sides : (c : tie.Else1) → Side (cols (c .before .before .before .before .before .before)) (ofBlock (c .before .before .before .before .before .before .args .lhs)) (ofBlock (c .before .before .before .before .before .before .args .rhs)) (c .before .before .before .block-row .result) (c .before .before .block-row2 .result)
+sides : (c : tie.Else1) → Side (cols (begun c)) (ofBlock (begun c .args .lhs)) (ofBlock (begun c .args .rhs)) (c .before .before .before .block-row .result) (c .before .before .block-row2 .result)
 sides c =
-    let a = c .before .before .before .before .before .before .args in
+    let a = begun c .args in
     block-side (a .store .now) (ignoreOf (a .ignore)) (a .lhs) (a .rhs) (c .before .before .before .block-row .ensures) (c .before .before .block-row2 .ensures) (alike c)
 
 block-row-requires : tie.Need-block-row-requires
@@ -70,23 +77,24 @@ cast-map-values c = omega (arith, sides (c .before .before .before .before .befo
 
 map-values-requires : tie.Need-map-values-requires
 map-values-requires c κs =
-    let s = c .before .before .before .before .before .before .before .before .before .before .before .before in
-    (c .before .before .before .before .map-block .kept .0 ∙ s .pre .0 .long, (sides (c .before .before .before .before .before .before) .leftFits, sides (c .before .before .before .before .before .before) .rightFits))
+    let there = c .before .before .before .before .before .before in
+    (c .before .before .before .before .map-block .kept .0 ∙ begun there .pre .0 .long, (sides there .leftFits, sides there .rightFits))
 
 add-t16 : tie.Need-add-t16
-add-t16 c = record { fits = omega (arith, c .before .before .before .before .before .before .before .before .before .before .before .before .before .before .before .pre .1 .1 .1) }
+add-t16 c = record { fits = omega (arith, begun (tested (c .before .before)) .pre .1 .1 .1) }
 
 same-length : tie.Need-same-length
 same-length c = search needs
 
 returns-2 : tie.Need-returns-2
 returns-2 c =
-    let a = c .before .before .before .before .before .before .before .before .before .before .before .before .before .before .before .args in
-    let k = c .before .before .before .before .before .before .before .before .before in
+    let entered = c .before .before in
+    let k = tested entered in
+    let a = begun k .args in
     let l = k .before .before .before .block-row .result in
     let r = k .before .before .block-row2 .result in
-    blocks-alike (storeIn (a .store .now)) (ignoreOf (a .ignore)) (a .lhs) (a .rhs) (a .mapping .now) (a .paired) (c .before .before .map-values .last .0) (consecutive (l .value) (l .values)) (consecutive (r .value) (l .values)) (alike k) (sides k .left) (sides k .right)
-    (c .before .before .map-values .ensures ∙ ap (λ m. valuesMapped m (consecutive (l .value) (l .values)) (consecutive (r .value) (l .values))) (c .before .before .before .before .before .before .before .map-block .ensures))
+    blocks-alike (storeIn (a .store .now)) (ignoreOf (a .ignore)) (a .lhs) (a .rhs) (a .mapping .now) (a .paired) (entered .map-values .last .0) (consecutive (l .value) (l .values)) (consecutive (r .value) (l .values)) (alike k) (sides k .left) (sides k .right)
+    (entered .map-values .ensures ∙ ap (λ m. valuesMapped m (consecutive (l .value) (l .values)) (consecutive (r .value) (l .values))) (entered .before .before .before .before .before .map-block .ensures))
 
 pub block-eq-map-spec : {M : Type 1} → statement M
 block-eq-map-spec =

@@ -24,10 +24,17 @@ module _ (s : tie.Start) where
   r-small : s .args .rhs < 512
   r-small = omega (arith, laid-facts cols (s .pre .0 .sound .laid) .counts .ops, s .pre .1 .1 .0)
 
+-- the start, from behind the test of the shells; and that place, from behind the values
+abbrev begun : tie.Else1 → tie.Start
+begun c = c .before .before .before .before .before .before
+
+abbrev tested : tie.After-map-values → tie.Else1
+tested c = c .before .before .before .before .before .before .before
+
 -- where the shells are alike, the rows' values are ranges, as many
-sides : (c : tie.Else1) → Side (cols (c .before .before .before .before .before .before)) (ofOp (c .before .before .before .before .before .before .args .lhs)) (ofOp (c .before .before .before .before .before .before .args .rhs)) (c .before .before .before .op-row .result) (c .before .before .op-row2 .result)
+sides : (c : tie.Else1) → Side (cols (begun c)) (ofOp (begun c .args .lhs)) (ofOp (begun c .args .rhs)) (c .before .before .before .op-row .result) (c .before .before .op-row2 .result)
 sides c =
-    let s = c .before .before .before .before .before .before in
+    let s = begun c in
     let a = s .args in
     op-side (a .store .now) (ignoreOf (a .ignore)) (a .lhs) (a .rhs) (s .pre .0 .sound) (s .pre .1 .0) (s .pre .1 .1 .0) (c .before .before .before .op-row .ensures) (c .before .before .op-row2 .ensures) (held (c .before .op-shells-eq .ensures) (c .if1 .left))
 
@@ -66,24 +73,25 @@ cast-map-values c = omega (arith, sides (c .before .before .before .before .befo
 
 map-values-requires : tie.Need-map-values-requires
 map-values-requires c κs =
-    let s = c .before .before .before .before .before .before .before .before .before .before .before .before in
-    (c .before .before .before .before .map-op .kept .0 ∙ s .pre .0 .long, (sides (c .before .before .before .before .before .before) .leftFits, sides (c .before .before .before .before .before .before) .rightFits))
+    let there = c .before .before .before .before .before .before in
+    (c .before .before .before .before .map-op .kept .0 ∙ begun there .pre .0 .long, (sides there .leftFits, sides there .rightFits))
 
 add-t16 : tie.Need-add-t16
-add-t16 c = record { fits = omega (arith, c .before .before .before .before .before .before .before .before .before .before .before .before .before .before .before .pre .1 .1 .1) }
+add-t16 c = record { fits = omega (arith, begun (tested (c .before .before)) .pre .1 .1 .1) }
 
 same-length : tie.Need-same-length
 same-length c = search needs
 
 returns-2 : tie.Need-returns-2
 returns-2 c =
-    let a = c .before .before .before .before .before .before .before .before .before .before .before .before .before .before .before .args in
-    let k = c .before .before .before .before .before .before .before .before .before in
+    let entered = c .before .before in
+    let k = tested entered in
+    let a = begun k .args in
     let l = k .before .before .before .op-row .result in
     let r = k .before .before .op-row2 .result in
     let alike = held (k .before .op-shells-eq .ensures) (k .if1 .left) in
-    ops-alike (storeIn (a .store .now)) (ignoreOf (a .ignore)) (a .lhs) (a .rhs) (a .mapping .now) (a .paired) (c .before .before .map-values .last .0) (consecutive (l .value) (l .values)) (consecutive (r .value) (l .values)) alike (sides k .left) (sides k .right)
-    (c .before .before .map-values .ensures ∙ ap (λ m. valuesMapped m (consecutive (l .value) (l .values)) (consecutive (r .value) (l .values))) (c .before .before .before .before .before .before .before .map-op .ensures))
+    ops-alike (storeIn (a .store .now)) (ignoreOf (a .ignore)) (a .lhs) (a .rhs) (a .mapping .now) (a .paired) (entered .map-values .last .0) (consecutive (l .value) (l .values)) (consecutive (r .value) (l .values)) alike (sides k .left) (sides k .right)
+    (entered .map-values .ensures ∙ ap (λ m. valuesMapped m (consecutive (l .value) (l .values)) (consecutive (r .value) (l .values))) (entered .before .before .before .before .before .map-op .ensures))
 
 pub op-eq-map-spec : {M : Type 1} → statement M
 op-eq-map-spec =

@@ -1,5 +1,5 @@
 -- `map_ops_in` meets its contract: what is left to pair, from the words as they are, is the whole from the words as they were. Assumes nothing.
-use Prim.Native.Nat.{ℕ, _+_, _-_, _<_, _≤_}
+use Prim.Native.Nat.{ℕ, _-_, _<_, _≤_}
 use native.Mathlib.Omega.{arith}
 use mathlib.Core.List.{List}
 use lib.ListN.{length}
@@ -65,8 +65,11 @@ module _ (s : tie.Start Inv-loop μ-loop) where
 
 -- in the loop, with a pair found
 module _ (c : tie.After-known-told Inv-loop μ-loop) where
+  abbrev looped : tie.At-loop Inv-loop μ-loop
+  looped = c .before .before .before .before
+
   abbrev begun : tie.Start Inv-loop μ-loop
-  begun = c .before .before .before .before .before .before .before
+  begun = looped .before .before .before
 
   abbrev l : ℕ
   l = c .before .l .given .0 .0
@@ -74,8 +77,8 @@ module _ (c : tie.After-known-told Inv-loop μ-loop) where
   abbrev r : ℕ
   r = c .before .l .given .0 .1 .0
 
-  here : Turn (step begun) (walk begun) (ls begun) (rs begun) (walk begun (ls begun) (rs begun) (stateOf (begun .args .mapping .now) (begun .args .paired))) (c .before .before .before .before .loop .a) (stateOf (c .before .before .before .before .loop .mapping) (c .before .before .before .before .loop .count)) l r
-  here = turn (zips begun) (c .before .before .before .before .loop .inv .1) (ops-rise (store begun) (begun .args .lhs)) (ops-rise (store begun) (begun .args .rhs)) (c .before .before .before .next-ops .ensures) (c .before .l .given .1)
+  here : Turn (step begun) (walk begun) (ls begun) (rs begun) (walk begun (ls begun) (rs begun) (stateOf (begun .args .mapping .now) (begun .args .paired))) (looped .loop .a) (stateOf (looped .loop .mapping) (looped .loop .count)) l r
+  here = turn (zips begun) (looped .loop .inv .1) (ops-rise (store begun) (begun .args .lhs)) (ops-rise (store begun) (begun .args .rhs)) (c .before .before .before .next-ops .ensures) (c .before .l .given .1)
 
   l-here : l < opCount (cols begun)
   l-here = op-in (cols begun) (begun .args .lhs) l (here .lIn)
@@ -98,15 +101,15 @@ enum-known-l c = search needs
 
 op-eq-map-requires : tie.Need-op-eq-map-requires Inv-loop μ-loop
 op-eq-map-requires c κs =
-    let s = c .before .before .before .before .before .before .before .before in
-    let m = c .before .before .before .before .before .loop in
+    let s = begun (c .before) in
+    let m = looped (c .before) .loop in
     (record { sound = s .pre .0 .sound; long = m .inv .0 ∙ s .pre .0 .long }, (l-here (c .before), (r-here (c .before), rest-fits (zips s) (m .inv .1) (s .pre .1 .1 .1))))
 
 enum-known-mapped : tie.Need-enum-known-mapped Inv-loop μ-loop
 enum-known-mapped c = search needs
 
 same-length : tie.Need-same-length Inv-loop μ-loop
-same-length c = c .before .before .before .op-eq-map .kept .1 .0 ∙ c .before .before .before .before .before .before .before .before .before .loop .inv .0
+same-length c = c .before .before .before .op-eq-map .kept .1 .0 ∙ looped (c .before .before .before .before .before) .loop .inv .0
 
 returns : tie.Need-returns Inv-loop μ-loop
 returns c =
@@ -133,7 +136,7 @@ loop-again : tie.Need-loop-again Inv-loop μ-loop
 loop-again c =
     let mapped = c .before .before .before .before .before .op-eq-map in
     let found = c .before .before .before .before .before .before .before in
-    (mapped .kept .1 .0 ∙ found .before .before .before .before .loop .inv .0, turn-rest (zips (begun found)) (here found) (mapped .result) (mapped .last .1 .0) (mapped .ensures) (c .before .mapped .given .1))
+    (mapped .kept .1 .0 ∙ looped found .loop .inv .0, turn-rest (zips (begun found)) (here found) (mapped .result) (mapped .last .1 .0) (mapped .ensures) (c .before .mapped .given .1))
 
 enum-told : tie.Need-enum-told Inv-loop μ-loop
 enum-told c = search needs

@@ -157,9 +157,15 @@ op-eq-mapped-μ-loop store mapping₀ lhs rhs paired rule l r pairs count₀ i�
 module _ (t : ℕ) where
   -- ---- two lists of blocks
 
-  -- at the start; at the loop; and in it, with a pair of blocks found
+  -- at the start; behind the first pass, and the second; at the loop; and in it, with a pair of blocks found
   abbrev BlocksBegun : Type 0
   BlocksBegun = blocks-eq-lts.Start (blocks-eq-calls t) (blocks-eq-at t) blocks-eq.Post blocks-eq-Inv-loop blocks-eq-μ-loop
+
+  abbrev BlocksMapped : Type 0
+  BlocksMapped = blocks-eq-lts.After-map-blocks (blocks-eq-calls t) (blocks-eq-at t) blocks-eq.Post blocks-eq-Inv-loop blocks-eq-μ-loop
+
+  abbrev OpsMapped : Type 0
+  OpsMapped = blocks-eq-lts.After-map-ops (blocks-eq-calls t) (blocks-eq-at t) blocks-eq.Post blocks-eq-Inv-loop blocks-eq-μ-loop
 
   abbrev BlocksLeft : Type 0
   BlocksLeft = blocks-eq-lts.At-loop (blocks-eq-calls t) (blocks-eq-at t) blocks-eq.Post blocks-eq-Inv-loop blocks-eq-μ-loop
@@ -192,22 +198,31 @@ module _ (t : ℕ) where
     few-blocks : blockCount (columns (s .args .store .now)) ≤ 256
     few-blocks = laid-facts (columns (s .args .store .now)) (s .pre .1 .0 .sound .laid) .counts .blocks
 
+  abbrev before-blocks : BlocksMapped → BlocksBegun
+  before-blocks c = c .before .before .before .before
+
+  abbrev before-ops : OpsMapped → BlocksMapped
+  before-ops c = c .before .before .before .before .before .before .before
+
   module _ (c : BlocksLeft) where
+    abbrev mapped : OpsMapped
+    mapped = c .before .before .before .before .before .before
+
     abbrev from : BlocksBegun
-    from = c .before .before .before .before .before .before .before .before .before .before .before .before .before .before .before .before .before
+    from = before-blocks (before-ops mapped)
 
     -- pass 3 is the rest of the whole walk, and what is left of it too
-    third : whole from ≡ eachPair (opsWalk (store from) (rule from)) (ls from) (rs from) (stateOf (c .before .before .before .before .before .before .map-ops .last .1 .0) (c .before .before .ops .given .0 .0))
+    third : whole from ≡ eachPair (opsWalk (store from) (rule from)) (ls from) (rs from) (stateOf (mapped .map-ops .last .1 .0) (c .before .before .ops .given .0 .0))
     third =
-        let blocks = c .before .before .before .before .before .before .before .before .before .before .before .before .before .map-blocks in
-        let ops = c .before .before .before .before .before .before .map-ops in
-        third-starts (store from) (rule from) (from .args .lists) (begun from) (blocks .last .1 .0) (c .before .before .before .before .before .before .before .before .before .blocks2 .given .1) (blocks .ensures) (ops .last .1 .0) (c .before .before .ops .given .1) (ops .ensures)
+        let blocks = before-ops mapped .map-blocks in
+        let ops = mapped .map-ops in
+        third-starts (store from) (rule from) (from .args .lists) (begun from) (blocks .last .1 .0) (mapped .before .before .before .blocks2 .given .1) (blocks .ensures) (ops .last .1 .0) (c .before .before .ops .given .1) (ops .ensures)
 
     left : zipped.Rest (eachPair (opsWalk (store from) (rule from))) (ls from) (rs from) (whole from) (c .loop .lfrom) (c .loop .rfrom) (c .loop .mapping) (c .loop .count)
     left = record { left = third ∙ c .loop .inv .1 .left }
 
     long-now : length (c .loop .mapping) ≡ length (from .args .mapping .now)
-    long-now = c .loop .inv .0 ∙ c .before .before .before .before .before .before .map-ops .kept .1 .0 ∙ c .before .before .before .before .before .before .before .before .before .before .before .before .before .map-blocks .kept .1 .0
+    long-now = c .loop .inv .0 ∙ mapped .map-ops .kept .1 .0 ∙ before-ops mapped .map-blocks .kept .1 .0
 
   module _ (c : BlocksFound) where
     abbrev at-loop : BlocksLeft
@@ -246,25 +261,32 @@ module _ (t : ℕ) where
 
   blocks-eq-map-ops-requires : blocks-eq-lts.Need-map-ops-requires (blocks-eq-calls t) (blocks-eq-at t) blocks-eq.Post blocks-eq-Inv-loop blocks-eq-μ-loop
   blocks-eq-map-ops-requires c κs =
-      let s = c .before .before .before .before .before .before .before .before .before .before in
+      let first = c .before .before .before .before .before .before in
+      let s = before-blocks first in
       let p = s .pre .1 in
-      (record { sound = p .0 .sound; long = c .before .before .before .before .before .before .map-blocks .kept .1 .0 ∙ p .0 .long }, (p .1 .0, few-second (store s) (rule s) (s .args .lists) (begun s) (c .before .before .before .before .before .before .map-blocks .last .1 .0) (c .before .before .blocks2 .given .1) (c .before .before .before .before .before .before .map-blocks .ensures) (p .1 .1)))
+      let blocks = first .map-blocks in (
+        record { sound = p .0 .sound; long = blocks .kept .1 .0 ∙ p .0 .long },
+        (p .1 .0, few-second (store s) (rule s) (s .args .lists) (begun s) (blocks .last .1 .0) (c .before .before .blocks2 .given .1) (blocks .ensures) (p .1 .1)),
+      )
 
   blocks-eq-enum-known-ops : blocks-eq-lts.Need-enum-known-ops (blocks-eq-calls t) (blocks-eq-at t) blocks-eq.Post blocks-eq-Inv-loop blocks-eq-μ-loop
   blocks-eq-enum-known-ops c = search needs
 
   blocks-eq-same-length-2 : blocks-eq-lts.Need-same-length-2 (blocks-eq-calls t) (blocks-eq-at t) blocks-eq.Post blocks-eq-Inv-loop blocks-eq-μ-loop
-  blocks-eq-same-length-2 c = c .before .before .before .map-ops .kept .1 .0 ∙ c .before .before .before .before .before .before .before .before .before .before .map-blocks .kept .1 .0
+  blocks-eq-same-length-2 c = let second = c .before .before .before in second .map-ops .kept .1 .0 ∙ before-ops second .map-blocks .kept .1 .0
 
   blocks-eq-returns-2 : blocks-eq-lts.Need-returns-2 (blocks-eq-calls t) (blocks-eq-at t) blocks-eq.Post blocks-eq-Inv-loop blocks-eq-μ-loop
   blocks-eq-returns-2 c =
-      let s = c .before .before .before .before .before .before .before .before .before .before .before .before .before .before in
-      second-ended (store s) (rule s) (s .args .lists) (begun s) (c .before .before .before .before .before .before .before .before .before .before .map-blocks .last .1 .0) (c .before .before .before .before .before .before .blocks2 .given .1) (c .before .before .before .before .before .before .before .before .before .before .map-blocks .ensures) _ _ (c .match2 .keys2) (c .before .before .before .map-ops .ensures)
+      let second = c .before .before .before in
+      let first = before-ops second in
+      let s = before-blocks first in
+      second-ended (store s) (rule s) (s .args .lists) (begun s) (first .map-blocks .last .1 .0) (second .before .before .before .blocks2 .given .1) (first .map-blocks .ensures) _ _ (c .match2 .keys2) (second .map-ops .ensures)
 
   blocks-eq-loop-holds : blocks-eq-lts.Need-loop-holds (blocks-eq-calls t) (blocks-eq-at t) blocks-eq.Post blocks-eq-Inv-loop blocks-eq-μ-loop
   blocks-eq-loop-holds c =
-      let s = c .before .before .before .before .before .before .before .before .before .before .before .before .before .before .before .before in
-      (refl, zipped.rest-begins (zips s) (ls s) (rs s) (c .before .before .before .before .before .map-ops .last .1 .0) (c .before .ops .given .0 .0))
+      let second = c .before .before .before .before .before in
+      let s = before-blocks (before-ops second) in
+      (refl, zipped.rest-begins (zips s) (ls s) (rs s) (second .map-ops .last .1 .0) (c .before .ops .given .0 .0))
 
   blocks-eq-next-blocks-requires : blocks-eq-lts.Need-next-blocks-requires (blocks-eq-calls t) (blocks-eq-at t) blocks-eq.Post blocks-eq-Inv-loop blocks-eq-μ-loop
   blocks-eq-next-blocks-requires c κs =
@@ -298,7 +320,7 @@ module _ (t : ℕ) where
   blocks-eq-enum-known-compared c = search needs
 
   blocks-eq-same-length-4 : blocks-eq-lts.Need-same-length-4 (blocks-eq-calls t) (blocks-eq-at t) blocks-eq.Post blocks-eq-Inv-loop blocks-eq-μ-loop
-  blocks-eq-same-length-4 c = c .before .before .before .check-ops-in .kept .1 .0 ∙ long-now (c .before .before .before .before .before .before .before .before .before)
+  blocks-eq-same-length-4 c = c .before .before .before .check-ops-in .kept .1 .0 ∙ long-now (at-loop (c .before .before .before .before .before))
 
   blocks-eq-returns-4 : blocks-eq-lts.Need-returns-4 (blocks-eq-calls t) (blocks-eq-at t) blocks-eq.Post blocks-eq-Inv-loop blocks-eq-μ-loop
   blocks-eq-returns-4 c =
@@ -418,7 +440,7 @@ module _ (t : ℕ) where
   check-ops-in-enum-known-compared c = search needs
 
   check-ops-in-same-length-2 : check-ops-in-lts.Need-same-length-2 (check-ops-in-calls t) (check-ops-in-at t) check-ops-in.Post check-ops-in-Inv-loop check-ops-in-μ-loop
-  check-ops-in-same-length-2 c = c .before .before .before .op-eq-mapped .kept .1 .0 ∙ c .before .before .before .before .before .before .before .before .before .loop .inv .0
+  check-ops-in-same-length-2 c = c .before .before .before .op-eq-mapped .kept .1 .0 ∙ ops-left (c .before .before .before .before .before) .loop .inv .0
 
   check-ops-in-returns-2 : check-ops-in-lts.Need-returns-2 (check-ops-in-calls t) (check-ops-in-at t) check-ops-in.Post check-ops-in-Inv-loop check-ops-in-μ-loop
   check-ops-in-returns-2 c =
@@ -449,9 +471,12 @@ module _ (t : ℕ) where
 
   -- ---- two operations
 
-  -- at the start; in the loop, with a pair of regions left
+  -- at the start; behind the first number that is read; in the loop, with a pair of regions left
   abbrev OpsBegun : Type 0
   OpsBegun = op-eq-mapped-lts.Start (op-eq-mapped-calls t) (op-eq-mapped-at t) op-eq-mapped.Post op-eq-mapped-Inv-loop op-eq-mapped-μ-loop
+
+  abbrev FirstRead : Type 0
+  FirstRead = op-eq-mapped-lts.After-number (op-eq-mapped-calls t) (op-eq-mapped-at t) op-eq-mapped.Post op-eq-mapped-Inv-loop op-eq-mapped-μ-loop
 
   abbrev RegionsLeft : Type 0
   RegionsLeft = op-eq-mapped-lts.In-loop (op-eq-mapped-calls t) (op-eq-mapped-at t) op-eq-mapped.Post op-eq-mapped-Inv-loop op-eq-mapped-μ-loop
@@ -470,12 +495,18 @@ module _ (t : ℕ) where
         let r : s .args .rhs < opCount cols = s .pre .1 .1 .1 .0 in
         (omega arith, omega arith)
 
+  abbrev before-read : FirstRead → OpsBegun
+  before-read c = c .before .before .before .before .before .before
+
   module _ (c : RegionsLeft) where
+    abbrev read : FirstRead
+    read = c .before .before .before .before
+
     abbrev ops-begun : OpsBegun
-    ops-begun = c .before .before .before .before .before .before .before .before .before .before
+    ops-begun = before-read read
 
     abbrev lfirst : ℕ
-    lfirst = c .before .before .before .before .number .result
+    lfirst = read .number .result
 
     abbrev rfirst : ℕ
     rfirst = c .before .before .before .number2 .result
@@ -483,7 +514,7 @@ module _ (t : ℕ) where
     this-turn : Turn (cols ops-begun) (ops-begun .args .lhs) (ops-begun .args .rhs) lfirst rfirst (c .before .loop .i)
     this-turn =
         let p = ops-begun .pre .1 in
-        turn (cols ops-begun) (laid-facts (cols ops-begun) (p .0 .sound .laid)) (ops-begun .args .lhs) (ops-begun .args .rhs) (p .1 .0) (p .1 .1 .0) _ _ (c .before .before .before .before .number .ensures) (c .before .before .before .number2 .ensures) _ _ (c .before .before .region-pairs .ensures) (c .loop-test .taken)
+        turn (cols ops-begun) (laid-facts (cols ops-begun) (p .0 .sound .laid)) (ops-begun .args .lhs) (ops-begun .args .rhs) (p .1 .0) (p .1 .1 .0) _ _ (read .number .ensures) (c .before .before .before .number2 .ensures) _ _ (c .before .before .region-pairs .ensures) (c .loop-test .taken)
 
     -- the walk from here on begins with the next pair of regions
     next-turn :
@@ -534,12 +565,13 @@ module _ (t : ℕ) where
 
   op-eq-mapped-loop-holds : op-eq-mapped-lts.Need-loop-holds (op-eq-mapped-calls t) (op-eq-mapped-at t) op-eq-mapped.Post op-eq-mapped-Inv-loop op-eq-mapped-μ-loop
   op-eq-mapped-loop-holds c =
-      let s = c .before .before .before .before .before .before .before .before in
+      let first = c .before .before in
+      let s = before-read first in
       let p = s .pre .1 in
       let a = s .args in (
         refl,
-        names-passed (storeIn (a .store .now)) (ignoreOf (a .ignore)) (a .lhs) (a .rhs) (a .mapping .now) (a .paired) (held (c .before .before .before .before .names-agree .ensures) (c .before .before .before .if1 .left))
-            ∙ regions-begin (cols s) (laid-facts (cols s) (p .0 .sound .laid)) (a .lhs) (a .rhs) (p .1 .0) (p .1 .1 .0) _ _ (c .before .before .number .ensures) (c .before .number2 .ensures) (walkRegion s) (stateOf (a .mapping .now) (a .paired)),
+        names-passed (storeIn (a .store .now)) (ignoreOf (a .ignore)) (a .lhs) (a .rhs) (a .mapping .now) (a .paired) (held (first .before .before .names-agree .ensures) (first .before .if1 .left))
+            ∙ regions-begin (cols s) (laid-facts (cols s) (p .0 .sound .laid)) (a .lhs) (a .rhs) (p .1 .0) (p .1 .1 .0) _ _ (first .number .ensures) (c .before .number2 .ensures) (walkRegion s) (stateOf (a .mapping .now) (a .paired)),
       )
 
   op-eq-mapped-add-region-eq : op-eq-mapped-lts.Need-add-region-eq (op-eq-mapped-calls t) (op-eq-mapped-at t) op-eq-mapped.Post op-eq-mapped-Inv-loop op-eq-mapped-μ-loop
@@ -555,11 +587,11 @@ module _ (t : ℕ) where
   op-eq-mapped-region-eq-requires : op-eq-mapped-lts.Need-region-eq-requires (op-eq-mapped-calls t) (op-eq-mapped-at t) op-eq-mapped.Post op-eq-mapped-Inv-loop op-eq-mapped-μ-loop
   unfolding aroundList
   op-eq-mapped-region-eq-requires c κs =
-      let s = c .before .before .before .before .before .before .before .before .before .before .before in
+      let s = ops-begun (c .before) in
       let p = s .pre .1 in
       let S = storeIn (s .args .store .now) in
       let w = this-turn (c .before) in
-      let n = c .before .before .before .before .before .number .result + c .before .before .loop .i in
+      let n = lfirst (c .before) + c .before .before .loop .i in
       let around : getD (S .regions) n 0 ≡ s .args .lhs = around-region S (s .args .lhs) n (w .child) in
       let falls : 4 * below S (getD (S .regions) n 0) + 2 < 4 * below S (s .args .lhs) + 3 = omega arith in
       let few = few-part _ _ _ (grows-each (walkRegion s) (grows-region S (ignoreOf (s .args .ignore))) _ _) (next-turn (c .before)) (p .1 .1 .1) in (
@@ -589,19 +621,20 @@ module _ (t : ℕ) where
 
   op-eq-mapped-loop-again : op-eq-mapped-lts.Need-loop-again (op-eq-mapped-calls t) (op-eq-mapped-at t) op-eq-mapped.Post op-eq-mapped-Inv-loop op-eq-mapped-μ-loop
   op-eq-mapped-loop-again c =
-      let m = c .before .before .before .before .before .before .before .before .loop in
+      let found = c .before .before .before .before .before .before .before in
       let compared = c .before .before .before .before .before .region-eq in
-      (compared .kept .1 .0 ∙ m .inv .0, next-turn (c .before .before .before .before .before .before .before) ∙ told-bind _ _ (compared .last .1 .0) (c .before .compared .given .1) (compared .ensures))
+      (compared .kept .1 .0 ∙ found .before .loop .inv .0, next-turn found ∙ told-bind _ _ (compared .last .1 .0) (c .before .compared .given .1) (compared .ensures))
 
   op-eq-mapped-same-length-3 : op-eq-mapped-lts.Need-same-length-3 (op-eq-mapped-calls t) (op-eq-mapped-at t) op-eq-mapped.Post op-eq-mapped-Inv-loop op-eq-mapped-μ-loop
   op-eq-mapped-same-length-3 c = c .before .loop .inv .0
 
   op-eq-mapped-returns-3 : op-eq-mapped-lts.Need-returns-3 (op-eq-mapped-calls t) (op-eq-mapped-at t) op-eq-mapped.Post op-eq-mapped-Inv-loop op-eq-mapped-μ-loop
   op-eq-mapped-returns-3 c =
-      let s = c .before .before .before .before .before .before .before .before .before .before in
+      let first = c .before .before .before .before in
+      let s = before-read first in
       let p = s .pre .1 in
       let m = c .before .loop in
-      let done = regions-done (cols s) (laid-facts (cols s) (p .0 .sound .laid)) (s .args .lhs) (s .args .rhs) (p .1 .0) (p .1 .1 .0) _ _ (c .before .before .before .before .number .ensures) (c .before .before .before .number2 .ensures) _ _ (c .before .before .region-pairs .ensures) in
+      let done = regions-done (cols s) (laid-facts (cols s) (p .0 .sound .laid)) (s .args .lhs) (s .args .rhs) (p .1 .0) (p .1 .1 .0) _ _ (first .number .ensures) (c .before .before .before .number2 .ensures) _ _ (c .before .before .region-pairs .ensures) in
       told-over _ (m .mapping) (m .count) (m .inv .1 ∙ done (walkRegion s) (stateOf (m .mapping) (m .count)) (c .loop-test .left))
 
   -- ---- two regions

@@ -20,7 +20,11 @@ returns-3 c = sym (next _ _ (eq-eqb _ _ (c .before .before .before .before .befo
 
 returns-4 : tie.Need-returns-4
 unfolding sameHeads
-returns-4 c = sym (next _ _ (eq-eqb _ _ (c .before .before .before .before .before .before .before .before .if1 .left)) (next _ _ (eq-eqb _ _ (c .before .before .before .before .before .if2 .left)) (next _ _ (eq-eqb _ _ (c .before .before .if3 .left)) (last _ refl))))
+returns-4 c =
+    let in3 = c .before .before in
+    let in2 = in3 .before .before .before in
+    let in1 = in2 .before .before .before in
+    sym (next _ _ (eq-eqb _ _ (in1 .if1 .left)) (next _ _ (eq-eqb _ _ (in2 .if2 .left)) (next _ _ (eq-eqb _ _ (in3 .if3 .left)) (last _ refl))))
 
 pub heads-eq-spec : {M : Type 1} → statement M
 heads-eq-spec = tie.close (tie.spec returns returns-2 returns-3 returns-4)

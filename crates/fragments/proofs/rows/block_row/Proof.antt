@@ -32,14 +32,10 @@ first-slot-requires c κs = search needs
 
 key-count-requires : tie.Need-key-count-requires
 unfolding ownerOf
-key-count-requires c κs =
-    let s = c .before .before .before in
-    (s .pre .0, in-exists (cols s) (ofBlock (s .args .n)) (s .pre .1))
+key-count-requires c κs = let s = c .before .before .before in (s .pre .0, in-exists (cols s) (ofBlock (s .args .n)) (s .pre .1))
 
 number-requires : tie.Need-number-requires
-number-requires c κs =
-    let s = c .before .before .before .before in
-    (s .pre .0 .sized, (omega arith, small s))
+number-requires c κs = let s = c .before .before .before .before in (s .pre .0 .sized, (omega arith, small s))
 
 span-requires : tie.Need-span-requires
 span-requires c κs =
@@ -49,8 +45,10 @@ span-requires c κs =
 returns : tie.Need-returns
 unfolding ownerOf
 returns c =
-    let s = c .before .before .before .before .before .before in
-    block-row (s .args .store .now) (s .pre .0) (s .args .n) (s .pre .1) (c .before .before .before .before .at .ensures) (c .before .before .before .first-slot .ensures) (c .before .before .key-count .ensures) (c .before .number .ensures) (c .span .ensures)
+    let slot = c .before .before .before in
+    let s = slot .before .before .before in
+    block-row (s .args .store .now) (s .pre .0) (s .args .n) (s .pre .1) (slot .before .at .ensures) (slot .first-slot .ensures) (c .before .before .key-count .ensures)
+    (c .before .number .ensures) (c .span .ensures)
 
 pub block-row-spec : {M : Type 1} → statement M
 block-row-spec =

@@ -113,12 +113,13 @@ module _ (t : ℕ) where
       let i = c .before .before .before .before .loop in
       op-found (block-cols s) (s .args .left) (s .args .b) (i .size) (i .from) (i .inv) _ (c .before .before .before .next-op .ensures) (c .before .n .given .0 .0) (c .before .n .given .1) (block-laid s)
 
-  op-counted : (c : OpCounted) → SummingBlock (block-cols (block-of (c .before .before .before .before .before))) (block-of (c .before .before .before .before .before) .args .left) (block-of (c .before .before .before .before .before) .args .b) (c .before .before .before .before .before .before .before .before .before .loop .size + c .before .more .given .0 .0) (c .before .before .before .before .before .before .n .given .0 .0 + 1)
+  op-counted : (c : OpCounted) → let f = c .before .before .before .before .before in let s = block-of f in SummingBlock (block-cols s) (s .args .left) (s .args .b) (f .before .before .before .before .loop .size + c .before .more .given .0 .0) (f .before .n .given .0 .0 + 1)
   op-counted c =
-      let s = block-of (c .before .before .before .before .before) in
-      let i = c .before .before .before .before .before .before .before .before .before .loop in
+      let f = c .before .before .before .before .before in
+      let s = block-of f in
+      let i = f .before .before .before .before .loop in
       let l : s .args .left ≡ suc (s .args .left - 1) = omega (arith, c .before .before .before .before .if1 .left) in
-      op-more (block-cols s) (s .args .left) (s .args .b) (i .size) (i .from) (i .inv) _ (c .before .before .before .before .before .before .before .before .next-op .ensures) (c .before .before .before .before .before .before .n .given .0 .0) (c .before .before .before .before .before .before .n .given .1) (s .args .left - 1) l _ (c .before .before .before .size-in-op .ensures) (s .pre .1 .0 .ruled) (c .before .more .given .0 .0) (c .before .more .given .1)
+      op-more (block-cols s) (s .args .left) (s .args .b) (i .size) (i .from) (i .inv) _ (f .before .before .before .next-op .ensures) (f .before .n .given .0 .0) (f .before .n .given .1) (s .args .left - 1) l _ (c .before .before .before .size-in-op .ensures) (s .pre .1 .0 .ruled) (c .before .more .given .0 .0) (c .before .more .given .1)
 
   size-in-block-loop-holds : size-in-block-lts.Need-loop-holds (block-calls t) (size-in-block-at t) size-in-block.Post size-in-block-Inv-loop size-in-block-μ-loop
   size-in-block-loop-holds c = block-begun (block-cols (c .before)) (c .before .args .left) (c .before .args .b)
@@ -162,10 +163,11 @@ module _ (t : ℕ) where
 
   size-in-block-returns-3 : size-in-block-lts.Need-returns-3 (block-calls t) (size-in-block-at t) size-in-block.Post size-in-block-Inv-loop size-in-block-μ-loop
   size-in-block-returns-3 c =
-      let s = block-of (c .before .before .before .before) in
-      let i = c .before .before .before .before .before .before .before .before .loop in
+      let f = c .before .before .before .before in
+      let s = block-of f in
+      let i = f .before .before .before .before .loop in
       let l : s .args .left ≡ suc (s .args .left - 1) = omega (arith, c .before .before .before .if1 .left) in
-      op-deep (block-cols s) (s .args .left) (s .args .b) (i .size) (i .from) (i .inv) _ (c .before .before .before .before .before .before .before .next-op .ensures) (c .before .before .before .before .before .n .given .0 .0) (c .before .before .before .before .before .n .given .1) (s .args .left - 1) l _ (c .before .before .size-in-op .ensures) (c .enum-told2 .given .1)
+      op-deep (block-cols s) (s .args .left) (s .args .b) (i .size) (i .from) (i .inv) _ (f .before .before .before .next-op .ensures) (f .before .n .given .0 .0) (f .before .n .given .1) (s .args .left - 1) l _ (c .before .before .size-in-op .ensures) (c .enum-told2 .given .1)
 
   size-in-block-add-size : size-in-block-lts.Need-add-size (block-calls t) (size-in-block-at t) size-in-block.Post size-in-block-Inv-loop size-in-block-μ-loop
   size-in-block-add-size c = omega (arith, op-there (c .before .before .before .before .before) .1, op-counted c .1, block-laid (block-of (c .before .before .before .before .before)) .counts .ops)
@@ -292,11 +294,12 @@ module _ (t : ℕ) where
       let i = c .before .before .before .before .loop in
       block-found (region-cols s) (s .args .left) (s .args .r) (i .size) (i .from) (i .inv) _ (c .before .before .before .next-block .ensures) (c .before .b .given .0 .0) (c .before .b .given .1) (region-laid s)
 
-  block-counted : (c : BlockCounted) → SummingRegion (region-cols (region-of (c .before .before .before .before))) (region-of (c .before .before .before .before) .args .left) (region-of (c .before .before .before .before) .args .r) (c .before .before .before .before .before .before .before .before .loop .size + c .before .more .given .0 .0) (c .before .before .before .before .before .b .given .0 .0 + 1)
+  block-counted : (c : BlockCounted) → let f = c .before .before .before .before in let s = region-of f in SummingRegion (region-cols s) (s .args .left) (s .args .r) (f .before .before .before .before .loop .size + c .before .more .given .0 .0) (f .before .b .given .0 .0 + 1)
   block-counted c =
-      let s = region-of (c .before .before .before .before) in
-      let i = c .before .before .before .before .before .before .before .before .loop in
-      block-more (region-cols s) (s .args .left) (s .args .r) (i .size) (i .from) (i .inv) _ (c .before .before .before .before .before .before .before .next-block .ensures) (c .before .before .before .before .before .b .given .0 .0) (c .before .before .before .before .before .b .given .1) _ (c .before .before .before .size-in-block .ensures) (s .pre .1 .0 .ruled) (c .before .more .given .0 .0) (c .before .more .given .1)
+      let f = c .before .before .before .before in
+      let s = region-of f in
+      let i = f .before .before .before .before .loop in
+      block-more (region-cols s) (s .args .left) (s .args .r) (i .size) (i .from) (i .inv) _ (f .before .before .before .next-block .ensures) (f .before .b .given .0 .0) (f .before .b .given .1) _ (c .before .before .before .size-in-block .ensures) (s .pre .1 .0 .ruled) (c .before .more .given .0 .0) (c .before .more .given .1)
 
   size-in-region-loop-holds : size-in-region-lts.Need-loop-holds (region-calls t) (size-in-region-at t) size-in-region.Post size-in-region-Inv-loop size-in-region-μ-loop
   size-in-region-loop-holds c = region-begun (region-cols (c .before)) (c .before .args .left) (c .before .args .r)

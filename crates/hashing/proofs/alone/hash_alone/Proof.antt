@@ -50,7 +50,8 @@ hash-own-names-requires c κs = search needs
 
 successors-of-requires : tie.Need-successors-of-requires
 successors-of-requires c κs =
-    let p = c .before .before .before .before .before .before .before .before .pre in
+    let shell = c .before .before in
+    let p = shell .before .before .before .before .before .before .pre in
     (record { sized = p .0 .sized; laid = p .0 .laid }, p .1 .0)
 
 hash-own-names-requires-2 : tie.Need-hash-own-names-requires-2
@@ -59,13 +60,15 @@ hash-own-names-requires-2 c κs = search needs
 returns : tie.Need-returns
 unfolding consecutive tabulateFrom
 returns c =
-    let s = c .before .before .before .before .before .before .before .before .before .before in
+    let hashed = c .before .before .before .before in
+    let read = hashed .before .before .before .before in
+    let s = read .before .before in
     let C = columns (s .args .store .now) in
     let n = s .args .n in
-    let row = c .before .before .before .before .before .before .before .before .op-row in
-    let shell = c .before .before .before .before .hash-row in
+    let row = read .op-row in
+    let shell = hashed .hash-row in
     let fed = c .before .before .hash-own-names in
-    let head = head-fed C n (s .pre .1 .0) fnvStart (c .before .before .before .before .before .before .at .ensures) (sym (ap length (s .pre .1 .1))) (c .before .before .before .before .before .with-head .ensures) in
+    let head = head-fed C n (s .pre .1 .0) fnvStart (hashed .before .before .at .ensures) (sym (ap length (s .pre .1 .1))) (hashed .before .with-head .ensures) in
     let many : row .result .value + row .result .values - row .result .value ≡ row .result .values = omega arith in
     let own : consecutive (row .result .value) (row .result .value + row .result .values - row .result .value) ≡ valuesOf (storeOf C) (ofOp n) = ap (consecutive (row .result .value)) many ∙ sym (row .ensures .values) in
     fed-alone (storeOf C) (ignoreOf (s .args .ignore)) n (s .pre .1 .1) (row-fed (row .ensures) (ignoreOf (s .args .ignore)) fnvStart head (shell .ensures))

@@ -134,8 +134,11 @@ module _ (t : ℕ) where
 
   -- in the loop, with a block found
   module _ (c : blocks-lts.After-known-told (blocks-calls t) (blocks-at t) blocks.Post Inv-blocks left-blocks) where
+    abbrev shells-fed : blocks-lts.After-hash-op-shells (blocks-calls t) (blocks-at t) blocks.Post Inv-blocks left-blocks
+    shells-fed = c .before .before .before .before .before
+
     abbrev blocks-begun : blocks-lts.Start (blocks-calls t) (blocks-at t) blocks.Post Inv-blocks left-blocks
-    blocks-begun = c .before .before .before .before .before .before .before .before .before .before
+    blocks-begun = shells-fed .before .before .before .before .before
 
     abbrev b : ℕ
     b = c .before .b .given .0 .0
@@ -179,9 +182,10 @@ module _ (t : ℕ) where
 
   blocks-returns : blocks-lts.Need-returns (blocks-calls t) (blocks-at t) blocks.Post Inv-blocks left-blocks
   blocks-returns c =
-      let s = c .before .before .before .before .before .before .before .before .before in
+      let shells = c .before .before .before .before in
+      let s = shells .before .before .before .before .before in
       let m = c .before .before .before .loop in
-      passes-fed (list s) (s .pre .1 .1 .1) (c .before .before .before .before .before .before .hash-block-shells .ensures) (c .before .before .before .before .hash-op-shells .ensures)
+      passes-fed (list s) (s .pre .1 .1 .1) (shells .before .before .hash-block-shells .ensures) (shells .hash-op-shells .ensures)
       (pass-over (each (opsInFull (store s))) (list s) (m .from) (m .inv) (none-next (m .from) (list s) _ (c .before .before .next-in .ensures) (c .enum-told .given .1)))
 
   blocks-hash-ops-full-requires : blocks-lts.Need-hash-ops-full-requires (blocks-calls t) (blocks-at t) blocks.Post Inv-blocks left-blocks
@@ -193,7 +197,7 @@ module _ (t : ℕ) where
       let m = f .before .before .before .before .loop in
       let same : aroundList S (Alone (b f)) ≡ aroundList S (s .args .blocks) = around-block S (s .args .blocks) (b f) (block-found f .child) in
       let falls : 3 * below S (aroundList S (Alone (b f))) < 3 * below S (aroundList S (s .args .blocks)) + 1 = omega arith in
-      let third = third-room (list s) (p .1 .1) (f .before .before .before .before .before .before .before .hash-block-shells .ensures) (f .before .before .before .before .before .hash-op-shells .ensures) in (
+      let third = third-room (list s) (p .1 .1) (shells-fed f .before .before .hash-block-shells .ensures) (shells-fed f .hash-op-shells .ensures) in (
         subst (λ (j : ℕ). 3 * below S (aroundList S (Alone (b f))) < j) (s .pre .0) falls,
         (p .0, (block-here f, pass-room (each (opsInFull S)) (list s) (m .from) (m .inv) (block-found f) third)),
       )
@@ -313,9 +317,12 @@ module _ (t : ℕ) where
       regions-range (cols s) (laid s) (s .args .n) (s .pre .1 .1 .0) ∙ ap₂ range (sym (c .number2 .ensures)) (sym (c .before .number .ensures))
 
   -- in the loop, with a region left
-  region-here : (c : op-lts.In-loop (op-calls t) (op-at t) op.Post Inv-op left-op) → c .before .loop .r < regionCount (cols (c .before .before .before .before .before .before .before))
+  abbrev op-begun : op-lts.In-loop (op-calls t) (op-at t) op.Post Inv-op left-op → op-lts.Start (op-calls t) (op-at t) op.Post Inv-op left-op
+  op-begun c = c .before .before .before .before .before .before .before
+
+  region-here : (c : op-lts.In-loop (op-calls t) (op-at t) op.Post Inv-op left-op) → c .before .loop .r < regionCount (cols (op-begun c))
   region-here c =
-      let s = c .before .before .before .before .before .before .before in
+      let s = op-begun c in
       omega (arith, c .loop-test .taken, c .before .before .before .number .ensures, laid s .op (s .args .n) (s .pre .1 .1 .0) .regions .range .fits)
 
   op-hash-names-requires : op-lts.Need-hash-names-requires (op-calls t) (op-at t) op.Post Inv-op left-op
@@ -339,7 +346,7 @@ module _ (t : ℕ) where
   op-hash-blocks-full-requires : op-lts.Need-hash-blocks-full-requires (op-calls t) (op-at t) op.Post Inv-op left-op
   unfolding BlocksExist
   op-hash-blocks-full-requires c κs =
-      let s = c .before .before .before .before .before .before .before .before in
+      let s = op-begun (c .before) in
       let p = s .pre .1 in
       let S = storeIn (s .args .store .now) in
       let n = s .args .n in
@@ -359,14 +366,14 @@ module _ (t : ℕ) where
   op-add-r : op-lts.Need-add-r (op-calls t) (op-at t) op.Post Inv-op left-op
   op-add-r c =
       let f = c .before .before in
-      record { fits = omega (arith, region-here f, laid (f .before .before .before .before .before .before .before) .counts .regions) }
+      record { fits = omega (arith, region-here f, laid (op-begun f) .counts .regions) }
 
   op-loop-less : op-lts.Need-loop-less (op-calls t) (op-at t) op.Post Inv-op left-op
   op-loop-less c = omega (arith, c .before .before .loop-test .taken)
 
   op-loop-again : op-lts.Need-loop-again (op-calls t) (op-at t) op.Post Inv-op left-op
   op-loop-again c =
-      let s = c .before .before .before .before .before .before .before .before .before in
+      let s = op-begun (c .before .before) in
       let S = storeIn (s .args .store .now) in
       let m = c .before .before .before .loop in
       let end = c .before .before .before .before .before .number .result in

@@ -45,8 +45,9 @@ number-requires-3 c κs = search needs
 returns-2 : tie.Need-returns-2
 unfolding countsLaid opCount operandCount successorCount attributeCount
 returns-2 c =
-    let C = columns (c .before .before .before .before .before .before .before .before .args .store .now) in
-    let successors = c .before .before .end-before2 .ensures ∙ ap (endBefore C opSuccessorEnd) (c .before .before .before .before .before .before .number .ensures) in
+    let ops = c .before .before .before .before .before .before in
+    let C = columns (ops .before .before .args .store .now) in
+    let successors = c .before .before .end-before2 .ensures ∙ ap (endBefore C opSuccessorEnd) (ops .number .ensures) in
     sym (fails _ 1 (ne-eqb (endBefore C opSuccessorEnd (at C 0 0)) (at C 0 5) (λ e. c .if2 .taken (successors ∙ e ∙ sym (c .before .number3 .ensures)))))
 
 attribute-sum-requires : tie.Need-attribute-sum-requires
@@ -58,11 +59,14 @@ number-requires-4 c κs = search needs
 returns-3 : tie.Need-returns-3
 unfolding countsLaid opCount operandCount successorCount attributeCount
 returns-3 c =
-    let C = columns (c .before .before .before .before .before .before .before .before .before .before .args .store .now) in
-    let operands = c .before .before .before .before .before .before .before .end-before .ensures ∙ ap (endBefore C opOperandEnd) (c .before .before .before .before .before .before .before .before .number .ensures) in
-    let successors = c .before .before .before .before .end-before2 .ensures ∙ ap (endBefore C opSuccessorEnd) (c .before .before .before .before .before .before .before .before .number .ensures) in
-    sym (next _ _ (eq-eqb (endBefore C opOperandEnd (at C 0 0)) (at C 0 4) (sym operands ∙ c .before .before .before .before .before .if1 .left ∙ c .before .before .before .before .before .before .number2 .ensures))
-    (next _ _ (eq-eqb (endBefore C opSuccessorEnd (at C 0 0)) (at C 0 5) (sym successors ∙ c .before .before .if2 .left ∙ c .before .before .before .number3 .ensures))
+    let in2 = c .before .before in
+    let in1 = in2 .before .before .before in
+    let ops = in1 .before .before .before in
+    let C = columns (ops .before .before .args .store .now) in
+    let operands = in1 .before .before .end-before .ensures ∙ ap (endBefore C opOperandEnd) (ops .number .ensures) in
+    let successors = in2 .before .before .end-before2 .ensures ∙ ap (endBefore C opSuccessorEnd) (ops .number .ensures) in
+    sym (next _ _ (eq-eqb (endBefore C opOperandEnd (at C 0 0)) (at C 0 4) (sym operands ∙ in1 .if1 .left ∙ in1 .before .number2 .ensures))
+    (next _ _ (eq-eqb (endBefore C opSuccessorEnd (at C 0 0)) (at C 0 5) (sym successors ∙ in2 .if2 .left ∙ in2 .before .number3 .ensures))
     (last _ (ap₂ eqb (sym (c .before .attribute-sum .ensures)) (sym (c .number4 .ensures))))))
 
 pub counts-laid-spec : {M : Type 1} → statement M

@@ -2,11 +2,15 @@
 use native.Mathlib.Omega.{arith}
 use mathlib.Core.Path.{sym}
 use Rattle.layout.specs.Reading.{opCount, blockCount, regionCount, valueCount}
-use Rattle.layout.specs.Soundness.{laidOut, rowLaid}
+use Rattle.layout.specs.Soundness.{CountsBounded, laidOut, rowLaid}
 use Rattle.layout.proofs.Scans.{fails, next, last, failed, held}
 use borrow.Author.Needs.{needs}
 use Rattle.layout.proofs.checks.laid_out.Statement.{statement}
 use Rattle.layout.proofs.checks.laid_out.Tie as tie
+
+-- the counts hold where the first test passed
+bounded : (c : tie.Else1) → CountsBounded (c .before .before .before .args .store .now)
+bounded c = record { sized = c .before .before .before .pre; counted = held (c .before .counts-hold .ensures) (c .if1 .left) }
 
 counts-hold-requires : tie.Need-counts-hold-requires
 counts-hold-requires c κs = search needs
@@ -16,36 +20,28 @@ unfolding laidOut
 returns c = sym (fails _ 0 (failed (c .before .counts-hold .ensures) (c .if1 .taken)))
 
 rows-laid-requires : tie.Need-rows-laid-requires
-rows-laid-requires c κs =
-    let first = c in
-    (record { sized = first .before .before .before .pre; counted = held (first .before .counts-hold .ensures) (first .if1 .left) }, omega arith)
+rows-laid-requires c κs = (bounded c, omega arith)
 
 returns-2 : tie.Need-returns-2
 unfolding laidOut rowLaid opCount
 returns-2 c = sym (fails _ 1 (failed (c .before .rows-laid .ensures) (c .if2 .taken)))
 
 rows-laid-requires-2 : tie.Need-rows-laid-requires-2
-rows-laid-requires-2 c κs =
-    let first = c .before .before in
-    (record { sized = first .before .before .before .pre; counted = held (first .before .counts-hold .ensures) (first .if1 .left) }, omega arith)
+rows-laid-requires-2 c κs = (bounded (c .before .before), omega arith)
 
 returns-3 : tie.Need-returns-3
 unfolding laidOut rowLaid blockCount
 returns-3 c = sym (fails _ 2 (failed (c .before .rows-laid2 .ensures) (c .if3 .taken)))
 
 rows-laid-requires-3 : tie.Need-rows-laid-requires-3
-rows-laid-requires-3 c κs =
-    let first = c .before .before .before .before in
-    (record { sized = first .before .before .before .pre; counted = held (first .before .counts-hold .ensures) (first .if1 .left) }, omega arith)
+rows-laid-requires-3 c κs = (bounded (c .before .before .before .before), omega arith)
 
 returns-4 : tie.Need-returns-4
 unfolding laidOut rowLaid regionCount
 returns-4 c = sym (fails _ 3 (failed (c .before .rows-laid3 .ensures) (c .if4 .taken)))
 
 rows-laid-requires-4 : tie.Need-rows-laid-requires-4
-rows-laid-requires-4 c κs =
-    let first = c .before .before .before .before .before .before in
-    (record { sized = first .before .before .before .pre; counted = held (first .before .counts-hold .ensures) (first .if1 .left) }, omega arith)
+rows-laid-requires-4 c κs = (bounded (c .before .before .before .before .before .before), omega arith)
 
 returns-5 : tie.Need-returns-5
 unfolding laidOut rowLaid valueCount
@@ -56,10 +52,7 @@ unfolding rowLaid opCount blockCount
 counts-laid-requires c κs =
     let in3 = c .before .before .before .before in
     let in2 = in3 .before .before in
-    let in1 = in2 .before .before in (
-      record { sized = in1 .before .before .before .pre; counted = held (in1 .before .counts-hold .ensures) (in1 .if1 .left) },
-      (held (in2 .before .rows-laid .ensures) (in2 .if2 .left), held (in3 .before .rows-laid2 .ensures) (in3 .if3 .left)),
-    )
+    (bounded (in2 .before .before), (held (in2 .before .rows-laid .ensures) (in2 .if2 .left), held (in3 .before .rows-laid2 .ensures) (in3 .if3 .left)))
 
 returns-6 : tie.Need-returns-6
 unfolding laidOut
@@ -68,11 +61,9 @@ returns-6 c = sym (fails _ 5 (failed (c .before .counts-laid .ensures) (c .if6 .
 ops-linked-requires : tie.Need-ops-linked-requires
 unfolding rowLaid opCount
 ops-linked-requires c κs =
-    let in2 = c .before .before .before .before .before .before .before .before in
-    let in1 = in2 .before .before in (
-      record { sized = in1 .before .before .before .pre; counted = held (in1 .before .counts-hold .ensures) (in1 .if1 .left) },
-      held (in2 .before .rows-laid .ensures) (in2 .if2 .left),
-    )
+    let in4 = c .before .before .before .before in
+    let in2 = in4 .before .before .before .before in
+    (bounded (in2 .before .before), held (in2 .before .rows-laid .ensures) (in2 .if2 .left))
 
 returns-7 : tie.Need-returns-7
 unfolding laidOut opCount
@@ -81,11 +72,9 @@ returns-7 c = sym (fails _ 6 (failed (c .before .ops-linked .ensures) (c .if7 .t
 blocks-linked-requires : tie.Need-blocks-linked-requires
 unfolding rowLaid blockCount
 blocks-linked-requires c κs =
-    let in3 = c .before .before .before .before .before .before .before .before in
-    let in1 = in3 .before .before .before .before in (
-      record { sized = in1 .before .before .before .pre; counted = held (in1 .before .counts-hold .ensures) (in1 .if1 .left) },
-      held (in3 .before .rows-laid2 .ensures) (in3 .if3 .left),
-    )
+    let in5 = c .before .before .before .before in
+    let in3 = in5 .before .before .before .before in
+    (bounded (in3 .before .before .before .before), held (in3 .before .rows-laid2 .ensures) (in3 .if3 .left))
 
 returns-8 : tie.Need-returns-8
 unfolding laidOut rowLaid opCount blockCount regionCount valueCount

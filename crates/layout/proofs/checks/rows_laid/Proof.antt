@@ -1,16 +1,15 @@
--- `rows_laid` meets its contract: the rows that were passed are laid out, and the first that is not ends the scan. Assumes nothing.
-use Prim.Native.Nat.{_-_, _≤_}
+-- `rows_laid` meets its contract: a scan that ends at the first row that is not laid out. Assumes nothing.
+use Prim.Native.Nat.{_-_}
 use native.Mathlib.Omega.{arith}
-use mathlib.Core.Path.{sym}
 use Rattle.layout.specs.Columns.{columns, at, counts}
 use Rattle.layout.specs.Soundness.{rowLaid}
-use Rattle.layout.proofs.Scans.{Before, before-zero, before-next, below-all, below-fails, failed, held}
+use Rattle.layout.proofs.Scans.{Scanned, scan-starts, scan-on, scan-fails, scan-done, failed, held}
 use borrow.Author.Needs.{needs}
 use Rattle.layout.proofs.checks.rows_laid.Statement.{statement}
 use Rattle.layout.proofs.checks.rows_laid.Tie as tie
 
 abbrev Inv-loop : tie.InvT-loop
-Inv-loop store table count i₀ i = (i ≤ count) × Before (rowLaid (columns store) table) i
+Inv-loop store table count i₀ i = Scanned (rowLaid (columns store) table) (at (columns store) counts table) count i
 
 abbrev μ-loop : tie.MeasureT-loop
 μ-loop store table count i₀ i = count - i
@@ -19,7 +18,7 @@ number-requires : tie.Need-number-requires Inv-loop μ-loop
 number-requires c κs = search needs
 
 loop-holds : tie.Need-loop-holds Inv-loop μ-loop
-loop-holds c = (omega arith, before-zero _)
+loop-holds c = scan-starts _ _ _ (c .number .ensures)
 
 row-laid-requires : tie.Need-row-laid-requires Inv-loop μ-loop
 row-laid-requires c κs =
@@ -28,9 +27,8 @@ row-laid-requires c κs =
 
 returns : tie.Need-returns Inv-loop μ-loop
 returns c =
-    let a = c .before .before .before .before .before .before .args in
-    let C = columns (a .store .now) in
-    sym (below-fails (rowLaid C (a .table)) (at C counts (a .table)) (c .before .before .before .loop .i) (omega arith) (failed (c .before .row-laid .ensures) (c .if1 .taken)))
+    let turn = c .before .before in
+    scan-fails (turn .before .loop .inv) (turn .loop-test .taken) (failed (c .before .row-laid .ensures) (c .if1 .taken))
 
 add-i : tie.Need-add-i Inv-loop μ-loop
 add-i c = search needs
@@ -40,14 +38,11 @@ loop-less c = search needs
 
 loop-again : tie.Need-loop-again Inv-loop μ-loop
 loop-again c =
-    let a = c .before .before .before .before .before .before .args in
-    (omega arith, before-next (rowLaid (columns (a .store .now)) (a .table)) (c .before .before .before .loop .i) (c .before .before .before .loop .inv .1) (held (c .before .row-laid .ensures) (c .if1 .left)))
+    let turn = c .before .before in
+    scan-on (turn .before .loop .inv) (turn .loop-test .taken) (held (c .before .row-laid .ensures) (c .if1 .left))
 
 returns-2 : tie.Need-returns-2 Inv-loop μ-loop
-returns-2 c =
-    let a = c .before .before .before .before .args in
-    let C = columns (a .store .now) in
-    sym (below-all (rowLaid C (a .table)) (at C counts (a .table)) (c .before .loop .i) (omega arith) (c .before .loop .inv .1))
+returns-2 c = scan-done (c .before .loop .inv) (c .loop-test .left)
 
 pub rows-laid-spec : {M : Type 1} → statement M
 rows-laid-spec =

@@ -1,42 +1,37 @@
--- `next_op` meets its contract: behind a child its link leads to the next one; and no child stands before the range, so to search from the later of its begin and `from` is to search from `from` on. Assumes nothing.
-use Prim.Native.Nat.{ℕ, max, _+_, _-_}
+-- `next_op` meets its contract: the next operation is found by a link, or by a search of its block's range. Assumes nothing.
+use Prim.Native.Nat.{_<_}
 use native.Mathlib.Omega.{arith}
-use mathlib.Core.Bool.{true}
-use mathlib.Core.List.{List}
-use mathlib.Core.Path.{_≡_, sym, ap, ap₂, _∙_}
-use Rattle.layout.specs.Columns.{columns, opParent}
+use mathlib.Core.Path.{sym, _∙_}
+use Rattle.rules.specs.Store.{maxBlocks}
+use Rattle.layout.specs.Columns.{columns}
 use Rattle.layout.specs.Reading.{opCount}
-use Rattle.layout.specs.Children.{firstWord, foundFrom, linkFound, behindChild}
-use Rattle.layout.specs.Soundness.{Arranged}
 use Rattle.layout.proofs.Laid.{Laid, laid-facts}
-use Rattle.layout.proofs.Finds.{op-next}
-use Rattle.layout.proofs.Linking.{behind-facts, op-follows}
+use Rattle.layout.proofs.Linking.{behind-facts}
+use Rattle.layout.proofs.Following.{ops-of, by-link, by-search}
 use borrow.Author.Needs.{needs}
 use Rattle.layout.proofs.children.next_op.Statement.{statement}
 use Rattle.layout.proofs.children.next_op.Tie as tie
 
--- what the words are laid out as
-laid : (b : List ℕ) → Arranged b → Laid (columns b)
-laid b h = laid-facts (columns b) (h .laid)
+laid : (s : tie.Start) → Laid (columns (s .args .store .now))
+laid s = laid-facts _ (s .pre .0 .laid)
+
+low : (s : tie.Start) → s .args .block < maxBlocks
+low s = omega (arith, laid s .counts .blocks, s .pre .1)
 
 number-requires : tie.Need-number-requires
 number-requires c κs = search needs
 
 cast-parent : tie.Need-cast-parent
-cast-parent c = let s = c .before .before in omega (arith, laid (s .args .store .now) (s .pre .0) .counts .blocks)
+cast-parent c = omega (arith, low (c .before .before))
 
 add-parent : tie.Need-add-parent
-add-parent c = let s = c .before .before in omega (arith, laid (s .args .store .now) (s .pre .0) .counts .blocks)
+add-parent c = omega (arith, low (c .before .before))
 
 is-behind-requires : tie.Need-is-behind-requires
 unfolding opCount
 is-behind-requires c κs =
     let s = c .before .before in
-    (s .pre .0 .sized, (omega arith, omega (arith, c .number .ensures, laid (s .args .store .now) (s .pre .0) .counts .ops)))
-
--- `from` is behind a child
-behind : (b : List ℕ) (w count from : ℕ) → count ≡ opCount (columns b) → behindChild (columns b) opParent count w from ≡ true → behindChild (columns b) opParent (opCount (columns b)) w from ≡ true
-behind b w count from e t = ap (λ (n : ℕ). behindChild (columns b) opParent n w from) (sym e) ∙ t
+    (s .pre .0 .sized, (omega arith, omega (arith, c .number .ensures, laid s .counts .ops)))
 
 sub-number : tie.Need-sub-number
 sub-number c =
@@ -50,7 +45,7 @@ number-requires-2 c κs =
     let test = c .before in
     let s = test .before .before .before in
     let f = behind-facts _ _ _ _ (s .args .from) (sym (test .is-behind .ensures) ∙ c .if1 .taken) in
-    (s .pre .0 .sized, (omega arith, omega (arith, f .exists, test .before .number .ensures, laid (s .args .store .now) (s .pre .0) .counts .ops)))
+    (s .pre .0 .sized, (omega arith, omega (arith, f .exists, test .before .number .ensures, laid s .counts .ops)))
 
 linked-requires : tie.Need-linked-requires
 linked-requires c κs = search needs
@@ -61,14 +56,13 @@ returns c =
     let there = c .before .before in
     let test = there .before in
     let s = test .before .before .before in
-    let b = s .args .store .now in
-    c .linked .ensures ∙ ap linkFound (c .before .number2 .ensures)
-    ∙ op-follows (columns b) (laid b (s .pre .0)) (s .args .block) (s .args .from) (behind b (s .args .block + 1) _ (s .args .from) (test .before .number .ensures) (sym (test .is-behind .ensures) ∙ there .if1 .taken))
+    by-link (ops-of _ (laid s) (s .args .block) (s .pre .1)) (s .args .from) (test .before .number .ensures) (test .is-behind .ensures) (there .if1 .taken)
+    (c .before .number2 .ensures) (c .linked .ensures)
 
 number-requires-3 : tie.Need-number-requires-3
 number-requires-3 c κs =
     let s = c .before .before .before .before in
-    (s .pre .0 .sized, (omega arith, omega (arith, laid (s .args .store .now) (s .pre .0) .counts .blocks)))
+    (s .pre .0 .sized, (omega arith, low s))
 
 larger-requires : tie.Need-larger-requires
 larger-requires c κs = search needs
@@ -76,23 +70,20 @@ larger-requires c κs = search needs
 number-requires-4 : tie.Need-number-requires-4
 number-requires-4 c κs =
     let s = c .before .before .before .before .before .before in
-    (s .pre .0 .sized, (omega arith, omega (arith, laid (s .args .store .now) (s .pre .0) .counts .blocks)))
+    (s .pre .0 .sized, (omega arith, low s))
 
 first-at-requires : tie.Need-first-at-requires
 first-at-requires c κs =
     let s = c .before .before .before .before .before .before .before in
-    let h = laid (s .args .store .now) (s .pre .0) in
+    let h = laid s in
     (s .pre .0 .sized, (omega arith, omega (arith, h .counts, c .number4 .ensures, h .block (s .args .block) (s .pre .1))))
 
 returns-2 : tie.Need-returns-2
 returns-2 c =
     let end = c .before in
-    let from = end .before in
-    let s = from .before .before .before .before .before .before in
-    let C = columns (s .args .store .now) in
-    let start = from .larger .ensures ∙ ap (max (s .args .from)) (from .before .number3 .ensures) in
-    c .first-at .ensures
-    ∙ ap foundFrom (ap₂ (λ (a e : ℕ). firstWord C opParent (s .args .block + 1) a (e - a)) start (end .number4 .ensures) ∙ sym (op-next C (laid (s .args .store .now) (s .pre .0)) (s .args .block) (s .pre .1) (s .args .from)))
+    let start = end .before in
+    let s = start .before .before .before .before .before .before in
+    by-search (ops-of _ (laid s) (s .args .block) (s .pre .1)) (s .args .from) (start .before .number3 .ensures) (start .larger .ensures) (end .number4 .ensures) (c .first-at .ensures)
 
 pub next-op-spec : {M : Type 1} → statement M
 next-op-spec =

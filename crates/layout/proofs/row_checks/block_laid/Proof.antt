@@ -1,12 +1,12 @@
 -- `block_laid` meets its contract, test by test. Assumes nothing.
-use Prim.Native.Nat.{ℕ, _+_, _*_}
+use Prim.Native.Nat.{ℕ}
 use native.Mathlib.Omega.{arith}
 use mathlib.Core.Path.{_≡_, sym, ap, _∙_}
 use borrow.Author.Tests.{lt-ltb, le-ltb, le-leb, lt-leb}
 use lib.Dec.{leb}
-use Rattle.layout.specs.Columns.{Cols, columns, at, regionBlockFirst, regionBlockEnd, blockRegion, blockArgumentFirst, blockArgumentEnd, blockOpEnd, valueOwner}
-use Rattle.layout.specs.Reading.{opCount, regionCount, valueCount, ownerCode}
-use Rattle.layout.specs.Soundness.{blockLaid, ownedWithin, within}
+use Rattle.layout.specs.Columns.{Cols, columns, at, regionBlockFirst, regionBlockEnd, blockRegion, blockOpEnd}
+use Rattle.layout.specs.Reading.{opCount, regionCount}
+use Rattle.layout.specs.Soundness.{blockLaid, within}
 use Rattle.layout.proofs.Laid.{counts-facts}
 use Rattle.layout.proofs.Scans.{fails, next, last, failed, held}
 use borrow.Author.Needs.{needs}
@@ -18,10 +18,6 @@ module _ (C : Cols) (m : ℕ) where
   in-place : {r : ℕ} → r ≡ at C blockRegion m
       → within (at C regionBlockFirst r) (at C regionBlockEnd r) m ≡ within (at C regionBlockFirst (at C blockRegion m)) (at C regionBlockEnd (at C blockRegion m)) m
   in-place e = ap (λ (r : ℕ). within (at C regionBlockFirst r) (at C regionBlockEnd r) m) e
-
-  own-arguments : {t n : ℕ} → t ≡ n
-      → ownedWithin C valueOwner (at C blockArgumentFirst m) (at C blockArgumentEnd m) t (2 * m + 1) ≡ ownedWithin C valueOwner (at C blockArgumentFirst m) (at C blockArgumentEnd m) n (2 * m + 1)
-  own-arguments e = ap (λ (t : ℕ). ownedWithin C valueOwner (at C blockArgumentFirst m) (at C blockArgumentEnd m) t (2 * m + 1)) e
 
 number-requires : tie.Need-number-requires
 number-requires c κs = search needs
@@ -50,61 +46,44 @@ returns-2 c =
     let a = r .before .before .args in
     sym (fails _ 1 (failed (c .before .holds .ensures ∙ in-place (columns (a .store .now)) (a .m) (r .number .ensures)) (c .if2 .taken)))
 
-number-requires-3 : tie.Need-number-requires-3
-number-requires-3 c κs = search needs
-
-cast-owns : tie.Need-cast-owns
-cast-owns c = search needs
-
-mul-owns : tie.Need-mul-owns
-mul-owns c = search needs
-
-add-owns : tie.Need-add-owns
-add-owns c = search needs
-
-owns-requires : tie.Need-owns-requires
-unfolding valueCount
-owns-requires c κs =
-    let s = c .before .before .before .before .before .before .before in
-    let k = counts-facts (columns (s .args .store .now)) (s .pre .0 .counted) in
-    omega (arith, k .values)
+arguments-owned-requires : tie.Need-arguments-owned-requires
+arguments-owned-requires c κs = search needs
 
 returns-3 : tie.Need-returns-3
-unfolding blockLaid ownerCode valueCount
-returns-3 c =
-    let a = c .before .before .before .before .before .before .before .before .before .args in
-    sym (fails _ 2 (failed (c .before .owns .ensures ∙ own-arguments (columns (a .store .now)) (a .m) (c .before .before .number3 .ensures)) (c .if3 .taken)))
+unfolding blockLaid
+returns-3 c = sym (fails _ 2 (failed (c .before .arguments-owned .ensures) (c .if3 .taken)))
+
+number-requires-3 : tie.Need-number-requires-3
+number-requires-3 c κs = search needs
 
 number-requires-4 : tie.Need-number-requires-4
 number-requires-4 c κs = search needs
 
-number-requires-5 : tie.Need-number-requires-5
-number-requires-5 c κs = search needs
-
 returns-4 : tie.Need-returns-4
 unfolding blockLaid opCount
 returns-4 c =
-    let a = c .before .before .before .before .before .before .before .before .before .before .before .before .args in
+    let in2 = c .before .before .before .before .before in
+    let a = in2 .before .before .before .before .before .before .args in
     let C = columns (a .store .now) in
     sym (fails _ 3 (lt-leb (at C blockOpEnd (a .m)) (at C 0 0) (omega arith)))
 
-number-requires-6 : tie.Need-number-requires-6
-number-requires-6 c κs = search needs
+number-requires-5 : tie.Need-number-requires-5
+number-requires-5 c κs = search needs
 
 returns-5 : tie.Need-returns-5
-unfolding blockLaid ownerCode opCount regionCount valueCount
+unfolding blockLaid opCount regionCount
 returns-5 c =
     let in3 = c .before .before .before .before in
-    let in2 = in3 .before .before .before in
+    let in2 = in3 .before .before in
     let r = in2 .before .before .before .before in
     let a = r .before .before .args in
     let C = columns (a .store .now) in
     sym
     (next _ _ (lt-ltb (at C blockRegion (a .m)) (at C 0 2) (omega arith))
     (next _ _ (held (in2 .before .holds .ensures ∙ in-place C (a .m) (r .number .ensures)) (in2 .if2 .left))
-    (next _ _ (held (in3 .before .owns .ensures ∙ own-arguments C (a .m) (in3 .before .before .number3 .ensures)) (in3 .if3 .left))
+    (next _ _ (held (in3 .before .arguments-owned .ensures) (in3 .if3 .left))
     (next _ _ (le-leb (at C blockOpEnd (a .m)) (at C 0 0) (omega arith))
-    (last _ (ap (λ (x : ℕ). leb x 8) (sym (c .number6 .ensures))))))))
+    (last _ (ap (λ (x : ℕ). leb x 8) (sym (c .number5 .ensures))))))))
 
 pub block-laid-spec : {M : Type 1} → statement M
 block-laid-spec =
@@ -115,14 +94,10 @@ block-laid-spec =
     returns
     holds-requires
     returns-2
-    number-requires-3
-    cast-owns
-    mul-owns
-    add-owns
-    owns-requires
+    arguments-owned-requires
     returns-3
+    number-requires-3
     number-requires-4
-    number-requires-5
     returns-4
-    number-requires-6
+    number-requires-5
     returns-5)

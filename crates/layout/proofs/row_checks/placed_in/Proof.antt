@@ -53,9 +53,10 @@ number-requires-4 c κs =
 returns-3 : tie.Need-returns-3
 unfolding placed blockCount regionCount
 returns-3 c =
-    let a = c .before .before .before .before .before .before .before .before .args in
+    let r = c .before .before .before .before in
+    let a = r .before .before .before .before .args in
     let C = columns (a .store .now) in
-    let around : c .before .number4 .result ≡ at C regionOp (at C blockRegion (a .b)) = c .before .number4 .ensures ∙ ap (at C regionOp) (c .before .before .before .before .number2 .ensures) in
+    let around : c .before .number4 .result ≡ at C regionOp (at C blockRegion (a .b)) = c .before .number4 .ensures ∙ ap (at C regionOp) (r .number2 .ensures) in
     sym (fails _ 2 (le-ltb (at C regionOp (at C blockRegion (a .b))) (a .n) (omega arith)))
 
 at-requires : tie.Need-at-requires
@@ -83,7 +84,8 @@ returns-4 c =
 holds-requires : tie.Need-holds-requires
 unfolding blockCount
 holds-requires c κs =
-    let s = c .before .before .before .before .before .before .before .before .before .before .before in
+    let r = c .before .before .before .before .before .before .before in
+    let s = r .before .before .before .before in
     let k = counts-facts (columns (s .args .store .now)) (s .pre .0 .counted) in
     omega (arith, k .blocks)
 

@@ -49,9 +49,11 @@ number-requires-4 c κs = search needs
 returns-3 : tie.Need-returns-3
 unfolding regionLaid opCount blockCount
 returns-3 c =
-    let a = c .before .before .before .before .before .before .before .before .args in
+    let in2 = c .before .before in
+    let op = in2 .before .before .before .before in
+    let a = op .before .before .args in
     let C = columns (a .store .now) in
-    let place = held (c .before .before .before .holds .ensures ∙ ap (λ (x : ℕ). within (at C opRegionFirst x) (at C opRegionEnd x) (a .g)) (c .before .before .before .before .before .before .number .ensures)) (c .before .before .if2 .left) in
+    let place = held (in2 .before .holds .ensures ∙ ap (λ (x : ℕ). within (at C opRegionFirst x) (at C opRegionEnd x) (a .g)) (op .number .ensures)) (in2 .if2 .left) in
     sym (next _ _ (lt-ltb (at C regionOp (a .g)) (at C 0 0) (omega arith)) (next _ _ place (last _ (ap₂ leb (sym (c .before .number3 .ensures)) (sym (c .number4 .ensures))))))
 
 pub region-laid-spec : {M : Type 1} → statement M

@@ -1,10 +1,8 @@
 -- `results_owned` meets its contract: it hands on what `owns` says of the row's range. Assumes nothing.
-use Prim.Native.Nat.{ℕ, _*_}
 use native.Mathlib.Omega.{arith}
-use mathlib.Core.Path.{ap, _∙_}
-use Rattle.layout.specs.Columns.{columns, at, opResultFirst, opResultEnd, valueOwner}
+use Rattle.layout.specs.Columns.{columns}
 use Rattle.layout.specs.Reading.{valueCount, ownerCode}
-use Rattle.layout.specs.Soundness.{resultsOwned, ownedWithin}
+use Rattle.layout.specs.Soundness.{resultsOwned}
 use Rattle.layout.proofs.Laid.{counts-facts}
 use borrow.Author.Needs.{needs}
 use Rattle.layout.proofs.row_checks.results_owned.Statement.{statement}
@@ -12,6 +10,12 @@ use Rattle.layout.proofs.row_checks.results_owned.Tie as tie
 
 number-requires : tie.Need-number-requires
 number-requires c κs = search needs
+
+number-requires-2 : tie.Need-number-requires-2
+number-requires-2 c κs = search needs
+
+number-requires-3 : tie.Need-number-requires-3
+number-requires-3 c κs = search needs
 
 cast-owns : tie.Need-cast-owns
 cast-owns c = search needs
@@ -22,16 +26,12 @@ mul-owns c = search needs
 owns-requires : tie.Need-owns-requires
 unfolding valueCount
 owns-requires c κs =
-    let s = c .before .before in
-    let k = counts-facts (columns (s .args .store .now)) (s .pre .0 .counted) in
-    omega (arith, k .values)
+    let s = c .before .before .before .before in
+    omega (arith, counts-facts (columns (s .args .store .now)) (s .pre .0 .counted) .values)
 
 returns : tie.Need-returns
 unfolding resultsOwned valueCount ownerCode
-returns c =
-    let a = c .before .before .before .args in
-    let C = columns (a .store .now) in
-    c .owns .ensures ∙ ap (λ (t : ℕ). ownedWithin C valueOwner (at C opResultFirst (a .n)) (at C opResultEnd (a .n)) t (2 * a .n)) (c .before .number .ensures)
+returns c = cc
 
 pub results-owned-spec : {M : Type 1} → statement M
-results-owned-spec = tie.close (tie.spec number-requires cast-owns mul-owns owns-requires returns)
+results-owned-spec = tie.close (tie.spec number-requires number-requires-2 number-requires-3 cast-owns mul-owns owns-requires returns)

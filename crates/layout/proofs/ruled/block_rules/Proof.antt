@@ -57,10 +57,14 @@ attributes-hold-requires c κs =
 returns-3 : tie.Need-returns-3
 unfolding blockRules blockOf ownerOf
 returns-3 c =
-    let a = c .before .before .before .before .before .before .before .before .args in
+    let in2 = c .before .before .before in
+    let in1 = in2 .before .before in
+    let a = in1 .before .before .before .args in
     let keys = c .attributes-hold .ensures ∙ ap₂ (λ (f n : ℕ). attributesHold (attributesFrom (columns (a .store .now)) f n)) (c .before .before .first-slot .ensures) (c .before .number .ensures) in
-    sym (next _ _ (held (c .before .before .before .before .before .before .block-after .ensures) (c .before .before .before .before .before .if1 .left))
-    (next _ _ (held (c .before .before .before .before .at-most .ensures) (c .before .before .before .if2 .left)) (last _ (sym keys))))
+    sym
+    (next _ _ (held (in1 .before .block-after .ensures) (in1 .if1 .left))
+    (next _ _ (held (in2 .before .at-most .ensures) (in2 .if2 .left))
+    (last _ (sym keys))))
 
 pub block-rules-spec : {M : Type 1} → statement M
 block-rules-spec =

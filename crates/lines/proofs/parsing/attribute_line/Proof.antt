@@ -7,7 +7,7 @@ use Rattle.rules.specs.Lines.{numbers}
 use Rattle.layout.specs.Owners.{ownerOf}
 use Rattle.lines.specs.Reading.{fieldsLeft}
 use Rattle.lines.specs.Parsing.{threeOf, ownerFields, ownerRead, attributeLineOf}
-use Rattle.building.specs.Types.{attributeOf}
+use Rattle.calling.specs.Types.{attributeOf}
 use Rattle.layout.proofs.Scans.{failed, held}
 use Rattle.lines.proofs.Answers.{told}
 use Rattle.lines.proofs.Meaning.{unread, more-left, all-read, attribute-ownerless, attribute-bad, attribute-read}

@@ -3,7 +3,7 @@ use Prim.Native.Nat.{ℕ}
 use mathlib.Core.Option.{some}
 use mathlib.Core.List.{List}
 use Rattle.rules.specs.Lines.{number, parentBlock}
-use Rattle.building.specs.Types.{parentOf}
+use Rattle.calling.specs.Types.{parentOf}
 use mathlib.Core.Path.{_≡_, refl, sym}
 use Rattle.lines.specs.Reading.{fieldsLeft, parentRead}
 use Rattle.lines.specs.Parsing.{operationFields, opFieldsOf}

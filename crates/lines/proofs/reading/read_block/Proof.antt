@@ -1,6 +1,6 @@
 -- `read_block` meets its contract: a parent that is a block is its number. Assumes nothing.
 use Rattle.lines.specs.Reading.{fieldsLeft, parentRead}
-use Rattle.building.specs.Types.{parentOf}
+use Rattle.calling.specs.Types.{parentOf}
 use Rattle.lines.proofs.Answers.{read-number, read-nothing, block-read, block-bad}
 use borrow.Author.Needs.{needs}
 use Rattle.lines.proofs.reading.read_block.Statement.{statement}

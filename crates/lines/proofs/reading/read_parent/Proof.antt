@@ -1,7 +1,7 @@
 -- `read_parent` meets its contract: a field of one byte that is `-` is no parent, and any other is a block's number. Assumes nothing.
 use mathlib.Core.Path.{_∙_}
 use Rattle.lines.specs.Reading.{fieldsLeft, wordOf, parentRead}
-use Rattle.building.specs.Types.{parentOf}
+use Rattle.calling.specs.Types.{parentOf}
 use Rattle.lines.proofs.Answers.{told, dash, other-byte, no-byte}
 use borrow.Author.Needs.{needs}
 use Rattle.lines.proofs.reading.read_parent.Statement.{statement}

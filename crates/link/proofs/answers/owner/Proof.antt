@@ -1,5 +1,4 @@
 -- `owner` meets its contract: a block or an operation. Assumes nothing.
-use borrow.Author.Needs.{needs}
 use mathlib.Core.Path.{refl}
 use Rattle.layout.specs.Owners.{ownerOf}
 use Rattle.link.specs.Codes.{ownerFrom}

@@ -1,7 +1,6 @@
 -- `parent` meets its contract: with a block or without. Assumes nothing.
-use borrow.Author.Needs.{needs}
 use mathlib.Core.Path.{refl}
-use Rattle.building.specs.Types.{parentOf}
+use Rattle.calling.specs.Types.{parentOf}
 use Rattle.link.specs.Codes.{parentFrom}
 use Rattle.link.proofs.answers.parent.Statement.{statement}
 use Rattle.link.proofs.answers.parent.Tie as tie

@@ -17,7 +17,9 @@ same-length : tie.Need-same-length
 same-length c = search needs
 
 returns : tie.Need-returns
-returns c = rw (c .of-built .ensures, sym (c .before .before .before .before .parent .ensures)) (c .before .before .before .new-operation .ensures)
+returns c =
+    let made = c .before .before .before in
+    rw (c .of-built .ensures, sym (made .before .before .parent .ensures)) (made .new-operation .ensures)
 
 pub wz-known-new-operation-spec : {M : Type 1} → statement M
 wz-known-new-operation-spec =

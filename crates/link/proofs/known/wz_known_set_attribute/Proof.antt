@@ -1,6 +1,6 @@
 -- `wz_known_set_attribute` meets its contract: the answer's numbers stand for it, and the owner for the two that are given. Assumes nothing.
 use mathlib.Core.Path.{sym}
-use Rattle.building.specs.Types.{attributeOf}
+use Rattle.calling.specs.Types.{attributeOf}
 use Rattle.link.specs.Codes.{attributeFrom}
 use borrow.Author.Needs.{needs}
 use Rattle.link.proofs.known.wz_known_set_attribute.Statement.{statement}

@@ -1,5 +1,5 @@
--- `query_does` meets its contract: the line of a query is read, and then each program does for it what it does. Assumes nothing.
-use mathlib.Core.Path.{sym, ap, ap₂, _∙_}
+-- `query_does` meets its contract: for a query that was read each program does what it does. Assumes nothing.
+use mathlib.Core.Path.{ap, ap₂}
 use Rattle.rules.specs.Listings.{lineDoes}
 use Rattle.lines.specs.Parsing.{queryLineOf}
 use Rattle.listing.specs.Progress.{programOf, progressOf}
@@ -8,11 +8,8 @@ use borrow.Author.Needs.{needs}
 use Rattle.listing.proofs.asking.query_does.Statement.{statement}
 use Rattle.listing.proofs.asking.query_does.Tie as tie
 
-query-line-requires : tie.Need-query-line-requires
-query-line-requires c κs = search needs
-
-enum-known-query : tie.Need-enum-known-query
-enum-known-query c = search needs
+enum-known-line : tie.Need-enum-known-line
+enum-known-line c = search needs
 
 enum-told : tie.Need-enum-told
 enum-told c = search needs
@@ -20,13 +17,11 @@ enum-told c = search needs
 returns : tie.Need-returns
 unfolding queryLineOf lineDoes
 returns c =
-    let query-read = c .before .before in
-    let s = query-read .before .before .before .before .before in
+    let s = c .before .before .before .before .before in
     let a = s .args in
     let store = a .store .now in
-    let out = a .out .now in
     let now = a .progress in
-    (stopped _ store out now 10 (sym (ap (lineDoes (programOf (a .program)) (progressOf store now)) (ap queryLineOf (sym (c .enum-told .given .1)) ∙ query-read .query-line .ensures))), s .pre .1 .0)
+    (stopped _ store (a .out .now) now 10 (ap (λ l. lineDoes (programOf (a .program)) (progressOf store now) (queryLineOf l)) (c .enum-told .given .1)), s .pre .1 .0)
 
 enum-told-2 : tie.Need-enum-told-2
 enum-told-2 c = search needs
@@ -52,12 +47,11 @@ returns-2 c =
     let query-done = c .before .before .before .before in
     let program-known = query-done .before .before .before in
     let query-known = program-known .before .before .before in
-    let query-read = query-known .before .before in
-    let s = query-read .before .before .before .before .before in
+    let s = query-known .before .before .before .before .before in
     let a = s .args in
     let store = a .store .now in
     let now = a .progress in
-    (same-outcome (ap₂ (λ p l. lineDoes p (progressOf store now) l) (ap programOf (program-known .enum-told2 .given .1)) (sym (query-read .query-line .ensures) ∙ ap queryLineOf (query-known .query .given .1))) (query-done .twins-does .ensures .0), query-done .twins-does .ensures .1)
+    (same-outcome (ap₂ (λ p l. lineDoes p (progressOf store now) l) (ap programOf (program-known .enum-told2 .given .1)) (ap queryLineOf (query-known .line .given .1))) (query-done .twins-does .ensures .0), query-done .twins-does .ensures .1)
 
 same-length-3 : tie.Need-same-length-3
 same-length-3 c = search needs
@@ -68,19 +62,17 @@ returns-3 c =
     let query-done = c .before .before in
     let program-known = query-done .before .before in
     let query-known = program-known .before .before .before in
-    let query-read = query-known .before .before in
-    let s = query-read .before .before .before .before .before in
+    let s = query-known .before .before .before .before .before in
     let a = s .args in
     let store = a .store .now in
     let now = a .progress in
-    (same-outcome (ap₂ (λ p l. lineDoes p (progressOf store now) l) (ap programOf (program-known .enum-told3 .given .1)) (sym (query-read .query-line .ensures) ∙ ap queryLineOf (query-known .query .given .1))) (query-done .sums-does .ensures), s .pre .1 .0)
+    (same-outcome (ap₂ (λ p l. lineDoes p (progressOf store now) l) (ap programOf (program-known .enum-told3 .given .1)) (ap queryLineOf (query-known .line .given .1))) (query-done .sums-does .ensures), s .pre .1 .0)
 
 pub query-does-spec : {M : Type 1} → statement M
 query-does-spec =
     tie.close
     (tie.spec
-    query-line-requires
-    enum-known-query
+    enum-known-line
     enum-told
     returns
     enum-told-2

@@ -10,8 +10,8 @@ use Rattle.listing.proofs.building_lines.operation_does.Tie as tie
 read-op-fields-requires : tie.Need-read-op-fields-requires
 read-op-fields-requires c κs = search needs
 
-enum-known-kind : tie.Need-enum-known-kind
-enum-known-kind c = search needs
+enum-known-fields : tie.Need-enum-known-fields
+enum-known-fields c = search needs
 
 enum-told : tie.Need-enum-told
 enum-told c = search needs
@@ -47,7 +47,7 @@ returns-2 c =
     let fields-known = read .before .before .before .before .before in
     let fields-read = fields-known .before .before in
     let s = fields-read .before .before .before in
-    unread _ _ (listless _ _ _ (fields-read .read-op-fields .ensures) _ _ _ _ _ (fields-known .kind .given .1) _ _ _ _ (read .read-lists .ensures) (c .enum-told2 .given .1)) (s .pre .0)
+    unread _ _ (listless _ _ _ (fields-read .read-op-fields .ensures) _ _ (fields-known .fields .given .1) _ _ _ _ (read .read-lists .ensures) (c .enum-told2 .given .1)) (s .pre .0)
 
 array-share-prefix-types : tie.Need-array-share-prefix-types
 array-share-prefix-types c =
@@ -89,14 +89,14 @@ returns-3 c =
     let read = lists-read lists-known in
     let fields-known = read .before .before .before .before .before in
     let fields-read = fields-known .before .before in
-    line-built _ _ _ _ _ (operation-made .new-operation .ensures) (c .refusal-in .ensures) _ (operation-meant _ _ _ (fields-read .read-op-fields .ensures) _ _ _ _ _ (fields-known .kind .given .1) _ _ _ _ (read .read-lists .ensures) _ _ _ (lists-known .lists .given .1))
+    line-built _ _ _ _ _ (operation-made .new-operation .ensures) (c .refusal-in .ensures) _ (operation-meant _ _ _ (fields-read .read-op-fields .ensures) _ _ (fields-known .fields .given .1) _ _ _ _ (read .read-lists .ensures) _ _ _ (lists-known .lists .given .1))
 
 pub operation-does-spec : {M : Type 1} → statement M
 operation-does-spec =
     tie.close
     (tie.spec
     read-op-fields-requires
-    enum-known-kind
+    enum-known-fields
     enum-told
     returns
     slice-aggregate-read-lists

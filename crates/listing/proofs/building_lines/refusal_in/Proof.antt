@@ -1,7 +1,7 @@
 -- `refusal_in` meets its contract, case by case. Assumes nothing.
 use mathlib.Core.Path.{sym, ap}
 use Rattle.layout.specs.Causes.{causeOf}
-use Rattle.building.specs.Types.{builtOf}
+use Rattle.calling.specs.Types.{builtOf}
 use Rattle.listing.specs.Building.{refusalIn}
 use borrow.Author.Needs.{needs}
 use Rattle.listing.proofs.building_lines.refusal_in.Statement.{statement}

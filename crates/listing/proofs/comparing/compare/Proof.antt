@@ -1,5 +1,10 @@
--- `compare` meets its contract: the comparison begins with no entries, and those that it made are written over. Assumes nothing.
+-- `compare` meets its contract: the comparison begins with no entries, and those that it made are taken out again. Assumes nothing.
+use Prim.Native.Nat.{ℕ}
+use mathlib.Core.Path.{sym, subst}
+use Rattle.rules.specs.Entered.{EnteredBy}
 use Rattle.layout.specs.Reading.{storeIn}
+use Rattle.equivalence.specs.MappingWords.{mappingOf}
+use Rattle.equivalence.proofs.AfterEmpty.{answered-entered}
 use Rattle.listing.proofs.Verdicts.{entries-allowed, as-many, compares}
 use borrow.Author.Needs.{needs}
 use Rattle.listing.proofs.comparing.compare.Statement.{statement}
@@ -10,12 +15,23 @@ fragments-eq-requires c κs =
     let s = c .before .before .before .before in
     (s .pre .0, entries-allowed (storeIn (s .args .store .now)) (s .args .mapping .now) (s .pre .1))
 
-empty-mapping-requires : tie.Need-empty-mapping-requires
-empty-mapping-requires c κs =
-    let compared = c .before .before .before in
+paired-of-requires : tie.Need-paired-of-requires
+paired-of-requires c κs = search needs
+
+unmap-entered-requires : tie.Need-unmap-entered-requires
+unmap-entered-requires c κs =
+    let compared = c .before .before .before .before in
     let s = compared .before .before .before .before .before in
+    let a = s .args in
     let told = compared .fragments-eq in
-    as-many (s .args .mapping .now) (told .last .1 .0) (s .pre .1) (told .kept .1 .0)
+    let after = told .last .1 .0 in
+    let by = answered-entered (a .store .now) (a .mapping .now) after _ _ (a .query .left) (a .query .right) (told .result) (s .pre .0) (s .pre .1) (told .ensures) in (
+      s .pre .0,
+      (
+        as-many (a .mapping .now) after (s .pre .1) (told .kept .1 .0),
+        subst (λ (n : ℕ). EnteredBy (storeIn (a .store .now)) (mappingOf after) n) (sym (c .paired-of .ensures)) by,
+      ),
+    )
 
 same-length : tie.Need-same-length
 same-length c = search needs
@@ -23,11 +39,11 @@ same-length c = search needs
 returns : tie.Need-returns
 returns c =
     let emptied = c .before .before in
-    let compared = emptied .before .before .before .before in
+    let compared = emptied .before .before .before .before .before in
     let s = compared .before .before .before .before .before in
     let a = s .args in
     let told = compared .fragments-eq in
-    compares (a .store .now) (a .mapping .now) (told .last .1 .0) _ (a .query) (told .result) (s .pre .0) (s .pre .1) (told .ensures) (emptied .empty-mapping .ensures)
+    compares (a .store .now) (a .mapping .now) (told .last .1 .0) _ (a .query) (told .result) (s .pre .0) (s .pre .1) (told .ensures) (emptied .unmap-entered .ensures)
 
 pub compare-spec : {M : Type 1} → statement M
-compare-spec = tie.close (tie.spec fragments-eq-requires empty-mapping-requires same-length returns)
+compare-spec = tie.close (tie.spec fragments-eq-requires paired-of-requires unmap-entered-requires same-length returns)

@@ -2,7 +2,7 @@
 use Prim.Native.Nat.{ℕ, _≤_}
 use mathlib.Core.Option.{some}
 use mathlib.Core.List.{List}
-use mathlib.Core.Path.{_≡_}
+use mathlib.Core.Path.{_≡_, sym, ap, _∙_}
 use lib.ListN.{length}
 use Rattle.rules.specs.Lines.{field}
 use Rattle.rules.specs.Listings.{lineDoes, does, maxLine}
@@ -66,6 +66,9 @@ returns-2 c =
     let line = a .line .now in
     (line-stopped (a .program) line (a .store .now) (a .out .now) (a .progress) (s .pre .0) 10 (unlettered (programOf (a .program)) (progressOf (a .store .now) (a .progress)) line (tested .if1 .left) (told (wordOf line) (lettered .word-at .ensures) (c .enum-told .given .1))), s .pre .1 .0)
 
+query-line-requires : tie.Need-query-line-requires
+query-line-requires c κs = search needs
+
 query-does-requires : tie.Need-query-does-requires
 query-does-requires c κs = search needs
 
@@ -81,11 +84,15 @@ same-length-3 c = search needs
 returns-3 : tie.Need-returns-3
 returns-3 c =
     let asked = c .before .before .before .before in
-    let tested = asked .before .before .before .before in
+    let query = asked .before .before .before .before in
+    let tested = query .before in
     let k = tested .before in
     let s = begun k in
     let a = s .args in
-    (line-asked (a .program) (a .line .now) (a .store .now) (a .out .now) (a .progress) (s .pre .0) _ _ _ (asks (programOf (a .program)) (progressOf (a .store .now) (a .progress)) (a .line .now) (short k) (letter k) (fields k) (read k) (tested .if2 .taken)) (asked .query-does .ensures .0), asked .query-does .ensures .1)
+    let program = programOf (a .program) in
+    let now = progressOf (a .store .now) (a .progress) in
+    let does-it = asks program now (a .line .now) (short k) (letter k) (fields k) (read k) (tested .if2 .taken) ∙ ap (lineDoes program now) (sym (query .query-line .ensures)) in
+    (line-asked (a .program) (a .line .now) (a .store .now) (a .out .now) (a .progress) (s .pre .0) _ _ _ does-it (asked .query-does .ensures .0), asked .query-does .ensures .1)
 
 building-does-requires : tie.Need-building-does-requires
 building-does-requires c κs = search needs
@@ -128,6 +135,7 @@ line-does-spec =
     enum-known-letter
     enum-told
     returns-2
+    query-line-requires
     query-does-requires
     same-length
     same-length-2

@@ -31,21 +31,28 @@ same-length c = search needs
 
 returns : tie.Need-returns
 unfolding buffers
-returns c = all-printed sumsProgram (c .before .before .before .before .before .before .before .before .before .before .before .args .listing .now) _ _ _ (c .before .before .before .before .before .before .sums .ensures) _ (c .before .n .given .1)
+returns c =
+    let called = c .before .before .before .before .before .before in
+    all-printed sumsProgram (called .before .before .before .before .before .args .listing .now) _ _ _ (called .sums .ensures) _ (c .before .n .given .1)
 
 same-length-2 : tie.Need-same-length-2
 same-length-2 c = search needs
 
 returns-2 : tie.Need-returns-2
 unfolding buffers emptyWords
-returns-2 c = never-refused sumsProgram (c .before .before .before .before .before .before .before .before .before .before .args .listing .now) _ _ _ (c .before .before .before .before .before .sums .ensures) (length-replicate {A = ℕ} bufferLength 0) (length-replicate {A = ℕ} mappingLength noImage) _ (c .enum-told .given .1)
+returns-2 c =
+    let called = c .before .before .before .before .before in
+    never-refused sumsProgram (called .before .before .before .before .before .args .listing .now) _ _ _ (called .sums .ensures) (length-replicate {A = ℕ} bufferLength 0) (length-replicate {A = ℕ} mappingLength noImage) _ (c .enum-told .given .1)
 
 same-length-3 : tie.Need-same-length-3
 same-length-3 c = search needs
 
 returns-3 : tie.Need-returns-3
 unfolding buffers emptyWords
-returns-3 c = never-short sumsProgram (c .before .before .before .before .before .before .before .before .before .before .args .listing .now) _ _ _ (c .before .before .before .before .before .sums .ensures) (length-replicate {A = ℕ} bufferLength 0) (length-replicate {A = ℕ} mappingLength noImage) (c .before .before .before .before .before .before .before .before .before .before .pre) (c .enum-told2 .given .1)
+returns-3 c =
+    let called = c .before .before .before .before .before in
+    let s = called .before .before .before .before .before in
+    never-short sumsProgram (s .args .listing .now) _ _ _ (called .sums .ensures) (length-replicate {A = ℕ} bufferLength 0) (length-replicate {A = ℕ} mappingLength noImage) (s .pre) (c .enum-told2 .given .1)
 
 pub sums-printed-spec : {M : Type 1} → statement M
 sums-printed-spec =

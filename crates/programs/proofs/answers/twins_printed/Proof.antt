@@ -33,21 +33,28 @@ same-length c = search needs
 
 returns : tie.Need-returns
 unfolding buffers
-returns c = all-printed twinsProgram (c .before .before .before .before .before .before .before .before .before .before .before .before .before .args .listing .now) _ _ _ (c .before .before .before .before .before .before .before .twins .ensures) _ (c .before .n .given .1)
+returns c =
+    let called = c .before .before .before .before .before .before .before in
+    all-printed twinsProgram (called .before .before .before .before .before .before .args .listing .now) _ _ _ (called .twins .ensures) _ (c .before .n .given .1)
 
 same-length-2 : tie.Need-same-length-2
 same-length-2 c = search needs
 
 returns-2 : tie.Need-returns-2
 unfolding buffers
-returns-2 c = never-refused twinsProgram (c .before .before .before .before .before .before .before .before .before .before .before .before .args .listing .now) _ _ _ (c .before .before .before .before .before .before .twins .ensures) (length-replicate {A = ℕ} bufferLength 0) (length-replicate {A = ℕ} mappingLength 0) _ (c .enum-told .given .1)
+returns-2 c =
+    let called = c .before .before .before .before .before .before in
+    never-refused twinsProgram (called .before .before .before .before .before .before .args .listing .now) _ _ _ (called .twins .ensures) (length-replicate {A = ℕ} bufferLength 0) (length-replicate {A = ℕ} mappingLength 0) _ (c .enum-told .given .1)
 
 same-length-3 : tie.Need-same-length-3
 same-length-3 c = search needs
 
 returns-3 : tie.Need-returns-3
 unfolding buffers
-returns-3 c = never-short twinsProgram (c .before .before .before .before .before .before .before .before .before .before .before .before .args .listing .now) _ _ _ (c .before .before .before .before .before .before .twins .ensures) (length-replicate {A = ℕ} bufferLength 0) (length-replicate {A = ℕ} mappingLength 0) (c .before .before .before .before .before .before .before .before .before .before .before .before .pre) (c .enum-told2 .given .1)
+returns-3 c =
+    let called = c .before .before .before .before .before .before in
+    let s = called .before .before .before .before .before .before in
+    never-short twinsProgram (s .args .listing .now) _ _ _ (called .twins .ensures) (length-replicate {A = ℕ} bufferLength 0) (length-replicate {A = ℕ} mappingLength 0) (s .pre) (c .enum-told2 .given .1)
 
 pub twins-printed-spec : {M : Type 1} → statement M
 twins-printed-spec =

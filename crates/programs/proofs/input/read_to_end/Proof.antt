@@ -38,16 +38,23 @@ same-length-2 c = search needs
 
 returns-2 : tie.Need-returns-2 Inv-loop μ-loop
 unfolding InputFits
-returns-2 c = subst (λ (n : ℕ). c .before .before .before .before .before .before .before .before .before .loop .at ≤ n) (sym (c .before .before .before .before .before .before .read-more .kept .1 .0)) (c .before .before .before .before .before .before .before .before .before .loop .inv .0)
+returns-2 c =
+    let read = c .before .before .before .before .before .before in
+    let l = read .before .before .before .loop in
+    subst (λ (n : ℕ). l .at ≤ n) (sym (read .read-more .kept .1 .0)) (l .inv .0)
+
+-- how long the lent bytes are behind a read
+as-long : (c : tie.After-read-more Inv-loop μ-loop) → length (c .read-more .last .1 .0) ≡ length (c .before .before .before .before .before .args .to .now)
+as-long c = c .read-more .kept .1 .0 ∙ c .before .before .before .loop .inv .1
 
 next-within : (c : tie.Else1 Inv-loop μ-loop) → c .before .before .next .given .0 .0 ≤ length (c .before .before .before .before .before .before .read-more .last .1 .0)
 next-within c = answered _ _ _ (c .before .before .next .given .1) (c .before .before .before .before .before .before .read-more .ensures)
 
 loop-less : tie.Need-loop-less Inv-loop μ-loop
-loop-less c = fewer _ _ _ (c .if1 .left) (subst (λ (n : ℕ). c .before .before .next .given .0 .0 ≤ n) (c .before .before .before .before .before .before .read-more .kept .1 .0 ∙ c .before .before .before .before .before .before .before .before .before .loop .inv .1) (next-within c))
+loop-less c = fewer _ _ _ (c .if1 .left) (subst (λ (n : ℕ). c .before .before .next .given .0 .0 ≤ n) (as-long (c .before .before .before .before .before .before)) (next-within c))
 
 loop-again : tie.Need-loop-again Inv-loop μ-loop
-loop-again c = (next-within c, c .before .before .before .before .before .before .read-more .kept .1 .0 ∙ c .before .before .before .before .before .before .before .before .before .loop .inv .1)
+loop-again c = (next-within c, as-long (c .before .before .before .before .before .before))
 
 same-length-3 : tie.Need-same-length-3 Inv-loop μ-loop
 same-length-3 c = search needs

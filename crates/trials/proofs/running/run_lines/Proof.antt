@@ -38,10 +38,17 @@ next-requires : tie.Need-next-requires Inv-loop μ-loop
 next-requires c κs = search needs
 
 loop-less : tie.Need-loop-less Inv-loop μ-loop
-loop-less c = fewer _ _ _ (c .next .ensures .1 _ (c .before .before .before .before .before .before .before .before .before .before .before .before .piece-end .ensures .behind) (c .before .before .before .before .before .before .before .before .before .before .before .before .before .loop-test .taken)) (c .next .ensures .0)
+loop-less c =
+    let line = c .before .before .before .before .before .before .before in
+    let ended = line .before .before .before .before .before in
+    fewer _ _ _ (c .next .ensures .1 _ (ended .piece-end .ensures .behind) (ended .before .loop-test .taken)) (c .next .ensures .0)
 
 loop-again : tie.Need-loop-again Inv-loop μ-loop
-loop-again c = (c .before .before .before .before .before .before .before .with-any .kept .1 .1 .0 ∙ c .before .before .before .before .before .before .before .before .before .before .before .before .before .before .loop .inv .0, c .before .before .before .before .before .before .before .with-any .kept .1 .1 .1 .0 ∙ c .before .before .before .before .before .before .before .before .before .before .before .before .before .before .loop .inv .1, c .before .before .before .before .before .before .before .with-any .kept .1 .1 .1 .1 .0 ∙ c .before .before .before .before .before .before .before .before .before .before .before .before .before .before .loop .inv .2)
+loop-again c =
+    let line = c .before .before .before .before .before .before .before in
+    let kept = line .with-any .kept in
+    let inv = line .before .before .before .before .before .before .before .loop .inv in
+    (kept .1 .1 .0 ∙ inv .0, kept .1 .1 .1 .0 ∙ inv .1, kept .1 .1 .1 .1 .0 ∙ inv .2)
 
 same-length : tie.Need-same-length Inv-loop μ-loop
 same-length c = search needs

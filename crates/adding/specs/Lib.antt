@@ -1,0 +1,2 @@
+-- What the calls that add write over the columns of the buffer.
+pub mod Raw

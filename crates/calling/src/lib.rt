@@ -1,0 +1,2 @@
+// What the building calls have in common.
+pub mod types;

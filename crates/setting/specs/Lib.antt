@@ -1,0 +1,2 @@
+-- What the calls that set write over the columns of the buffer.
+pub mod Raw
