@@ -1,4 +1,4 @@
-/* Warzhigo for C: structural equality, mapping and hash of IR operations, blocks and regions, proved.
+/* Warzhigo for C: structural equality, mapping, hash and key of IR operations, blocks and regions, proved.
  *
  * Link target/staticlib/liblink.a, which `rt staticlib link` writes. The functions allocate nothing, keep no pointer and end; they use
  * nothing but memcpy and memset.
@@ -38,6 +38,14 @@ typedef struct {
     uint32_t cause;
 } wz_sum;
 
+/* What a key call answers. 0: `length` is the number of bytes written, from the first lent one on, and those behind them are as they were;
+ * 1: refused by `cause`, and no byte was written. */
+typedef struct {
+    uint32_t length;
+    uint32_t code;
+    uint32_t cause;
+} wz_key_answer;
+
 /* What a building call answers. 0: `number` is the new one's; 1: accepted; 2: refused, and `number` is the cause. */
 typedef struct {
     uint32_t code;
@@ -68,6 +76,9 @@ size_t wz_mapping_words(void);
 
 /* The bytes that wz_twins and wz_sums want for what they print. */
 size_t wz_output_bytes(void);
+
+/* Bytes that every key fits into. */
+size_t wz_key_bytes(void);
 
 /* Is it a sound store? */
 bool wz_is_sound(const uint32_t *store, size_t words);
@@ -154,6 +165,41 @@ wz_sum wz_region_hash(const uint32_t *store, size_t words, uint32_t n, bool loca
 
 /* The same, on a store known to be sound. */
 wz_sum wz_known_region_hash(const uint32_t *store, size_t words, uint32_t n, bool locations, uint64_t bits);
+
+/* Writes the key of operation n with all inside it: the bytes by which it is filed. Refused by 13 where the lent bytes are fewer than the
+ * key has. */
+wz_key_answer wz_operation_key(const uint32_t *store, size_t words, uint8_t *key, size_t room, uint32_t n, bool locations, uint64_t bits);
+
+/* The same, on a store known to be sound. */
+wz_key_answer wz_known_operation_key(const uint32_t *store, size_t words, uint8_t *key, size_t room, uint32_t n, bool locations,
+                                     uint64_t bits);
+
+/* The length of that key, on a store known to be sound. There must be an operation n; anything else is undefined behaviour. */
+size_t wz_known_operation_key_length(const uint32_t *store, size_t words, uint32_t n, bool locations, uint64_t bits);
+
+/* Writes the key of block n with all inside it likewise. */
+wz_key_answer wz_basic_block_key(const uint32_t *store, size_t words, uint8_t *key, size_t room, uint32_t n, bool locations,
+                                 uint64_t bits);
+
+/* The same, on a store known to be sound. */
+wz_key_answer wz_known_basic_block_key(const uint32_t *store, size_t words, uint8_t *key, size_t room, uint32_t n, bool locations,
+                                       uint64_t bits);
+
+/* The length of that key, on a store known to be sound. There must be a block n; anything else is undefined behaviour. */
+size_t wz_known_basic_block_key_length(const uint32_t *store, size_t words, uint32_t n, bool locations, uint64_t bits);
+
+/* Writes the key of region n with all inside it likewise. */
+wz_key_answer wz_region_key(const uint32_t *store, size_t words, uint8_t *key, size_t room, uint32_t n, bool locations, uint64_t bits);
+
+/* The same, on a store known to be sound. */
+wz_key_answer wz_known_region_key(const uint32_t *store, size_t words, uint8_t *key, size_t room, uint32_t n, bool locations,
+                                  uint64_t bits);
+
+/* The length of that key, on a store known to be sound. There must be a region n; anything else is undefined behaviour. */
+size_t wz_known_region_key_length(const uint32_t *store, size_t words, uint32_t n, bool locations, uint64_t bits);
+
+/* Compares two keys byte by byte, a proper beginning first: -1, 0 or 1. Any bytes may be lent. */
+int32_t wz_compare_keys(const uint8_t *lhs, size_t lhs_length, const uint8_t *rhs, size_t rhs_length);
 
 /* What the program `twins` prints for a listing. Store and mapping may hold anything; afterwards the store is what the lines have built. */
 wz_output wz_twins(const uint8_t *listing, size_t length, uint32_t *store, size_t words, uint32_t *mapping, size_t entries,

@@ -10,3 +10,4 @@ pub mod ByRows
 pub mod Ordered
 pub mod Below
 pub mod There
+pub mod Slots

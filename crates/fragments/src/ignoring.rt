@@ -7,7 +7,7 @@ ghost use lib.ListN.{length};
 ghost use Rattle.rules.specs.Shells.{ignored};
 ghost use Rattle.layout.specs.Columns.{bufferLength, columns, slotKind, slotCount};
 ghost use Rattle.layout.specs.Reading.{attributeAt};
-ghost use Rattle.fragments.specs.Ignoring.{ignoreOf, bitSet, Kinds, Skipped};
+ghost use Rattle.fragments.specs.Ignoring.{ignoreOf, bitSet, keptFrom, Kinds, Skipped};
 
 // An ignore rule: a yes or no for locations, and a bit for each attribute kind.
 pub struct Ignore {
@@ -49,4 +49,21 @@ pub fn next_kept(store: &[u32], ignore: Ignore, from: usize, end: usize) -> usiz
         i += 1;
     }
     end
+}
+
+// How many attributes of a run of slots are not ignored.
+pub fn count_kept(store: &[u32], ignore: Ignore, first: usize, end: usize) -> u32
+    requires { ⌜ length (now store) ≡ bufferLength ⌝ }
+    requires { ⌜ end ≤ slotCount ⌝ }
+    requires { ⌜ first ≤ end ⌝ }
+    requires { ⌜ Kinds (columns (now store)) first end ⌝ }
+    ensures { λ r. ⌜ r ≡ length (keptFrom (columns (now (store .entry))) (ignoreOf ignore) first end) ⌝ }
+{
+    let mut kept = 0;
+    let mut slot = next_kept(store, ignore, first, end);
+    while slot < end {
+        kept += 1;
+        slot = next_kept(store, ignore, slot + 1, end);
+    }
+    kept
 }

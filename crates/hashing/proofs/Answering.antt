@@ -2,11 +2,11 @@
 -- Assumes nothing.
 use Prim.Native.Nat.{ℕ}
 use mathlib.Core.Bool.{Bool, true, false, true≢false, cond}
-use mathlib.Core.List.{List, [], _∷_, _++_}
+use mathlib.Core.List.{List, [], _∷_}
 use mathlib.Core.Option.{Option, none, some}
-use mathlib.Core.Path.{_≡_, refl, sym, ap, subst, _∙_}
-use Rattle.rules.specs.Store.{Store, ofOp, sound}
-use Rattle.rules.specs.Fragments.{Sort, op, block, region, exists, Step, shell, steps}
+use mathlib.Core.Path.{_≡_, refl, sym, ap, _∙_}
+use Rattle.rules.specs.Store.{Store}
+use Rattle.rules.specs.Fragments.{Sort, exists}
 use Rattle.rules.specs.Building.{firstFailed}
 use Rattle.rules.specs.Shells.{Ignore}
 use Rattle.rules.specs.Hash.{hash}
@@ -14,13 +14,8 @@ use Rattle.rules.specs.Answers.{shallow, hashTests, hashedBy, hashed}
 use Rattle.layout.specs.Reading.{storeIn}
 use Rattle.layout.specs.Soundness.{soundBuffer, IsSound}
 use Rattle.layout.proofs.Empty.{sound-of}
-use Rattle.numbering.specs.Numbered.{DefinitionsFit}
-use Rattle.hashing.specs.Walked.{Fed, fullSteps, listedSteps}
-use Rattle.fragments.specs.Order.{blockList}
 use Rattle.hashing.specs.Calls.{hashedOf, fragmentTests, Answered}
-use Rattle.fragments.specs.declared.types.Blocks.the-variants.{InRegion, Alone}
 use Rattle.hashing.specs.declared.types.Hashed.the-variants.{Hash, Refused}
-use Rattle.hashing.proofs.Rounds.{region-list}
 
 -- ---- the tests of a fragment
 
@@ -41,27 +36,6 @@ first-passed false b i j h = let x : _≡_ {A = Bool} true false = cc in absurd 
 pub existing : (s : Store) (f : Sort) (n : ℕ) → firstFailed (fragmentTests s f n) ≡ none → exists s f n ≡ true
 unfolding fragmentTests
 existing s f n h = first-passed (exists s f n) (shallow s f n) 2 12 h
-
--- ---- the steps of a fragment, and the walk over them
-
-pub op-steps : (s : Store) (n : ℕ) → steps s op n ≡ (shell (ofOp n) ∷ []) ++ fullSteps s n
-unfolding steps fullSteps
-op-steps s n = refl
-
-pub block-steps : (s : Store) (n : ℕ) → steps s block n ≡ listedSteps s (blockList s (Alone n))
-unfolding steps listedSteps fullSteps blockList
-block-steps s n = refl
-
-pub region-steps : (s : Store) → sound s ≡ true → (n : ℕ) → steps s region n ≡ listedSteps s (blockList s (InRegion n))
-unfolding steps
-region-steps s sd n = region-list s sd n
-
-module _ (s : Store) (f : Sort) (n : ℕ) (xs : List Step) (e : steps s f n ≡ xs) {a : List ℕ} where
-  pub steps-room : DefinitionsFit s (steps s f n) a → DefinitionsFit s xs a
-  steps-room r = subst (λ (l : List Step). DefinitionsFit s l a) e r
-
-  pub steps-fed : {ig : Ignore} {b : List ℕ} {w w′ : ℕ} → Fed s ig xs a b w w′ → Fed s ig (steps s f n) a b w w′
-  steps-fed {ig} {b} {w} {w′} d = subst (λ (l : List Step). Fed s ig l a b w w′) (sym e) d
 
 -- ---- answers
 

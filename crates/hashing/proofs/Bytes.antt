@@ -11,7 +11,7 @@ use lib.Seq.{drop-cons}
 use Rattle.rules.specs.Lists.{concatMap}
 use Rattle.rules.specs.Store.{Attribute}
 use Rattle.rules.specs.Shells.{Ignore, Shell, unignoredLocation}
-use Rattle.rules.specs.Hash.{fnvFrom, leaf, count, locationBytes, attributeBytes, shellBytes}
+use Rattle.rules.specs.Hash.{fnvFrom, leaf, count, locationBytes, attributeBytes, uncounted, listBytes, shellBytes}
 use Rattle.rules.proofs.Form.Hashes.{fnv-append}
 
 pub fed-after : (word : ℕ) (xs ys : List ℕ) {fed r : ℕ} → fed ≡ fnvFrom word xs → r ≡ fnvFrom fed ys → r ≡ fnvFrom word (xs ++ ys)
@@ -43,8 +43,8 @@ attribute-fed a word k m c e = e ∙ (λ i. fnvFrom word (leaf (k i) ++ leaf (m 
 
 pub shell-fed : (sh : Shell) (word : ℕ) {f g r : ℕ}
     → f ≡ fnvFrom word (locationBytes (sh .location)) → g ≡ fnvFrom f (count (length (sh .attributes)) ++ concatMap attributeBytes (sh .attributes))
-    → r ≡ fnvFrom g (concatMap leaf (sh .types)) → r ≡ fnvFrom word (shellBytes sh)
-unfolding shellBytes
+    → r ≡ fnvFrom g (concatMap leaf (sh .types)) → r ≡ fnvFrom word (shellBytes uncounted sh)
+unfolding shellBytes listBytes
 shell-fed sh word d e h =
     let xs : List ℕ = count (length (sh .attributes)) in
     let ys : List ℕ = concatMap attributeBytes (sh .attributes) in

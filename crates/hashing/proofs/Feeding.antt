@@ -5,22 +5,22 @@ use mathlib.Core.List.{List, [], _∷_, _++_, append-nil, append-assoc}
 use mathlib.Core.Path.{_≡_, refl, sym, ap, _∙_}
 use Rattle.rules.specs.Lists.{concatMap}
 use Rattle.rules.specs.Store.{Store, Owner, opAt}
-use Rattle.rules.specs.Fragments.{Sort, Step, shell, names, steps, stepDefines}
+use Rattle.rules.specs.Fragments.{Sort, Step, shell, names, counted, steps, stepDefines}
 use Rattle.rules.specs.Shells.{Ignore}
-use Rattle.rules.specs.Hash.{fnvStart, fnvFrom, fnv, Numbering, noNumbers, numbered, feeds, allBytes, hash}
+use Rattle.rules.specs.Hash.{fnvStart, fnvFrom, fnv, Numbering, noNumbers, numbered, feeds, uncounted, listBytes, allBytes, hash}
 use Rattle.rules.proofs.Form.Hashes.{fnv-append}
 use Rattle.numbering.specs.Words.{Stands}
 use Rattle.numbering.specs.Numbered.{numberedAll, valuesIn, blocksIn, Numbers}
 use Rattle.hashing.specs.Walked.{Fed, ownerBytes, valueBytes, blockBytes, FeedsOperands, FeedsSuccessors}
-use Rattle.numbering.proofs.Counting.{numbers-none, numbers-then}
+use Rattle.numbering.proofs.Counting.{numbers-none, numbers-then, numbers-counted}
 
 module _ (s : Store) (ig : Ignore) where
-  bytes-append : (xs ys : List Step) (N : Numbering) → allBytes s ig (xs ++ ys) N ≡ allBytes s ig xs N ++ allBytes s ig ys (numberedAll s xs N)
+  bytes-append : (xs ys : List Step) (N : Numbering) → allBytes uncounted s ig (xs ++ ys) N ≡ allBytes uncounted s ig xs N ++ allBytes uncounted s ig ys (numberedAll s xs N)
   unfolding numberedAll allBytes
   bytes-append [] ys N = refl
   bytes-append (x ∷ xs) ys N =
-      ap (λ (l : List ℕ). feeds s ig x N ++ l) (bytes-append xs ys (numbered s x N))
-      ∙ sym (append-assoc (feeds s ig x N) (allBytes s ig xs (numbered s x N)) (allBytes s ig ys (numberedAll s xs (numbered s x N))))
+      ap (λ (l : List ℕ). feeds uncounted s ig x N ++ l) (bytes-append xs ys (numbered s x N))
+      ∙ sym (append-assoc (feeds uncounted s ig x N) (allBytes uncounted s ig xs (numbered s x N)) (allBytes uncounted s ig ys (numberedAll s xs (numbered s x N))))
 
   pub fed-none : (ns : List ℕ) (w : ℕ) → Fed s ig [] ns ns w w
   unfolding allBytes fnvFrom
@@ -33,8 +33,8 @@ module _ (s : Store) (ig : Ignore) where
         word =
             λ N h.
             g .word (numberedAll s xs N) (f .numbers .stands N h)
-            ∙ ap (λ (k : ℕ). fnvFrom k (allBytes s ig ys (numberedAll s xs N))) (f .word N h)
-            ∙ sym (fnv-append w (allBytes s ig xs N) (allBytes s ig ys (numberedAll s xs N)))
+            ∙ ap (λ (k : ℕ). fnvFrom k (allBytes uncounted s ig ys (numberedAll s xs N))) (f .word N h)
+            ∙ sym (fnv-append w (allBytes uncounted s ig xs N) (allBytes uncounted s ig ys (numberedAll s xs N)))
             ∙ ap (fnvFrom w) (sym (bytes-append xs ys N));
       }
 
@@ -47,14 +47,14 @@ module _ (s : Store) (ig : Ignore) where
 
   -- an operation's names: its operands, then its successors
   pub fed-names : (n : ℕ) {a : List ℕ} {w w₁ w₂ : ℕ} → FeedsOperands s a (opAt s n .operands) w w₁ → FeedsSuccessors a (opAt s n .successors) w₁ w₂ → Fed s ig (names n ∷ []) a a w w₂
-  unfolding allBytes feeds numberedAll numbered valuesIn blocksIn concatMap stepDefines
+  unfolding allBytes feeds listBytes numberedAll numbered valuesIn blocksIn concatMap stepDefines
   fed-names n {a} {w} {w₁} {w₂} operands successors =
       record {
         numbers = record { long = refl; stands = λ N h. h; values = numbers-none s a .values; blocks = numbers-none s a .blocks };
         word = λ N h. word N h;
       }
     where
-      word : (N : Numbering) → Stands s N a → w₂ ≡ fnvFrom w (feeds s ig (names n) N ++ [])
+      word : (N : Numbering) → Stands s N a → w₂ ≡ fnvFrom w (feeds uncounted s ig (names n) N ++ [])
       word N h =
           let vs : List ℕ = concatMap (valueBytes N) (opAt s n .operands) in
           let bs : List ℕ = concatMap (blockBytes N) (opAt s n .successors) in
@@ -62,6 +62,11 @@ module _ (s : Store) (ig : Ignore) where
           ∙ ap (λ (k : ℕ). fnvFrom k bs) (operands N h)
           ∙ sym (fnv-append w vs bs)
           ∙ ap (fnvFrom w) (sym (append-nil (vs ++ bs)))
+
+  -- where a list begins nothing is fed and nothing numbered
+  pub fed-counted : (k : ℕ) (xs : List Step) {a b : List ℕ} {w w′ : ℕ} → Fed s ig xs a b w w′ → Fed s ig (counted k ∷ xs) a b w w′
+  unfolding allBytes feeds numbered
+  fed-counted k xs f = record { numbers = numbers-counted s k xs (f .numbers); word = λ N h. f .word N h }
 
 -- ---- the whole
 

@@ -8,7 +8,6 @@ mod Parting
 mod Reading
 mod Naming
 mod Lone
-mod Rounds
 mod Answering
 mod Zeros
 mod Bytes

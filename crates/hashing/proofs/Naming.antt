@@ -1,17 +1,12 @@
 -- Whatever numbering the words stand for, each use of a list is fed by the name that the numbering has for it. Assumes nothing.
 use Prim.Native.Nat.{ℕ, _+_, _<_, _≤_}
-use mathlib.Core.Bool.{true}
 use mathlib.Core.List.{List}
 use mathlib.Core.Path.{_≡_, refl, ap, _∙_}
-use borrow.Author.Tests.{ltb-true}
-use lib.Dec.{ltb}
 use lib.ListN.{length, getD}
-use Rattle.rules.specs.Lists.{all, concatMap}
+use Rattle.rules.specs.Lists.{concatMap}
 use Rattle.rules.specs.Store.{Store}
 use Rattle.rules.specs.Hash as rules
 use Rattle.rules.specs.Hash.{fnvFrom, Numbering, nameBytes}
-use Rattle.rules.proofs.Basics.Tests.{all-at}
-use Rattle.rules.proofs.Basics.Appended.{mem-getD}
 use Rattle.numbering.specs.Words.{Stands, ruleName}
 use Rattle.numbering.specs.declared.words.Name.{Name}
 use Rattle.hashing.specs.Walked.{FeedsNames}
@@ -38,7 +33,3 @@ module _ (s : Store) (numbers : List ℕ) (bytes : Numbering → ℕ → List �
 -- a name is fed by its bytes
 pub name-fed : (x : Name) {y : rules.Name} (word : ℕ) {r : ℕ} → ruleName x ≡ y → r ≡ fnvFrom word (nameBytes (ruleName x)) → r ≡ fnvFrom word (nameBytes y)
 name-fed x word e q = q ∙ ap (λ (z : rules.Name). fnvFrom word (nameBytes z)) e
-
--- an entry of a list of numbers below m
-pub below-at : (m : ℕ) (xs : List ℕ) → all (λ (v : ℕ). ltb v m) xs ≡ true → (i : ℕ) → i < length xs → getD xs i 0 < m
-below-at m xs h i l = ltb-true (getD xs i 0) m (all-at (λ (v : ℕ). ltb v m) xs h (mem-getD xs i 0 l))

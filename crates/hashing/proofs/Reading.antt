@@ -1,25 +1,19 @@
 -- What is read off the rows says how much is numbered and fed: as many values as the owner has, an operation's kind and regions, and the
 -- owner of a value. Assumes nothing.
-use Prim.Native.Nat.{ℕ, _+_, _<_, _≤_}
-use mathlib.Core.Bool.{true}
+use Prim.Native.Nat.{ℕ, _<_}
 use mathlib.Core.List.{_++_}
-use mathlib.Core.Path.{_≡_, sym, ap, subst, _∙_}
+use mathlib.Core.Path.{_≡_, sym, ap, _∙_}
 use lib.ListN.{length}
-use Rattle.rules.specs.Store.{Op, Owner, ofOp, regionsOf, maxOwnRegions, sound}
-use Rattle.rules.specs.Fragments.{shell}
+use Rattle.rules.specs.Store.{Op, Owner, ofOp, regionsOf}
 use Rattle.rules.specs.Shells.{Ignore, Shell, shellOf}
-use Rattle.rules.specs.Hash.{fnvFrom, leaf, count, headBytes, shellBytes}
+use Rattle.rules.specs.Hash.{fnvFrom, leaf, count, headBytes, uncounted, shellBytes}
 use Rattle.rules.proofs.Form.Hashes.{fnv-append}
-use Rattle.rules.proofs.Soundness.Sound.{facts}
 use Rattle.layout.specs.Columns.{Cols, at, opKind}
 use Rattle.layout.specs.Reading.{opCount, opOf, storeOf}
-use Rattle.layout.proofs.Tabulate.{op-read, ops-length}
+use Rattle.layout.proofs.Tabulate.{op-read}
 use Rattle.fragments.specs.Rows.{RowOf, rowShell}
 use Rattle.fragments.specs.declared.types.Row.{Row}
 use Rattle.hashing.specs.Walked.{ownerBytes}
-
-pub regions-few : (C : Cols) → sound (storeOf C) ≡ true → (n : ℕ) → n < opCount C → length (regionsOf (storeOf C) n) ≤ maxOwnRegions
-regions-few C sd n l = facts (storeOf C) sd .op n (subst (λ (k : ℕ). n < k) (sym (ops-length C)) l) .regionsFit
 
 pub head-fed : (C : Cols) (n : ℕ) → n < opCount C → (word : ℕ) {kind regions r : ℕ} → kind ≡ at C opKind n → regions ≡ length (regionsOf (storeOf C) n)
     → r ≡ fnvFrom word (leaf kind ++ count regions) → r ≡ fnvFrom word (headBytes (storeOf C) (ofOp n))
@@ -30,10 +24,10 @@ head-fed C n l word k e q =
 
 -- what an owner feeds of itself: a head, and then its row
 pub row-fed : {C : Cols} {o : Owner} {r : Row} → RowOf C o r → (ig : Ignore) (w : ℕ) {head w′ : ℕ} → head ≡ fnvFrom w (headBytes (storeOf C) o)
-    → w′ ≡ fnvFrom head (shellBytes (rowShell C ig r)) → w′ ≡ fnvFrom w (ownerBytes (storeOf C) ig o)
+    → w′ ≡ fnvFrom head (shellBytes uncounted (rowShell C ig r)) → w′ ≡ fnvFrom w (ownerBytes (storeOf C) ig o)
 unfolding ownerBytes
 row-fed {C} {o} {r} h ig w {head} e q =
     q
-    ∙ ap (λ (k : ℕ). fnvFrom k (shellBytes (rowShell C ig r))) e
-    ∙ ap (λ (x : Shell). fnvFrom (fnvFrom w (headBytes (storeOf C) o)) (shellBytes x)) (sym (h .shell ig))
-    ∙ sym (fnv-append w (headBytes (storeOf C) o) (shellBytes (shellOf (storeOf C) ig o)))
+    ∙ ap (λ (k : ℕ). fnvFrom k (shellBytes uncounted (rowShell C ig r))) e
+    ∙ ap (λ (x : Shell). fnvFrom (fnvFrom w (headBytes (storeOf C) o)) (shellBytes uncounted x)) (sym (h .shell ig))
+    ∙ sym (fnv-append w (headBytes (storeOf C) o) (shellBytes uncounted (shellOf (storeOf C) ig o)))

@@ -1,74 +1,35 @@
--- A run of slots is counted and fed from one kept slot to the next: what is counted or fed so far and what is left make the whole.
--- Assumes nothing.
+-- A run of slots is fed from one kept slot to the next: what is fed so far and what is left make the whole. Assumes nothing.
 use Prim.Native.Nat.{ℕ, _+_, _<_, _≤_}
-use native.Mathlib.Omega.{arith}
-use mathlib.Core.Bool.{false}
-use mathlib.Core.List.{List, _∷_}
+use mathlib.Core.List.{List}
 use mathlib.Core.Path.{_≡_, refl, sym, ap, _∙_}
-use lib.ListN.{length}
 use Rattle.rules.specs.Lists.{concatMap}
 use Rattle.rules.specs.Store.{Attribute}
-use Rattle.rules.specs.Shells.{Ignore, ignored}
+use Rattle.rules.specs.Shells.{Ignore}
 use Rattle.rules.specs.Hash.{fnvFrom, attributeBytes}
 use Rattle.layout.specs.Columns.{Cols}
 use Rattle.layout.specs.Reading.{attributeAt}
 use Rattle.fragments.specs.Ignoring.{keptFrom, Skipped}
-use Rattle.fragments.proofs.Kept.{kept-none, kept-head}
+use Rattle.fragments.proofs.Kept.{kept-none}
+use Rattle.fragments.proofs.Slots.{KeptSlot, first-stop, next-stop, kept-step}
 use Rattle.hashing.proofs.Bytes.{fed-after}
 
 module _ (C : Cols) (ig : Ignore) (first end : ℕ) where
-  -- slot i is kept, or the end
-  pub record KeptSlot (i : ℕ) : Type 0 where
-    pub from : first ≤ i
-    pub upTo : i ≤ end
-    pub kept : i < end → ignored ig (attributeAt C i) ≡ false
-
-  pub first-stop : (i : ℕ) → Skipped C ig first end i → KeptSlot i
-  first-stop i h = record { from = h .from; upTo = h .upTo; kept = h .kept }
-
-  pub next-stop : (i j : ℕ) → KeptSlot i → Skipped C ig (i + 1) end j → KeptSlot j
-  next-stop i j s h = record { from = omega (arith, s .from, h .from); upTo = h .upTo; kept = h .kept }
-
-  -- a kept slot, and the slots past it
-  kept-step : (i j : ℕ) → KeptSlot i → i < end → Skipped C ig (i + 1) end j → keptFrom C ig i end ≡ attributeAt C i ∷ keptFrom C ig j end
-  kept-step i j s l h = kept-head C ig i end l (s .kept l) ∙ ap (λ (xs : List Attribute). attributeAt C i ∷ xs) (h .same)
-
-  -- ---- counted
-
-  pub record KeptCounting (n i : ℕ) : Type 0 where
-    pub stop : KeptSlot i
-    pub sum : n + length (keptFrom C ig i end) ≡ length (keptFrom C ig first end)
-    pub few : n ≤ i
-
-  pub count-begins : (i : ℕ) → Skipped C ig first end i → KeptCounting 0 i
-  count-begins i h = record { stop = first-stop i h; sum = omega (arith, ap length (h .same)); few = omega arith }
-
-  pub count-goes-on : (n i j : ℕ) → KeptCounting n i → i < end → Skipped C ig (i + 1) end j → KeptCounting (n + 1) j
-  count-goes-on n i j c l h =
-      let e : length (keptFrom C ig i end) ≡ length (attributeAt C i ∷ keptFrom C ig j end) = ap length (kept-step i j (c .stop) l h) in
-      record { stop = next-stop i j (c .stop) h; sum = omega (arith, c .sum); few = omega (arith, c .few, h .from) }
-
-  pub count-over : (n i : ℕ) → KeptCounting n i → end ≤ i → n ≡ length (keptFrom C ig first end)
-  count-over n i c l = omega (arith, c .sum, ap length (kept-none C ig i end l))
-
-  -- ---- fed
-
   pub record Feeding (word fed i : ℕ) : Type 0 where
-    pub stop : KeptSlot i
+    pub stop : KeptSlot C ig first end i
     pub left : fnvFrom fed (concatMap attributeBytes (keptFrom C ig i end)) ≡ fnvFrom word (concatMap attributeBytes (keptFrom C ig first end))
 
   module _ (word : ℕ) where
     pub feed-begins : (i : ℕ) → Skipped C ig first end i → Feeding word word i
-    feed-begins i h = record { stop = first-stop i h; left = ap (λ (xs : List Attribute). fnvFrom word (concatMap attributeBytes xs)) (sym (h .same)) }
+    feed-begins i h = record { stop = first-stop C ig first end i h; left = ap (λ (xs : List Attribute). fnvFrom word (concatMap attributeBytes xs)) (sym (h .same)) }
 
     pub feed-goes-on : (fed r i j : ℕ) → Feeding word fed i → i < end → r ≡ fnvFrom fed (attributeBytes (attributeAt C i)) → Skipped C ig (i + 1) end j → Feeding word r j
     unfolding concatMap
     feed-goes-on fed r i j f l e h =
         record {
-          stop = next-stop i j (f .stop) h;
+          stop = next-stop C ig first end i j (f .stop) h;
           left =
               fed-after fed (attributeBytes (attributeAt C i)) (concatMap attributeBytes (keptFrom C ig j end)) e refl
-              ∙ ap (λ (xs : List Attribute). fnvFrom fed (concatMap attributeBytes xs)) (sym (kept-step i j (f .stop) l h))
+              ∙ ap (λ (xs : List Attribute). fnvFrom fed (concatMap attributeBytes xs)) (sym (kept-step C ig first end i j (f .stop) l h))
               ∙ f .left;
         }
 

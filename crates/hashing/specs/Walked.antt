@@ -1,24 +1,23 @@
 -- What steps of a walk have done: what they define is numbered, and their bytes are fed.
-use Prim.Native.Nat.{ℕ, _+_}
-use mathlib.Core.Bool.{Bool, true}
-use mathlib.Core.List.{List, [], _∷_, _++_, map}
+use Prim.Native.Nat.{ℕ}
+use mathlib.Core.List.{List, [], _∷_, _++_}
 use mathlib.Core.Path.{_≡_}
 use Rattle.rules.specs.Lists.{concatMap}
-use Rattle.rules.specs.Store.{Store, Owner, ofOp, ofBlock, opsOf, regionsOf}
-use Rattle.rules.specs.Fragments.{Sort, op, Step, shell, names, fullOp, listSteps, regionSteps, levels}
+use Rattle.rules.specs.Store.{Store, Owner}
+use Rattle.rules.specs.Fragments.{Step, names}
 use Rattle.rules.specs.Shells.{Ignore, shellOf}
-use Rattle.rules.specs.Hash.{fnvFrom, Numbering, numbered, nameOf, nameBytes, headBytes, shellBytes, allBytes}
+use Rattle.rules.specs.Hash.{fnvFrom, Numbering, nameOf, nameBytes, headBytes, uncounted, shellBytes, allBytes}
 use Rattle.numbering.specs.Words.{Stands}
 use Rattle.numbering.specs.Numbered.{Numbers}
 
 -- these steps are numbered, and fed into the word
 pub record Fed (s : Store) (ig : Ignore) (xs : List Step) (before after : List ℕ) (w w′ : ℕ) : Type 0 where
   pub numbers : Numbers s xs before after
-  pub word : (N : Numbering) → Stands s N before → w′ ≡ fnvFrom w (allBytes s ig xs N)
+  pub word : (N : Numbering) → Stands s N before → w′ ≡ fnvFrom w (allBytes uncounted s ig xs N)
 
 -- what an operation or a block feeds of itself
 unfoldable pub ownerBytes : Store → Ignore → Owner → List ℕ
-ownerBytes s ig w = headBytes s w ++ shellBytes (shellOf s ig w)
+ownerBytes s ig w = headBytes s w ++ shellBytes uncounted (shellOf s ig w)
 
 -- what a use of n feeds, where these are defined
 abbrev pub bytesIn : List ℕ → ℕ → List ℕ
@@ -44,26 +43,3 @@ FeedsSuccessors numbers list word r = (s : Store) → FeedsNames s numbers (λ (
 -- an operation's names are fed, under whatever ignore rule
 abbrev pub FedNames : Store → ℕ → List ℕ → ℕ → ℕ → Type 0
 FedNames s n numbers word word′ = (ig : Ignore) → Fed s ig (names n ∷ []) numbers numbers word word′
-
--- ---- the steps of a walk, part by part
-
-unfoldable pub blockShells : List ℕ → List Step
-blockShells bs = map (λ (b : ℕ). shell (ofBlock b)) bs
-
--- of the operations in a block
-unfoldable pub opShells : Store → ℕ → List Step
-opShells s b = map (λ (n : ℕ). shell (ofOp n)) (opsOf s b)
-
--- of an operation in full, of those in a block, and of a list of blocks, where a walk begins
-unfoldable pub fullSteps : Store → ℕ → List Step
-fullSteps s n = fullOp s (regionSteps levels s) n
-
-unfoldable pub opsInFull : Store → ℕ → List Step
-opsInFull s b = concatMap (fullSteps s) (opsOf s b)
-
-unfoldable pub listedSteps : Store → List ℕ → List Step
-listedSteps s bs = listSteps s (fullSteps s) bs
-
--- where this is true, the fragment is an operation without regions
-abbrev pub HoldsNothing : Store → Sort → ℕ → Bool → Type 0
-HoldsNothing s f n b = b ≡ true → (f ≡ op) × (regionsOf s n ≡ [])

@@ -1,59 +1,27 @@
-// An operation without regions, hashed alone. All that is defined within it are its own results, one after the other in the store and in the
-// walk, so that no words are needed to number them.
+// An operation without regions, hashed alone: no words are needed to number what it defines.
 use crate::fnv::START;
 use crate::names::hash_name;
 use crate::shells::hash_row;
 use crate::state::with_head;
 use fragments::ignoring::Ignore;
-use fragments::rows::op_regions;
 use fragments::rows::op_row;
-use fragments::types::Sort;
 use layout::columns::OP_KIND;
 use layout::columns::at;
 use layout::slices::operands_of;
 use layout::slices::successors_of;
-use numbering::words::Name;
-ghost use mathlib.Core.Bool.{true};
+use numbering::alone::own_name;
 ghost use mathlib.Core.List.{[]};
 ghost use mathlib.Core.Path.{_≡_};
 ghost use Prim.Native.Nat.{_-_, _<_};
 ghost use Rattle.rules.specs.Lists.{concatMap};
 ghost use Rattle.rules.specs.Store.{regionsOf};
 ghost use Rattle.rules.specs.Fragments.{op};
-ghost use Rattle.rules.specs.Hash.{fnvFrom, hash, nameOf};
+ghost use Rattle.rules.specs.Hash.{fnvFrom, hash};
 ghost use Rattle.layout.specs.Columns.{columns};
 ghost use Rattle.layout.specs.Reading.{consecutive, opCount, storeIn};
 ghost use Rattle.layout.specs.Soundness.{IsSound};
 ghost use Rattle.fragments.specs.Ignoring.{ignoreOf};
-ghost use Rattle.fragments.specs.Sorts.{sortOf};
-ghost use Rattle.numbering.specs.Words.{ruleName};
-ghost use Rattle.hashing.specs.Walked.{bytesIn, HoldsNothing};
-
-// Whether the fragment is an operation without regions.
-pub fn holds_nothing(store: &[u32], sort: Sort, n: usize) -> bool
-    requires { ⌜ IsSound (now store) ⌝ }
-    requires { ⌜ Rattle.rules.specs.Fragments.exists (storeIn (now store)) (sortOf sort) n ≡ true ⌝ }
-    ensures { λ r. ⌜ HoldsNothing (storeIn (now (store .entry))) (sortOf sort) n r ⌝ }
-{
-    let Sort::Op = sort else {
-        return false;
-    };
-    op_regions(store, n) == 0
-}
-
-// How a use of n is named where the numbers from `first` up to `end` are defined, and nothing else is.
-fn own_name(first: usize, end: usize, n: u32) -> Name
-    ensures { λ r. ⌜ ruleName r ≡ nameOf (consecutive first (end - first)) n ⌝ }
-{
-    let i = n as usize;
-    if i < first {
-        return Name::StoreNumber(n);
-    }
-    if i >= end {
-        return Name::StoreNumber(n);
-    }
-    Name::WalkNumber((i - first) as u32)
-}
+ghost use Rattle.hashing.specs.Walked.{bytesIn};
 
 // Hash each use of a list.
 fn hash_own_names(list: &[u32], first: usize, end: usize, word: u64) -> u64

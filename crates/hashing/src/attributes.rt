@@ -2,6 +2,7 @@
 use crate::state::with_attribute;
 use crate::state::with_count;
 use fragments::ignoring::Ignore;
+use fragments::ignoring::count_kept;
 use fragments::ignoring::next_kept;
 use layout::columns::SLOT_CONTENT;
 use layout::columns::SLOT_KEY;
@@ -16,23 +17,6 @@ ghost use Rattle.rules.specs.Hash.{fnvFrom, count, attributeBytes};
 ghost use Rattle.layout.specs.Columns.{bufferLength, columns, slotCount};
 ghost use Rattle.layout.specs.Reading.{attributeAt};
 ghost use Rattle.fragments.specs.Ignoring.{ignoreOf, keptFrom, Kinds};
-
-// How many attributes of a run of slots are not ignored.
-fn count_kept(store: &[u32], ignore: Ignore, first: usize, end: usize) -> u32
-    requires { ⌜ length (now store) ≡ bufferLength ⌝ }
-    requires { ⌜ end ≤ slotCount ⌝ }
-    requires { ⌜ first ≤ end ⌝ }
-    requires { ⌜ Kinds (columns (now store)) first end ⌝ }
-    ensures { λ r. ⌜ r ≡ length (keptFrom (columns (now (store .entry))) (ignoreOf ignore) first end) ⌝ }
-{
-    let mut kept = 0;
-    let mut slot = next_kept(store, ignore, first, end);
-    while slot < end {
-        kept += 1;
-        slot = next_kept(store, ignore, slot + 1, end);
-    }
-    kept
-}
 
 // Hash the attribute at a slot: its key, its kind, its content.
 fn feed_attribute(store: &[u32], slot: usize, word: u64) -> u64

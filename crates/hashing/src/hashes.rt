@@ -1,6 +1,5 @@
 // The hash of a fragment on a sound store. It begins with nothing hashed and nothing numbered.
 use crate::alone::hash_alone;
-use crate::alone::holds_nothing;
 use crate::fnv::START;
 use crate::shells::hash_op_shell;
 use crate::types::Hashed;
@@ -11,6 +10,7 @@ use fragments::sorts::exists;
 use fragments::types::Blocks;
 use fragments::types::Sort;
 use layout::causes::Cause;
+use numbering::alone::holds_nothing;
 use numbering::words::NUMBERS_LENGTH;
 use numbering::words::WalkNumbers;
 ghost use mathlib.Core.Bool.{true};

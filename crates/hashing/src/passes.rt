@@ -14,7 +14,8 @@ ghost use Rattle.layout.specs.Reading.{blockCount, storeIn};
 ghost use Rattle.layout.specs.Soundness.{IsSound};
 ghost use Rattle.fragments.specs.Ignoring.{ignoreOf};
 ghost use Rattle.numbering.specs.Numbered.{DefinitionsFit};
-ghost use Rattle.hashing.specs.Walked.{blockShells, opShells, Fed};
+ghost use Rattle.numbering.specs.Parts.{blockShells, opShells};
+ghost use Rattle.hashing.specs.Walked.{Fed};
 ghost use Rattle.fragments.specs.Order.{blockList, BlocksExist};
 
 // Pass 1: every block's shell.

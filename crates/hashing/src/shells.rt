@@ -22,7 +22,7 @@ ghost use Rattle.rules.specs.Lists.{concatMap};
 ghost use Rattle.rules.specs.Store.{ofOp, ofBlock};
 ghost use Rattle.rules.specs.Fragments.{shell};
 ghost use Rattle.rules.specs.Shells.{unignoredLocation};
-ghost use Rattle.rules.specs.Hash.{fnvFrom, leaf, locationBytes, headBytes, shellBytes};
+ghost use Rattle.rules.specs.Hash.{fnvFrom, leaf, locationBytes, headBytes, uncounted, shellBytes};
 ghost use Rattle.layout.specs.Columns.{bufferLength, columns};
 ghost use Rattle.layout.specs.Reading.{opCount, blockCount, storeIn};
 ghost use Rattle.layout.specs.Soundness.{IsSound};
@@ -58,7 +58,7 @@ fn hash_types(types: &[u32], word: u64) -> u64
 pub fn hash_row(store: &[u32], ignore: Ignore, row: Row, word: u64) -> u64
     requires { ⌜ length (now store) ≡ bufferLength ⌝ }
     requires { ⌜ RowFits (columns (now store)) row ⌝ }
-    ensures { λ r. ⌜ r ≡ fnvFrom word (shellBytes (rowShell (columns (now (store .entry))) (ignoreOf ignore) row)) ⌝ }
+    ensures { λ r. ⌜ r ≡ fnvFrom word (shellBytes uncounted (rowShell (columns (now (store .entry))) (ignoreOf ignore) row)) ⌝ }
 {
     let located = location_hash(ignore, row.location, word);
     let end = row.slot + row.attributes;

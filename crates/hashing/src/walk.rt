@@ -20,7 +20,8 @@ ghost use Rattle.layout.specs.Soundness.{IsSound};
 ghost use Rattle.fragments.specs.Ignoring.{ignoreOf};
 ghost use Rattle.fragments.specs.Order.{blockList, BlocksExist};
 ghost use Rattle.numbering.specs.Numbered.{DefinitionsFit};
-ghost use Rattle.hashing.specs.Walked.{fullSteps, opsInFull, listedSteps, Fed};
+ghost use Rattle.numbering.specs.Parts.{fullSteps, opsInFull, listedSteps};
+ghost use Rattle.hashing.specs.Walked.{Fed};
 
 // Complete the hash of an operation by hashing its operands, successors and nested regions.
 // Does not hash components already hashed by `hash_op_shell`.

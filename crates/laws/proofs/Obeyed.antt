@@ -59,12 +59,12 @@ module _ (b : List ℕ) (sd : soundBuffer b ≡ true) (ig : Ignore) (f : Sort) w
         subst (λ (m : Mapping). comparison true (storeIn b) m ig f x y .answer ≡ answerOf q) empty-words
         (subst (λ (t : Bool). comparison t (storeIn b) (mappingOf emptyWords) ig f x y .answer ≡ answerOf q) sd (ap (λ (c : Comparison). c .answer) (h .told)))
 
-    says : (q : EqResult) → Compares b ig f x y q → Equal (storeIn b) ig f x y → SaysEqual q
+    pub says : (q : EqResult) → Compares b ig f x y q → Equal (storeIn b) ig f x y → SaysEqual q
     says q c e =
         let w = equal-answered (storeIn b) ruled ig f x y ix iy .0 e in
         (w .0, equal-only q (w .0) (sym (answered q c) ∙ w .1))
 
-    said : (q : EqResult) → Compares b ig f x y q → SaysEqual q → Equal (storeIn b) ig f x y
+    pub said : (q : EqResult) → Compares b ig f x y q → SaysEqual q → Equal (storeIn b) ig f x y
     unfolding answerOf
     said q c (n, e) = equal-answered (storeIn b) ruled ig f x y ix iy .1 (n, answered q c ∙ ap answerOf e)
 

@@ -10,12 +10,15 @@ use Rattle.equivalence.specs.declared.types.EqResult.the-variants as EqResults
 use Rattle.equivalence.specs.declared.types.Entries as found
 use Rattle.hashing.specs.declared.types.Hashed.{Hashed}
 use Rattle.hashing.specs.declared.types.Hashed.the-variants as Hashes
+use Rattle.keys.specs.declared.types.Keyed.{Keyed}
+use Rattle.keys.specs.declared.types.Keyed.the-variants as Keyeds
 use Rattle.calling.specs.declared.types.Built.{Built}
 use Rattle.calling.specs.declared.types.Built.the-variants as Builts
 use Rattle.listing.specs.declared.types.Listed.{Listed}
 use Rattle.listing.specs.declared.types.Listed.the-variants as Listeds
 use Rattle.link.specs.declared.answers.Verdict.{Verdict}
 use Rattle.link.specs.declared.answers.Sum.{Sum}
+use Rattle.link.specs.declared.answers.KeyAnswer.{KeyAnswer}
 use Rattle.link.specs.declared.answers.Outcome.{Outcome}
 use Rattle.link.specs.declared.answers.Output.{Output}
 use Rattle.link.specs.declared.answers.Entries.{Entries}
@@ -34,6 +37,10 @@ verdictMeans v =
 -- code 0 is a hash, any other a refusal
 unfoldable pub sumMeans : Sum → Hashed
 sumMeans s = cond (eqb (s .code) 0) (Hashes.Hash (s .word)) (Hashes.Refused (s .cause))
+
+-- code 0 is a key's length, any other a refusal
+unfoldable pub keyAnswerMeans : KeyAnswer → Keyed
+keyAnswerMeans k = cond (eqb (k .code) 0) (Keyeds.Length (k .length)) (Keyeds.Refused (k .cause))
 
 -- code 0 is a new number, 1 accepted, any other a refusal
 unfoldable pub outcomeMeans : Outcome → Built

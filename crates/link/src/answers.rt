@@ -3,12 +3,13 @@ use building::types::Built;
 use building::types::Parent;
 use equivalence::types::EqResult;
 use hashing::types::Hashed;
+use keys::types::Keyed;
 use layout::owners::Owner;
 use listing::types::Listed;
 ghost use mathlib.Core.Path.{_≡_};
 ghost use Rattle.layout.specs.Owners.{ownerOf};
 ghost use Rattle.calling.specs.Types.{parentOf};
-ghost use Rattle.link.specs.Codes.{entriesMean, verdictMeans, sumMeans, outcomeMeans, outputMeans, parentFrom, ownerFrom};
+ghost use Rattle.link.specs.Codes.{entriesMean, verdictMeans, sumMeans, keyAnswerMeans, outcomeMeans, outputMeans, parentFrom, ownerFrom};
 
 // The codes of a verdict: equal, the first unequal operations, blocks or regions, and a refusal.
 const EQ: u32 = 0;
@@ -34,6 +35,14 @@ pub struct Verdict {
 #[repr(C)]
 pub struct Sum {
     pub word: u64,
+    pub code: u32,
+    pub cause: u32,
+}
+
+// Code 0 is a key of so many bytes, `length`. 1 is a refusal, and its cause is `cause`.
+#[repr(C)]
+pub struct KeyAnswer {
+    pub length: u32,
     pub code: u32,
     pub cause: u32,
 }
@@ -124,6 +133,23 @@ pub fn of_hash(h: Hashed) -> Sum
             word: 0,
             code: 1,
             cause: k,
+        },
+    }
+}
+
+pub fn of_key(k: Keyed) -> KeyAnswer
+    ensures { λ r. ⌜ keyAnswerMeans r ≡ k ⌝ }
+{
+    match k {
+        Keyed::Length(n) => KeyAnswer {
+            length: n,
+            code: 0,
+            cause: 0,
+        },
+        Keyed::Refused(n) => KeyAnswer {
+            length: 0,
+            code: 1,
+            cause: n,
         },
     }
 }

@@ -1,11 +1,13 @@
 // The calls on a store that is known to be sound, and with a mapping that is known to be allowed: neither is tested.
 use crate::answers::Entries;
+use crate::answers::KeyAnswer;
 use crate::answers::Outcome;
 use crate::answers::Sum;
 use crate::answers::Verdict;
 use crate::answers::of_built;
 use crate::answers::of_entries;
 use crate::answers::of_hash;
+use crate::answers::of_key;
 use crate::answers::of_verdict;
 use crate::answers::owner;
 use crate::answers::parent;
@@ -17,6 +19,8 @@ use equivalence::unmapping::entered;
 use fragments::ignoring::Ignore;
 use fragments::types::Sort;
 use hashing::hashes::fragment_hash;
+use keys::keys::fragment_key;
+use keys::keys::key_length;
 ghost use mathlib.Core.Bool.{true};
 ghost use mathlib.Core.Path.{_≡_};
 ghost use lib.ListN.{length};
@@ -26,12 +30,14 @@ ghost use Rattle.layout.specs.Reading.{storeIn};
 ghost use Rattle.equivalence.specs.MappingWords.{mappingLength, mappingOf};
 ghost use Rattle.equivalence.specs.Unmapping.{EntriesIn};
 ghost use Rattle.rules.specs.Building.{newOperation, newBlock, setAttribute, setOperand};
-ghost use Rattle.rules.specs.Fragments.{op};
+ghost use Rattle.rules.specs.Fragments.{op, exists};
+ghost use Rattle.rules.specs.Keys;
 ghost use Rattle.layout.specs.Soundness.{IsSound};
 ghost use Rattle.calling.specs.Doing.{Did};
 ghost use Rattle.equivalence.specs.Calls as comparing;
 ghost use Rattle.hashing.specs.Calls as hashing;
-ghost use Rattle.link.specs.Codes.{entriesMean, verdictMeans, sumMeans, outcomeMeans, ignoring, parentFrom, ownerFrom, attributeFrom};
+ghost use Rattle.keys.specs.Calls as keys;
+ghost use Rattle.link.specs.Codes.{entriesMean, verdictMeans, sumMeans, keyAnswerMeans, outcomeMeans, ignoring, parentFrom, ownerFrom, attributeFrom};
 
 // The test of a mapping that is to be lent beside this store.
 #[no_mangle]
@@ -236,4 +242,91 @@ pub extern "C" fn wz_known_region_hash(store: &[u32], n: u32, locations: bool, b
     ensures { λ r. ⌜ hashing.Answered (now (store .entry)) (ignoring locations bits) Rattle.rules.specs.Fragments.region n (sumMeans r) ⌝ }
 {
     of_hash(fragment_hash(store, Sort::Region, n, Ignore { locations, bits }))
+}
+
+#[no_mangle]
+pub extern "C" fn wz_known_operation_key(
+    store: &[u32],
+    key: &mut [u8],
+    n: u32,
+    locations: bool,
+    bits: u64,
+) -> KeyAnswer
+    requires { ⌜ IsSound (now store) ⌝ }
+    ensures { λ r. ⌜ keys.Answered (now (store .entry)) (ignoring locations bits) op n (now (key .entry)) (now (key .exit)) (keyAnswerMeans r) ⌝ }
+{
+    of_key(fragment_key(store, key, Sort::Op, n, Ignore { locations, bits }))
+}
+
+// How long the key will be, of an operation that exists.
+#[no_mangle]
+pub extern "C" fn wz_known_operation_key_length(
+    store: &[u32],
+    n: u32,
+    locations: bool,
+    bits: u64,
+) -> usize
+    requires { ⌜ IsSound (now store) ⌝ }
+    requires { ⌜ exists (storeIn (now store)) op n ≡ true ⌝ }
+    ensures { λ r. ⌜ r ≡ length (Keys.key (storeIn (now (store .entry))) (ignoring locations bits) op n) ⌝ }
+{
+    key_length(store, Sort::Op, n as usize, Ignore { locations, bits })
+}
+
+#[no_mangle]
+pub extern "C" fn wz_known_basic_block_key(
+    store: &[u32],
+    key: &mut [u8],
+    n: u32,
+    locations: bool,
+    bits: u64,
+) -> KeyAnswer
+    requires { ⌜ IsSound (now store) ⌝ }
+    ensures { λ r. ⌜ keys.Answered (now (store .entry)) (ignoring locations bits) Rattle.rules.specs.Fragments.block n (now (key .entry)) (now (key .exit)) (keyAnswerMeans r) ⌝ }
+{
+    of_key(fragment_key(store, key, Sort::Block, n, Ignore { locations, bits }))
+}
+
+// How long the key will be, of a block that exists.
+#[no_mangle]
+pub extern "C" fn wz_known_basic_block_key_length(
+    store: &[u32],
+    n: u32,
+    locations: bool,
+    bits: u64,
+) -> usize
+    requires { ⌜ IsSound (now store) ⌝ }
+    requires { ⌜ exists (storeIn (now store)) Rattle.rules.specs.Fragments.block n ≡ true ⌝ }
+    ensures { λ r. ⌜ r ≡ length (Keys.key (storeIn (now (store .entry))) (ignoring locations bits) Rattle.rules.specs.Fragments.block n) ⌝ }
+{
+    key_length(store, Sort::Block, n as usize, Ignore { locations, bits })
+}
+
+#[no_mangle]
+pub extern "C" fn wz_known_region_key(
+    store: &[u32],
+    key: &mut [u8],
+    n: u32,
+    locations: bool,
+    bits: u64,
+) -> KeyAnswer
+    requires { ⌜ IsSound (now store) ⌝ }
+    ensures { λ r. ⌜ keys.Answered (now (store .entry)) (ignoring locations bits) Rattle.rules.specs.Fragments.region n (now (key .entry)) (now (key .exit)) (keyAnswerMeans r) ⌝ }
+{
+    of_key(fragment_key(store, key, Sort::Region, n, Ignore { locations, bits }))
+}
+
+// How long the key will be, of a region that exists.
+#[no_mangle]
+pub extern "C" fn wz_known_region_key_length(
+    store: &[u32],
+    n: u32,
+    locations: bool,
+    bits: u64,
+) -> usize
+    requires { ⌜ IsSound (now store) ⌝ }
+    requires { ⌜ exists (storeIn (now store)) Rattle.rules.specs.Fragments.region n ≡ true ⌝ }
+    ensures { λ r. ⌜ r ≡ length (Keys.key (storeIn (now (store .entry))) (ignoring locations bits) Rattle.rules.specs.Fragments.region n) ⌝ }
+{
+    key_length(store, Sort::Region, n as usize, Ignore { locations, bits })
 }

@@ -1,5 +1,6 @@
 // How long the lent buffers are.
 ghost use mathlib.Core.Path.{_≡_};
+ghost use Rattle.rules.specs.Keys.{longestKey};
 ghost use Rattle.rules.specs.Listings.{maxOutput};
 ghost use Rattle.layout.specs.Columns.{bufferLength};
 ghost use Rattle.equivalence.specs.MappingWords.{mappingLength};
@@ -26,4 +27,12 @@ pub extern "C" fn wz_output_bytes() -> usize
     ensures { λ r. ⌜ r ≡ maxOutput ⌝ }
 {
     listing::calls::ROOM
+}
+
+// Bytes that every key fits into.
+#[no_mangle]
+pub extern "C" fn wz_key_bytes() -> usize
+    ensures { λ r. ⌜ r ≡ longestKey ⌝ }
+{
+    keys::keys::LONGEST_KEY
 }

@@ -1,22 +1,28 @@
 // The offered calls, on any words.
+use crate::answers::KeyAnswer;
 use crate::answers::Outcome;
 use crate::answers::Sum;
 use crate::answers::Verdict;
 use crate::answers::of_built;
 use crate::answers::of_hash;
+use crate::answers::of_key;
 use crate::answers::of_verdict;
 use crate::answers::owner;
 use crate::answers::parent;
 use building::types::Attribute;
 use fragments::ignoring::Ignore;
+use keys::order::compare_keys;
+use keys::types::Ordering;
 ghost use mathlib.Core.Path.{_≡_};
 ghost use Rattle.rules.specs.Building.{newOperation, newBlock, setAttribute, setOperand};
 ghost use Rattle.rules.specs.Fragments.{op};
+ghost use Rattle.rules.specs.Keys.{compareBytes, orderingNumber};
 ghost use Rattle.layout.specs.Soundness.{soundBuffer};
 ghost use Rattle.building.specs.Calls as building;
 ghost use Rattle.equivalence.specs.Calls as comparing;
 ghost use Rattle.hashing.specs.Calls as hashing;
-ghost use Rattle.link.specs.Codes.{verdictMeans, sumMeans, outcomeMeans, ignoring, parentFrom, ownerFrom, attributeFrom};
+ghost use Rattle.keys.specs.Calls as keys;
+ghost use Rattle.link.specs.Codes.{verdictMeans, sumMeans, keyAnswerMeans, outcomeMeans, ignoring, parentFrom, ownerFrom, attributeFrom};
 
 #[no_mangle]
 pub extern "C" fn wz_is_sound(store: &[u32]) -> bool
@@ -175,4 +181,56 @@ pub extern "C" fn wz_region_hash(store: &[u32], n: u32, locations: bool, bits: u
     ensures { λ r. ⌜ hashing.Answered (now (store .entry)) (ignoring locations bits) Rattle.rules.specs.Fragments.region n (sumMeans r) ⌝ }
 {
     of_hash(hashing::calls::region_hash(store, n, Ignore { locations, bits }))
+}
+
+#[no_mangle]
+pub extern "C" fn wz_operation_key(
+    store: &[u32],
+    key: &mut [u8],
+    n: u32,
+    locations: bool,
+    bits: u64,
+) -> KeyAnswer
+    ensures { λ r. ⌜ keys.Answered (now (store .entry)) (ignoring locations bits) op n (now (key .entry)) (now (key .exit)) (keyAnswerMeans r) ⌝ }
+{
+    of_key(keys::calls::operation_key(store, key, n, Ignore { locations, bits }))
+}
+
+#[no_mangle]
+pub extern "C" fn wz_basic_block_key(
+    store: &[u32],
+    key: &mut [u8],
+    n: u32,
+    locations: bool,
+    bits: u64,
+) -> KeyAnswer
+    ensures { λ r. ⌜ keys.Answered (now (store .entry)) (ignoring locations bits) Rattle.rules.specs.Fragments.block n (now (key .entry)) (now (key .exit)) (keyAnswerMeans r) ⌝ }
+{
+    of_key(keys::calls::basic_block_key(store, key, n, Ignore { locations, bits }))
+}
+
+#[no_mangle]
+pub extern "C" fn wz_region_key(
+    store: &[u32],
+    key: &mut [u8],
+    n: u32,
+    locations: bool,
+    bits: u64,
+) -> KeyAnswer
+    ensures { λ r. ⌜ keys.Answered (now (store .entry)) (ignoring locations bits) Rattle.rules.specs.Fragments.region n (now (key .entry)) (now (key .exit)) (keyAnswerMeans r) ⌝ }
+{
+    of_key(keys::calls::region_key(store, key, n, Ignore { locations, bits }))
+}
+
+// Any bytes compare; nothing is refused.
+#[no_mangle]
+pub extern "C" fn wz_compare_keys(lhs: &[u8], rhs: &[u8]) -> i32
+    ensures { λ r. ⌜ r ≡ orderingNumber (compareBytes (now (lhs .entry)) (now (rhs .entry))) ⌝ }
+{
+    let order = compare_keys(lhs, rhs);
+    match order {
+        Ordering::Less => -1,
+        Ordering::Equal => 0,
+        Ordering::Greater => 1,
+    }
 }

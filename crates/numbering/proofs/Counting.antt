@@ -9,7 +9,7 @@ use mathlib.Core.Path.{_≡_, refl, sym, ap, subst, _∙_}
 use lib.ListN.{length, length-append, getD, replicate, length-replicate}
 use Rattle.rules.specs.Lists.{concatMap, position}
 use Rattle.rules.specs.Store.{Store, Owner, valueAt, valuesOf, maxValues, maxBlocks, sound}
-use Rattle.rules.specs.Fragments.{Sort, exists, Step, steps, stepDefines, blockOwner, definesOwners, definesValues, definesBlocks}
+use Rattle.rules.specs.Fragments.{Sort, exists, Step, counted, steps, stepDefines, blockOwner, definesOwners, definesValues, definesBlocks}
 use Rattle.rules.specs.Hash.{Numbering, noNumbers, numbered}
 use Rattle.rules.proofs.Basics.Distinct.{concatMap-append}
 use Rattle.rules.proofs.Form.Counted.{values-most, blocks-most}
@@ -55,7 +55,16 @@ module _ (s : Store) where
         blocks = omega (arith, blocks-append xs ys, f .blocks, g .blocks);
       }
 
+  -- where a list begins nothing is defined
+  pub numbers-counted : (k : ℕ) (xs : List Step) {a b : List ℕ} → Numbers s xs a b → Numbers s (counted k ∷ xs) a b
+  unfolding numberedAll numbered valuesIn blocksIn concatMap stepDefines
+  numbers-counted k xs f = record { long = f .long; stands = f .stands; values = f .values; blocks = f .blocks }
+
 -- ---- room
+
+pub room-counted : (s : Store) (k : ℕ) (xs : List Step) {a : List ℕ} → DefinitionsFit s (counted k ∷ xs) a → DefinitionsFit s xs a
+unfolding valuesIn blocksIn concatMap stepDefines
+room-counted s k xs r = record { long = r .long; values = r .values; blocks = r .blocks }
 
 module _ (s : Store) (xs ys : List Step) {a : List ℕ} (r : DefinitionsFit s (xs ++ ys) a) where
   pub room-first : DefinitionsFit s xs a

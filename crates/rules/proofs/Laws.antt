@@ -13,7 +13,7 @@ use Rattle.rules.proofs.Form.Canonical.{canonical→equal, equal→cano
 use Rattle.rules.proofs.Soundness.Kept.{empty-sound, after-sound}
 
 -- of the premise only this is used
-one-way : (s : Store) (f : Sort) (a b : ℕ) → Premise s f a b → (a ≡ b) ⊎ NamesNothingOf s f a b
+pub one-way : (s : Store) (f : Sort) (a b : ℕ) → Premise s f a b → (a ≡ b) ⊎ NamesNothingOf s f a b
 unfolding Premise
 one-way s f a b (inl e) = inl e
 one-way s f a b (inr p) = inr (p .1)

@@ -4,6 +4,7 @@ pub mod Soundness
 pub mod Walking
 pub mod Form
 pub mod Laws
+pub mod Keys
 pub mod Attributes
 pub mod Rust
 pub mod Starred

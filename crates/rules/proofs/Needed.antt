@@ -9,14 +9,14 @@ use Rattle.rules.specs.Shells.{unignored, unignoredLocation, shellOf, co
 use Rattle.rules.specs.Mapping.{emptyMapping, orSelf, image, enterAll}
 use Rattle.rules.specs.Comparison.{eachPair, expect, enterOps, pairOps, operandsAgree, successorsAgree, checkNames, checkOps, compareBy, start, compare}
 use Rattle.rules.specs.Cases.{ignoring, operation, firstOperand}
-use Rattle.rules.specs.Hash.{fnvByte, fnvFrom, fnv, bytes, leaf, count, tag, locationBytes, shellBytes, headBytes, noNumbers, numbered, nameAt, nameOf, nameBytes, feeds, allBytes, hash}
+use Rattle.rules.specs.Hash.{fnvByte, fnvFrom, fnv, bytes, leaf, count, tag, locationBytes, listBytes, shellBytes, headBytes, noNumbers, numbered, nameAt, nameOf, nameBytes, feeds, allBytes, hash}
 use Rattle.rules.specs.Laws.{succeeds, equal}
 use Rattle.rules.specs.Statements.{alike, tangled, PremiseNeeded, tangledThree, PremiseNeededThrice}
 
 pub premise-needed : PremiseNeeded
-unfolding PremiseNeeded tangled alike every allBelow sum isSome all filter numbersFrom numbersWhere updateAt allPairs sameList concatMap position later emptyStore opAt valueAt typeOf sameOwner regionsOf valuesOf resultsOf opExists valueExists ownerExists parentExists levelsLeft nestingHolds opAfter operandTotal successorTotal attributeTotal totalsHold keysRise attributesHold opHolds sound fullOp steps tests operationNames operationFits operationRoom blockRoom firstFailed opWithOperand valuesFor applied storeBy built after unignored unignoredLocation shellOf countsOf sameLocation sameShells emptyMapping orSelf image enterAll eachPair expect enterOps pairOps operandsAgree successorsAgree checkNames checkOps compareBy start compare ignoring operation firstOperand fnvByte fnvFrom fnv bytes leaf count tag locationBytes shellBytes headBytes noNumbers numbered nameAt nameOf nameBytes feeds allBytes hash succeeds equal
+unfolding PremiseNeeded tangled alike every allBelow sum isSome all filter numbersFrom numbersWhere updateAt allPairs sameList concatMap position later emptyStore opAt valueAt typeOf sameOwner regionsOf valuesOf resultsOf opExists valueExists ownerExists parentExists levelsLeft nestingHolds opAfter operandTotal successorTotal attributeTotal totalsHold keysRise attributesHold opHolds sound fullOp steps tests operationNames operationFits operationRoom blockRoom firstFailed opWithOperand valuesFor applied storeBy built after unignored unignoredLocation shellOf countsOf sameLocation sameShells emptyMapping orSelf image enterAll eachPair expect enterOps pairOps operandsAgree successorsAgree checkNames checkOps compareBy start compare ignoring operation firstOperand fnvByte fnvFrom fnv bytes leaf count tag locationBytes listBytes shellBytes headBytes noNumbers numbered nameAt nameOf nameBytes feeds allBytes hash succeeds equal
 premise-needed = (refl, refl, refl, refl)
 
 pub premise-needed-thrice : PremiseNeededThrice
-unfolding PremiseNeededThrice tangledThree alike every allBelow sum isSome all filter numbersFrom numbersWhere updateAt allPairs sameList concatMap position later emptyStore opAt valueAt typeOf sameOwner regionsOf valuesOf resultsOf opExists valueExists ownerExists parentExists levelsLeft nestingHolds opAfter operandTotal successorTotal attributeTotal totalsHold keysRise attributesHold opHolds sound fullOp steps tests operationNames operationFits operationRoom blockRoom firstFailed opWithOperand valuesFor applied storeBy built after unignored unignoredLocation shellOf countsOf sameLocation sameShells emptyMapping orSelf image enterAll eachPair expect enterOps pairOps operandsAgree successorsAgree checkNames checkOps compareBy start compare ignoring operation firstOperand fnvByte fnvFrom fnv bytes leaf count tag locationBytes shellBytes headBytes noNumbers numbered nameAt nameOf nameBytes feeds allBytes hash succeeds equal
+unfolding PremiseNeededThrice tangledThree alike every allBelow sum isSome all filter numbersFrom numbersWhere updateAt allPairs sameList concatMap position later emptyStore opAt valueAt typeOf sameOwner regionsOf valuesOf resultsOf opExists valueExists ownerExists parentExists levelsLeft nestingHolds opAfter operandTotal successorTotal attributeTotal totalsHold keysRise attributesHold opHolds sound fullOp steps tests operationNames operationFits operationRoom blockRoom firstFailed opWithOperand valuesFor applied storeBy built after unignored unignoredLocation shellOf countsOf sameLocation sameShells emptyMapping orSelf image enterAll eachPair expect enterOps pairOps operandsAgree successorsAgree checkNames checkOps compareBy start compare ignoring operation firstOperand fnvByte fnvFrom fnv bytes leaf count tag locationBytes listBytes shellBytes headBytes noNumbers numbered nameAt nameOf nameBytes feeds allBytes hash succeeds equal
 premise-needed-thrice = (refl, refl, refl, refl)

@@ -1,5 +1,5 @@
--- The statements of `specs/Statements`, each by the lemma that it is. (`accepted-exactly`, `unignored-same`, `premise-needed` and
--- `premise-needed-thrice` are proved where they stand.) Assumes nothing.
+-- The statements of `specs/Statements`, each by the lemma that it is. (`accepted-exactly`, `unignored-same`, `premise-needed`,
+-- `premise-needed-thrice` and those about keys are proved where they stand.) Assumes nothing.
 use Rattle.rules.specs.Store.{emptyStore}
 use Rattle.rules.specs.Statements as stated
 use Rattle.rules.proofs.Soundness.Kept as kept

@@ -2,8 +2,9 @@
 -- name that is defined already stands by its walk number, and any other by its store number. `Statements` says what it is good for.
 use Prim.Native.Nat.{ℕ, zero, suc}
 use mathlib.Core.List.{List, [], _∷_, _++_, map}
-use Rattle.rules.specs.Store.{Store, ofOp, ofBlock, opAt, typeOf, opsOf, blocksOf, regionsOf}
-use Rattle.rules.specs.Fragments.{Sort, op, block, region, levels, Step, shell, names}
+use lib.ListN.{length}
+use Rattle.rules.specs.Store.{Store, Owner, ofOp, ofBlock, opAt, typeOf, opsOf, blocksOf, regionsOf}
+use Rattle.rules.specs.Fragments.{Sort, op, block, region, levels, Step, shell, names, counted}
 use Rattle.rules.specs.Shells.{Ignore, Shell, shellOf, countsOf}
 use Rattle.rules.specs.Hash.{Numbering, noNumbers, numbered, Name, nameOf}
 
@@ -22,14 +23,18 @@ listEvents f (x ∷ xs) = more ∷ (f x ++ listEvents f xs)
 abbrev pub one : (ℕ → Step) → ℕ → List Event
 one f n = step (f n) ∷ []
 
+-- a list of blocks, or of operations, by their shells
+unfoldable pub shellEvents : (ℕ → Owner) → List ℕ → List Event
+shellEvents w ns = step (counted (length ns)) ∷ listEvents (one (λ (n : ℕ). shell (w n))) ns
+
 module _ (s : Store) where
   unfoldable pub opEvents : (ℕ → List Event) → ℕ → List Event
   opEvents inRegion n = step (names n) ∷ listEvents inRegion (regionsOf s n)
 
   unfoldable pub blocksEvents : (ℕ → List Event) → List ℕ → List Event
   blocksEvents full bs =
-      listEvents (one (λ (b : ℕ). shell (ofBlock b))) bs
-      ++ listEvents (λ (b : ℕ). listEvents (one (λ (n : ℕ). shell (ofOp n))) (opsOf s b)) bs
+      shellEvents ofBlock bs
+      ++ listEvents (λ (b : ℕ). shellEvents ofOp (opsOf s b)) bs
       ++ listEvents (λ (b : ℕ). listEvents full (opsOf s b)) bs
 
   unfoldable pub regionEvents : ℕ → ℕ → List Event
@@ -43,10 +48,12 @@ module _ (s : Store) where
 
 -- ---- tokens
 
--- an operation's or a block's counts and shell; of the names of an operation its counts, each operand with its type, each successor
+-- an operation's or a block's counts and shell; of the names of an operation its counts, each operand with its type, each successor; that
+-- a list begins, whose length its marks tell
 pub data Token : Type 0 where
   shellToken : List ℕ → Shell → Token
   namesToken : List ℕ → List (Name × ℕ) → List Name → Token
+  countedToken : Token
   moreToken : Token
   doneToken : Token
 
@@ -62,6 +69,7 @@ module _ (s : Store) where
     token (step (shell w)) N = shellToken (countsOf s w) (shellOf s ig w)
     token (step (names n)) N =
         namesToken (countsOf s (ofOp n)) (map (λ (v : ℕ). (nameOf (N .values) v, typeOf s v)) (opAt s n .operands)) (map (nameOf (N .blocks)) (opAt s n .successors))
+    token (step (counted k)) N = countedToken
     token more N = moreToken
     token done N = doneToken
 

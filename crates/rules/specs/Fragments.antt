@@ -6,6 +6,7 @@ use mathlib.Core.Option.{Option, none, some}
 use mathlib.Core.List.{List, [], _∷_, _++_, map, List·Memᴰ}
 use mathlib.Core.Logic.{_⊎_}
 use mathlib.Core.Path.{_≡_}
+use lib.ListN.{length}
 use Rattle.rules.specs.Lists.{concatMap}
 use Rattle.rules.specs.Store.{Store, Owner, ofOp, ofBlock, opAt, opsOf, blocksOf, regionsOf, valuesOf, parentOf, opExists, blockExists, regionExists, levelsLeft, maxNesting}
 
@@ -21,20 +22,27 @@ exists s region n = regionExists s n
 
 -- ---- the steps of a walk: "all block shells, all operation shells, all full operations"
 
--- a shell is what an operation or a block is apart from other things; an operation's names are its operands and successors
+-- a shell is what an operation or a block is apart from other things; an operation's names are its operands and successors; and a list
+-- of so many shells begins, which defines and names nothing, and of which a hash takes in nothing
 pub data Step : Type 0 where
   shell : Owner → Step
   names : ℕ → Step
+  counted : ℕ → Step
 
 -- "Full operation: each operand, then each successor ... Then its regions."
 unfoldable pub fullOp : Store → (ℕ → List Step) → ℕ → List Step
 fullOp s inRegion n = names n ∷ concatMap inRegion (regionsOf s n)
 
--- "Blocks: all block shells, all operation shells, all full operations."
+-- a list of blocks, or of operations, by their shells
+unfoldable pub shells : (ℕ → Owner) → List ℕ → List Step
+shells w ns = counted (length ns) ∷ map (λ (n : ℕ). shell (w n)) ns
+
+-- "Blocks: all block shells, all operation shells, all full operations." "Blocks are counted once, ahead of their shells, and each
+-- block's operations once, ahead of that block's operation shells."
 unfoldable pub listSteps : Store → (ℕ → List Step) → List ℕ → List Step
 listSteps s full bs =
-    map (λ (b : ℕ). shell (ofBlock b)) bs
-    ++ concatMap (λ (b : ℕ). map (λ (n : ℕ). shell (ofOp n)) (opsOf s b)) bs
+    shells ofBlock bs
+    ++ concatMap (λ (b : ℕ). shells ofOp (opsOf s b)) bs
     ++ concatMap (λ (b : ℕ). concatMap full (opsOf s b)) bs
 
 -- the first number is that of regions, one in another, that the walk may still enter
@@ -57,6 +65,7 @@ steps s region n = regionSteps levels s n
 unfoldable pub stepDefines : Step → List Owner
 stepDefines (shell w) = w ∷ []
 stepDefines (names n) = []
+stepDefines (counted k) = []
 
 unfoldable pub blockOwner : Owner → List ℕ
 blockOwner (ofOp n) = []
@@ -65,10 +74,12 @@ blockOwner (ofBlock b) = b ∷ []
 unfoldable pub stepOperands : Store → Step → List ℕ
 stepOperands s (shell w) = []
 stepOperands s (names n) = opAt s n .operands
+stepOperands s (counted k) = []
 
 unfoldable pub stepSuccessors : Store → Step → List ℕ
 stepSuccessors s (shell w) = []
 stepSuccessors s (names n) = opAt s n .successors
+stepSuccessors s (counted k) = []
 
 -- the operations and blocks in a fragment, the fragment itself included
 unfoldable pub definesOwners : Store → Sort → ℕ → List Owner

@@ -1,4 +1,5 @@
--- 01, "Hash": the bytes that each step of the walk feeds, and FNV-1a over them.
+-- 01, "Hash": the bytes that each step of the walk feeds, and FNV-1a over them. The bytes have one parameter: what stands ahead of a
+-- list, given its length. In a hash that is nothing; in a key (`Keys`) it is the count.
 use Prim.Native.Nat.{ℕ, zero, suc, _*_, _/_, _%_, _^_}
 use mathlib.Core.Option.{Option, none, some}
 use mathlib.Core.List.{List, [], _∷_, _++_}
@@ -6,7 +7,7 @@ use lib.Bits.{bitXor}
 use lib.ListN.{length}
 use Rattle.rules.specs.Lists.{concatMap, position}
 use Rattle.rules.specs.Store.{Store, Attribute, Owner, ofOp, ofBlock, opAt, regionsOf, valuesOf}
-use Rattle.rules.specs.Fragments.{Sort, Step, shell, names, steps, blockOwner}
+use Rattle.rules.specs.Fragments.{Sort, Step, shell, names, counted, steps, blockOwner}
 use Rattle.rules.specs.Shells.{Ignore, Shell, shellOf}
 
 -- ---- FNV-1a: "start 14695981039346656037; each byte is xored in, then the word is multiplied by 1099511628211 modulo 2^64"
@@ -42,6 +43,16 @@ count n = bytes 8 n
 unfoldable pub tag : ℕ → List ℕ
 tag n = bytes 1 n
 
+-- ---- lists
+
+-- a hash takes in no count of results, arguments, operands, successors, blocks or operations
+abbrev pub uncounted : ℕ → List ℕ
+uncounted n = []
+
+-- a list, behind what stands ahead of it
+unfoldable pub listBytes : {A : Type 0} → (ℕ → List ℕ) → (A → List ℕ) → List A → List ℕ
+listBytes ahead f xs = ahead (length xs) ++ concatMap f xs
+
 -- ---- shells
 
 unfoldable pub locationBytes : Option ℕ → List ℕ
@@ -53,12 +64,12 @@ unfoldable pub attributeBytes : Attribute → List ℕ
 attributeBytes a = leaf (a .key) ++ leaf (a .kind) ++ leaf (a .content)
 
 -- "location unless ignored, number of unignored attributes, each ...; result types"
-unfoldable pub shellBytes : Shell → List ℕ
-shellBytes sh =
+unfoldable pub shellBytes : (ℕ → List ℕ) → Shell → List ℕ
+shellBytes ahead sh =
     locationBytes (sh .location)
     ++ count (length (sh .attributes))
     ++ concatMap attributeBytes (sh .attributes)
-    ++ concatMap leaf (sh .types)
+    ++ listBytes ahead leaf (sh .types)
 
 -- "Operation shell: kind, number of regions", then as a block's
 unfoldable pub headBytes : Store → Owner → List ℕ
@@ -78,6 +89,7 @@ noNumbers = record { values = []; blocks = [] }
 unfoldable pub numbered : Store → Step → Numbering → Numbering
 numbered s (shell w) N = record { values = N .values ++ valuesOf s w; blocks = N .blocks ++ blockOwner w }
 numbered s (names n) N = N
+numbered s (counted k) N = N
 
 -- a name inside the walk has a walk number, one outside its store number
 pub data Name : Type 0 where
@@ -98,16 +110,17 @@ nameBytes (storeNumber n) = tag 1 ++ leaf n
 
 -- ---- the bytes of a walk
 
-unfoldable pub feeds : Store → Ignore → Step → Numbering → List ℕ
-feeds s ig (shell w) N = headBytes s w ++ shellBytes (shellOf s ig w)
-feeds s ig (names n) N =
-    concatMap (λ (v : ℕ). nameBytes (nameOf (N .values) v)) (opAt s n .operands)
-    ++ concatMap (λ (b : ℕ). nameBytes (nameOf (N .blocks) b)) (opAt s n .successors)
+unfoldable pub feeds : (ℕ → List ℕ) → Store → Ignore → Step → Numbering → List ℕ
+feeds ahead s ig (shell w) N = headBytes s w ++ shellBytes ahead (shellOf s ig w)
+feeds ahead s ig (names n) N =
+    listBytes ahead (λ (v : ℕ). nameBytes (nameOf (N .values) v)) (opAt s n .operands)
+    ++ listBytes ahead (λ (b : ℕ). nameBytes (nameOf (N .blocks) b)) (opAt s n .successors)
+feeds ahead s ig (counted k) N = ahead k
 
-unfoldable pub allBytes : Store → Ignore → List Step → Numbering → List ℕ
-allBytes s ig [] N = []
-allBytes s ig (x ∷ xs) N = feeds s ig x N ++ allBytes s ig xs (numbered s x N)
+unfoldable pub allBytes : (ℕ → List ℕ) → Store → Ignore → List Step → Numbering → List ℕ
+allBytes ahead s ig [] N = []
+allBytes ahead s ig (x ∷ xs) N = feeds ahead s ig x N ++ allBytes ahead s ig xs (numbered s x N)
 
 -- `operation_hash`, `basic_block_hash`, `region_hash`
 unfoldable pub hash : Store → Ignore → Sort → ℕ → ℕ
-hash s ig f n = fnv (allBytes s ig (steps s f n) noNumbers)
+hash s ig f n = fnv (allBytes uncounted s ig (steps s f n) noNumbers)

@@ -9,6 +9,7 @@ pub mod Mapping
 pub mod Comparison
 pub mod Hash
 pub mod Answers
+pub mod Keys
 pub mod Bytes
 pub mod Lines
 pub mod Listings
@@ -20,3 +21,4 @@ pub mod Entered
 pub mod Statements
 pub mod Cases
 pub mod ListingCases
+pub mod KeyCases

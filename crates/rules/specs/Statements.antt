@@ -7,16 +7,18 @@ use mathlib.Core.Logic.{_↔_, _⊎_}
 use mathlib.Core.Option.{none, some}
 use mathlib.Core.Path.{_≡_}
 use lib.Dec.{eqb}
+use lib.IntN.{pos}
 use lib.ListN.{length, replicate}
 use Rattle.rules.specs.Lists.{every, all, any, filter, sameList}
 use Rattle.rules.specs.Store.{Store, Attribute, emptyStore, sound, keysRise, maxOps}
-use Rattle.rules.specs.Fragments.{Sort, op, NamesNothingOf, fragmentSize}
+use Rattle.rules.specs.Fragments.{Sort, op, NamesNothingOf, Premise, fragmentSize}
 use Rattle.rules.specs.Building.{Call, tests, firstFailed, applied, built, after}
 use Rattle.rules.specs.Shells.{Ignore, unignored, sameAttribute}
 use Rattle.rules.specs.Mapping.{Mapping, emptyMapping, allowed}
 use Rattle.rules.specs.Comparison.{State, standing, compare, compareBy}
 use Rattle.rules.specs.Hash.{hash}
 use Rattle.rules.specs.Answers.{eq, refused, comparisonOf, comparison, hashIs, hashed}
+use Rattle.rules.specs.Keys.{key, keyed, keyLength, written, longestKey, same, less, compareBytes, orderingNumber, reversed, fieldsFit, callFits}
 use Rattle.rules.specs.Listings.{perCent, twins, sums, maxOutput}
 use Rattle.rules.specs.Laws.{In, Equal, equal}
 use Rattle.rules.specs.Form.{canonical}
@@ -40,6 +42,57 @@ EqualCanonical =
 -- the hash is one of the form: `canonical-hash`
 unfoldable pub CanonicalHash : Type 0
 CanonicalHash = (s : Store) (ig : Ignore) (f : Sort) (a b : ℕ) → canonical s ig f a ≡ canonical s ig f b → hash s ig f a ≡ hash s ig f b
+
+-- ---- keys
+
+-- fragments with the same key are equal, whatever they name, where fields are below 2^32: `key-equal`
+unfoldable pub KeyEqual : Type 0
+KeyEqual =
+    (s : Store) → sound s ≡ true → fieldsFit s ≡ true → (ig : Ignore) (f : Sort) (a b : ℕ) → In s f a → In s f b
+    → key s ig f a ≡ key s ig f b → Equal s ig f a b
+
+-- the other way, if they are the same fragment or the left names nothing that the right defines: `equal-key`
+unfoldable pub EqualKey : Type 0
+EqualKey =
+    (s : Store) → sound s ≡ true → (ig : Ignore) (f : Sort) (a b : ℕ) → In s f a → In s f b
+    → (a ≡ b) ⊎ NamesNothingOf s f a b → Equal s ig f a b → key s ig f a ≡ key s ig f b
+
+-- order 2: "with an empty mapping and under the premise of the laws, 0 comes for two operations, two blocks or two regions exactly when
+-- they are equal under that ignore rule"
+unfoldable pub FiledAsEqual : Store → Ignore → Sort → Type 0
+FiledAsEqual s ig f =
+    (a b : ℕ) → In s f a → In s f b → Premise s f a b
+    → (orderingNumber (compareBytes (key s ig f a) (key s ig f b)) ≡ pos 0) ↔ Equal s ig f a b
+
+-- in every sound store: `filers-law`
+unfoldable pub FilersLaw : Type 0
+FilersLaw = (s : Store) → sound s ≡ true → fieldsFit s ≡ true → (ig : Ignore) (f : Sort) → FiledAsEqual s ig f
+
+-- and after every list of building calls whose arguments are below 2^32: `filers-law-after`
+unfoldable pub FilersLawAfter : Type 0
+FilersLawAfter = (calls : List Call) → all callFits calls ≡ true → (ig : Ignore) (f : Sort) → FiledAsEqual (after emptyStore calls) ig f
+
+-- such calls, accepted or refused, keep fields below 2^32: `fields-fit-kept`
+unfoldable pub FieldsFitKept : Type 0
+FieldsFitKept = (s : Store) (c : Call) → fieldsFit s ≡ true → callFits c ≡ true → fieldsFit (built s c) ≡ true
+
+-- "The order is total on keys", and on bytes of any length: any two compare, one way as the other reversed; as 0 only if they are the
+-- same, and as -1 whenever one between them does with both: `key-order`
+pub record TotalOrder : Type 0 where
+  pub reflexive : (xs : List ℕ) → compareBytes xs xs ≡ same
+  pub antisymmetric : (xs ys : List ℕ) → compareBytes xs ys ≡ same → xs ≡ ys
+  pub total : (xs ys : List ℕ) → compareBytes ys xs ≡ reversed (compareBytes xs ys)
+  pub transitive : (xs ys zs : List ℕ) → compareBytes xs ys ≡ less → compareBytes ys zs ≡ less → compareBytes xs zs ≡ less
+
+-- the key of a fragment that exists is written wherever it fits: `keyed-is`
+unfoldable pub KeyedIs : Type 0
+KeyedIs =
+    (s : Store) → sound s ≡ true → (ig : Ignore) (f : Sort) (n : ℕ) (bytes : List ℕ) → In s f n → length (key s ig f n) ≤ length bytes
+    → keyed true s ig f n bytes ≡ record { answer = keyLength (length (key s ig f n)); bytes = written (key s ig f n) bytes }
+
+-- a key has at most so many bytes: `key-longest`
+unfoldable pub KeyLongest : Type 0
+KeyLongest = (s : Store) → sound s ≡ true → (ig : Ignore) (f : Sort) (n : ℕ) → In s f n → length (key s ig f n) ≤ longestKey
 
 -- ---- 01's premise is needed
 

@@ -8,6 +8,7 @@ mod building;
 mod cases;
 mod checks;
 mod fragments;
+mod keys;
 mod listings;
 mod plot;
 mod programs;
@@ -65,18 +66,20 @@ fn main() -> ExitCode {
 fn measure(efforts: Efforts) -> Results {
     let Efforts { passes, short, middle, long } = efforts;
     let (mut shapes, mut around) = (fragments::shapes(short), fragments::around(short));
+    let mut keys = keys::shapes(short);
     let (mut calls, mut stores) = (building::each_call(middle), building::whole_stores(middle));
     let (mut soundness, mut allowed, mut emptying) = (checks::soundness(short), checks::allowed(short), checks::emptying(middle));
     let mut programs = programs::all(long);
     for number in 1..=passes {
-        let parts: [&mut dyn Pass; 8] =
-            [&mut shapes, &mut around, &mut calls, &mut stores, &mut soundness, &mut allowed, &mut emptying, &mut programs];
+        let parts: [&mut dyn Pass; 9] =
+            [&mut shapes, &mut around, &mut keys, &mut calls, &mut stores, &mut soundness, &mut allowed, &mut emptying, &mut programs];
         parts.into_iter().for_each(|part| told(number, part));
     }
     Results {
         efforts,
         shapes: fragments::by_shape(shapes),
         around: fragments::measured(around),
+        keys: keys::by_shape(keys),
         calls: building::built(calls),
         stores: building::built(stores),
         soundness: checks::sound_rows(soundness),

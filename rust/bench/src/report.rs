@@ -7,6 +7,7 @@ use crate::building::Built;
 use crate::cases::{SIZES, Shape, each, two_fit};
 use crate::checks::{Allowed, Soundness};
 use crate::fragments::{Measured, Row, Times};
+use crate::keys;
 use crate::programs;
 use crate::race::Effort;
 use crate::table::{Table, milliseconds, number, thousands};
@@ -16,6 +17,7 @@ pub struct Results {
     pub efforts: Efforts,
     pub shapes: Vec<Row>,
     pub around: Vec<Measured>,
+    pub keys: Vec<keys::Row>,
     pub calls: Vec<Built>,
     pub stores: Vec<Built>,
     pub soundness: Vec<Soundness>,
@@ -29,7 +31,7 @@ pub struct Results {
 pub struct Efforts {
     /// How often everything is measured.
     pub passes: u32,
-    /// Comparisons, hashes and tests.
+    /// Comparisons, hashes, keys and tests.
     pub short: Effort,
     /// Stores that are built, and mappings that are filled to be emptied.
     pub middle: Effort,
@@ -42,7 +44,7 @@ pub fn page(results: &Results) -> String {
     let Efforts { passes, short, middle, long } = results.efforts;
     let rounds = |effort: Effort| (passes * effort.rounds).to_string();
     let (shapes, hashed) = (&results.shapes, |shape| shape != Shape::Unequal);
-    let places: [(&str, String); 20] = [
+    let places: [(&str, String); 23] = [
         ("processor", processor()),
         ("compiler", compiler()),
         ("short rounds", rounds(short)),
@@ -57,6 +59,9 @@ pub fn page(results: &Results) -> String {
         ("hash offered", ratios(shapes, hashed, |m| m.hash.offered_ratio()).to_string()),
         ("flat nanoseconds", flat_nanos(&shapes[0]).to_string()),
         ("around", around(&results.around).to_string()),
+        ("keys", key_ratios(&results.keys, keys::Times::ratio).to_string()),
+        ("roomy keys", key_ratios(&results.keys, keys::Times::roomy_ratio).to_string()),
+        ("flat keys", flat_keys(&results.keys[0]).to_string()),
         ("calls", building("One sort", &results.calls).to_string()),
         ("stores", building("Whole store", &results.stores).to_string()),
         ("soundness", soundness(&results.soundness).to_string()),
@@ -125,9 +130,13 @@ fn with_each(name: &str, count: impl Fn(u32) -> u32) -> String {
     format!("{most} {name} each{}", fewer.collect::<String>())
 }
 
+/// A table with a column for each size.
+fn by_size(name: &str, size: fn(u32) -> String) -> Table {
+    Table::new([name.to_string()].into_iter().chain(SIZES.map(size)))
+}
+
 fn ratios(rows: &[Row], wanted: fn(Shape) -> bool, ratio: Ratio) -> Table {
-    let sizes = SIZES.map(|n| if two_fit(n) { n.to_string() } else { format!("{n}*") });
-    let mut table = Table::new(["Shape".to_string()].into_iter().chain(sizes));
+    let mut table = by_size("Shape", |n| if two_fit(n) { n.to_string() } else { format!("{n}*") });
     for row in rows.iter().filter(|row| wanted(row.shape)) {
         table.row(row.shape.name(), row.sizes.iter().map(|measured| number(ratio(measured))));
     }
@@ -135,7 +144,7 @@ fn ratios(rows: &[Row], wanted: fn(Shape) -> bool, ratio: Ratio) -> Table {
 }
 
 fn flat_nanos(row: &Row) -> Table {
-    let mut table = Table::new(["ns".to_string()].into_iter().chain(SIZES.map(|n| n.to_string())));
+    let mut table = by_size("ns", |n| n.to_string());
     let rows: [(&str, Ratio); 6] = [
         ("comparison, inner", |m| m.comparison.inner),
         ("comparison, offered", |m| m.comparison.offered),
@@ -146,6 +155,31 @@ fn flat_nanos(row: &Row) -> Table {
     ];
     for (name, nanos) in rows {
         table.row(name, row.sizes.iter().map(|measured| number(nanos(measured))));
+    }
+    table
+}
+
+fn key_ratios(rows: &[keys::Row], ratio: fn(&keys::Times) -> f64) -> Table {
+    let mut table = by_size("Shape", |n| n.to_string());
+    for row in rows {
+        table.row(row.shape.name(), row.sizes.iter().map(|times| number(ratio(times))));
+    }
+    table
+}
+
+fn flat_keys(row: &keys::Row) -> Table {
+    let mut table = by_size("ns", |n| n.to_string());
+    table.row("bytes of the key", row.sizes.iter().map(|times| thousands(times.length as u64)));
+    let rows: [(&str, fn(&keys::Times) -> f64); 6] = [
+        ("hash, inner", |times| times.hash),
+        ("key in lent bytes, inner", |times| times.inner),
+        ("key in 77,320 lent bytes, inner", |times| times.roomy),
+        ("key in lent bytes, offered", |times| times.offered),
+        ("key in bytes of its own", |times| times.allocated),
+        ("two keys compared", |times| times.compared),
+    ];
+    for (name, nanos) in rows {
+        table.row(name, row.sizes.iter().map(|times| number(nanos(times))));
     }
     table
 }

@@ -12,7 +12,9 @@ pub(crate) enum Column {
     ValueType, ValueOwner,
     OperandWords, SuccessorWords,
     SlotKey, SlotKind, SlotContent,
-    OpNext, BlockNext,
+    #[allow(dead_code)] // links of operations are followed in the library alone
+    OpNext,
+    BlockNext,
 }
 
 /// How many there are of each thing: the words of the first column.

@@ -8,7 +8,7 @@ use crate::mapping::Mapping;
 use crate::refused::Refused;
 use crate::store::Store;
 
-/// What is ignored when fragments are compared or hashed.
+/// What is ignored when fragments are compared or hashed, or their keys are written.
 #[derive(Clone, Copy, PartialEq, Eq, Hash, Default, Debug)]
 pub struct Ignore {
     /// Are locations ignored?
@@ -109,6 +109,23 @@ pub(crate) enum Sort {
     Region,
 }
 
+/// An id of a fragment.
+pub(crate) trait Fragment: Id {
+    const SORT: Sort;
+}
+
+impl Fragment for OpId {
+    const SORT: Sort = Sort::Op;
+}
+
+impl Fragment for BlockId {
+    const SORT: Sort = Sort::Block;
+}
+
+impl Fragment for RegionId {
+    const SORT: Sort = Sort::Region;
+}
+
 impl Verdict {
     /// The answer, by numbers.
     #[inline]
@@ -156,11 +173,11 @@ impl EqResult<u32, u32, u32> {
 
 /// Compares two fragments, and notes in the mapping what was entered.
 #[inline]
-fn compare<I: Id>(sort: Sort, store: &Store, mapping: &mut Mapping, lhs: I, rhs: I, ignore: &Ignore) -> Result<EqResult, Refused> {
+fn compare<I: Fragment>(store: &Store, mapping: &mut Mapping, lhs: I, rhs: I, ignore: &Ignore) -> Result<EqResult, Refused> {
     let identity = store.sound.identity();
     let (lhs, rhs) = (lhs.number_in(identity), rhs.number_in(identity));
-    let result = store.sound.compare(sort, &mut mapping.words, (lhs, rhs), ignore)?.result()?;
-    mapping.note(store, sort, lhs, result.paired());
+    let result = store.sound.compare(I::SORT, &mut mapping.words, (lhs, rhs), ignore)?.result()?;
+    mapping.note(store, I::SORT, lhs, result.paired());
     Ok(result.within(store))
 }
 
@@ -182,25 +199,25 @@ fn compare<I: Id>(sort: Sort, store: &Store, mapping: &mut Mapping, lhs: I, rhs:
 /// ```
 #[inline]
 pub fn operation_eq(store: &Store, mapping: &mut Mapping, lhs: OpId, rhs: OpId, ignore: &Ignore) -> Result<EqResult, Refused> {
-    compare(Sort::Op, store, mapping, lhs, rhs, ignore)
+    compare(store, mapping, lhs, rhs, ignore)
 }
 
 /// Compares two blocks, each with all inside it; as [`operation_eq`].
 #[inline]
 pub fn basic_block_eq(store: &Store, mapping: &mut Mapping, lhs: BlockId, rhs: BlockId, ignore: &Ignore) -> Result<EqResult, Refused> {
-    compare(Sort::Block, store, mapping, lhs, rhs, ignore)
+    compare(store, mapping, lhs, rhs, ignore)
 }
 
 /// Compares two regions, each with all inside it; as [`operation_eq`].
 #[inline]
 pub fn region_eq(store: &Store, mapping: &mut Mapping, lhs: RegionId, rhs: RegionId, ignore: &Ignore) -> Result<EqResult, Refused> {
-    compare(Sort::Region, store, mapping, lhs, rhs, ignore)
+    compare(store, mapping, lhs, rhs, ignore)
 }
 
 /// The hash of a fragment.
 #[inline]
-fn hash<I: Id>(sort: Sort, store: &Store, fragment: I, ignore: &Ignore) -> Result<u64, Refused> {
-    store.sound.hash(sort, fragment.number_in(store.sound.identity()), ignore).result()
+fn hash<I: Fragment>(store: &Store, fragment: I, ignore: &Ignore) -> Result<u64, Refused> {
+    store.sound.hash(I::SORT, fragment.number_in(store.sound.identity()), ignore).result()
 }
 
 /// The hash of an operation with all inside it, the same for equal operations (under the premise of the laws, docs/AUDIT.md). Refused by
@@ -217,17 +234,17 @@ fn hash<I: Id>(sort: Sort, store: &Store, fragment: I, ignore: &Ignore) -> Resul
 /// ```
 #[inline]
 pub fn operation_hash(store: &Store, op: OpId, ignore: &Ignore) -> Result<u64, Refused> {
-    hash(Sort::Op, store, op, ignore)
+    hash(store, op, ignore)
 }
 
 /// The hash of a block with all inside it; as [`operation_hash`].
 #[inline]
 pub fn basic_block_hash(store: &Store, block: BlockId, ignore: &Ignore) -> Result<u64, Refused> {
-    hash(Sort::Block, store, block, ignore)
+    hash(store, block, ignore)
 }
 
 /// The hash of a region with all inside it; as [`operation_hash`].
 #[inline]
 pub fn region_hash(store: &Store, region: RegionId, ignore: &Ignore) -> Result<u64, Refused> {
-    hash(Sort::Region, store, region, ignore)
+    hash(store, region, ignore)
 }

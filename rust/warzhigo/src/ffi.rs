@@ -25,6 +25,15 @@ pub(crate) struct Sum {
     pub(crate) cause: u32,
 }
 
+/// What a key call answers. Code 0 is a key of so many bytes, `length`; 1 is a refusal, and its cause is `cause`.
+#[repr(C)]
+#[derive(Clone, Copy)]
+pub(crate) struct KeyAnswer {
+    pub(crate) length: u32,
+    pub(crate) code: u32,
+    pub(crate) cause: u32,
+}
+
 /// What a building call answers. Code 0 is a new number, `number`; 1 is accepted; 2 is a refusal, and its cause is `number`.
 #[repr(C)]
 #[derive(Clone, Copy)]
@@ -59,6 +68,7 @@ unsafe extern "C" {
     fn wz_store_words() -> usize;
     fn wz_mapping_words() -> usize;
     fn wz_output_bytes() -> usize;
+    fn wz_key_bytes() -> usize;
 
     fn wz_is_sound(store: *const u32, words: usize) -> bool;
     fn wz_known_is_allowed(store: *const u32, words: usize, mapping: *const u32, entries: usize) -> bool;
@@ -89,6 +99,17 @@ unsafe extern "C" {
     fn wz_known_basic_block_hash(store: *const u32, words: usize, n: u32, locations: bool, bits: u64) -> Sum;
     fn wz_region_hash(store: *const u32, words: usize, n: u32, locations: bool, bits: u64) -> Sum;
     fn wz_known_region_hash(store: *const u32, words: usize, n: u32, locations: bool, bits: u64) -> Sum;
+
+    fn wz_operation_key(store: *const u32, words: usize, key: *mut u8, room: usize, n: u32, locations: bool, bits: u64) -> KeyAnswer;
+    fn wz_known_operation_key(store: *const u32, words: usize, key: *mut u8, room: usize, n: u32, locations: bool, bits: u64) -> KeyAnswer;
+    fn wz_known_operation_key_length(store: *const u32, words: usize, n: u32, locations: bool, bits: u64) -> usize;
+    fn wz_basic_block_key(store: *const u32, words: usize, key: *mut u8, room: usize, n: u32, locations: bool, bits: u64) -> KeyAnswer;
+    fn wz_known_basic_block_key(store: *const u32, words: usize, key: *mut u8, room: usize, n: u32, locations: bool, bits: u64) -> KeyAnswer;
+    fn wz_known_basic_block_key_length(store: *const u32, words: usize, n: u32, locations: bool, bits: u64) -> usize;
+    fn wz_region_key(store: *const u32, words: usize, key: *mut u8, room: usize, n: u32, locations: bool, bits: u64) -> KeyAnswer;
+    fn wz_known_region_key(store: *const u32, words: usize, key: *mut u8, room: usize, n: u32, locations: bool, bits: u64) -> KeyAnswer;
+    fn wz_known_region_key_length(store: *const u32, words: usize, n: u32, locations: bool, bits: u64) -> usize;
+    fn wz_compare_keys(lhs: *const u8, lhs_length: usize, rhs: *const u8, rhs_length: usize) -> i32;
 
     fn wz_twins(listing: *const u8, length: usize, store: *mut u32, words: usize, mapping: *mut u32, entries: usize, out: *mut u8, room: usize) -> Output;
     fn wz_sums(listing: *const u8, length: usize, store: *mut u32, words: usize, out: *mut u8, room: usize) -> Output;

@@ -63,6 +63,11 @@ pub fn output_bytes() -> usize {
     lent::output_bytes()
 }
 
+/// Bytes that every key fits into.
+pub fn key_bytes() -> usize {
+    lent::key_bytes()
+}
+
 /// Are these words a sound store?
 pub fn is_sound(store: &[u32]) -> bool {
     lent::is_sound(store)
@@ -116,6 +121,22 @@ pub fn basic_block_hash(store: &[u32], block: u32, ignore: &Ignore) -> Result<u6
 /// The hash of a region. Refused by 1, 2 or 12.
 pub fn region_hash(store: &[u32], region: u32, ignore: &Ignore) -> Result<u64, Refused> {
     lent::hash(Sort::Region, store, region, ignore).result()
+}
+
+/// Writes the key of an operation into lent bytes, from the first on, and gives its length; bytes behind it are as they were. Refused by 1,
+/// 2, 12 or 13, and then nothing is written.
+pub fn operation_key(store: &[u32], op: u32, ignore: &Ignore, key: &mut [u8]) -> Result<usize, Refused> {
+    lent::key(Sort::Op, store, op, ignore, key).result()
+}
+
+/// Writes the key of a block. Refused by 1, 2, 12 or 13.
+pub fn basic_block_key(store: &[u32], block: u32, ignore: &Ignore, key: &mut [u8]) -> Result<usize, Refused> {
+    lent::key(Sort::Block, store, block, ignore, key).result()
+}
+
+/// Writes the key of a region. Refused by 1, 2, 12 or 13.
+pub fn region_key(store: &[u32], region: u32, ignore: &Ignore, key: &mut [u8]) -> Result<usize, Refused> {
+    lent::key(Sort::Region, store, region, ignore, key).result()
 }
 
 /// The program [`twins`](crate::twins) in lent buffers: store and mapping may hold anything, and are emptied first. Afterwards the store is

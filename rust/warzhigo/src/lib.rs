@@ -1,5 +1,5 @@
-//! Warzhigo from Rust: structural equality, mapping and hash of the operations, blocks and regions of an IR, proved to follow their rules in
-//! every store.
+//! Warzhigo from Rust: structural equality, mapping, hash and key of the operations, blocks and regions of an IR, proved to follow their
+//! rules in every store.
 //!
 //! Ten lines that build two operations and find them equal:
 //!
@@ -20,6 +20,7 @@
 //! - [`Store`] holds the IR: the four building calls make it, and views such as [`Operation`] read it.
 //! - [`operation_eq`], [`basic_block_eq`] and [`region_eq`] compare, [`operation_hash`], [`basic_block_hash`] and [`region_hash`] hash; names
 //!   and parameters are those of pliron's `irbuild::equivalence`. [`Ignore`] says what doesn't count, [`Mapping`] what corresponds.
+//! - [`operation_key`], [`basic_block_key`] and [`region_key`] give the bytes by which a fragment is filed, and [`compare_keys`] their order.
 //! - A call outside the rules is [`Refused`] by number, and has changed nothing.
 //! - [`twins`] and [`sums`] answer the questions of a whole listing. [`lent`] has every call on words of any origin.
 //!
@@ -38,6 +39,7 @@ mod equivalence;
 #[allow(unsafe_code)] // the only module that has any
 mod ffi;
 mod ids;
+mod keys;
 pub mod lent;
 mod listing;
 mod mapping;
@@ -48,6 +50,9 @@ mod touched;
 
 pub use equivalence::{EqResult, Ignore, basic_block_eq, basic_block_hash, operation_eq, operation_hash, region_eq, region_hash};
 pub use ids::{BlockId, OpId, RegionId, ValueId};
+pub use keys::{
+    FragmentId, basic_block_key, basic_block_key_into, compare_keys, operation_key, operation_key_into, region_key, region_key_into,
+};
 pub use listing::{sums, twins};
 pub use mapping::Mapping;
 pub use reading::{Block, Operation, Region, Totals, Value};

@@ -43,6 +43,7 @@ impl Refused {
             10 => "a line with an unknown letter, a bad number, or a field missing or extra",
             11 => "the listing or a line is too long, or the last line feed is missing",
             12 => "an operation inside is nested deeper than 32",
+            13 => "the lent key is too short",
             _ => "a cause that this version doesn't know",
         }
     }
@@ -63,7 +64,7 @@ mod tests {
 
     #[test]
     fn every_cause_has_words_of_its_own() {
-        for cause in 1..=12 {
+        for cause in 1..=13 {
             let (refused, unknown) = (Refused::by(cause), Refused::by(0));
             assert_eq!(refused.number(), cause);
             assert_ne!(refused.meaning(), unknown.meaning());

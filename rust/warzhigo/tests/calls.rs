@@ -88,6 +88,32 @@ fn hashes_are_sixteen_digits() {
 }
 
 #[test]
+fn keys_in_lent_bytes() {
+    // kind 7, 1 region, location 5, no attributes, results, operands and successors; the region has no blocks
+    let key = "0700000001000000000000000500000000000000000000000000000000000000000000000000000000000000000000000000000000000000";
+    let operation = "o,7,-,5,1,0,0,0\n";
+    let rooms = "K,o,0,0,0,56\nK,o,0,0,0,58\nK,o,0,0,0,55\nK,o,0,0,0,0\nK,o,1,0,0,0\nK,b,0,0,0,99\n";
+    let expected = format!("0\nkey,56,{key}\nkey,56,{key}eeee\nrefused,13\nrefused,13\nrefused,2\nrefused,2\n");
+    assert_eq!(answers(&format!("{operation}{rooms}")), expected);
+    assert_eq!(answers(&format!("{operation}K,r,0,0,0,9\nK,r,1,0,0,9\n")), "0\nkey,8,0000000000000000ee\nrefused,2\n");
+    // without the location, and with an attribute whose kind is ignored or not
+    let ignored = format!("0\nok\nkey,52,{}{}\nrefused,13\n", &key[..24], &key[32..]);
+    assert_eq!(answers(&format!("{operation}a,o,0,9,2,3\nK,o,0,1,4,52\nK,o,0,1,3,52\n")), ignored);
+}
+
+#[test]
+fn keys_compared() {
+    let lines = format!("{TWO}C,o,0,2,1,0\nC,o,0,2,0,0\nC,o,2,0,0,0\nC,b,0,1,1,0\nC,r,0,1,0,0\nC,o,0,4,1,0\nC,r,2,0,1,0\n");
+    assert_eq!(answers(&lines), format!("{MADE}0\n-1\n1\n0\n-1\nrefused,2\nrefused,2\n"));
+}
+
+#[test]
+fn bytes_compared_as_keys() {
+    let lines = "B,,\nB,,00\nB,00,\nB,00,0000\nB,7f,80\nB,ff,01\nB,0aBc,0Abc\nB,01ff,0200\n";
+    assert_eq!(answers(lines), "0\n-1\n1\n-1\n-1\n1\n0\n-1\n");
+}
+
+#[test]
 fn the_store_as_text() {
     let lines = format!("{TWO}a,o,1,9,3,4\na,o,1,2,63,5\na,b,1,0,1,1\no,1,1,2,0,0,0,2,1,0\nS\nD\n");
     let store = "op 0 7 - 5 r[0] v[] u[] s[] a[]|op 1 8 0 5 r[] v[1] u[0] s[] a[2:63:5,9:3:4]|op 2 7 - 6 r[1] v[] u[] s[] a[]\
@@ -106,11 +132,12 @@ fn empty_lines_are_passed_over() {
 
 /// Lines that `calls` doesn't take.
 #[rustfmt::skip]
-const NOT_OF_THE_FORM: [&str; 32] = [
+const NOT_OF_THE_FORM: [&str; 44] = [
     "x", "o", "O,7,-,5,1,0,0,0", "o,7,-,5,1,0,0", "o,7,-,5,1,0,0,0,0", "o,7,-,5,1,2,3,0,0", "o,-,-,5,1,0,0,0", "o,+7,-,5,1,0,0,0",
     "o,07,-,5,1,0,0,0", "o,4294967296,-,5,1,0,0,0", "o, 7,-,5,1,0,0,0", "o,,-,5,1,0,0,0", "b,0,0,5", "b,0,-,5,0", "a,r,0,1,1,1",
     "a,o,0,1,1", "s,0,0", "q,x,0,0,0,0", "q,o,0,0,2,0", "q,o,0,0,0", "q,o,0,0,0,18446744073709551616", "q,o,0,0,0,0,", "E,r,0,0", "E,v,0",
-    "P,1", "H,o,0,0", "D,0", "S,0", "S\r", " S", "o,7,-,5,1,0,0,0 ", "o,7,-,5,1,4294967295,0,0",
+    "P,1", "H,o,0,0", "D,0", "S,0", "S\r", " S", "o,7,-,5,1,0,0,0 ", "o,7,-,5,1,4294967295,0,0", "K,o,0,0,0", "K,v,0,0,0,9", "K,o,0,0,0,-",
+    "K,o,0,0,0,4294967296", "C,o,0,0,0", "C,o,0,0,2,0", "B,00", "B,0,00", "B,00,000", "B,0g,00", "B,00,00,00", "B,+1,00",
 ];
 
 #[test]

@@ -3,14 +3,14 @@
 
 mod common;
 
+use common::bytes_model;
 use common::call::apply;
-use common::hash_model;
 use common::layout::{OPERAND_END, OPERAND_FIRST, SUCCESSOR_END, SUCCESSOR_FIRST, dead_word, live_pair};
 use common::numbers::Random;
 use common::offered::{SORTS, all_refuse, building_calls, comparison_refused};
 use common::picture::Picture;
 use common::plan::Plan;
-use common::question::{ENTRIES, NONE, Question, Sort, hash_inner, hash_lent, ignore_rule, no_entries};
+use common::question::{ENTRIES, NONE, Question, Sort, hash_inner, hash_lent, ignore_rule, key_is, no_entries};
 use common::walk::{Entries, Longer, compared};
 use warzhigo::{Mapping, Refused, Store, lent};
 
@@ -136,7 +136,7 @@ fn runs(random: &mut Random, mut store: Store, context: &str) {
     answers(random, &store, &picture, context);
 }
 
-/// Comparisons, from an empty mapping, and hashes, of each sort.
+/// Comparisons, from an empty mapping, hashes and keys, of each sort.
 fn answers(random: &mut Random, store: &Store, picture: &Picture, context: &str) {
     let mut mapping = Mapping::new();
     for sort in SORTS {
@@ -152,9 +152,11 @@ fn answers(random: &mut Random, store: &Store, picture: &Picture, context: &str)
         assert!(mapping.words() == lent, "{context}: {question:?} by ids and by numbers");
         mapping.clear();
         assert!(mapping.words() == no_entries(), "{context}: {question:?}, cleared");
-        let hash = hash_model::hash(picture, sort, lhs, question.ignore);
+        let hash = bytes_model::hash(picture, sort, lhs, question.ignore);
         assert_eq!(hash_lent(store.words(), sort, lhs, &question.ignore), Ok(hash), "{context}: hash in {question:?}");
         assert_eq!(hash_inner(store, sort, lhs, &question.ignore), Ok(hash), "{context}: hash in {question:?}");
+        let key = bytes_model::key(picture, sort, lhs, question.ignore);
+        key_is(store, sort, lhs, &question.ignore, &key, &format!("{context}: key in {question:?}"));
     }
 }
 

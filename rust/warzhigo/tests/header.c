@@ -1,4 +1,4 @@
-/* The header from C: two operations built, compared and hashed, and a listing's question answered. Gives the number of the first thing that
+/* The header from C: two operations built, compared, hashed and filed, and a listing's question answered. Gives the number of the first thing that
  * isn't as it should be, or 0. */
 #include "warzhigo.h"
 
@@ -30,6 +30,8 @@ int main(void) {
     if (left.code != 0 || right.code != 0 || left.word != right.word) return 7;
     if (wz_operation_hash(store, wz_store_words(), 2, true, 0).cause != 2) return 8;
 
+    uint32_t *keyed = malloc(wz_store_words() * sizeof *keyed);
+    memcpy(keyed, store, wz_store_words() * sizeof *keyed);
     const char *listing = "opstore,1\no,7,-,5,0,0,0,0\nq,o,0,0,0,0\n";
     const char *printed = "eq,-,-,1\nshare,100\n";
     uint8_t *out = malloc(wz_output_bytes());
@@ -38,6 +40,21 @@ int main(void) {
     if (answer.code != 0 || answer.bytes != strlen(printed) || memcmp(out, printed, answer.bytes) != 0) return 9;
     if (wz_sums((const uint8_t *)listing, strlen(listing), store, wz_store_words(), out, 1).code != 2) return 10;
 
+    uint8_t *key = malloc(wz_key_bytes());
+    uint8_t *other = malloc(wz_key_bytes());
+    wz_key_answer filed = wz_operation_key(keyed, wz_store_words(), key, wz_key_bytes(), 0, true, 0);
+    wz_key_answer again = wz_known_operation_key(keyed, wz_store_words(), other, wz_key_bytes(), 1, true, 0);
+    if (filed.code != 0 || again.code != 0 || filed.length != 48 || key[0] != 8 || key[20] != 1 || key[28] != 5) return 11;
+    if (wz_compare_keys(key, filed.length, other, again.length) != 0 || wz_compare_keys(key, 1, other, again.length) != -1) return 12;
+    if (wz_known_operation_key_length(keyed, wz_store_words(), 1, false, 0) != 52) return 13;
+    wz_key_answer refused_key = wz_operation_key(keyed, wz_store_words(), key, 47, 0, true, 0);
+    if (refused_key.code != 1 || refused_key.cause != 13 || refused_key.length != 0) return 14;
+    if (wz_known_operation_key(keyed, wz_store_words(), NULL, 0, 0, true, 0).cause != 13) return 15;
+    if (wz_operation_key(keyed, wz_store_words(), NULL, 0, 2, true, 0).cause != 2) return 16;
+
+    free(keyed);
+    free(key);
+    free(other);
     free(store);
     free(mapping);
     free(out);

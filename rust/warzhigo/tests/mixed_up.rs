@@ -71,7 +71,7 @@ fn nothing_of_another_store_is_read() {
 }
 
 #[test]
-fn fragments_of_another_store_are_neither_compared_nor_hashed() {
+fn fragments_of_another_store_are_not_compared_hashed_or_filed() {
     let (form, other) = (form(), form());
     let (mut mapping, ignore) = (Mapping::new(), Ignore::NOTHING);
     assert_eq!(cause(operation_eq(&form.store, &mut mapping, form.ops[0], other.ops[0], &ignore)), Some(2));
@@ -82,6 +82,14 @@ fn fragments_of_another_store_are_neither_compared_nor_hashed() {
     assert_eq!(cause(operation_hash(&form.store, other.ops[0], &ignore)), Some(2));
     assert_eq!(cause(basic_block_hash(&form.store, other.block, &ignore)), Some(2));
     assert_eq!(cause(region_hash(&form.store, other.region, &ignore)), Some(2));
+    assert_eq!(cause(operation_key(&form.store, other.ops[0], &ignore)), Some(2));
+    assert_eq!(cause(basic_block_key(&form.store, other.block, &ignore)), Some(2));
+    assert_eq!(cause(region_key(&form.store, other.region, &ignore)), Some(2));
+    let mut bytes = [7; 100];
+    assert_eq!(cause(operation_key_into(&form.store, other.ops[0], &ignore, &mut bytes)), Some(2));
+    assert_eq!(cause(basic_block_key_into(&form.store, other.block, &ignore, &mut bytes)), Some(2));
+    assert_eq!(cause(region_key_into(&form.store, other.region, &ignore, &mut bytes)), Some(2));
+    assert_eq!(bytes, [7; 100]);
 }
 
 #[test]

@@ -81,10 +81,12 @@ fn from_c(declaration: &str) -> (String, String) {
         "uint8_t" => "u8",
         "uint32_t" => "u32",
         "uint64_t" => "u64",
+        "int32_t" => "i32",
         "size_t" => "usize",
         "bool" => "bool",
         "wz_verdict" => "Verdict",
         "wz_sum" => "Sum",
+        "wz_key_answer" => "KeyAnswer",
         "wz_outcome" => "Outcome",
         "wz_output" => "Output",
         "wz_entries" => "Entries",
@@ -153,7 +155,7 @@ fn functions_are_the_same() {
 #[test]
 fn structs_are_the_same() {
     let rattle = structs(&RATTLE.concat());
-    assert_eq!(rattle.len(), 5);
+    assert_eq!(rattle.len(), 6);
     assert_eq!(rattle, structs(RUST));
     assert_eq!(rattle, header_structs());
 }

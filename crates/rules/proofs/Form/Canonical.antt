@@ -13,11 +13,11 @@ use lib.Dec.{lit≤}
 use lib.ListN.{length, getD, replicate, length-replicate, getD-replicate, List·getD-eq-default}
 use Rattle.rules.specs.Lists.{concatMap}
 use Rattle.rules.specs.Store.{Store, valuesOf, sound, maxValues, maxBlocks}
-use Rattle.rules.specs.Fragments.{Sort, Step, shell, names, steps, stepDefines, stepOperands, stepSuccessors, blockOwner, definesOwners, definesValues, definesBlocks, namesValues, namesBlocks, NamesNothingOf}
+use Rattle.rules.specs.Fragments.{Sort, Step, shell, names, counted, steps, stepDefines, stepOperands, stepSuccessors, blockOwner, definesOwners, definesValues, definesBlocks, namesValues, namesBlocks, NamesNothingOf}
 use Rattle.rules.specs.Shells.{Ignore}
 use Rattle.rules.specs.Mapping.{noImage, orSelf, emptyMapping, image, enterAll}
 use Rattle.rules.specs.Comparison.{State, Walk, on, ended, start, compare}
-use Rattle.rules.specs.Hash.{Numbering, noNumbers, fnv, hash, allBytes}
+use Rattle.rules.specs.Hash.{Numbering, noNumbers, fnv, hash, uncounted, allBytes}
 use Rattle.rules.specs.Laws.{succeeds, equal, Equal, In}
 use Rattle.rules.specs.Form.{Event, step, more, done, events, tokens, canonical}
 use Rattle.rules.proofs.Soundness.Sound.{facts}
@@ -60,10 +60,10 @@ module _ (f : Event → List ℕ) (g : Step → List ℕ) (atStep : (x : Step) �
 
 module _ (s : Store) (f : Sort) (n : ℕ) where
   -- all that a fragment defines
-  unfoldable all-defined : Numbering
+  unfoldable pub all-defined : Numbering
   all-defined = record { values = definesValues s f n; blocks = definesBlocks s f n }
 
-  events-rest : Rest s noNumbers (events s f n) all-defined
+  pub events-rest : Rest s noNumbers (events s f n) all-defined
   unfolding all-defined noNumbers definesValues definesBlocks definesOwners eventValues eventBlocks stepDefines concatMap
   events-rest =
       record {
@@ -78,10 +78,12 @@ module _ (s : Store) (f : Sort) (n : ℕ) where
       values-at : (x : Step) → eventValues s (step x) ≡ concatMap (valuesOf s) (stepDefines x)
       values-at (shell w) = sym (append-nil (valuesOf s w))
       values-at (names m) = refl
+      values-at (counted k) = refl
 
       blocks-at : (x : Step) → eventBlocks s (step x) ≡ concatMap blockOwner (stepDefines x)
       blocks-at (shell w) = sym (append-nil (blockOwner w))
       blocks-at (names m) = refl
+      blocks-at (counted k) = refl
 
   events-name-values : concatMap (eventOperands s) (events s f n) ≡ namesValues s f n
   unfolding namesValues eventOperands
@@ -184,5 +186,5 @@ pub canonical→hash : (s : Store) (ig : Ignore) (f : Sort) (a b : ℕ) → cano
 unfolding canonical hash
 canonical→hash s ig f a b e = ap fnv (bytes a ∙ ap (concatMap tokenBytes) e ∙ sym (bytes b))
   where
-    bytes : (n : ℕ) → allBytes s ig (steps s f n) noNumbers ≡ concatMap tokenBytes (tokens s ig (events s f n) noNumbers)
-    bytes n = sym (tokens-bytes s ig (events s f n) noNumbers ∙ ap (λ (xs : List Step). allBytes s ig xs noNumbers) (unmarked-events s f n))
+    bytes : (n : ℕ) → allBytes uncounted s ig (steps s f n) noNumbers ≡ concatMap tokenBytes (tokens s ig (events s f n) noNumbers)
+    bytes n = sym (tokens-bytes s ig (events s f n) noNumbers ∙ ap (λ (xs : List Step). allBytes uncounted s ig xs noNumbers) (unmarked-events s f n))

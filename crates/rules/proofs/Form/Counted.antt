@@ -33,21 +33,21 @@ owners-split [] = refl
 owners-split (ofOp n ∷ ws) = omega (arith, owners-split ws)
 owners-split (ofBlock b ∷ ws) = omega (arith, owners-split ws)
 
+pub ops-once : (ws : List Owner) → Distinct ws → Distinct (concatMap opOwner ws)
+ops-once ws once = distinct-concatMap opOwner ws once (λ w m. op-alone w) (λ w x mw mx n k l. op-owner w k ∙ sym (op-owner x l))
+
 module _ (s : Store) (sd : sound s ≡ true) where
-  pub ops-most : (ws : List Owner) → Distinct ws → ((w : Owner) → List·Memᴰ w ws → ownerExists s w ≡ true) → length (concatMap opOwner ws) ≤ maxOps
+  pub ops-here : (ws : List Owner) → ((w : Owner) → List·Memᴰ w ws → ownerExists s w ≡ true) → (n : ℕ) → List·Memᴰ n (concatMap opOwner ws) → n < length (s .ops)
   unfolding ownerExists opExists
+  ops-here ws here n m =
+      let w = mem-concatMap opOwner ws m in
+      ltb-true _ _ (subst (λ (x : Owner). ownerExists s x ≡ true) (op-owner (w .0) (w .2)) (here (w .0) (w .1)))
+
+  pub ops-most : (ws : List Owner) → Distinct ws → ((w : Owner) → List·Memᴰ w ws → ownerExists s w ≡ true) → length (concatMap opOwner ws) ≤ maxOps
   ops-most ws once here =
-      let l : length (concatMap opOwner ws) ≤ length (s .ops) = pigeons (length (s .ops)) (concatMap opOwner ws) apart inside in
+      let l : length (concatMap opOwner ws) ≤ length (s .ops) = pigeons (length (s .ops)) (concatMap opOwner ws) (ops-once ws once) (ops-here ws here) in
       let t : length (s .ops) ≤ maxOps = facts s sd .totals .ops in
       omega arith
-    where
-      apart : Distinct (concatMap opOwner ws)
-      apart = distinct-concatMap opOwner ws once (λ w m. op-alone w) (λ w x mw mx n k l. op-owner w k ∙ sym (op-owner x l))
-
-      inside : (n : ℕ) → List·Memᴰ n (concatMap opOwner ws) → n < length (s .ops)
-      inside n m =
-          let w = mem-concatMap opOwner ws m in
-          ltb-true _ _ (subst (λ (x : Owner). ownerExists s x ≡ true) (op-owner (w .0) (w .2)) (here (w .0) (w .1)))
 
   pub values-most : (f : Sort) (n : ℕ) → exists s f n ≡ true → length (definesValues s f n) ≤ maxValues
   values-most f n e =

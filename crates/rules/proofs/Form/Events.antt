@@ -5,13 +5,14 @@ use mathlib.Core.Bool.{cond}
 use mathlib.Core.List.{List, [], _∷_, _++_, map}
 use mathlib.Core.Option.{Option, none, some}
 use mathlib.Core.Path.{_≡_, refl, ap, ap₂, _∙_}
+use lib.ListN.{length}
 use Rattle.rules.specs.Lists.{concatMap}
 use Rattle.rules.specs.Store.{Store, Owner, ofOp, ofBlock, opsOf, blocksOf, regionsOf, valuesOf}
-use Rattle.rules.specs.Fragments.{Sort, op, block, region, levels, Step, shell, names, fullOp, listSteps, regionSteps, steps, blockOwner}
+use Rattle.rules.specs.Fragments.{Sort, op, block, region, levels, Step, shell, names, counted, fullOp, shells, listSteps, regionSteps, steps, blockOwner}
 use Rattle.rules.specs.Shells.{Ignore, sameShells}
 use Rattle.rules.specs.Mapping.{enterAll}
 use Rattle.rules.specs.Comparison.{State}
-use Rattle.rules.specs.Form.{Event, step, more, done, listEvents, one, opEvents, blocksEvents, regionEvents, events}
+use Rattle.rules.specs.Form.{Event, step, more, done, listEvents, one, shellEvents, opEvents, blocksEvents, regionEvents, events}
 use Rattle.rules.proofs.Form.Tested.{namesAgree}
 
 -- ---- without their marks they are the steps of the walk
@@ -39,6 +40,10 @@ unfolding unmarked listEvents
 unmarked-one f [] = refl
 unmarked-one f (x ∷ xs) = ap (λ (l : List Step). f x ∷ l) (unmarked-one f xs)
 
+unmarked-shells : (w : ℕ → Owner) (ns : List ℕ) → unmarked (shellEvents w ns) ≡ shells w ns
+unfolding unmarked shellEvents shells
+unmarked-shells w ns = ap (λ (l : List Step). counted (length ns) ∷ l) (unmarked-one (λ (n : ℕ). shell (w n)) ns)
+
 module _ (s : Store) where
   unmarked-op : (f : ℕ → List Event) (g : ℕ → List Step) → ((n : ℕ) → unmarked (f n) ≡ g n) → (n : ℕ) → unmarked (opEvents s f n) ≡ fullOp s g n
   unfolding unmarked opEvents fullOp
@@ -48,17 +53,14 @@ module _ (s : Store) where
       → unmarked (blocksEvents s f bs) ≡ listSteps s g bs
   unfolding blocksEvents listSteps
   unmarked-blocks f g same bs =
-      unmarked-append (listEvents blocks bs ++ listEvents ops bs) (listEvents fulls bs)
+      unmarked-append (shellEvents ofBlock bs ++ listEvents ops bs) (listEvents fulls bs)
       ∙ ap₂ _++_
-      (unmarked-append (listEvents blocks bs) (listEvents ops bs)
-      ∙ ap₂ _++_ (unmarked-one (λ (b : ℕ). shell (ofBlock b)) bs) (unmarked-list ops (λ (b : ℕ). map (λ (n : ℕ). shell (ofOp n)) (opsOf s b)) (λ b. unmarked-one (λ (n : ℕ). shell (ofOp n)) (opsOf s b)) bs))
+      (unmarked-append (shellEvents ofBlock bs) (listEvents ops bs)
+      ∙ ap₂ _++_ (unmarked-shells ofBlock bs) (unmarked-list ops (λ (b : ℕ). shells ofOp (opsOf s b)) (λ b. unmarked-shells ofOp (opsOf s b)) bs))
       (unmarked-list fulls (λ (b : ℕ). concatMap g (opsOf s b)) (λ b. unmarked-list f g same (opsOf s b)) bs)
     where
-      blocks : ℕ → List Event
-      blocks = one (λ (b : ℕ). shell (ofBlock b))
-
       ops : ℕ → List Event
-      ops b = listEvents (one (λ (n : ℕ). shell (ofOp n))) (opsOf s b)
+      ops b = shellEvents ofOp (opsOf s b)
 
       fulls : ℕ → List Event
       fulls b = listEvents f (opsOf s b)
@@ -106,7 +108,12 @@ module _ (s : Store) where
     meet (step (shell l)) (step (shell r)) st = cond (sameShells s ig l r) (some (enterOwners l r st)) none
     meet (step (shell l)) (step (names r)) st = none
     meet (step (names l)) (step (shell r)) st = none
+    meet (step (shell l)) (step (counted k)) st = none
     meet (step (names l)) (step (names r)) st = cond (namesAgree s l r st) (some st) none
+    meet (step (names l)) (step (counted k)) st = none
+    meet (step (counted j)) (step (shell r)) st = none
+    meet (step (counted j)) (step (names r)) st = none
+    meet (step (counted j)) (step (counted k)) st = some st
     meet (step x) more st = none
     meet (step x) done st = none
     meet more (step y) st = none

@@ -4,10 +4,10 @@ use mathlib.Core.List.{List, [], _∷_, _++_, map}
 use mathlib.Core.Path.{_≡_, refl, ap, ap₂}
 use Rattle.rules.specs.Lists.{concatMap}
 use Rattle.rules.specs.Store.{Store, Owner, ofOp, ofBlock, opAt, typeOf}
-use Rattle.rules.specs.Fragments.{Step, shell, names}
+use Rattle.rules.specs.Fragments.{Step, shell, names, counted}
 use Rattle.rules.specs.Shells.{Ignore, countsOf, shellOf}
-use Rattle.rules.specs.Hash.{fnvByte, fnvFrom, Numbering, numbered, Name, nameOf, nameBytes, leaf, count, headBytes, shellBytes, feeds, allBytes}
-use Rattle.rules.specs.Form.{Event, step, more, done, Token, shellToken, namesToken, moreToken, doneToken, numberedBy, token, tokens}
+use Rattle.rules.specs.Hash.{fnvByte, fnvFrom, Numbering, numbered, Name, nameOf, nameBytes, leaf, count, headBytes, uncounted, listBytes, shellBytes, feeds, allBytes}
+use Rattle.rules.specs.Form.{Event, step, more, done, Token, shellToken, namesToken, countedToken, moreToken, doneToken, numberedBy, token, tokens}
 use Rattle.rules.proofs.Form.Events.{unmarked}
 
 -- what is fed in two parts goes into the word one after the other
@@ -23,31 +23,33 @@ countsBytes (a ∷ []) = []
 countsBytes (kind ∷ regions ∷ rest) = leaf kind ++ count regions
 
 unfoldable pub tokenBytes : Token → List ℕ
-tokenBytes (shellToken counts sh) = countsBytes counts ++ shellBytes sh
+tokenBytes (shellToken counts sh) = countsBytes counts ++ shellBytes uncounted sh
 tokenBytes (namesToken counts operands successors) = concatMap (λ (x : Name × ℕ). nameBytes (x .0)) operands ++ concatMap nameBytes successors
+tokenBytes countedToken = []
 tokenBytes moreToken = []
 tokenBytes doneToken = []
 
-concatMap-map : {A B C : Type 0} (f : B → List C) (g : A → B) (xs : List A) → concatMap f (map g xs) ≡ concatMap (λ (x : A). f (g x)) xs
+pub concatMap-map : {A B C : Type 0} (f : B → List C) (g : A → B) (xs : List A) → concatMap f (map g xs) ≡ concatMap (λ (x : A). f (g x)) xs
 unfolding concatMap
 concatMap-map f g [] = refl
 concatMap-map {C = C} f g (x ∷ xs) = ap (λ (l : List C). f (g x) ++ l) (concatMap-map f g xs)
 
 module _ (s : Store) (ig : Ignore) where
-  head-bytes : (w : Owner) → countsBytes (countsOf s w) ≡ headBytes s w
+  pub head-bytes : (w : Owner) → countsBytes (countsOf s w) ≡ headBytes s w
   unfolding countsBytes countsOf headBytes
   head-bytes (ofOp n) = refl
   head-bytes (ofBlock b) = refl
 
-  step-bytes : (x : Step) (N : Numbering) → tokenBytes (token s ig (step x) N) ≡ feeds s ig x N
-  unfolding tokenBytes token feeds
-  step-bytes (shell w) N = ap (λ (l : List ℕ). l ++ shellBytes (shellOf s ig w)) (head-bytes w)
+  step-bytes : (x : Step) (N : Numbering) → tokenBytes (token s ig (step x) N) ≡ feeds uncounted s ig x N
+  unfolding tokenBytes token feeds listBytes
+  step-bytes (shell w) N = ap (λ (l : List ℕ). l ++ shellBytes uncounted (shellOf s ig w)) (head-bytes w)
   step-bytes (names n) N =
       ap₂ _++_
       (concatMap-map (λ (x : Name × ℕ). nameBytes (x .0)) (λ (v : ℕ). (nameOf (N .values) v, typeOf s v)) (opAt s n .operands))
       (concatMap-map nameBytes (nameOf (N .blocks)) (opAt s n .successors))
+  step-bytes (counted k) N = refl
 
-  pub tokens-bytes : (es : List Event) (N : Numbering) → concatMap tokenBytes (tokens s ig es N) ≡ allBytes s ig (unmarked es) N
+  pub tokens-bytes : (es : List Event) (N : Numbering) → concatMap tokenBytes (tokens s ig es N) ≡ allBytes uncounted s ig (unmarked es) N
   unfolding concatMap tokens allBytes unmarked numberedBy tokenBytes token
   tokens-bytes [] N = refl
   tokens-bytes (step x ∷ es) N = ap₂ _++_ (step-bytes x N) (tokens-bytes es (numbered s x N))

@@ -6,12 +6,13 @@ use mathlib.Core.List.{List, [], _∷_, _++_, append-assoc, append-nil}
 use mathlib.Core.Logic.{_⊎_, inl, inr}
 use mathlib.Core.Option.{Option, none, some}
 use mathlib.Core.Path.{_≡_, refl, ap, subst₂, _∙_}
-use Rattle.rules.specs.Store.{Store, ofOp, ofBlock, opsOf, blocksOf, regionsOf}
-use Rattle.rules.specs.Fragments.{Sort, op, block, region, levels, shell, names, blockOwner}
+use lib.ListN.{length}
+use Rattle.rules.specs.Store.{Store, Owner, ofOp, ofBlock, opsOf, blocksOf, regionsOf}
+use Rattle.rules.specs.Fragments.{Sort, op, block, region, levels, shell, names, counted, blockOwner}
 use Rattle.rules.specs.Shells.{Ignore, sameShells}
 use Rattle.rules.specs.Mapping.{enterAll}
 use Rattle.rules.specs.Comparison.{State, Pair, Walk, on, ended, tooDeep, _>>=_, pairwise, pairOf, expect, pairOps, enterOps, pairBlocks, enterBlocks, pass1, compareBy}
-use Rattle.rules.specs.Form.{Event, listEvents, one, opEvents, blocksEvents, regionEvents, events}
+use Rattle.rules.specs.Form.{Event, step, listEvents, one, shellEvents, opEvents, blocksEvents, regionEvents, events}
 use Rattle.rules.proofs.Form.Tested.{namesAgree, testedNames, testedOps, tested2, tested3, testedLists, testedRegions, testedBy, compare-tested}
 use Rattle.rules.proofs.Form.Events.{opOwner, andThen, enterOwners, meet, lock}
 
@@ -65,6 +66,11 @@ module _ (s : Store) (ig : Ignore) where
   unfolding Mirrors testedNames lock meet
   names-mirror l r K E E′ k st = tested (namesAgree s l r st) (pairOf op l r) st st K (lock s ig E E′) (k st)
 
+  -- that a list begins is no test
+  counted-mirror : (j k : ℕ) → Mirrors on (step (counted j) ∷ []) (step (counted k) ∷ [])
+  unfolding Mirrors lock meet
+  counted-mirror j k K E E′ h st = h st
+
   list-mirror : (f : ℕ → ℕ → State → Walk) (p : Pair) (ev : ℕ → List Event) → ((l r : ℕ) → Mirrors (f l r) (ev l) (ev r))
       → (ls rs : List ℕ) → Mirrors (pairwise f p ls rs) (listEvents ev ls) (listEvents ev rs)
   unfolding Mirrors pairwise listEvents lock meet
@@ -74,6 +80,14 @@ module _ (s : Store) (ig : Ignore) where
   list-mirror f p ev m (l ∷ l′ ∷ ls) [] K E E′ k st = inr refl
   list-mirror f p ev m (l ∷ ls) (r ∷ rs) K E E′ k st =
       both (f l r) (pairwise f p ls rs) (ev l) (ev r) (listEvents ev ls) (listEvents ev rs) (m l r) (list-mirror f p ev m ls rs) K E E′ k st
+
+  shells-mirror : (f : ℕ → ℕ → State → Walk) (p : Pair) (w : ℕ → Owner)
+      → ((l r : ℕ) → Mirrors (f l r) (one (λ (n : ℕ). shell (w n)) l) (one (λ (n : ℕ). shell (w n)) r))
+      → (ls rs : List ℕ) → Mirrors (pairwise f p ls rs) (shellEvents w ls) (shellEvents w rs)
+  unfolding shellEvents
+  shells-mirror f p w m ls rs =
+      both on (pairwise f p ls rs) (step (counted (length ls)) ∷ []) (step (counted (length rs)) ∷ []) (listEvents (one (λ (n : ℕ). shell (w n))) ls)
+      (listEvents (one (λ (n : ℕ). shell (w n))) rs) (counted-mirror (length ls) (length rs)) (list-mirror f p (one (λ (n : ℕ). shell (w n))) m ls rs)
 
   op-mirror : (f : ℕ → ℕ → State → Walk) (ev : ℕ → List Event) → ((l r : ℕ) → Mirrors (f l r) (ev l) (ev r))
       → (l r : ℕ) → Mirrors (testedOps s f l r) (opEvents s ev l) (opEvents s ev r)
@@ -87,18 +101,15 @@ module _ (s : Store) (ig : Ignore) where
   unfolding testedLists blocksEvents pass1 tested2 tested3
   lists-mirror f ev m p ls rs =
       both (λ (st : State). pass1 s ig p ls rs st >>= tested2 s ig p ls rs) (tested3 s ig f p ls rs)
-      (listEvents blocks ls ++ listEvents ops ls) (listEvents blocks rs ++ listEvents ops rs) (listEvents fulls ls) (listEvents fulls rs)
-      (both (pass1 s ig p ls rs) (tested2 s ig p ls rs) (listEvents blocks ls) (listEvents blocks rs) (listEvents ops ls) (listEvents ops rs)
-      (list-mirror (pairBlocks s ig) p blocks blocks-mirror ls rs)
+      (shellEvents ofBlock ls ++ listEvents ops ls) (shellEvents ofBlock rs ++ listEvents ops rs) (listEvents fulls ls) (listEvents fulls rs)
+      (both (pass1 s ig p ls rs) (tested2 s ig p ls rs) (shellEvents ofBlock ls) (shellEvents ofBlock rs) (listEvents ops ls) (listEvents ops rs)
+      (shells-mirror (pairBlocks s ig) p ofBlock blocks-mirror ls rs)
       (list-mirror (λ (l r : ℕ). pairwise (pairOps s ig) (pairOf block l r) (opsOf s l) (opsOf s r)) p ops
-      (λ l r. list-mirror (pairOps s ig) (pairOf block l r) (one (λ (n : ℕ). shell (ofOp n))) ops-mirror (opsOf s l) (opsOf s r)) ls rs))
+      (λ l r. shells-mirror (pairOps s ig) (pairOf block l r) ofOp ops-mirror (opsOf s l) (opsOf s r)) ls rs))
       (list-mirror (λ (l r : ℕ). pairwise f p (opsOf s l) (opsOf s r)) p fulls (λ l r. list-mirror f p ev m (opsOf s l) (opsOf s r)) ls rs)
     where
-      blocks : ℕ → List Event
-      blocks = one (λ (b : ℕ). shell (ofBlock b))
-
       ops : ℕ → List Event
-      ops b = listEvents (one (λ (n : ℕ). shell (ofOp n))) (opsOf s b)
+      ops b = shellEvents ofOp (opsOf s b)
 
       fulls : ℕ → List Event
       fulls b = listEvents ev (opsOf s b)

@@ -9,7 +9,7 @@ use mathlib.Core.Path.{_≡_, refl, sym, ap, ap₂, subst, _∙_}
 use lib.ListN.{length}
 use Rattle.rules.specs.Lists.{concatMap}
 use Rattle.rules.specs.Store.{Store, Owner, ofOp, ofBlock, opsOf, ownerExists}
-use Rattle.rules.specs.Fragments.{Step, shell, listSteps, stepDefines, Disjoint}
+use Rattle.rules.specs.Fragments.{Step, shell, shells, listSteps, stepDefines, Disjoint}
 use Rattle.rules.proofs.Soundness.Sound.{Sound}
 use Rattle.rules.proofs.Soundness.Grown.{owner-op, owner-block}
 use Rattle.rules.proofs.Basics.Tests.{impossible}
@@ -21,10 +21,14 @@ use Rattle.rules.proofs.Form.Ancestors.{up, Around, next, From, around-
 unfoldable pub defined : List Step → List Owner
 defined xs = concatMap stepDefines xs
 
-defined-shells : (w : ℕ → Owner) (xs : List ℕ) → defined (map (λ (n : ℕ). shell (w n)) xs) ≡ map w xs
+defined-each : (w : ℕ → Owner) (xs : List ℕ) → defined (map (λ (n : ℕ). shell (w n)) xs) ≡ map w xs
 unfolding defined concatMap stepDefines
-defined-shells w [] = refl
-defined-shells w (x ∷ xs) = ap (λ (l : List Owner). w x ∷ l) (defined-shells w xs)
+defined-each w [] = refl
+defined-each w (x ∷ xs) = ap (λ (l : List Owner). w x ∷ l) (defined-each w xs)
+
+defined-shells : (w : ℕ → Owner) (xs : List ℕ) → defined (shells w xs) ≡ map w xs
+unfolding defined concatMap stepDefines shells
+defined-shells w xs = defined-each w xs
 
 module _ (s : Store) where
   -- what an operation's full steps define lies inside it, and is defined once
@@ -160,12 +164,12 @@ module _ (s : Store) (sd : Sound s) where
     list-defined : defined (listSteps s full bs) ≡ blockShells ++ opShells ++ opFulls
     unfolding listSteps defined blockShells opShells opFulls shellsOf fullsOf
     list-defined =
-        concatMap-append stepDefines (map (λ (b : ℕ). shell (ofBlock b)) bs ++ concatMap (λ (b : ℕ). map (λ (n : ℕ). shell (ofOp n)) (opsOf s b)) bs) (concatMap (λ (b : ℕ). concatMap full (opsOf s b)) bs)
+        concatMap-append stepDefines (shells ofBlock bs ++ concatMap (λ (b : ℕ). shells ofOp (opsOf s b)) bs) (concatMap (λ (b : ℕ). concatMap full (opsOf s b)) bs)
         ∙ ap₂ _++_
-        (concatMap-append stepDefines (map (λ (b : ℕ). shell (ofBlock b)) bs) (concatMap (λ (b : ℕ). map (λ (n : ℕ). shell (ofOp n)) (opsOf s b)) bs)
+        (concatMap-append stepDefines (shells ofBlock bs) (concatMap (λ (b : ℕ). shells ofOp (opsOf s b)) bs)
         ∙ ap₂ _++_ (defined-shells ofBlock bs)
-        (concatMap-concatMap stepDefines (λ (b : ℕ). map (λ (n : ℕ). shell (ofOp n)) (opsOf s b)) bs
-        ∙ concatMap-cong (λ (b : ℕ). defined (map (λ (n : ℕ). shell (ofOp n)) (opsOf s b))) shellsOf (λ b. defined-shells ofOp (opsOf s b)) bs))
+        (concatMap-concatMap stepDefines (λ (b : ℕ). shells ofOp (opsOf s b)) bs
+        ∙ concatMap-cong (λ (b : ℕ). defined (shells ofOp (opsOf s b))) shellsOf (λ b. defined-shells ofOp (opsOf s b)) bs))
         (concatMap-concatMap stepDefines (λ (b : ℕ). concatMap full (opsOf s b)) bs
         ∙ concatMap-cong (λ (b : ℕ). defined (concatMap full (opsOf s b))) fullsOf (λ b. concatMap-concatMap stepDefines full (opsOf s b)) bs)
 

@@ -11,7 +11,7 @@ use lib.Dec.{eqb}
 use lib.ListN.{length, getD}
 use Rattle.rules.specs.Lists.{concatMap, sameList}
 use Rattle.rules.specs.Store.{Store, Owner, ofOp, opAt, typeOf, valuesOf}
-use Rattle.rules.specs.Fragments.{shell, names, blockOwner, stepOperands, stepSuccessors, Disjoint}
+use Rattle.rules.specs.Fragments.{shell, names, counted, blockOwner, stepOperands, stepSuccessors, Disjoint}
 use Rattle.rules.specs.Shells.{Ignore, shellOf, countsOf, sameShells}
 use Rattle.rules.specs.Mapping.{image}
 use Rattle.rules.specs.Comparison.{State, operandsAgree, successorsAgree}
@@ -28,12 +28,14 @@ module _ (s : Store) where
   unfoldable pub eventValues : Event → List ℕ
   eventValues (step (shell w)) = valuesOf s w
   eventValues (step (names n)) = []
+  eventValues (step (counted k)) = []
   eventValues more = []
   eventValues done = []
 
   unfoldable pub eventBlocks : Event → List ℕ
   eventBlocks (step (shell w)) = blockOwner w
   eventBlocks (step (names n)) = []
+  eventBlocks (step (counted k)) = []
   eventBlocks more = []
   eventBlocks done = []
 
@@ -60,6 +62,7 @@ module _ (s : Store) where
         blocks = append-assoc (N .blocks) (blockOwner w) (concatMap eventBlocks es) ∙ r .blocks;
       }
   rest-next N D (step (names n)) es r = record { values = r .values; blocks = r .blocks }
+  rest-next N D (step (counted k)) es r = record { values = r .values; blocks = r .blocks }
   rest-next N D more es r = record { values = r .values; blocks = r .blocks }
   rest-next N D done es r = record { values = r .values; blocks = r .blocks }
 
@@ -180,6 +183,13 @@ module _ (s : Store) (ig : Ignore) (EV EB : List ℕ) (emptyV : Empty EV) (empty
         go true e k =
             (names-tokens l r (λ v m. a .values v (Memᴰ·append-left (concatMap (eventOperands s) tail) m)) (λ b m. a .blocks b (Memᴰ·append-left (concatMap (eventSuccessors s) tail) m)) e, same-state st′ k)
         go false e k = absurd (Option·none-ne-some st′ k)
+    step-forth (step (shell l)) (step (counted k)) st′ tail a h = absurd (Option·none-ne-some st′ h)
+    step-forth (step (names l)) (step (counted k)) st′ tail a h = absurd (Option·none-ne-some st′ h)
+    step-forth (step (counted j)) (step (shell r)) st′ tail a h = absurd (Option·none-ne-some st′ h)
+    step-forth (step (counted j)) (step (names r)) st′ tail a h = absurd (Option·none-ne-some st′ h)
+    step-forth (step (counted j)) (step (counted k)) st′ tail a h = (refl, same-state st′ h)
+    step-forth (step (counted j)) more st′ tail a h = absurd (Option·none-ne-some st′ h)
+    step-forth (step (counted j)) done st′ tail a h = absurd (Option·none-ne-some st′ h)
     step-forth (step (shell l)) more st′ tail a h = absurd (Option·none-ne-some st′ h)
     step-forth (step (names l)) more st′ tail a h = absurd (Option·none-ne-some st′ h)
     step-forth (step (shell l)) done st′ tail a h = absurd (Option·none-ne-some st′ h)
@@ -206,6 +216,15 @@ module _ (s : Store) (ig : Ignore) (EV EB : List ℕ) (emptyV : Empty EV) (empty
     step-back (step (shell l)) (step (names r)) h = impossible cc
     step-back (step (names l)) (step (shell r)) h = impossible cc
     step-back (step (names l)) (step (names r)) h = record { state = st; met = rw (tokens-names l r h); related = rel }
+    step-back (step (shell l)) (step (counted k)) h = impossible cc
+    step-back (step (names l)) (step (counted k)) h = impossible cc
+    step-back (step (counted j)) (step (shell r)) h = impossible cc
+    step-back (step (counted j)) (step (names r)) h = impossible cc
+    step-back (step (counted j)) (step (counted k)) h = record { state = st; met = refl; related = rel }
+    step-back (step (counted j)) more h = impossible cc
+    step-back (step (counted j)) done h = impossible cc
+    step-back more (step (counted k)) h = impossible cc
+    step-back done (step (counted k)) h = impossible cc
     step-back (step (shell l)) more h = impossible cc
     step-back (step (names l)) more h = impossible cc
     step-back (step (shell l)) done h = impossible cc

@@ -8,9 +8,9 @@ use mathlib.Core.Path.{_≡_, refl, sym, ap, ap₂, subst, _∙_}
 use lib.ListN.{length, getD}
 use Rattle.rules.specs.Lists.{concatMap, position}
 use Rattle.rules.specs.Store.{Store, Attribute, ofOp, ofBlock, opAt, blockAt, typeOf, opsOf, blocksOf, regionsOf, resultsOf, argumentsOf, valuesOf, keysRise}
-use Rattle.rules.specs.Fragments.{Sort, op, block, region, levels, Step, shell, names, fullOp, listSteps, regionSteps, steps, stepDefines, blockOwner, definesOwners, definesValues, definesBlocks}
+use Rattle.rules.specs.Fragments.{Sort, op, block, region, levels, Step, shell, names, counted, fullOp, shells, listSteps, regionSteps, steps, stepDefines, blockOwner, definesOwners, definesValues, definesBlocks}
 use Rattle.rules.specs.Shells.{Ignore, unignored, unignoredLocation, shellOf}
-use Rattle.rules.specs.Hash.{fnvFrom, fnvStart, fnv, leaf, count, locationBytes, attributeBytes, shellBytes, headBytes, Numbering, noNumbers, numbered, nameAt, nameOf, feeds, allBytes, hash}
+use Rattle.rules.specs.Hash.{fnvFrom, fnvStart, fnv, leaf, count, locationBytes, attributeBytes, uncounted, listBytes, shellBytes, headBytes, Numbering, noNumbers, numbered, nameAt, nameOf, feeds, allBytes, hash}
 use Rattle.rules.specs.Hash as rules
 use Rattle.rules.specs.Rust.{countFrom, upTo, isRelevant, HashNumbering, HashState, feed, useBytes, hash-value, hash-block, forIn, lookup, hash-attribute, attributes-hash, hash-loc, hash-type, defining, hash-op-shell, hash-op-full, hash-block-shell, hash-blocks-full, newHashState, rustHash}
 use Rattle.rules.specs.Agreement.{HashesAsTheRust}
@@ -97,8 +97,8 @@ module _ (s : Store) (ig : Ignore) where
   -- location, attributes and types, one after the other
   shell-fed : (l : ℕ) (as′ : List Attribute) → keysRise as′ ≡ true → (vs : List ℕ) (h : HashState)
       → forIn (hash-type s) vs (attributes-hash ig as′ (hash-loc ig l h))
-      ≡ feed (shellBytes (record { location = unignoredLocation ig l; attributes = unignored ig as′; types = map (typeOf s) vs })) h
-  unfolding shellBytes
+      ≡ feed (shellBytes uncounted (record { location = unignoredLocation ig l; attributes = unignored ig as′; types = map (typeOf s) vs })) h
+  unfolding shellBytes listBytes
   shell-fed l as′ r vs h =
       let L = locationBytes (unignoredLocation ig l) in
       let C = count (length (unignored ig as′)) in
@@ -145,18 +145,21 @@ module _ (s : Store) (sd : Sound s) (ig : Ignore) where
   stepped (shell (ofOp n)) h = hash-op-shell s ig n h
   stepped (shell (ofBlock b)) h = hash-block-shell s ig b h
   stepped (names n) h = forIn hash-block (opAt s n .successors) (forIn hash-value (opAt s n .operands) h)
+  stepped (counted k) h = h
 
   -- what a step defines
   stepValues : Step → List ℕ
   stepValues (shell w) = valuesOf s w
   stepValues (names n) = []
+  stepValues (counted k) = []
 
   stepBlocks : Step → List ℕ
   stepBlocks (shell w) = blockOwner w
   stepBlocks (names n) = []
+  stepBlocks (counted k) = []
 
-  names-fed : (n : ℕ) (N : Numbering) (w : ℕ) → stepped (names n) (lent N w) ≡ lent N (fnvFrom w (feeds s ig (names n) N))
-  unfolding stepped feeds feed lent
+  names-fed : (n : ℕ) (N : Numbering) (w : ℕ) → stepped (names n) (lent N w) ≡ lent N (fnvFrom w (feeds uncounted s ig (names n) N))
+  unfolding stepped feeds listBytes feed lent
   names-fed n N w =
       let os = opAt s n .operands in
       let ss = opAt s n .successors in
@@ -167,22 +170,27 @@ module _ (s : Store) (sd : Sound s) (ig : Ignore) where
       ∙ feed-feed vs bs (lent N w)
       ∙ ap₂ (λ (xs ys : List ℕ). feed (xs ++ ys) (lent N w)) (concatMap-cong _ _ (name-bytes (N .values)) os) (concatMap-cong _ _ (name-bytes (N .blocks)) ss)
 
+  counted-fed : (k : ℕ) (N : Numbering) (w : ℕ) → stepped (counted k) (lent N w) ≡ lent N (fnvFrom w (feeds uncounted s ig (counted k) N))
+  unfolding stepped feeds fnvFrom
+  counted-fed k N w = refl
+
   step-fed : (x : Step) (N : Numbering) (w : ℕ) → Distinct (N .values ++ stepValues x) → Distinct (N .blocks ++ stepBlocks x)
-      → stepped x (lent N w) ≡ lent (numbered s x N) (fnvFrom w (feeds s ig x N))
+      → stepped x (lent N w) ≡ lent (numbered s x N) (fnvFrom w (feeds uncounted s ig x N))
   unfolding stepped stepValues stepBlocks numbered feeds headBytes shellOf hash-op-shell hash-block-shell resultsOf argumentsOf blockOwner
   step-fed (names n) N w dv db = names-fed n N w
+  step-fed (counted k) N w dv db = counted-fed k N w
   step-fed (shell (ofOp n)) N w dv db =
       let h = lent N w in
       let head = leaf (opAt s n .kind) ++ count (length (regionsOf s n)) in
       ap (defining [] (valuesOf s (ofOp n)))
       (shell-fed s ig (opAt s n .location) (opAt s n .attributes) (op-keys s sd n) (valuesOf s (ofOp n)) _
-      ∙ ap (feed (shellBytes (shellOf s ig (ofOp n)))) (feed-feed (leaf (opAt s n .kind)) (count (length (regionsOf s n))) h)
-      ∙ feed-feed head (shellBytes (shellOf s ig (ofOp n))) h)
-      ∙ define-fed (head ++ shellBytes (shellOf s ig (ofOp n))) [] (valuesOf s (ofOp n)) N w dv db
+      ∙ ap (feed (shellBytes uncounted (shellOf s ig (ofOp n)))) (feed-feed (leaf (opAt s n .kind)) (count (length (regionsOf s n))) h)
+      ∙ feed-feed head (shellBytes uncounted (shellOf s ig (ofOp n))) h)
+      ∙ define-fed (head ++ shellBytes uncounted (shellOf s ig (ofOp n))) [] (valuesOf s (ofOp n)) N w dv db
   step-fed (shell (ofBlock b)) N w dv db =
       ap (defining (b ∷ []) (valuesOf s (ofBlock b)))
       (shell-fed s ig (blockAt s b .location) (blockAt s b .attributes) (block-keys s sd b) (valuesOf s (ofBlock b)) (lent N w))
-      ∙ define-fed (shellBytes (shellOf s ig (ofBlock b))) (b ∷ []) (valuesOf s (ofBlock b)) N w dv db
+      ∙ define-fed (shellBytes uncounted (shellOf s ig (ofBlock b))) (b ∷ []) (valuesOf s (ofBlock b)) N w dv db
 
   -- ---- all steps
 
@@ -190,27 +198,27 @@ module _ (s : Store) (sd : Sound s) (ig : Ignore) where
   Once : List Step → Numbering → Type 0
   Once xs N = Distinct (N .values ++ concatMap stepValues xs) × Distinct (N .blocks ++ concatMap stepBlocks xs)
 
+  none-left : (ns ms : List ℕ) → Distinct (ns ++ ms) → Distinct (ns ++ [])
+  none-left ns ms d = distinct-left (ns ++ []) ms (subst Distinct (sym (append-assoc ns [] ms)) d)
+
   once-step : (x : Step) (xs : List Step) (N : Numbering) → Once (x ∷ xs) N
       → Distinct (N .values ++ stepValues x) × Distinct (N .blocks ++ stepBlocks x) × Once xs (numbered s x N)
   unfolding Once concatMap stepValues stepBlocks numbered
-  once-step (names n) xs N d = (
-    distinct-left (N .values ++ []) (concatMap stepValues xs) (subst Distinct (sym (append-assoc (N .values) [] (concatMap stepValues xs))) (d .0)),
-    distinct-left (N .blocks ++ []) (concatMap stepBlocks xs) (subst Distinct (sym (append-assoc (N .blocks) [] (concatMap stepBlocks xs))) (d .1)),
-    d,
-  )
+  once-step (names n) xs N d = (none-left (N .values) (concatMap stepValues xs) (d .0), none-left (N .blocks) (concatMap stepBlocks xs) (d .1), d)
+  once-step (counted k) xs N d = (none-left (N .values) (concatMap stepValues xs) (d .0), none-left (N .blocks) (concatMap stepBlocks xs) (d .1), d)
   once-step (shell w) xs N d =
       let dv = subst Distinct (sym (append-assoc (N .values) (valuesOf s w) (concatMap stepValues xs))) (d .0) in
       let db = subst Distinct (sym (append-assoc (N .blocks) (blockOwner w) (concatMap stepBlocks xs))) (d .1) in
       (distinct-left (N .values ++ valuesOf s w) (concatMap stepValues xs) dv, distinct-left (N .blocks ++ blockOwner w) (concatMap stepBlocks xs) db, (dv, db))
 
-  walked : (xs : List Step) (N : Numbering) (w : ℕ) → Once xs N → forIn stepped xs (lent N w) .state ≡ fnvFrom w (allBytes s ig xs N)
+  walked : (xs : List Step) (N : Numbering) (w : ℕ) → Once xs N → forIn stepped xs (lent N w) .state ≡ fnvFrom w (allBytes uncounted s ig xs N)
   unfolding forIn allBytes lent fnvFrom
   walked [] N w d = refl
   walked (x ∷ xs) N w d =
       let o = once-step x xs N d in
       ap (λ (h : HashState). forIn stepped xs h .state) (step-fed x N w (o .0) (o .1))
-      ∙ walked xs (numbered s x N) (fnvFrom w (feeds s ig x N)) (o .2)
-      ∙ sym (fnv-append w (feeds s ig x N) (allBytes s ig xs (numbered s x N)))
+      ∙ walked xs (numbered s x N) (fnvFrom w (feeds uncounted s ig x N)) (o .2)
+      ∙ sym (fnv-append w (feeds uncounted s ig x N) (allBytes uncounted s ig xs (numbered s x N)))
 
   -- ---- the Rust's functions go through these steps
 
@@ -230,7 +238,7 @@ module _ (s : Store) (sd : Sound s) (ig : Ignore) where
       → (bs : List ℕ) (h : HashState)
       → forIn (λ (b : ℕ). forIn hash-full (opsOf s b)) bs (forIn (λ (b : ℕ). forIn (hash-op-shell s ig) (opsOf s b)) bs (forIn (hash-block-shell s ig) bs h))
       ≡ forIn stepped (listSteps s full bs) h
-  unfolding listSteps stepped
+  unfolding listSteps shells forIn stepped
   list-steps hash-full full same bs h =
       ap (λ (k : HashState). forIn (λ (b : ℕ). forIn hash-full (opsOf s b)) bs (forIn (λ (b : ℕ). forIn (hash-op-shell s ig) (opsOf s b)) bs k)) (sym (in-map stepped _ bs h))
       ∙ ap (forIn (λ (b : ℕ). forIn hash-full (opsOf s b)) bs) (second (forIn stepped one h))
@@ -238,10 +246,10 @@ module _ (s : Store) (sd : Sound s) (ig : Ignore) where
       ∙ sym (in-append stepped (one ++ two) three h ∙ ap (forIn stepped three) (in-append stepped one two h))
     where
       one : List Step
-      one = map (λ (b : ℕ). shell (ofBlock b)) bs
+      one = shells ofBlock bs
 
       two : List Step
-      two = concatMap (λ (b : ℕ). map (λ (n : ℕ). shell (ofOp n)) (opsOf s b)) bs
+      two = concatMap (λ (b : ℕ). shells ofOp (opsOf s b)) bs
 
       three : List Step
       three = concatMap (λ (b : ℕ). concatMap full (opsOf s b)) bs
@@ -280,6 +288,7 @@ module _ (s : Store) (sd : Sound s) (ig : Ignore) where
       go : (x : Step) → concatMap (valuesOf s) (stepDefines x) ≡ stepValues x
       go (shell w) = append-nil (valuesOf s w)
       go (names k) = refl
+      go (counted k) = refl
 
   defines-blocks : (f : Sort) (n : ℕ) → definesBlocks s f n ≡ concatMap stepBlocks (steps s f n)
   unfolding definesBlocks definesOwners stepBlocks stepDefines concatMap
@@ -288,6 +297,7 @@ module _ (s : Store) (sd : Sound s) (ig : Ignore) where
       go : (x : Step) → concatMap blockOwner (stepDefines x) ≡ stepBlocks x
       go (shell w) = append-nil (blockOwner w)
       go (names k) = refl
+      go (counted k) = refl
 
 pub hashes-as-the-rust : HashesAsTheRust
 unfolding HashesAsTheRust hash fnv newHashState lent indexed noNumbers Once

@@ -8,7 +8,7 @@ use mathlib.Core.List.{List, _∷_, _++_, map, List·Memᴰ}
 use mathlib.Core.Path.{_≡_, ap}
 use Rattle.rules.specs.Lists.{concatMap}
 use Rattle.rules.specs.Store.{Store, ofOp, ofBlock, parentOf, maxNesting, opsOf, blocksOf, regionsOf, sound}
-use Rattle.rules.specs.Fragments.{levels, Step, shell, names, fullOp, listSteps, regionSteps}
+use Rattle.rules.specs.Fragments.{levels, Step, names, fullOp, shells, listSteps, regionSteps}
 use Rattle.rules.proofs.Basics.Distinct.{concatMap-same}
 use Rattle.rules.proofs.Walking.Levels.{Leaves, nested-leaves, block-leaves}
 
@@ -16,7 +16,7 @@ list-same : (s : Store) (full full′ : ℕ → List Step) (bs : List ℕ) → (
     → listSteps s full bs ≡ listSteps s full′ bs
 unfolding listSteps
 list-same s full full′ bs same =
-    ap (λ (xs : List Step). map (λ (b : ℕ). shell (ofBlock b)) bs ++ concatMap (λ (b : ℕ). map (λ (n : ℕ). shell (ofOp n)) (opsOf s b)) bs ++ xs)
+    ap (λ (xs : List Step). shells ofBlock bs ++ concatMap (λ (b : ℕ). shells ofOp (opsOf s b)) bs ++ xs)
     (concatMap-same (λ (b : ℕ). concatMap full (opsOf s b)) (λ (b : ℕ). concatMap full′ (opsOf s b)) bs (λ b m. concatMap-same full full′ (opsOf s b) (same b m)))
 
 module _ (s : Store) (sd : sound s ≡ true) where

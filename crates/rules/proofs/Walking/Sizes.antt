@@ -10,7 +10,7 @@ use mathlib.Core.Path.{_≡_, refl, ap, _∙_}
 use lib.ListN.{length, length-append}
 use Rattle.rules.specs.Lists.{concatMap}
 use Rattle.rules.specs.Store.{Store, Owner, ofOp, ofBlock, opsOf, blocksOf, regionsOf, parentOf, opExists, levelsLeft, maxNesting, maxOps, sound}
-use Rattle.rules.specs.Fragments.{Sort, op, block, region, exists, levels, Step, shell, fullOp, listSteps, regionSteps, steps, stepDefines, definesOwners, plus, sizes, opsInBlocks, opsInside, opSize, sizeWithin, ownSize, outermost, fragmentSize}
+use Rattle.rules.specs.Fragments.{Sort, op, block, region, exists, levels, Step, shell, fullOp, shells, listSteps, regionSteps, steps, stepDefines, definesOwners, plus, sizes, opsInBlocks, opsInside, opSize, sizeWithin, ownSize, outermost, fragmentSize}
 use Rattle.rules.proofs.Soundness.Sound.{facts}
 use Rattle.rules.proofs.Basics.Distinct.{concatMap-append, concatMap-concatMap}
 use Rattle.rules.proofs.Form.OnceInLists.{defined}
@@ -54,8 +54,13 @@ count-op : (n : ℕ) (xs : List Step) → count (shell (ofOp n) ∷ xs) ≡ suc 
 unfolding count defined concatMap stepDefines opOwner
 count-op n xs = refl
 
-count-blocks : (bs : List ℕ) → count (map (λ (b : ℕ). shell (ofBlock b)) bs) ≡ 0
-unfolding count defined concatMap stepDefines opOwner
+-- where a list begins nothing is defined
+count-shells : (w : ℕ → Owner) (ns : List ℕ) → count (shells w ns) ≡ count (map (λ (n : ℕ). shell (w n)) ns)
+unfolding count defined concatMap stepDefines shells
+count-shells w ns = refl
+
+count-blocks : (bs : List ℕ) → count (shells ofBlock bs) ≡ 0
+unfolding count defined concatMap stepDefines opOwner shells
 count-blocks [] = refl
 count-blocks (b ∷ bs) = count-blocks bs
 
@@ -92,14 +97,14 @@ module _ (s : Store) where
   unfolding listSteps opsInBlocks
   count-list full bs =
       let flat : count (concatMap (whole full) (concatMap (opsOf s) bs)) ≡ count (concatMap (λ (b : ℕ). concatMap (whole full) (opsOf s b)) bs) = ap count (concatMap-concatMap (whole full) (opsOf s) bs) in
-      let both : count (concatMap (λ (b : ℕ). concatMap (whole full) (opsOf s b)) bs) ≡ count shells + count fulls = count-both _ _ _ (λ b. count-ops full (opsOf s b)) bs in
-      omega (arith, count-append (blocks ++ shells) fulls, count-append blocks shells, count-blocks bs)
+      let both : count (concatMap (λ (b : ℕ). concatMap (whole full) (opsOf s b)) bs) ≡ count ops + count fulls = count-both _ _ _ (λ b. omega (arith, count-ops full (opsOf s b), count-shells ofOp (opsOf s b))) bs in
+      omega (arith, count-append (blocks ++ ops) fulls, count-append blocks ops, count-blocks bs)
     where
       blocks : List Step
-      blocks = map (λ (b : ℕ). shell (ofBlock b)) bs
+      blocks = shells ofBlock bs
 
-      shells : List Step
-      shells = concatMap (λ (b : ℕ). map (λ (n : ℕ). shell (ofOp n)) (opsOf s b)) bs
+      ops : List Step
+      ops = concatMap (λ (b : ℕ). shells ofOp (opsOf s b)) bs
 
       fulls : List Step
       fulls = concatMap (λ (b : ℕ). concatMap full (opsOf s b)) bs

@@ -5,9 +5,10 @@ use mathlib.Core.Bool.{Bool, true, false}
 use mathlib.Core.List.{List, [], _∷_, _++_, map, List·Memᴰ, List·Memᴰ·head, List·Memᴰ·tail}
 use mathlib.Core.Logic.{_⊎_, inl, inr}
 use mathlib.Core.Path.{_≡_, refl, subst}
+use lib.ListN.{length}
 use Rattle.rules.specs.Lists.{concatMap}
 use Rattle.rules.specs.Store.{Store, Owner, ofOp, ofBlock, opsOf, regionsOf}
-use Rattle.rules.specs.Fragments.{op, block, Step, shell, names, fullOp, listSteps}
+use Rattle.rules.specs.Fragments.{op, block, Step, shell, names, counted, fullOp, shells, listSteps}
 use Rattle.rules.specs.Shells.{Ignore}
 use Rattle.rules.specs.Comparison.{State, Pair, Stop, unequal, oneLonger, Walk, on, ended, _>>=_, pairwise, eachPair, pairOf, expect, pairOps, pairBlocks, checkNames, checkOps, pass1, pass2, pass3, compareLists}
 
@@ -97,6 +98,13 @@ module _ (R : List Step → State → Walk → Type 0) (h : Passes R) where
   always-pairwise f w a p (l ∷ ls) (r ∷ rs) st =
       always-then (shell (w l) ∷ []) (map (λ (n : ℕ). shell (w n)) ls) (f l r) (pairwise f p ls rs) (a l r) (always-pairwise f w a p ls rs) st
 
+  -- and as a list
+  pub always-shells : (f : ℕ → ℕ → State → Walk) (w : ℕ → Owner) → ((l r : ℕ) → Always R (shell (w l) ∷ []) (f l r))
+      → (p : Pair) (ls rs : List ℕ) → Always R (shells w ls) (pairwise f p ls rs)
+  unfolding shells
+  always-shells f w a p ls rs =
+      always-then (counted (length ls) ∷ []) (map (λ (l : ℕ). shell (w l)) ls) on (pairwise f p ls rs) (h .stays _) (always-pairwise f w a p ls rs)
+
   -- pair by pair, each with steps
   pub always-each : (f : ℕ → ℕ → State → Walk) (g : ℕ → List Step) (ls rs : List ℕ) → ((l : ℕ) → List·Memᴰ l ls → (r : ℕ) → Always R (g l) (f l r))
       → Always R (concatMap g ls) (eachPair f ls rs)
@@ -121,9 +129,9 @@ module _ (R : List Step → State → Walk → Type 0) (h : Passes R) where
 
   -- where it holds of pairs
   module _ (s : Store) (ig : Ignore) (ops : (l r : ℕ) → Always R (shell (ofOp l) ∷ []) (pairOps s ig l r)) where
-    pub always-pass2 : (ls rs : List ℕ) → Always R (concatMap (λ (b : ℕ). map (λ (n : ℕ). shell (ofOp n)) (opsOf s b)) ls) (pass2 s ig ls rs)
+    pub always-pass2 : (ls rs : List ℕ) → Always R (concatMap (λ (b : ℕ). shells ofOp (opsOf s b)) ls) (pass2 s ig ls rs)
     unfolding pass2
-    always-pass2 ls rs = always-each _ _ ls rs (λ l m r. always-pairwise (pairOps s ig) ofOp ops (pairOf block l r) (opsOf s l) (opsOf s r))
+    always-pass2 ls rs = always-each _ _ ls rs (λ l m r. always-shells (pairOps s ig) ofOp ops (pairOf block l r) (opsOf s l) (opsOf s r))
 
     pub always-lists : ((l r : ℕ) → Always R (shell (ofBlock l) ∷ []) (pairBlocks s ig l r)) → (f : ℕ → ℕ → State → Walk) (g : ℕ → List Step)
         → (p : Pair) (ls rs : List ℕ) → ((b : ℕ) → List·Memᴰ b ls → (n : ℕ) → List·Memᴰ n (opsOf s b) → (r : ℕ) → Always R (g n) (f n r))
@@ -131,5 +139,5 @@ module _ (R : List Step → State → Walk → Type 0) (h : Passes R) where
     unfolding compareLists pass1 listSteps
     always-lists blocks f g p ls rs a =
         always-then _ _ _ (pass3 s f ls rs)
-        (always-then _ _ (pass1 s ig p ls rs) (pass2 s ig ls rs) (always-pairwise (pairBlocks s ig) ofBlock blocks p ls rs) (always-pass2 ls rs))
+        (always-then _ _ (pass1 s ig p ls rs) (pass2 s ig ls rs) (always-shells (pairBlocks s ig) ofBlock blocks p ls rs) (always-pass2 ls rs))
         (always-pass3 s f g ls rs a)

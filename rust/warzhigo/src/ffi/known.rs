@@ -5,7 +5,7 @@ use alloc::boxed::Box;
 use alloc::vec;
 
 use super::*;
-use crate::equivalence::{Ignore, Sort};
+use crate::equivalence::{Fragment, Ignore, Sort};
 use crate::ids::{Identity, Mapped};
 use crate::refused::Refused;
 use crate::store::{Attribute, NewOperation, Owner};
@@ -134,6 +134,33 @@ impl SoundWords {
         };
         // SAFETY: as above.
         unsafe { call(self.words.as_ptr(), self.words.len(), n, ignore.locations, ignore.bits) }
+    }
+
+    #[inline]
+    pub(crate) fn key(&self, sort: Sort, n: u32, ignore: &Ignore, key: &mut [u8]) -> KeyAnswer {
+        let call = match sort {
+            Sort::Op => wz_known_operation_key,
+            Sort::Block => wz_known_basic_block_key,
+            Sort::Region => wz_known_region_key,
+        };
+        // SAFETY: as above.
+        unsafe { call(self.words.as_ptr(), self.words.len(), key.as_mut_ptr(), key.len(), n, ignore.locations, ignore.bits) }
+    }
+
+    /// How long a key will be. Refused by 2 where the fragment is of another store.
+    #[inline]
+    pub(crate) fn key_length<I: Fragment>(&self, fragment: I, ignore: &Ignore) -> Result<usize, Refused> {
+        if fragment.identity() != self.identity {
+            return Err(Refused::NOTHING_THERE);
+        }
+        let call = match I::SORT {
+            Sort::Op => wz_known_operation_key_length,
+            Sort::Block => wz_known_basic_block_key_length,
+            Sort::Region => wz_known_region_key_length,
+        };
+        // SAFETY: as above; and the fragment exists, as these calls ask for too: its id is of this store, and a store's numbers don't go
+        // away.
+        Ok(unsafe { call(self.words.as_ptr(), self.words.len(), fragment.number(), ignore.locations, ignore.bits) })
     }
 }
 

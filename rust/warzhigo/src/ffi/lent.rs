@@ -25,6 +25,13 @@ pub(crate) fn output_bytes() -> usize {
     unsafe { wz_output_bytes() }
 }
 
+/// Bytes that every key fits into.
+#[inline]
+pub(crate) fn key_bytes() -> usize {
+    // SAFETY: it takes nothing, and gives a constant.
+    unsafe { wz_key_bytes() }
+}
+
 // SAFETY, of every call below: a pointer and a length that stand side by side are those of one Rust slice, which is borrowed for the whole
 // call, `&mut` where the function writes. The functions are proved to stay within what they are lent, whatever it holds, and to return;
 // none keeps a pointer.
@@ -98,6 +105,23 @@ pub(crate) fn hash(sort: Sort, store: &[u32], n: u32, ignore: &Ignore) -> Sum {
     };
     // SAFETY: as above.
     unsafe { call(store.as_ptr(), store.len(), n, ignore.locations, ignore.bits) }
+}
+
+#[inline]
+pub(crate) fn key(sort: Sort, store: &[u32], n: u32, ignore: &Ignore, key: &mut [u8]) -> KeyAnswer {
+    let call = match sort {
+        Sort::Op => wz_operation_key,
+        Sort::Block => wz_basic_block_key,
+        Sort::Region => wz_region_key,
+    };
+    // SAFETY: as above.
+    unsafe { call(store.as_ptr(), store.len(), key.as_mut_ptr(), key.len(), n, ignore.locations, ignore.bits) }
+}
+
+#[inline]
+pub(crate) fn compare_keys(lhs: &[u8], rhs: &[u8]) -> i32 {
+    // SAFETY: as above.
+    unsafe { wz_compare_keys(lhs.as_ptr(), lhs.len(), rhs.as_ptr(), rhs.len()) }
 }
 
 pub(crate) fn twins(listing: &[u8], store: &mut [u32], mapping: &mut [u32], out: &mut [u8]) -> Output {

@@ -2,8 +2,8 @@
 #![allow(dead_code)]
 
 pub mod building;
+pub mod bytes_model;
 pub mod call;
-pub mod hash_model;
 pub mod instance;
 pub mod layout;
 pub mod numbers;

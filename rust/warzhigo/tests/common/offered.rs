@@ -4,7 +4,7 @@ use warzhigo::lent::{self, Owner};
 use warzhigo::{Attribute, Ignore, Refused, Store};
 
 use super::call::{Call, New};
-use super::question::{Question, Sort, hash_lent};
+use super::question::{LENT, Question, Sort, hash_lent, key_lent};
 
 pub const SORTS: [Sort; 3] = [Sort::Op, Sort::Block, Sort::Region];
 
@@ -31,6 +31,7 @@ pub fn all_refuse(store: &[u32], mapping: &[u32], context: &str) {
     }
     for sort in SORTS {
         assert_eq!(hash_lent(store, sort, 0, &Ignore::NOTHING).map_err(Refused::number), Err(1), "{context}: hash of {sort:?}");
+        key_refused(store, sort, 0, 100, 1, context);
         comparison_refused(store, mapping, sort, 1, context);
     }
 }
@@ -41,4 +42,12 @@ pub fn comparison_refused(store: &[u32], mapping: &[u32], sort: Sort, cause: u32
     let mut entries = mapping.to_vec();
     assert_eq!(question.lent(store, &mut entries).map_err(Refused::number), Err(cause), "{context}: {question:?}");
     assert!(entries == mapping, "{context}: the refused {question:?} has changed the mapping");
+}
+
+/// Asserts that a key in so many lent bytes is refused by this cause, and leaves them as they were.
+pub fn key_refused(store: &[u32], sort: Sort, n: u32, room: usize, cause: u32, context: &str) {
+    let mut bytes = vec![LENT; room];
+    let answer = key_lent(store, sort, n, &Ignore::NOTHING, &mut bytes);
+    assert_eq!(answer.map_err(Refused::number), Err(cause), "{context}: key of {sort:?} {n} in {room} bytes");
+    assert!(bytes.iter().all(|byte| *byte == LENT), "{context}: the refused key of {sort:?} {n} was written");
 }

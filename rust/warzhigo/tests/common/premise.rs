@@ -16,6 +16,12 @@ struct Fragment {
     named_blocks: BTreeSet<u32>,
 }
 
+/// Half of the premise, which is all that equal keys need: the same fragment, or the left one names nothing that the right one defines.
+pub fn left_holds(picture: &Picture, sort: Sort, l: u32, r: u32) -> bool {
+    let [left, right] = [l, r].map(|n| Fragment::of(picture, sort, n));
+    l == r || !left.names_inside(&right, picture)
+}
+
 pub fn holds(picture: &Picture, sort: Sort, l: u32, r: u32) -> bool {
     let [left, right] = [l, r].map(|n| Fragment::of(picture, sort, n));
     let apart = left.ops.is_disjoint(&right.ops) && left.blocks.is_disjoint(&right.blocks);

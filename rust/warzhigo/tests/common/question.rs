@@ -118,6 +118,58 @@ pub fn hash_lent(store: &[u32], sort: Sort, n: u32, ignore: &Ignore) -> Result<u
     }
 }
 
+/// The key of one by ids. It has to exist.
+pub fn key_inner(store: &Store, sort: Sort, n: u32, ignore: &Ignore) -> Result<Vec<u8>, Refused> {
+    match sort {
+        Sort::Op => warzhigo::operation_key(store, store.op_id(n).expect("an operation that exists"), ignore),
+        Sort::Block => warzhigo::basic_block_key(store, store.block_id(n).expect("a block that exists"), ignore),
+        Sort::Region => warzhigo::region_key(store, store.region_id(n).expect("a region that exists"), ignore),
+    }
+}
+
+/// The key of one by ids, in lent bytes. It has to exist.
+pub fn key_into(store: &Store, sort: Sort, n: u32, ignore: &Ignore, key: &mut [u8]) -> Result<usize, Refused> {
+    match sort {
+        Sort::Op => warzhigo::operation_key_into(store, store.op_id(n).expect("an operation that exists"), ignore, key),
+        Sort::Block => warzhigo::basic_block_key_into(store, store.block_id(n).expect("a block that exists"), ignore, key),
+        Sort::Region => warzhigo::region_key_into(store, store.region_id(n).expect("a region that exists"), ignore, key),
+    }
+}
+
+/// The key of one on lent words.
+pub fn key_lent(store: &[u32], sort: Sort, n: u32, ignore: &Ignore, key: &mut [u8]) -> Result<usize, Refused> {
+    match sort {
+        Sort::Op => lent::operation_key(store, n, ignore, key),
+        Sort::Block => lent::basic_block_key(store, n, ignore, key),
+        Sort::Region => lent::region_key(store, n, ignore, key),
+    }
+}
+
+/// Asserts that a key is this one in every way: by ids, in lent bytes that are more than it needs, of which those behind it stay as they
+/// were, and refused by 13 in lent bytes that are fewer, which stay as they were.
+pub fn key_is(store: &Store, sort: Sort, n: u32, ignore: &Ignore, key: &[u8], context: &str) {
+    assert_eq!(key_inner(store, sort, n, ignore).as_deref(), Ok(key), "{context}");
+    for room in [key.len(), key.len() + 1, key.len() + 9] {
+        let mut bytes = [vec![LENT; room], vec![LENT; room]];
+        assert_eq!(key_into(store, sort, n, ignore, &mut bytes[0]), Ok(key.len()), "{context}: {room} lent bytes");
+        assert_eq!(key_lent(store.words(), sort, n, ignore, &mut bytes[1]), Ok(key.len()), "{context}: {room} lent bytes");
+        let written = [key, &vec![LENT; room - key.len()]].concat();
+        assert!(bytes.iter().all(|bytes| *bytes == written), "{context}: {room} lent bytes");
+    }
+    for room in [0, key.len() / 2, key.len() - 1] {
+        let mut bytes = vec![LENT; room];
+        let refused = [
+            key_into(store, sort, n, ignore, &mut bytes).map_err(Refused::number),
+            key_lent(store.words(), sort, n, ignore, &mut bytes).map_err(Refused::number),
+        ];
+        assert_eq!(refused, [Err(13); 2], "{context}: {room} lent bytes");
+        assert!(bytes.iter().all(|byte| *byte == LENT), "{context}: a refused key of {room} lent bytes was written");
+    }
+}
+
+/// What stands in lent bytes before.
+pub const LENT: u8 = 0xee;
+
 /// The words of an empty mapping.
 pub fn no_entries() -> Vec<u32> {
     vec![NONE; lent::mapping_words()]

@@ -1,4 +1,4 @@
-//! Stores, comparisons and hashes at random: ours, pliron's own text, and the models beside them.
+//! Stores, comparisons, hashes and keys at random: ours, pliron's own text, and the models beside them.
 //!
 //! Seeds are numbers from 0 on, one for each store. `WARZHIGO_STORES` makes more stores than usual, and `WARZHIGO_FIRST` begins with
 //! another seed than 0.
@@ -25,7 +25,7 @@ fn number_in(name: &str) -> u64 {
 }
 
 #[test]
-fn stores_comparisons_and_hashes() {
+fn stores_comparisons_hashes_and_keys() {
     let (first, stores) = (number_in("WARZHIGO_FIRST"), number_in("WARZHIGO_STORES").max(STORES));
     let mut counts = Counts::default();
     // One mapping for all: after `clear` it is good for any store.
@@ -36,6 +36,7 @@ fn stores_comparisons_and_hashes() {
             trial.comparisons(&mut mapping, &mut counts);
             trial.laws(&mut mapping, &mut counts);
         }
+        trial.shelf(&mut counts);
     }
     println!("{counts:#?}");
     counts.often_enough();

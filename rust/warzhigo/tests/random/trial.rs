@@ -55,7 +55,7 @@ impl Trial {
         Question { sort, lhs, rhs, ignore: ignore_rule(&mut self.random) }
     }
 
-    fn count(&self, sort: Sort) -> u32 {
+    pub fn count(&self, sort: Sort) -> u32 {
         let count = match sort {
             Sort::Op => self.picture.ops.len(),
             Sort::Block => self.picture.blocks.len(),

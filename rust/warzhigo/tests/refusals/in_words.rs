@@ -1,12 +1,12 @@
 //! How a refusal presents itself. Causes 9, 10 and 11 are only printed, and 12 is never met: no call gives them as a value.
 
-use warzhigo::{Attribute, Ignore, Mapping, NewOperation, Refused, Store, operation_eq};
+use warzhigo::{Attribute, Ignore, Mapping, NewOperation, Refused, Store, operation_eq, operation_key_into};
 
 use crate::common::call::{Call, New};
 use crate::stores::{deep, filled, small};
 
-/// One refusal by each cause from 1 to 8.
-fn refusals() -> [Option<Refused>; 8] {
+/// One refusal by each cause from 1 to 8, and by 13.
+fn refusals() -> [Option<Refused>; 9] {
     let (mut store, deepest) = deep();
     let (op, parent, foreign) = (store.op_id(0).unwrap(), store.block_id(deepest), small().op_id(0).unwrap());
     let typed = store.new_operation(&NewOperation { result_types: &[1], ..Default::default() }).unwrap();
@@ -24,12 +24,13 @@ fn refusals() -> [Option<Refused>; 8] {
         store.set_attribute(op, Attribute { key: 0, kind: 64, content: 0 }).err(),
         store.set_operand(op, 0, value).err(),
         operation_eq(&store, &mut mapping, op, op, &Ignore::NOTHING).err(),
+        operation_key_into(&store, op, &Ignore::NOTHING, &mut []).err(),
     ]
 }
 
 #[test]
 fn refusals_have_a_number_and_a_meaning() {
-    for (refused, number) in refusals().into_iter().zip(1..) {
+    for (refused, number) in refusals().into_iter().zip((1..=8).chain([13])) {
         let refused = refused.expect("a refused call");
         assert_eq!(refused.number(), number);
         assert!(!refused.meaning().is_empty(), "{number}");
@@ -43,5 +44,5 @@ fn meanings_differ() {
     let mut meanings: Vec<&str> = refusals().into_iter().flatten().map(Refused::meaning).collect();
     meanings.sort();
     meanings.dedup();
-    assert_eq!(meanings.len(), 8);
+    assert_eq!(meanings.len(), 9);
 }

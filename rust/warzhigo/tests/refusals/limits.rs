@@ -3,9 +3,11 @@
 use warzhigo::lent::Owner;
 use warzhigo::{Ignore, Mapping};
 
+use crate::common::bytes_model;
 use crate::common::call::{Call, New};
 use crate::common::offered::SORTS;
-use crate::common::question::{Question, Sort, hash_lent};
+use crate::common::picture::Picture;
+use crate::common::question::{Question, Sort, hash_lent, key_is};
 use crate::stores::{ask, attribute, block, deep, operation, results, small};
 
 #[test]
@@ -54,14 +56,17 @@ fn cause_5_nesting() {
 
 /// The deepest store is walked to its end.
 #[test]
-fn nesting_32_is_compared_and_hashed() {
+fn nesting_32_is_compared_hashed_and_filed() {
     let (store, _) = deep();
+    let picture = Picture::of(&store, "a store made by hand");
     for sort in SORTS {
         let question = Question { sort, lhs: 0, rhs: 0, ignore: Ignore::NOTHING };
         let found = question.inner(&store, &mut Mapping::new()).expect("a sound store");
         let outer = if sort == Sort::Op { 66 } else { 65 };
         assert_eq!((found.verdict, found.paired), (oracle::Verdict::Eq, outer), "{sort:?}");
         assert!(hash_lent(store.words(), sort, 0, &Ignore::NOTHING).is_ok(), "{sort:?}");
+        let key = bytes_model::key(&picture, sort, 0, Ignore::NOTHING);
+        key_is(&store, sort, 0, &Ignore::NOTHING, &key, "a store made by hand");
     }
 }
 

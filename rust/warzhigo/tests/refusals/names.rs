@@ -4,7 +4,7 @@ use warzhigo::lent::Owner;
 use warzhigo::{Attribute, Ignore, Mapping, NewOperation, Refused};
 
 use crate::common::call::{Call, New};
-use crate::common::offered::SORTS;
+use crate::common::offered::{SORTS, key_refused};
 use crate::common::question::{Question, hash_lent, no_entries};
 use crate::stores::{ask, attribute, block, small};
 
@@ -41,7 +41,7 @@ fn cause_2_building_calls() {
 }
 
 #[test]
-fn cause_2_comparisons_and_hashes() {
+fn cause_2_comparisons_hashes_and_keys() {
     let store = small();
     for (sort, count) in SORTS.into_iter().zip([2, 1, 1]) {
         for missing in [count, u32::MAX] {
@@ -53,6 +53,7 @@ fn cause_2_comparisons_and_hashes() {
             }
             let hash = hash_lent(store.words(), sort, missing, &Ignore::NOTHING);
             assert_eq!(hash.map_err(Refused::number), Err(2), "{sort:?} {missing}");
+            key_refused(store.words(), sort, missing, 100, 2, "a store made by hand");
         }
         let last = Question { sort, lhs: count - 1, rhs: count - 1, ignore: Ignore::NOTHING };
         assert!(last.lent(store.words(), &mut no_entries()).is_ok(), "{last:?}");
@@ -87,11 +88,17 @@ fn cause_2_ids_of_another_store() {
         warzhigo::operation_hash(&store, op, &Ignore::NOTHING).err(),
         warzhigo::basic_block_hash(&store, block, &Ignore::NOTHING).err(),
         warzhigo::region_hash(&store, region, &Ignore::NOTHING).err(),
+        warzhigo::operation_key(&store, op, &Ignore::NOTHING).err(),
+        warzhigo::basic_block_key(&store, block, &Ignore::NOTHING).err(),
+        warzhigo::region_key(&store, region, &Ignore::NOTHING).err(),
+        warzhigo::operation_key_into(&store, op, &Ignore::NOTHING, &mut []).err(),
+        warzhigo::basic_block_key_into(&store, block, &Ignore::NOTHING, &mut []).err(),
+        warzhigo::region_key_into(&store, region, &Ignore::NOTHING, &mut []).err(),
         store.operation(op).err(),
         store.block(block).err(),
         store.region(region).err(),
         store.value(value).err(),
     ];
-    assert_eq!(answers.map(|refused| refused.map(Refused::number)), [Some(2); 19]);
+    assert_eq!(answers.map(|refused| refused.map(Refused::number)), [Some(2); 25]);
     assert!(store.words() == before && mapping.is_empty());
 }

@@ -4,11 +4,11 @@ use warzhigo::lent::Owner;
 use warzhigo::{Ignore, Refused};
 
 use crate::common::call::{Call, New};
-use crate::common::offered::comparison_refused;
+use crate::common::offered::{SORTS, comparison_refused, key_refused};
 use crate::common::question::{Question, Sort, no_entries};
 use crate::stores::{ask, attribute, block, deep, filled, full_of_attributes, operation, results, small};
 
-/// 1, 8, 6, 2, 7, 4, 5, 3: of two causes that hold at once, the earlier is given.
+/// 1, 8, 6, 2, 7, 4, 5, 3, 13: of two causes that hold at once, the earlier is given.
 #[test]
 fn order_of_causes() {
     let unsound = &small().into_words()[1..];
@@ -21,6 +21,11 @@ fn order_of_causes() {
     assert_eq!(ask(&mut small(), Call::Operand { op: 1, index: 9, value: 9 }), Err(2), "2 before 7");
     assert_eq!(operation(&mut small(), New { operands: vec![9], ..results(17) }), Err(2), "2 before 4");
     assert_eq!(ask(&mut small(), block(9, 17)), Err(2), "2 before 4");
+    for sort in SORTS {
+        key_refused(unsound, sort, 9, 0, 1, "1 before 2 and 13");
+        key_refused(small().words(), sort, 9, 0, 2, "2 before 13");
+        key_refused(small().words(), sort, 0, 0, 13, "13 last of all");
+    }
 }
 
 #[test]

@@ -4,10 +4,11 @@ use Rattle.rules.specs.Store.{ofOp}
 use Rattle.rules.specs.Fragments.{op, shell}
 use Rattle.layout.specs.Reading.{storeIn}
 use Rattle.fragments.specs.Ignoring.{ignoreOf}
-use Rattle.hashing.specs.Walked.{fullSteps}
+use Rattle.numbering.specs.Parts.{fullSteps}
 use Rattle.numbering.proofs.Counting.{room-first, room-rest}
 use Rattle.hashing.proofs.Feeding.{fed-then}
-use Rattle.hashing.proofs.Answering.{op-steps, steps-room, steps-fed}
+use Rattle.numbering.proofs.Rounds.{op-steps, steps-room, steps-done}
+use Rattle.hashing.proofs.Parting.{hashWalk}
 use Rattle.hashing.proofs.hashes.hash_op.Statement.{statement}
 use Rattle.hashing.proofs.hashes.hash_op.Tie as tie
 
@@ -16,7 +17,7 @@ hash-op-shell-requires c κs =
     let s = c .before .before in
     let S = storeIn (s .args .store .now) in
     let n = s .args .n in
-    (s .pre .0, (s .pre .1 .0, room-first S (shell (ofOp n) ∷ []) (fullSteps S n) (steps-room S op n _ (op-steps S n) (s .pre .1 .1))))
+    (s .pre .0, (s .pre .1 .0, room-first S (shell (ofOp n) ∷ []) (fullSteps S n) (steps-room (hashWalk S (ignoreOf (s .args .ignore))) S op n _ (op-steps S n) {a = (s .args .numbers .now, s .args .word)} (s .pre .1 .1))))
 
 hash-op-full-requires : tie.Need-hash-op-full-requires
 hash-op-full-requires c κs =
@@ -24,14 +25,14 @@ hash-op-full-requires c κs =
     let S = storeIn (s .args .store .now) in
     let n = s .args .n in
     let shells = c .before .hash-op-shell .ensures in
-    (s .pre .0, (s .pre .1 .0, room-rest S (shell (ofOp n) ∷ []) (fullSteps S n) (steps-room S op n _ (op-steps S n) (s .pre .1 .1)) (shells .numbers)))
+    (s .pre .0, (s .pre .1 .0, room-rest S (shell (ofOp n) ∷ []) (fullSteps S n) (steps-room (hashWalk S (ignoreOf (s .args .ignore))) S op n _ (op-steps S n) {a = (s .args .numbers .now, s .args .word)} (s .pre .1 .1)) (shells .numbers)))
 
 returns : tie.Need-returns
 returns c =
     let s = c .before .before .before .before .before in
     let S = storeIn (s .args .store .now) in
     let n = s .args .n in
-    steps-fed S op n _ (op-steps S n) (fed-then S (ignoreOf (s .args .ignore)) (shell (ofOp n) ∷ []) (fullSteps S n) (c .before .before .hash-op-shell .ensures) (c .hash-op-full .ensures))
+    steps-done (hashWalk S (ignoreOf (s .args .ignore))) S op n _ (op-steps S n) (fed-then S (ignoreOf (s .args .ignore)) (shell (ofOp n) ∷ []) (fullSteps S n) (c .before .before .hash-op-shell .ensures) (c .hash-op-full .ensures))
 
 pub hash-op-spec : {M : Type 1} → statement M
 hash-op-spec = tie.close (tie.spec hash-op-shell-requires hash-op-full-requires returns)

@@ -8,7 +8,9 @@ use Rattle.fragments.specs.Sorts.{sortOf}
 use Rattle.fragments.specs.Order.{BlocksExist}
 use Rattle.fragments.proofs.There.{there}
 use Rattle.numbering.specs.Numbered.{DefinitionsFit}
-use Rattle.hashing.proofs.Answering.{block-steps, region-steps, steps-room, steps-fed}
+use Rattle.fragments.specs.Ignoring.{ignoreOf}
+use Rattle.numbering.proofs.Rounds.{block-steps, region-steps, steps-room, steps-done}
+use Rattle.hashing.proofs.Parting.{hashWalk}
 use borrow.Author.Needs.{needs}
 use Rattle.hashing.proofs.hashes.hash_steps.Statement.{statement}
 use Rattle.hashing.proofs.hashes.hash_steps.Tie as tie
@@ -39,7 +41,7 @@ hash-blocks-full-requires c κs =
     let sort = c .before .enum-told2 .given .1 in
     let e = subst (λ x. exists (storeIn b) (sortOf x) n ≡ true) sort (s .pre .1 .0) in
     let room = subst (λ x. DefinitionsFit (storeIn b) (steps (storeIn b) (sortOf x) n) (s .args .numbers .now)) sort (s .pre .1 .1) in
-    (s .pre .0, (there (columns b) block n e, steps-room (storeIn b) block n _ (block-steps (storeIn b) n) room))
+    (s .pre .0, (there (columns b) block n e, steps-room (hashWalk (storeIn b) (ignoreOf (s .args .ignore))) (storeIn b) block n _ (block-steps (storeIn b) n) {a = (s .args .numbers .now, s .args .word)} room))
 
 enum-told-3 : tie.Need-enum-told-3
 enum-told-3 c = search needs
@@ -53,7 +55,7 @@ hash-blocks-full-requires-2 c κs =
     let sort = c .before .enum-told3 .given .1 in
     let e = subst (λ x. exists (storeIn b) (sortOf x) n ≡ true) sort (s .pre .1 .0) in
     let room = subst (λ x. DefinitionsFit (storeIn b) (steps (storeIn b) (sortOf x) n) (s .args .numbers .now)) sort (s .pre .1 .1) in
-    (s .pre .0, (there (columns b) region n e, steps-room (storeIn b) region n _ (region-steps (storeIn b) (s .pre .0 .ruled) n) room))
+    (s .pre .0, (there (columns b) region n e, steps-room (hashWalk (storeIn b) (ignoreOf (s .args .ignore))) (storeIn b) region n _ (region-steps (storeIn b) (s .pre .0 .ruled) n) {a = (s .args .numbers .now, s .args .word)} room))
 
 returns : tie.Need-returns
 unfolding sortOf
@@ -64,14 +66,14 @@ unfolding sortOf
 returns-2 c =
     let s = c .before .before .before .before .before in
     let S = storeIn (s .args .store .now) in
-    rw (c .before .before .enum-told2 .given .1) (steps-fed S block (s .args .n) _ (block-steps S (s .args .n)) (c .hash-blocks-full .ensures))
+    rw (c .before .before .enum-told2 .given .1) (steps-done (hashWalk S (ignoreOf (s .args .ignore))) S block (s .args .n) _ (block-steps S (s .args .n)) (c .hash-blocks-full .ensures))
 
 returns-3 : tie.Need-returns-3
 unfolding sortOf
 returns-3 c =
     let s = c .before .before .before .before .before in
     let S = storeIn (s .args .store .now) in
-    rw (c .before .before .enum-told3 .given .1) (steps-fed S region (s .args .n) _ (region-steps S (s .pre .0 .ruled) (s .args .n)) (c .hash-blocks-full2 .ensures))
+    rw (c .before .before .enum-told3 .given .1) (steps-done (hashWalk S (ignoreOf (s .args .ignore))) S region (s .args .n) _ (region-steps S (s .pre .0 .ruled) (s .args .n)) (c .hash-blocks-full2 .ensures))
 
 pub hash-steps-spec : {M : Type 1} → statement M
 hash-steps-spec =

@@ -12,7 +12,7 @@ use Rattle.layout.specs.Columns.{columns}
 use Rattle.layout.proofs.Tabulate.{ops-length, values-length}
 use Rattle.hashing.specs.Walked.{FeedsOperands, FeedsSuccessors}
 use Rattle.hashing.proofs.Feeding.{fed-names}
-use Rattle.hashing.proofs.Rounds.{operands-there, successors-few}
+use Rattle.numbering.proofs.Rounds.{operands-there, successors-few}
 use Rattle.hashing.proofs.names.hash_names.Statement.{statement}
 use Rattle.hashing.proofs.names.hash_names.Tie as tie
 

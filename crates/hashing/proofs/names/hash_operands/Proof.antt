@@ -5,7 +5,8 @@ use lib.ListN.{length}
 use Rattle.layout.specs.Columns.{columns}
 use Rattle.layout.specs.Reading.{valueCount, storeIn}
 use Rattle.hashing.specs.Walked.{valueBytes}
-use Rattle.hashing.proofs.Naming.{LeftToFeed, left-all, left-next, left-none, name-fed, below-at}
+use Rattle.numbering.proofs.Rounds.{below-at}
+use Rattle.hashing.proofs.Naming.{LeftToFeed, left-all, left-next, left-none, name-fed}
 use borrow.Author.Needs.{needs}
 use Rattle.hashing.proofs.names.hash_operands.Statement.{statement}
 use Rattle.hashing.proofs.names.hash_operands.Tie as tie

@@ -4,7 +4,8 @@ use native.Mathlib.Omega.{arith}
 use lib.ListN.{length}
 use Rattle.rules.specs.Store.{Store}
 use Rattle.hashing.specs.Walked.{blockBytes}
-use Rattle.hashing.proofs.Naming.{LeftToFeed, left-all, left-next, left-none, name-fed, below-at}
+use Rattle.numbering.proofs.Rounds.{below-at}
+use Rattle.hashing.proofs.Naming.{LeftToFeed, left-all, left-next, left-none, name-fed}
 use borrow.Author.Needs.{needs}
 use Rattle.hashing.proofs.names.hash_successors.Statement.{statement}
 use Rattle.hashing.proofs.names.hash_successors.Tie as tie

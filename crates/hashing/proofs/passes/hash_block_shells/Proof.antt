@@ -2,7 +2,7 @@
 use Prim.Native.Nat.{ℕ, _-_, _<_}
 use native.Mathlib.Omega.{arith}
 use mathlib.Core.List.{List}
-use Rattle.rules.specs.Store.{Store}
+use Rattle.rules.specs.Store.{Store, ofBlock}
 use Rattle.layout.specs.Columns.{Cols, columns}
 use Rattle.layout.specs.Reading.{blockCount, storeIn}
 use Rattle.layout.proofs.Laid.{laid-facts}
@@ -10,15 +10,16 @@ use Rattle.layout.proofs.Seeking.{NextChild, none-next}
 use Rattle.fragments.specs.Ignoring.{ignoreOf}
 use Rattle.fragments.specs.Order.{blockList}
 use Rattle.fragments.proofs.Ordered.{next-in-list, block-in}
-use Rattle.hashing.specs.Walked.{blockShells}
-use Rattle.hashing.proofs.Parting.{Passing, pass-begun, pass-over, pass-room, pass-again}
-use Rattle.hashing.proofs.Rounds.{block-shells}
+use Rattle.numbering.specs.Parts.{blockShells}
+use Rattle.numbering.proofs.Passing.{StepRelation, Passing, pass-begun, pass-over, pass-room, pass-again}
+use Rattle.numbering.proofs.Rounds.{eachShell, each-shell}
+use Rattle.hashing.proofs.Parting.{hashWalk, shells-room, shells-fed}
 use borrow.Author.Needs.{needs}
 use Rattle.hashing.proofs.passes.hash_block_shells.Statement.{statement}
 use Rattle.hashing.proofs.passes.hash_block_shells.Tie as tie
 
 abbrev Inv-loop : tie.InvT-loop
-Inv-loop store numbers₀ blocks ignore word fed₀ from₀ numbers fed from = Passing (storeIn store) (ignoreOf ignore) blockShells (blockList (storeIn store) blocks) from numbers₀ numbers word fed
+Inv-loop store numbers₀ blocks ignore word fed₀ from₀ numbers fed from = Passing (hashWalk (storeIn store) (ignoreOf ignore)) (eachShell ofBlock) (blockList (storeIn store) blocks) from (numbers₀, word) (numbers, fed)
 
 abbrev μ-loop : tie.MeasureT-loop
 μ-loop store numbers₀ blocks ignore word fed₀ from₀ numbers fed from = 256 - from
@@ -26,6 +27,9 @@ abbrev μ-loop : tie.MeasureT-loop
 module _ (s : tie.Start Inv-loop μ-loop) where
   abbrev store : Store
   store = storeIn (s .args .store .now)
+
+  abbrev walk : StepRelation (List ℕ × ℕ)
+  walk = hashWalk store (ignoreOf (s .args .ignore))
 
   -- the list that is gone through
   abbrev list : List ℕ
@@ -54,7 +58,7 @@ module _ (c : tie.After-known-told Inv-loop μ-loop) where
 loop-holds : tie.Need-loop-holds Inv-loop μ-loop
 loop-holds c =
     let s = c .before in
-    pass-begun block-shells (list s)
+    pass-begun (walk s) (each-shell ofBlock) (list s)
 
 next-in-requires : tie.Need-next-in-requires Inv-loop μ-loop
 next-in-requires c κs =
@@ -68,17 +72,20 @@ enum-told : tie.Need-enum-told Inv-loop μ-loop
 enum-told c = search needs
 
 returns : tie.Need-returns Inv-loop μ-loop
+unfolding blockShells
 returns c =
     let s = c .before .before .before .before .before in
     let m = c .before .before .before .loop in
-    pass-over block-shells (list s) (m .from) (m .inv) (none-next (m .from) (list s) _ (c .before .before .next-in .ensures) (c .enum-told .given .1))
+    shells-fed ofBlock (list s)
+    (pass-over (walk s) (each-shell ofBlock) (list s) (m .from) (m .inv) (none-next (m .from) (list s) _ (c .before .before .next-in .ensures) (c .enum-told .given .1)))
 
 hash-block-shell-requires : tie.Need-hash-block-shell-requires Inv-loop μ-loop
+unfolding blockShells
 hash-block-shell-requires c κs =
     let f = c .before in
     let s = begun f in
     let m = f .before .before .before .before .loop in
-    (s .pre .0, (here f, pass-room block-shells (list s) (m .from) (m .inv) (found f) (s .pre .1 .1)))
+    (s .pre .0, (here f, pass-room (walk s) (each-shell ofBlock) (list s) (m .from) (m .inv) (found f) (shells-room ofBlock (list s) (s .pre .1 .1))))
 
 add-from : tie.Need-add-from Inv-loop μ-loop
 add-from c = record { fits = omega (arith, few (c .before .before)) }
@@ -92,7 +99,7 @@ loop-again : tie.Need-loop-again Inv-loop μ-loop
 loop-again c =
     let f = c .before .before in
     let m = f .before .before .before .before .loop in
-    pass-again block-shells (list (begun f)) (m .from) (m .inv) (found f) (c .hash-block-shell .ensures)
+    pass-again (walk (begun f)) (each-shell ofBlock) (list (begun f)) (m .from) (m .inv) (found f) (c .hash-block-shell .ensures)
 
 pub hash-block-shells-spec : {M : Type 1} → statement M
 hash-block-shells-spec =

@@ -11,15 +11,16 @@ use Rattle.layout.proofs.Seeking.{NextChild, none-next}
 use Rattle.fragments.specs.Ignoring.{ignoreOf}
 use Rattle.fragments.specs.Order.{blockList}
 use Rattle.fragments.proofs.Ordered.{next-in-list, block-in}
-use Rattle.hashing.specs.Walked.{opShells}
-use Rattle.hashing.proofs.Parting.{Passing, pass-begun, pass-over, pass-room, pass-again}
-use Rattle.hashing.proofs.Rounds.{each}
+use Rattle.numbering.specs.Parts.{opShells}
+use Rattle.numbering.proofs.Passing.{StepRelation, Passing, pass-begun, pass-over, pass-room, pass-again}
+use Rattle.numbering.proofs.Rounds.{each}
+use Rattle.hashing.proofs.Parting.{hashWalk}
 use borrow.Author.Needs.{needs}
 use Rattle.hashing.proofs.passes.hash_op_shells.Statement.{statement}
 use Rattle.hashing.proofs.passes.hash_op_shells.Tie as tie
 
 abbrev Inv-loop : tie.InvT-loop
-Inv-loop store numbers₀ blocks ignore word fed₀ from₀ numbers fed from = Passing (storeIn store) (ignoreOf ignore) (concatMap (opShells (storeIn store))) (blockList (storeIn store) blocks) from numbers₀ numbers word fed
+Inv-loop store numbers₀ blocks ignore word fed₀ from₀ numbers fed from = Passing (hashWalk (storeIn store) (ignoreOf ignore)) (concatMap (opShells (storeIn store))) (blockList (storeIn store) blocks) from (numbers₀, word) (numbers, fed)
 
 abbrev μ-loop : tie.MeasureT-loop
 μ-loop store numbers₀ blocks ignore word fed₀ from₀ numbers fed from = 256 - from
@@ -27,6 +28,9 @@ abbrev μ-loop : tie.MeasureT-loop
 module _ (s : tie.Start Inv-loop μ-loop) where
   abbrev store : Store
   store = storeIn (s .args .store .now)
+
+  abbrev walk : StepRelation (List ℕ × ℕ)
+  walk = hashWalk store (ignoreOf (s .args .ignore))
 
   -- the list that is gone through
   abbrev list : List ℕ
@@ -55,7 +59,7 @@ module _ (c : tie.After-known-told Inv-loop μ-loop) where
 loop-holds : tie.Need-loop-holds Inv-loop μ-loop
 loop-holds c =
     let s = c .before in
-    pass-begun (each (opShells (store s))) (list s)
+    pass-begun (walk s) (each (opShells (store s))) (list s)
 
 next-in-requires : tie.Need-next-in-requires Inv-loop μ-loop
 next-in-requires c κs =
@@ -72,14 +76,14 @@ returns : tie.Need-returns Inv-loop μ-loop
 returns c =
     let s = c .before .before .before .before .before in
     let m = c .before .before .before .loop in
-    pass-over (each (opShells (store s))) (list s) (m .from) (m .inv) (none-next (m .from) (list s) _ (c .before .before .next-in .ensures) (c .enum-told .given .1))
+    pass-over (walk s) (each (opShells (store s))) (list s) (m .from) (m .inv) (none-next (m .from) (list s) _ (c .before .before .next-in .ensures) (c .enum-told .given .1))
 
 hash-op-shells-in-requires : tie.Need-hash-op-shells-in-requires Inv-loop μ-loop
 hash-op-shells-in-requires c κs =
     let f = c .before in
     let s = begun f in
     let m = f .before .before .before .before .loop in
-    (s .pre .0, (here f, pass-room (each (opShells (store s))) (list s) (m .from) (m .inv) (found f) (s .pre .1 .1)))
+    (s .pre .0, (here f, pass-room (walk s) (each (opShells (store s))) (list s) (m .from) (m .inv) (found f) (s .pre .1 .1)))
 
 add-from : tie.Need-add-from Inv-loop μ-loop
 add-from c = record { fits = omega (arith, few (c .before .before)) }
@@ -93,7 +97,7 @@ loop-again : tie.Need-loop-again Inv-loop μ-loop
 loop-again c =
     let f = c .before .before in
     let m = f .before .before .before .before .loop in
-    pass-again (each (opShells (store (begun f)))) (list (begun f)) (m .from) (m .inv) (found f) (c .hash-op-shells-in .ensures)
+    pass-again (walk (begun f)) (each (opShells (store (begun f)))) (list (begun f)) (m .from) (m .inv) (found f) (c .hash-op-shells-in .ensures)
 
 pub hash-op-shells-spec : {M : Type 1} → statement M
 hash-op-shells-spec =

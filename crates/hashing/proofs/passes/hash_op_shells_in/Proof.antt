@@ -2,22 +2,23 @@
 use Prim.Native.Nat.{ℕ, _-_, _<_}
 use native.Mathlib.Omega.{arith}
 use mathlib.Core.List.{List}
-use Rattle.rules.specs.Store.{Store, opsOf}
+use Rattle.rules.specs.Store.{Store, ofOp, opsOf}
 use Rattle.layout.specs.Columns.{Cols, columns}
 use Rattle.layout.specs.Reading.{opCount, storeIn}
 use Rattle.layout.proofs.Laid.{laid-facts}
 use Rattle.layout.proofs.Seeking.{NextChild, none-next, next-op}
 use Rattle.fragments.specs.Ignoring.{ignoreOf}
 use Rattle.fragments.proofs.Ordered.{op-in}
-use Rattle.hashing.specs.Walked.{opShells}
-use Rattle.hashing.proofs.Parting.{Passing, pass-begun, pass-over, pass-room, pass-again}
-use Rattle.hashing.proofs.Rounds.{op-shells, shellsOf}
+use Rattle.numbering.specs.Parts.{opShells}
+use Rattle.numbering.proofs.Passing.{StepRelation, Passing, pass-begun, pass-over, pass-room, pass-again}
+use Rattle.numbering.proofs.Rounds.{eachShell, each-shell}
+use Rattle.hashing.proofs.Parting.{hashWalk, shells-room, shells-fed}
 use borrow.Author.Needs.{needs}
 use Rattle.hashing.proofs.passes.hash_op_shells_in.Statement.{statement}
 use Rattle.hashing.proofs.passes.hash_op_shells_in.Tie as tie
 
 abbrev Inv-loop : tie.InvT-loop
-Inv-loop store numbers₀ b ignore word fed₀ from₀ numbers fed from = Passing (storeIn store) (ignoreOf ignore) shellsOf (opsOf (storeIn store) b) from numbers₀ numbers word fed
+Inv-loop store numbers₀ b ignore word fed₀ from₀ numbers fed from = Passing (hashWalk (storeIn store) (ignoreOf ignore)) (eachShell ofOp) (opsOf (storeIn store) b) from (numbers₀, word) (numbers, fed)
 
 abbrev μ-loop : tie.MeasureT-loop
 μ-loop store numbers₀ b ignore word fed₀ from₀ numbers fed from = 512 - from
@@ -25,6 +26,9 @@ abbrev μ-loop : tie.MeasureT-loop
 module _ (s : tie.Start Inv-loop μ-loop) where
   abbrev store : Store
   store = storeIn (s .args .store .now)
+
+  abbrev walk : StepRelation (List ℕ × ℕ)
+  walk = hashWalk store (ignoreOf (s .args .ignore))
 
   -- the list that is gone through
   abbrev list : List ℕ
@@ -54,7 +58,7 @@ loop-holds : tie.Need-loop-holds Inv-loop μ-loop
 unfolding opShells
 loop-holds c =
     let s = c .before in
-    pass-begun op-shells (list s)
+    pass-begun (walk s) (each-shell ofOp) (list s)
 
 next-op-requires : tie.Need-next-op-requires Inv-loop μ-loop
 next-op-requires c κs =
@@ -72,7 +76,8 @@ unfolding opShells
 returns c =
     let s = c .before .before .before .before .before in
     let m = c .before .before .before .loop in
-    pass-over op-shells (list s) (m .from) (m .inv) (none-next (m .from) (list s) _ (c .before .before .next-op .ensures) (c .enum-told .given .1))
+    shells-fed ofOp (list s)
+    (pass-over (walk s) (each-shell ofOp) (list s) (m .from) (m .inv) (none-next (m .from) (list s) _ (c .before .before .next-op .ensures) (c .enum-told .given .1)))
 
 hash-op-shell-requires : tie.Need-hash-op-shell-requires Inv-loop μ-loop
 unfolding opShells
@@ -80,7 +85,7 @@ hash-op-shell-requires c κs =
     let f = c .before in
     let s = begun f in
     let m = f .before .before .before .before .loop in
-    (s .pre .0, (here f, pass-room op-shells (list s) (m .from) (m .inv) (found f) (s .pre .1 .1)))
+    (s .pre .0, (here f, pass-room (walk s) (each-shell ofOp) (list s) (m .from) (m .inv) (found f) (shells-room ofOp (list s) (s .pre .1 .1))))
 
 add-from : tie.Need-add-from Inv-loop μ-loop
 add-from c = record { fits = omega (arith, few (c .before .before)) }
@@ -95,7 +100,7 @@ unfolding opShells
 loop-again c =
     let f = c .before .before in
     let m = f .before .before .before .before .loop in
-    pass-again op-shells (list (begun f)) (m .from) (m .inv) (found f) (c .hash-op-shell .ensures)
+    pass-again (walk (begun f)) (each-shell ofOp) (list (begun f)) (m .from) (m .inv) (found f) (c .hash-op-shell .ensures)
 
 pub hash-op-shells-in-spec : {M : Type 1} → statement M
 hash-op-shells-in-spec =

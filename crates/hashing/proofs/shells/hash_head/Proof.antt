@@ -2,7 +2,8 @@
 use native.Mathlib.Omega.{arith}
 use Rattle.layout.specs.Columns.{columns}
 use Rattle.layout.proofs.Laid.{laid-facts}
-use Rattle.hashing.proofs.Reading.{regions-few, head-fed}
+use Rattle.numbering.proofs.Rounds.{regions-few}
+use Rattle.hashing.proofs.Reading.{head-fed}
 use borrow.Author.Needs.{needs}
 use Rattle.hashing.proofs.shells.hash_head.Statement.{statement}
 use Rattle.hashing.proofs.shells.hash_head.Tie as tie

@@ -22,9 +22,11 @@ use Rattle.fragments.proofs.Ordered.{next-in-list, block-in, op-in}
 use Rattle.fragments.proofs.Below.{below, aroundList, around-block, op-falls, around-region}
 use Rattle.fragments.proofs.order.next_in.Reads as next-in-reads
 use Rattle.numbering.specs.Numbered.{DefinitionsFit}
-use Rattle.hashing.specs.Walked.{fullSteps, opsInFull, Fed}
-use Rattle.hashing.proofs.Parting.{Partly, none-fed, all-fed, part-room, part-fed, Passing, pass-begun, pass-over, pass-room, pass-again}
-use Rattle.hashing.proofs.Rounds.{inRegion, region-list, regions-room, full-fed, range-left, range-over, each, first-room, second-room, third-room, passes-fed}
+use Rattle.numbering.specs.Parts.{fullSteps, opsInFull}
+use Rattle.hashing.specs.Walked.{Fed}
+use Rattle.numbering.proofs.Passing.{StepRelation, Partly, none-done, all-done, part-room, part-done, Passing, pass-begun, pass-over, pass-room, pass-again}
+use Rattle.numbering.proofs.Rounds.{inRegion, region-list, regions-room, full-done, range-left, range-over, each, first-room, second-room, third-room, passes-done}
+use Rattle.hashing.proofs.Parting.{hashWalk}
 use borrow.Author.Needs.{needs}
 use borrow.Fn.Kinds.{In}
 use borrow.Fn.PlainCycle.{Measures, is, falls, and}
@@ -102,13 +104,13 @@ op-calls t = (
 -- pass 3: the blocks that are left, and in a block the operations
 abbrev Inv-blocks : blocks-lts.InvT-loop
 Inv-blocks store numbers₀ blocks ignore word shells fed₀ from₀ numbers fed from =
-    Passing (storeIn store) (ignoreOf ignore) (concatMap (opsInFull (storeIn store))) (blockList (storeIn store) blocks) from numbers₀ numbers fed₀ fed
+    Passing (hashWalk (storeIn store) (ignoreOf ignore)) (concatMap (opsInFull (storeIn store))) (blockList (storeIn store) blocks) from (numbers₀, fed₀) (numbers, fed)
 
 abbrev left-blocks : blocks-lts.MeasureT-loop
 left-blocks store numbers₀ blocks ignore word shells fed₀ from₀ numbers fed from = 256 - from
 
 abbrev Inv-ops : ops-lts.InvT-loop
-Inv-ops store numbers₀ b ignore word fed₀ from₀ numbers fed from = Passing (storeIn store) (ignoreOf ignore) (concatMap (fullSteps (storeIn store))) (opsOf (storeIn store) b) from numbers₀ numbers word fed
+Inv-ops store numbers₀ b ignore word fed₀ from₀ numbers fed from = Passing (hashWalk (storeIn store) (ignoreOf ignore)) (concatMap (fullSteps (storeIn store))) (opsOf (storeIn store) b) from (numbers₀, word) (numbers, fed)
 
 abbrev left-ops : ops-lts.MeasureT-loop
 left-ops store numbers₀ b ignore word fed₀ from₀ numbers fed from = 512 - from
@@ -117,7 +119,7 @@ left-ops store numbers₀ b ignore word fed₀ from₀ numbers fed from = 512 - 
 abbrev Inv-op : op-lts.InvT-loop
 Inv-op store numbers₀ n ignore word fed₀ end r₀ numbers fed r =
     (r₀ ≤ r)
-    × Partly (storeIn store) (ignoreOf ignore) (concatMap (inRegion (storeIn store)) (range r₀ end)) (concatMap (inRegion (storeIn store)) (range r end)) numbers₀ numbers fed₀ fed
+    × Partly (hashWalk (storeIn store) (ignoreOf ignore)) (concatMap (inRegion (storeIn store)) (range r₀ end)) (concatMap (inRegion (storeIn store)) (range r end)) (numbers₀, fed₀) (numbers, fed)
 
 abbrev left-op : op-lts.MeasureT-loop
 left-op store numbers₀ n ignore word fed₀ end r₀ numbers fed r = end - r
@@ -128,6 +130,9 @@ module _ (t : ℕ) where
   module _ (s : blocks-lts.Start (blocks-calls t) (blocks-at t) blocks.Post Inv-blocks left-blocks) where
     abbrev store : Store
     store = storeIn (s .args .store .now)
+
+    abbrev walk : StepRelation (List ℕ × ℕ)
+    walk = hashWalk store (ignoreOf (s .args .ignore))
 
     abbrev list : List ℕ
     list = blockList store (s .args .blocks)
@@ -156,18 +161,18 @@ module _ (t : ℕ) where
   blocks-hash-block-shells-requires c κs =
       let s = c .before .before in
       let p = s .pre .1 in
-      (p .0, (p .1 .0, first-room (list s) (p .1 .1)))
+      (p .0, (p .1 .0, first-room (walk s) (store s) (list s) {a = (s .args .numbers .now, s .args .word)} (p .1 .1)))
 
   blocks-hash-op-shells-requires : blocks-lts.Need-hash-op-shells-requires (blocks-calls t) (blocks-at t) blocks.Post Inv-blocks left-blocks
   blocks-hash-op-shells-requires c κs =
       let s = c .before .before .before .before in
       let p = s .pre .1 in
-      (p .0, (p .1 .0, second-room (list s) (p .1 .1) (c .before .hash-block-shells .ensures)))
+      (p .0, (p .1 .0, second-room (walk s) (store s) (list s) (c .before .hash-block-shells .ensures) (p .1 .1)))
 
   blocks-loop-holds : blocks-lts.Need-loop-holds (blocks-calls t) (blocks-at t) blocks.Post Inv-blocks left-blocks
   blocks-loop-holds c =
       let s = c .before .before .before .before .before in
-      pass-begun (each (opsInFull (store s))) (list s)
+      pass-begun (walk s) (each (opsInFull (store s))) (list s)
 
   blocks-next-in-requires : blocks-lts.Need-next-in-requires (blocks-calls t) (blocks-at t) blocks.Post Inv-blocks left-blocks
   blocks-next-in-requires c κs =
@@ -185,8 +190,8 @@ module _ (t : ℕ) where
       let shells = c .before .before .before .before in
       let s = shells .before .before .before .before .before in
       let m = c .before .before .before .loop in
-      passes-fed (list s) (s .pre .1 .1 .1) (shells .before .before .hash-block-shells .ensures) (shells .hash-op-shells .ensures)
-      (pass-over (each (opsInFull (store s))) (list s) (m .from) (m .inv) (none-next (m .from) (list s) _ (c .before .before .next-in .ensures) (c .enum-told .given .1)))
+      passes-done (walk s) (store s) (list s) (shells .before .before .hash-block-shells .ensures) (shells .hash-op-shells .ensures)
+      (pass-over (walk s) (each (opsInFull (store s))) (list s) (m .from) (m .inv) (none-next (m .from) (list s) _ (c .before .before .next-in .ensures) (c .enum-told .given .1)))
 
   blocks-hash-ops-full-requires : blocks-lts.Need-hash-ops-full-requires (blocks-calls t) (blocks-at t) blocks.Post Inv-blocks left-blocks
   blocks-hash-ops-full-requires c κs =
@@ -197,9 +202,9 @@ module _ (t : ℕ) where
       let m = f .before .before .before .before .loop in
       let same : aroundList S (Alone (b f)) ≡ aroundList S (s .args .blocks) = around-block S (s .args .blocks) (b f) (block-found f .child) in
       let falls : 3 * below S (aroundList S (Alone (b f))) < 3 * below S (aroundList S (s .args .blocks)) + 1 = omega arith in
-      let third = third-room (list s) (p .1 .1) (shells-fed f .before .before .hash-block-shells .ensures) (shells-fed f .hash-op-shells .ensures) in (
+      let third = third-room (walk s) S (list s) (shells-fed f .before .before .hash-block-shells .ensures) (shells-fed f .hash-op-shells .ensures) (p .1 .1) in (
         subst (λ (j : ℕ). 3 * below S (aroundList S (Alone (b f))) < j) (s .pre .0) falls,
-        (p .0, (block-here f, pass-room (each (opsInFull S)) (list s) (m .from) (m .inv) (block-found f) third)),
+        (p .0, (block-here f, pass-room (walk s) (each (opsInFull S)) (list s) (m .from) (m .inv) (block-found f) third)),
       )
 
   blocks-add-from : blocks-lts.Need-add-from (blocks-calls t) (blocks-at t) blocks.Post Inv-blocks left-blocks
@@ -215,13 +220,16 @@ module _ (t : ℕ) where
       let f = c .before .before in
       let s = blocks-begun f in
       let m = f .before .before .before .before .loop in
-      pass-again (each (opsInFull (store s))) (list s) (m .from) (m .inv) (block-found f) (c .hash-ops-full .ensures)
+      pass-again (walk s) (each (opsInFull (store s))) (list s) (m .from) (m .inv) (block-found f) (c .hash-ops-full .ensures)
 
   -- ---- the operations of a block
 
   module _ (s : ops-lts.Start (ops-calls t) (ops-at t) ops.Post Inv-ops left-ops) where
     abbrev ops-store : Store
     ops-store = storeIn (s .args .store .now)
+
+    abbrev ops-walk : StepRelation (List ℕ × ℕ)
+    ops-walk = hashWalk ops-store (ignoreOf (s .args .ignore))
 
     abbrev ops-list : List ℕ
     ops-list = opsOf ops-store (s .args .b)
@@ -246,7 +254,7 @@ module _ (t : ℕ) where
   ops-loop-holds : ops-lts.Need-loop-holds (ops-calls t) (ops-at t) ops.Post Inv-ops left-ops
   ops-loop-holds c =
       let s = c .before in
-      pass-begun (each (fullSteps (ops-store s))) (ops-list s)
+      pass-begun (ops-walk s) (each (fullSteps (ops-store s))) (ops-list s)
 
   ops-next-op-requires : ops-lts.Need-next-op-requires (ops-calls t) (ops-at t) ops.Post Inv-ops left-ops
   ops-next-op-requires c κs =
@@ -264,7 +272,7 @@ module _ (t : ℕ) where
   ops-returns c =
       let s = c .before .before .before .before .before in
       let m = c .before .before .before .loop in
-      pass-over (each (fullSteps (ops-store s))) (ops-list s) (m .from) (m .inv) (none-next (m .from) (ops-list s) _ (c .before .before .next-op .ensures) (c .enum-told .given .1))
+      pass-over (ops-walk s) (each (fullSteps (ops-store s))) (ops-list s) (m .from) (m .inv) (none-next (m .from) (ops-list s) _ (c .before .before .next-op .ensures) (c .enum-told .given .1))
 
   ops-hash-op-full-requires : ops-lts.Need-hash-op-full-requires (ops-calls t) (ops-at t) ops.Post Inv-ops left-ops
   unfolding opsInFull blockList
@@ -277,7 +285,7 @@ module _ (t : ℕ) where
       let fewer : below S (n f) < below S (aroundList S (Alone (s .args .b))) = op-falls S (p .0 .ruled) (Alone (s .args .b)) (s .args .b) (n f) (List·Memᴰ·head refl) (op-found f .child) in
       let falls : 3 * below S (n f) + 2 < 3 * below S (aroundList S (Alone (s .args .b))) = omega arith in (
         subst (λ (j : ℕ). 3 * below S (n f) + 2 < j) (s .pre .0) falls,
-        (p .0, (op-here f, pass-room (each (fullSteps S)) (ops-list s) (m .from) (m .inv) (op-found f) (p .1 .1))),
+        (p .0, (op-here f, pass-room (ops-walk s) (each (fullSteps S)) (ops-list s) (m .from) (m .inv) (op-found f) (p .1 .1))),
       )
 
   ops-add-from : ops-lts.Need-add-from (ops-calls t) (ops-at t) ops.Post Inv-ops left-ops
@@ -293,7 +301,7 @@ module _ (t : ℕ) where
       let f = c .before .before in
       let s = ops-begun f in
       let m = f .before .before .before .before .loop in
-      pass-again (each (fullSteps (ops-store s))) (ops-list s) (m .from) (m .inv) (op-found f) (c .hash-op-full .ensures)
+      pass-again (ops-walk s) (each (fullSteps (ops-store s))) (ops-list s) (m .from) (m .inv) (op-found f) (c .hash-op-full .ensures)
 
   -- ---- an operation
 
@@ -303,6 +311,9 @@ module _ (t : ℕ) where
 
     abbrev rule : rules.Ignore
     rule = ignoreOf (s .args .ignore)
+
+    abbrev op-walk : StepRelation (List ℕ × ℕ)
+    op-walk = hashWalk (storeIn (s .args .store .now)) rule
 
     laid : Laid cols
     laid = laid-facts cols (s .pre .1 .0 .laid)
@@ -341,7 +352,7 @@ module _ (t : ℕ) where
       (s .pre .1 .0 .sized, (omega arith, small s))
 
   op-loop-holds : op-lts.Need-loop-holds (op-calls t) (op-at t) op.Post Inv-op left-op
-  op-loop-holds c = (omega arith, none-fed)
+  op-loop-holds c = (omega arith, none-done (op-walk (c .before .before .before .before .before)) _ _)
 
   op-hash-blocks-full-requires : op-lts.Need-hash-blocks-full-requires (op-calls t) (op-at t) op.Post Inv-op left-op
   unfolding BlocksExist
@@ -357,8 +368,8 @@ module _ (t : ℕ) where
       let inside = subst (List·Memᴰ (m .r)) (sym known) (in-range first end (m .r) (m .inv .0) (c .before .loop-test .taken)) in
       let around : aroundList S (InRegion (m .r)) ≡ n = around-region S n (m .r) inside in
       let falls : 3 * below S (aroundList S (InRegion (m .r))) + 1 < 3 * below S n + 2 = omega arith in
-      let all = regions-room n (p .1 .1) (c .before .before .before .before .before .hash-names .ensures (rule s)) (range first end) known in
-      let room = part-room (m .inv .1) (inRegion S (m .r)) (concatMap (inRegion S) (range (m .r + 1) end)) (range-left (inRegion S) (m .r) end (c .before .loop-test .taken)) all in (
+      let all = regions-room (op-walk s) S n (c .before .before .before .before .before .hash-names .ensures (rule s)) (range first end) known (p .1 .1) in
+      let room = part-room (op-walk s) (m .inv .1) (inRegion S (m .r)) (concatMap (inRegion S) (range (m .r + 1) end)) (range-left (inRegion S) (m .r) end (c .before .loop-test .taken)) all in (
         subst (λ (j : ℕ). 3 * below S (aroundList S (InRegion (m .r))) + 1 < j) (s .pre .0) falls,
         (p .0, (region-here (c .before), subst (λ (xs : List Step). DefinitionsFit S xs (m .numbers)) (region-list S (p .0 .ruled) (m .r)) room)),
       )
@@ -379,7 +390,7 @@ module _ (t : ℕ) where
       let end = c .before .before .before .before .before .number .result in
       let blocks = c .hash-blocks-full in
       let one = subst (λ (xs : List Step). Fed S (rule s) xs (m .numbers) (blocks .last .1 .0) (m .fed) (blocks .result)) (sym (region-list S (s .pre .1 .0 .ruled) (m .r))) (blocks .ensures) in
-      (omega (arith, m .inv .0), part-fed (m .inv .1) (inRegion S (m .r)) (concatMap (inRegion S) (range (m .r + 1) end)) (range-left (inRegion S) (m .r) end (c .before .before .loop-test .taken)) one)
+      (omega (arith, m .inv .0), part-done (op-walk s) (m .inv .1) (inRegion S (m .r)) (concatMap (inRegion S) (range (m .r + 1) end)) (range-left (inRegion S) (m .r) end (c .before .before .loop-test .taken)) one)
 
   op-returns : op-lts.Need-returns (op-calls t) (op-at t) op.Post Inv-op left-op
   op-returns c =
@@ -387,8 +398,8 @@ module _ (t : ℕ) where
       let S = storeIn (s .args .store .now) in
       let end = c .before .before .before .number .result in
       let m = c .before .loop in
-      full-fed (s .args .n) (s .pre .1 .1 .1) (c .before .before .before .before .hash-names .ensures (rule s)) (range (c .before .before .number2 .result) end) (regions (c .before .before))
-      (all-fed (m .inv .1) (range-over (inRegion S) (m .r) end (c .loop-test .left)))
+      full-done (op-walk s) S (s .args .n) (c .before .before .before .before .hash-names .ensures (rule s)) (range (c .before .before .number2 .result) end) (regions (c .before .before))
+      (all-done (op-walk s) (m .inv .1) (range-over (inRegion S) (m .r) end (c .loop-test .left)))
 
 pub +hash-blocks-full+hash-op-full+hash-ops-full-spec : {M : Type 1} → statement M
 +hash-blocks-full+hash-op-full+hash-ops-full-spec =

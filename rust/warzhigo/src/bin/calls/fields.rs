@@ -42,6 +42,16 @@ impl<'a> Fields<'a> {
         (0..count).map(|_| self.number()).collect()
     }
 
+    /// Bytes in hexadecimal, two digits to a byte; none for an empty field.
+    pub fn bytes(&mut self) -> Option<Vec<u8>> {
+        let digits = self.word()?;
+        let byte = |pair: &[u8]| match *pair {
+            [high, low] => Some((char::from(high).to_digit(16)? << 4 | char::from(low).to_digit(16)?) as u8),
+            _ => None,
+        };
+        digits.as_bytes().chunks(2).map(byte).collect()
+    }
+
     /// 1 to ignore locations or 0 not to, and the bits of the kinds to ignore.
     pub fn ignore(&mut self) -> Option<Ignore> {
         let locations = match self.word()? {

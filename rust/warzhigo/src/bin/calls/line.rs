@@ -62,6 +62,19 @@ pub enum Line {
     },
     Dump,
     Sound,
+    Key {
+        sort: Sort,
+        number: u32,
+        ignore: Ignore,
+        room: u32,
+    },
+    CompareKeys {
+        sort: Sort,
+        lhs: u32,
+        rhs: u32,
+        ignore: Ignore,
+    },
+    CompareBytes(Vec<u8>, Vec<u8>),
 }
 
 impl Line {
@@ -80,6 +93,9 @@ impl Line {
             "H" => Line::Hash { sort: sort(f)?, number: f.number()?, ignore: f.ignore()? },
             "D" => Line::Dump,
             "S" => Line::Sound,
+            "K" => Line::Key { sort: sort(f)?, number: f.number()?, ignore: f.ignore()?, room: f.number()? },
+            "C" => Line::CompareKeys { sort: sort(f)?, lhs: f.number()?, rhs: f.number()?, ignore: f.ignore()? },
+            "B" => Line::CompareBytes(f.bytes()?, f.bytes()?),
             _ => return None,
         };
         fields.end().map(|()| line)

@@ -1,13 +1,16 @@
 //! The lent buffers, and each line's call on them.
 
 use warzhigo::lent::{self, EqResult, NewOperation};
-use warzhigo::{Ignore, Refused, Store};
+use warzhigo::{Ignore, Refused, Store, compare_keys};
 
 use crate::line::{Entry, Line, Sort};
 use crate::text;
 
 /// No image.
 const NONE: u32 = u32::MAX;
+
+/// What stands in every byte that a key is lent.
+const LENT: u8 = 0xee;
 
 /// Where the entries of values, blocks and operations begin in the words of a mapping, and the end of the last.
 pub const ENTRIES: [usize; 4] = [0, 2048, 2304, 2816];
@@ -58,6 +61,13 @@ impl Replay {
             Line::Entries => Some(text::entries(&self.left)),
             Line::Hash { sort, number, ignore } => answered(self.hash(*sort, *number, ignore).map(|word| format!("{word:016x}"))),
             Line::Dump => answered(Store::from_words(store.clone()).map(|store| text::dump(&store))),
+            Line::Key { sort, number, ignore, room } => {
+                let mut bytes = vec![LENT; *room as usize];
+                let length = self.key(*sort, *number, ignore, &mut bytes);
+                answered(length.map(|length| format!("key,{length},{}", text::hexadecimal(&bytes))))
+            }
+            Line::CompareKeys { sort, lhs, rhs, ignore } => answered(self.compare_keys(*sort, (*lhs, *rhs), ignore)),
+            Line::CompareBytes(lhs, rhs) => Some((compare_keys(lhs, rhs) as i8).to_string()),
             Line::Sound => Some(if lent::is_sound(store) { "sound" } else { "unsound" }.to_string()),
         }
     }
@@ -82,6 +92,25 @@ impl Replay {
             Sort::Region => lent::region_hash,
         };
         call(&self.store, number, ignore)
+    }
+
+    fn key(&self, sort: Sort, number: u32, ignore: &Ignore, key: &mut [u8]) -> Result<usize, Refused> {
+        let call = match sort {
+            Sort::Op => lent::operation_key,
+            Sort::Block => lent::basic_block_key,
+            Sort::Region => lent::region_key,
+        };
+        call(&self.store, number, ignore, key)
+    }
+
+    fn compare_keys(&self, sort: Sort, (lhs, rhs): (u32, u32), ignore: &Ignore) -> Result<i8, Refused> {
+        let key = |number| {
+            let mut bytes = vec![LENT; lent::key_bytes()];
+            let length = self.key(sort, number, ignore, &mut bytes)?;
+            bytes.truncate(length);
+            Ok(bytes)
+        };
+        Ok(compare_keys(&key(lhs)?, &key(rhs)?) as i8)
     }
 
     /// Enters an image. A number that has no entry makes the mapping a word too long, so that it is refused as it must be.

@@ -15,6 +15,12 @@ pub fn entries(mapping: &[u32]) -> String {
     [part(0, 'v'), part(1, 'b'), part(2, 'o')].join("/")
 }
 
+/// Bytes in hexadecimal, two digits to a byte.
+pub fn hexadecimal(bytes: &[u8]) -> String {
+    let digit = |n: u8| char::from(b"0123456789abcdef"[n as usize]);
+    bytes.iter().flat_map(|byte| [digit(byte >> 4), digit(byte & 15)]).collect()
+}
+
 fn joined(items: impl Iterator<Item = impl Display>, between: &str) -> String {
     items.map(|item| item.to_string()).collect::<Vec<_>>().join(between)
 }

@@ -1,0 +1,124 @@
+-- `put_operands` meets its contract: what is put behind the count are the names up to the next one. Assumes nothing.
+use Prim.Native.Nat.{ℕ, _-_}
+use native.Mathlib.Omega.{arith}
+use mathlib.Core.List.{List}
+use lib.ListN.{length}
+use Rattle.rules.specs.Hash.{Numbering, bytes, count, nameOf, nameBytes}
+use Rattle.layout.specs.Columns.{columns}
+use Rattle.layout.specs.Reading.{valueCount, storeIn}
+use Rattle.numbering.specs.Words.{Stands, ruleName}
+use Rattle.numbering.proofs.Rounds.{below-at}
+use Rattle.keys.specs.Written.{namesBytes}
+use Rattle.keys.proofs.Naming.{name-few, name-put}
+use Rattle.keys.proofs.Putting.{put-rest}
+use Rattle.keys.proofs.Entries.{Entries, entries-none, entries-next, entries-all, counted-list}
+use borrow.Author.Needs.{needs}
+use Rattle.keys.proofs.names.put_operands.Statement.{statement}
+use Rattle.keys.proofs.names.put_operands.Tie as tie
+
+abbrev Inv-loop : tie.InvT-loop
+Inv-loop store numbers key₀ list at₀ i₀ key at i = Entries (λ (N : Numbering). Stands (storeIn store) N numbers) (λ (N : Numbering) (v : ℕ). nameBytes (nameOf (N .values) v)) list key₀ at₀ i key at
+
+abbrev μ-loop : tie.MeasureT-loop
+μ-loop store numbers key₀ list at₀ i₀ key at i = length list - i
+
+-- whatever the words stand for
+abbrev Known : List ℕ → List ℕ → Numbering → Type 0
+Known store numbers N = Stands (storeIn store) N numbers
+
+abbrev named : Numbering → ℕ → List ℕ
+named N v = nameBytes (nameOf (N .values) v)
+
+put-count-requires : tie.Need-put-count-requires Inv-loop μ-loop
+put-count-requires c κs = search needs
+
+loop-holds : tie.Need-loop-holds Inv-loop μ-loop
+loop-holds c =
+    let a = c .before .before .before .before .before .before .before .args in
+    entries-none (Known (a .store .now) (a .numbers .now)) named (a .list .now) _ (c .before .before .put-count .result)
+
+mul-value-name : tie.Need-mul-value-name Inv-loop μ-loop
+mul-value-name c = search needs
+
+shared-slice-read-value-name : tie.Need-shared-slice-read-value-name Inv-loop μ-loop
+shared-slice-read-value-name c = search needs
+
+value-name-requires : tie.Need-value-name-requires Inv-loop μ-loop
+value-name-requires c κs =
+    let s = c .before .before .before .before .before .before .before .before .before .before in
+    (s .pre .0, below-at (valueCount (columns (s .args .store .now))) (s .args .list .now) (s .pre .1 .1) (c .before .before .loop .i) (c .before .loop-test .taken))
+
+least-requires : tie.Need-least-requires Inv-loop μ-loop
+least-requires c κs = search needs
+
+sub-put-name : tie.Need-sub-put-name Inv-loop μ-loop
+sub-put-name c = search needs
+
+part-put-name-start : tie.Need-part-put-name-start Inv-loop μ-loop
+part-put-name-start c = search needs
+
+part-put-name-end : tie.Need-part-put-name-end Inv-loop μ-loop
+part-put-name-end c = search needs
+
+put-name-requires : tie.Need-put-name-requires Inv-loop μ-loop
+put-name-requires c κs = search needs
+
+add-at : tie.Need-add-at Inv-loop μ-loop
+unfolding bytes count
+add-at c =
+    let m = c .before .before .before .before .before .before .before .before .loop in
+    record { fits = omega (arith, c .before .before .put-name .ensures .many, name-few (ruleName (c .before .before .before .before .before .value-name .result)), m .inv .few, m .inv .inside, c .before .before .before .before .before .before .before .before .before .before .before .before .before .before .before .before .pre .1 .0, c .before .before .before .before .before .before .before .before .before .before .before .put-count .ensures .many) }
+
+add-i : tie.Need-add-i Inv-loop μ-loop
+add-i c = search needs
+
+loop-less : tie.Need-loop-less Inv-loop μ-loop
+loop-less c = omega (arith, c .before .before .before .before .before .before .before .loop-test .taken)
+
+loop-again : tie.Need-loop-again Inv-loop μ-loop
+loop-again c =
+    let least = c .before .before .before .before .least in
+    let value-name = c .before .before .before .before .before .value-name in
+    let a = c .before .before .before .before .before .before .before .before .before .before .before .before .before .before .before .before .args in
+    let m = c .before .before .before .before .before .before .before .before .loop in
+    let one = c .before .before .put-name .ensures in
+    let w = least .ensures in
+    let x = value-name .result in
+    entries-next (Known (a .store .now) (a .numbers .now)) named (a .list .now) _ (c .before .before .before .before .before .before .before .before .before .before .before .put-count .result) (m .i) (m .key) (m .at) (m .inv) (least .result) w (c .before .before .before .before .before .before .before .loop-test .taken)
+    (omega (arith, one .many, name-few (ruleName x))) (put-rest (nameBytes (ruleName x)) _ _ _ w one .long) (λ N h. name-put x (value-name .ensures N h) one)
+
+same-length : tie.Need-same-length Inv-loop μ-loop
+same-length c = search needs
+
+returns : tie.Need-returns Inv-loop μ-loop
+unfolding bytes count namesBytes
+returns c =
+    let put-count = c .before .before .before .before .put-count in
+    let s = c .before .before .before .before .before .before .before .before .before in
+    let a = s .args in
+    let m = c .before .loop in
+    let all = entries-all (Known (a .store .now) (a .numbers .now)) named (a .list .now) _ (put-count .result) (m .i) (m .key) (m .at) (m .inv) (c .loop-test .left) in
+    record { put = λ N h. counted-list (named N) (a .list .now) (put-count .ensures) (all N h); few = omega (arith, m .inv .few, m .inv .inside, s .pre .1 .0, put-count .ensures .many) }
+
+pub put-operands-spec : {M : Type 1} → statement M
+put-operands-spec =
+    tie.close
+    (tie.spec
+    Inv-loop
+    μ-loop
+    put-count-requires
+    loop-holds
+    mul-value-name
+    shared-slice-read-value-name
+    value-name-requires
+    least-requires
+    sub-put-name
+    part-put-name-start
+    part-put-name-end
+    put-name-requires
+    add-at
+    add-i
+    loop-less
+    loop-again
+    same-length
+    returns)

@@ -1,0 +1,183 @@
+-- `put_block_shells` meets its contract: how many there are, then a pass through the list, whose step is a block's shell. Assumes nothing.
+use Prim.Native.Nat.{ℕ, _-_, _<_}
+use native.Mathlib.Omega.{arith}
+use mathlib.Core.List.{List, [], _∷_}
+use lib.ListN.{length}
+use Rattle.rules.specs.Store.{Store, ofBlock}
+use Rattle.rules.specs.Fragments.{Step, shell, counted, shells}
+use Rattle.rules.specs.Shells.{Ignore}
+use Rattle.layout.specs.Columns.{Cols, columns}
+use Rattle.layout.specs.Reading.{blockCount, storeIn}
+use Rattle.layout.proofs.Laid.{laid-facts}
+use Rattle.layout.proofs.Seeking.{NextChild, none-next}
+use Rattle.fragments.specs.Order.{blockList}
+use Rattle.fragments.proofs.Ordered.{next-in-list, block-in}
+use Rattle.fragments.specs.Ignoring.{ignoreOf}
+use Rattle.numbering.specs.Parts.{blockShells}
+use Rattle.numbering.proofs.Passing.{Passing, pass-begun, pass-over, pass-room, pass-again}
+use Rattle.numbering.proofs.Rounds.{eachShell, each-shell}
+use Rattle.keys.specs.Written.{from, upTo, Wrote, KeyFits}
+use Rattle.keys.proofs.Putting.{put-counted}
+use Rattle.keys.proofs.Writing.{wrote-then, fits-rest, keyWalk, wrote-lent, lent-short, wrote-long, wrote-counted}
+use borrow.Author.Needs.{needs}
+use Rattle.keys.proofs.passes.put_block_shells.Statement.{statement}
+use Rattle.keys.proofs.passes.put_block_shells.Tie as tie
+
+abbrev Inv-loop : tie.InvT-loop
+Inv-loop store numbers₀ key₀ blocks ignore at₀ from₀ numbers key at from = Passing (keyWalk (storeIn store) (ignoreOf ignore)) (eachShell ofBlock) (blockList (storeIn store) blocks) from (upTo numbers₀ key₀ at₀) (upTo numbers key at)
+
+abbrev μ-loop : tie.MeasureT-loop
+μ-loop store numbers₀ key₀ blocks ignore at₀ from₀ numbers key at from = 256 - from
+
+module _ (s : tie.Start Inv-loop μ-loop) where
+  abbrev store : Store
+  store = storeIn (s .args .store .now)
+
+  abbrev rule : Ignore
+  rule = ignoreOf (s .args .ignore)
+
+  -- the list that is gone through
+  abbrev list : List ℕ
+  list = blockList store (s .args .blocks)
+
+-- in the loop, with the next one found
+module _ (c : tie.After-known-told Inv-loop μ-loop) where
+  abbrev begun : tie.Start Inv-loop μ-loop
+  begun = c .before .before .before .before .before .before .before .before .before .before .before .before
+
+  abbrev cols : Cols
+  cols = columns (begun .args .store .now)
+
+  abbrev n : ℕ
+  n = c .before .b .given .0 .0
+
+  found : NextChild (list begun) (c .before .before .before .before .loop .from) n
+  found =
+      let from = c .before .before .before .before .loop .from in
+      next-in-list (store begun) (begun .args .blocks) from n _ (c .before .before .before .next-in .ensures) (c .before .b .given .1)
+
+  here : n < blockCount cols
+  here = block-in cols (begun .args .blocks) n (begun .pre .1 .0) (found .child)
+
+  few : n < 256
+  few = omega (arith, here, laid-facts cols (begun .pre .0 .laid) .counts .blocks)
+
+  abbrev steps : List Step
+  steps = shell (ofBlock n) ∷ []
+
+  room : let m = c .before .before .before .before .loop in KeyFits (store begun) (rule begun) steps (upTo (m .numbers) (m .key) (m .at))
+  unfolding blockShells shells
+  room =
+      let s = begun in
+      let S = store s in
+      let ig = rule s in
+      let m = c .before .before .before .before .loop in
+      pass-room (keyWalk S ig) (each-shell ofBlock) (list s) (m .from) (m .inv) found
+      (fits-rest S ig (counted (length (list s)) ∷ []) (eachShell ofBlock (list s)) (s .pre .1 .1) (wrote-counted S ig (length (list s)) (put-counted (c .before .before .before .before .before .before .before .before .blocks-counted .ensures) (c .before .before .before .before .before .before .before .put-count .ensures))))
+
+-- with none left
+done : (c : tie.After-enum-told Inv-loop μ-loop) → let s = c .before .before .before .before .before .before .before .before .before .before .before in let m = c .before .before .before .loop in Wrote (store s) (rule s) (blockShells (list s)) (from (s .args .numbers .now) (s .args .key .now)) (upTo (m .numbers) (m .key) (m .at))
+unfolding blockShells shells
+done c =
+    let s = c .before .before .before .before .before .before .before .before .before .before .before in
+    let S = store s in
+    let ig = rule s in
+    let m = c .before .before .before .loop in
+    wrote-then S ig (counted (length (list s)) ∷ []) (eachShell ofBlock (list s)) (wrote-counted S ig (length (list s)) (put-counted (c .before .before .before .before .before .before .before .blocks-counted .ensures) (c .before .before .before .before .before .before .put-count .ensures)))
+    (pass-over (keyWalk S ig) (each-shell ofBlock) (list s) (m .from) (m .inv) (none-next (m .from) (list s) _ (c .before .before .next-in .ensures) (c .enum-told .given .1)))
+
+blocks-counted-requires : tie.Need-blocks-counted-requires Inv-loop μ-loop
+blocks-counted-requires c κs =
+    let s = c .before .before .before in
+    (s .pre .0, s .pre .1 .0)
+
+put-count-requires : tie.Need-put-count-requires Inv-loop μ-loop
+put-count-requires c κs = search needs
+
+loop-holds : tie.Need-loop-holds Inv-loop μ-loop
+loop-holds c =
+    let s = c .before .before .before .before .before .before .before in
+    pass-begun (keyWalk (store s) (rule s)) (each-shell ofBlock) (list s)
+
+next-in-requires : tie.Need-next-in-requires Inv-loop μ-loop
+next-in-requires c κs =
+    let p = c .before .before .before .before .before .before .before .before .pre in
+    (p .0, p .1 .0)
+
+enum-known-b : tie.Need-enum-known-b Inv-loop μ-loop
+enum-known-b c = search needs
+
+enum-told : tie.Need-enum-told Inv-loop μ-loop
+enum-told c = search needs
+
+same-length : tie.Need-same-length Inv-loop μ-loop
+same-length c =
+    let s = c .before .before .before .before .before .before .before .before .before .before .before in
+    wrote-long (store s) (rule s) _ _ (s .pre .1 .1) (done c)
+
+returns : tie.Need-returns Inv-loop μ-loop
+returns c = done c
+
+least-requires : tie.Need-least-requires Inv-loop μ-loop
+least-requires c κs = search needs
+
+sub-put-block-shell : tie.Need-sub-put-block-shell Inv-loop μ-loop
+sub-put-block-shell c = search needs
+
+part-put-block-shell-start : tie.Need-part-put-block-shell-start Inv-loop μ-loop
+part-put-block-shell-start c = search needs
+
+part-put-block-shell-end : tie.Need-part-put-block-shell-end Inv-loop μ-loop
+part-put-block-shell-end c = search needs
+
+put-block-shell-requires : tie.Need-put-block-shell-requires Inv-loop μ-loop
+put-block-shell-requires c κs =
+    let f = c .before .before .before in
+    let s = begun f in
+    (s .pre .0, (here f, room f .definitions))
+
+add-at : tie.Need-add-at Inv-loop μ-loop
+add-at c =
+    let f = c .before .before .before .before .before .before in
+    let s = begun f in
+    record { fits = omega (arith, lent-short (store s) (rule s) (steps f) (room f) (c .before .before .put-block-shell .ensures)) }
+
+add-from : tie.Need-add-from Inv-loop μ-loop
+add-from c = record { fits = omega (arith, few (c .before .before .before .before .before .before)) }
+
+loop-less : tie.Need-loop-less Inv-loop μ-loop
+loop-less c =
+    let f = c .before .before .before .before .before .before in
+    omega (arith, few f, found f .later)
+
+loop-again : tie.Need-loop-again Inv-loop μ-loop
+loop-again c =
+    let least = c .before .before .before .before .before .least in
+    let f = c .before .before .before .before .before .before in
+    let s = begun f in
+    let m = c .before .before .before .before .before .before .before .before .before .before .loop in
+    pass-again (keyWalk (store s) (rule s)) (each-shell ofBlock) (list s) (m .from) (m .inv) (found f) (wrote-lent (store s) (rule s) (steps f) (m .key) (m .at) (least .result) (least .ensures) (c .before .before .put-block-shell .ensures))
+
+pub put-block-shells-spec : {M : Type 1} → statement M
+put-block-shells-spec =
+    tie.close
+    (tie.spec
+    Inv-loop
+    μ-loop
+    blocks-counted-requires
+    put-count-requires
+    loop-holds
+    next-in-requires
+    enum-known-b
+    enum-told
+    same-length
+    returns
+    least-requires
+    sub-put-block-shell
+    part-put-block-shell-start
+    part-put-block-shell-end
+    put-block-shell-requires
+    add-at
+    add-from
+    loop-less
+    loop-again)

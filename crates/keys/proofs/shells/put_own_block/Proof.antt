@@ -1,0 +1,32 @@
+-- `put_own_block` meets its contract: a block has no head, and its row is what it is. Assumes nothing.
+use Rattle.rules.specs.Hash.{headBytes}
+use Rattle.fragments.specs.Ignoring.{ignoreOf}
+use Rattle.keys.proofs.Putting.{put-as}
+use Rattle.keys.proofs.Shelling.{owner-bytes}
+use borrow.Author.Needs.{needs}
+use Rattle.keys.proofs.shells.put_own_block.Statement.{statement}
+use Rattle.keys.proofs.shells.put_own_block.Tie as tie
+
+block-row-requires : tie.Need-block-row-requires
+block-row-requires c κs = search needs
+
+put-row-requires : tie.Need-put-row-requires
+put-row-requires c κs =
+    let s = c .before .before .before .before in
+    (s .pre .0 .sized, c .block-row .ensures .fits)
+
+same-length : tie.Need-same-length
+same-length c = search needs
+
+returns : tie.Need-returns
+unfolding headBytes
+returns c = put-as (owner-bytes (c .before .before .before .block-row .ensures) (ignoreOf (c .before .before .before .before .before .before .before .args .ignore))) (c .before .before .put-row .ensures)
+
+pub put-own-block-spec : {M : Type 1} → statement M
+put-own-block-spec =
+    tie.close
+    (tie.spec
+    block-row-requires
+    put-row-requires
+    same-length
+    returns)

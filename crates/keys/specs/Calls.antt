@@ -1,0 +1,29 @@
+-- What the key calls and the comparison of keys give: the rules' answers, for every buffer, ignore rule, number and lent bytes.
+use Prim.Native.Nat.{ℕ}
+use mathlib.Core.List.{List}
+use mathlib.Core.Path.{_≡_}
+use Rattle.rules.specs.Fragments.{Sort}
+use Rattle.rules.specs.Shells.{Ignore}
+use Rattle.rules.specs.Keys as rules
+use Rattle.rules.specs.Keys.{keyed}
+use Rattle.layout.specs.Reading.{storeIn}
+use Rattle.layout.specs.Soundness.{soundBuffer}
+use Rattle.keys.specs.declared.types.Keyed.{Keyed}
+use Rattle.keys.specs.declared.types.Keyed.the-variants.{Length, Refused}
+use Rattle.keys.specs.declared.types.Ordering.{Ordering}
+use Rattle.keys.specs.declared.types.Ordering.the-variants.{Less, Equal, Greater}
+
+-- the rules' answer for each case
+unfoldable pub keyedOf : Keyed → rules.Keyed
+keyedOf (Length n) = rules.keyLength n
+keyedOf (Refused cause) = rules.refusedKey cause
+
+unfoldable pub orderingOf : Ordering → rules.Ordering
+orderingOf Less = rules.less
+orderingOf Equal = rules.same
+orderingOf Greater = rules.greater
+
+-- of a fragment, with the lent bytes before and after
+pub record Answered (store : List ℕ) (ig : Ignore) (f : Sort) (n : ℕ) (before after : List ℕ) (q : Keyed) : Type 0 where
+  pub told : keyed (soundBuffer store) (storeIn store) ig f n before .answer ≡ keyedOf q
+  pub bytes : keyed (soundBuffer store) (storeIn store) ig f n before .bytes ≡ after

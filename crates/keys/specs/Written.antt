@@ -1,0 +1,83 @@
+-- What is written into the rest of a lent key, and how steps of a walk write.
+use Prim.Native.Nat.{ℕ, _+_, _≤_}
+use mathlib.Core.List.{List, [], _∷_, _++_}
+use mathlib.Core.Path.{_≡_}
+use lib.ListN.{length, take, drop}
+use Rattle.rules.specs.Lists.{concatMap}
+use Rattle.rules.specs.Store.{Store, Owner}
+use Rattle.rules.specs.Fragments.{Step, names}
+use Rattle.rules.specs.Shells.{Ignore, Shell, shellOf}
+use Rattle.rules.specs.Hash.{count, Numbering, locationBytes, attributeBytes, headBytes, nameOf, nameBytes, listBytes, shellBytes, allBytes}
+use Rattle.rules.specs.Keys.{longestKey}
+use Rattle.numbering.specs.Words.{Stands}
+use Rattle.numbering.specs.Numbered.{Numbers, DefinitionsFit}
+
+-- bytes from place `at` on, up to `end`: all of them if they fit; if not, no place is promised to hold one, and `end` is the same
+pub record Put (bytes before : List ℕ) (at : ℕ) (after : List ℕ) (end : ℕ) : Type 0 where
+  pub many : end ≡ at + length bytes
+  pub long : length after ≡ length before
+  pub fits : end ≤ length before → after ≡ take at before ++ (bytes ++ drop end before)
+
+-- so many are counted, where `room` bytes hold a count; else any number may be given
+pub record Counts (room many r : ℕ) : Type 0 where
+  pub same : 8 ≤ room → r ≡ many
+
+-- where the rest of a key of `long` bytes begins
+pub record Least (at long r : ℕ) : Type 0 where
+  pub inside : r ≤ long
+  pub same : at ≤ long → r ≡ at
+
+-- ---- lists
+
+-- the location and the attributes of a shell
+unfoldable pub marksBytes : Shell → List ℕ
+marksBytes sh = locationBytes (sh .location) ++ (count (length (sh .attributes)) ++ concatMap attributeBytes (sh .attributes))
+
+-- what an operation or a block puts of itself
+unfoldable pub ownerBytes : Store → Ignore → Owner → List ℕ
+ownerBytes s ig w = headBytes s w ++ shellBytes count (shellOf s ig w)
+
+-- what a list of uses puts, where these are defined
+unfoldable pub namesBytes : List ℕ → List ℕ → List ℕ
+namesBytes defined list = listBytes count (λ (n : ℕ). nameBytes (nameOf defined n)) list
+
+-- whatever numbering the words stand for, its bytes are put; they are a count and at most 16 names, of at most 9 bytes
+pub record PutsNames (s : Store) (numbers : List ℕ) (bytes : Numbering → List ℕ) (before after : List ℕ) (r : ℕ) : Type 0 where
+  pub put : (N : Numbering) → Stands s N numbers → Put (bytes N) before 0 after r
+  pub few : r ≤ 152
+
+abbrev pub PutsOperands : Store → List ℕ → List ℕ → List ℕ → List ℕ → ℕ → Type 0
+PutsOperands s numbers list before after r = PutsNames s numbers (λ (N : Numbering). namesBytes (N .values) list) before after r
+
+abbrev pub PutsSuccessors : List ℕ → List ℕ → List ℕ → List ℕ → ℕ → Type 0
+PutsSuccessors numbers list before after r = (s : Store) → PutsNames s numbers (λ (N : Numbering). namesBytes (N .blocks) list) before after r
+
+-- ---- steps
+
+-- the words of the walk's numbers, the lent bytes, and where the rest of these begins
+pub record Place : Type 0 where
+  pub numbers : List ℕ
+  pub key : List ℕ
+  pub at : ℕ
+
+abbrev pub from : List ℕ → List ℕ → Place
+from ns k = record { numbers = ns; key = k; at = 0 }
+
+abbrev pub upTo : List ℕ → List ℕ → ℕ → Place
+upTo ns k r = record { numbers = ns; key = k; at = r }
+
+-- between these places steps are numbered, and their bytes are put
+pub record Wrote (s : Store) (ig : Ignore) (xs : List Step) (a b : Place) : Type 0 where
+  pub numbers : Numbers s xs (a .numbers) (b .numbers)
+  pub put : (N : Numbering) → Stands s N (a .numbers) → Put (allBytes count s ig xs N) (a .key) (a .at) (b .key) (b .at)
+
+-- an operation's names are, under whatever ignore rule
+abbrev pub WroteNames : Store → ℕ → List ℕ → List ℕ → List ℕ → ℕ → Type 0
+WroteNames s n numbers before after r = (ig : Ignore) → Wrote s ig (names n ∷ []) (from numbers before) (upTo numbers after r)
+
+-- numbers are left for what these steps define, and with their bytes the key is no longer than a key can be
+pub record KeyFits (s : Store) (ig : Ignore) (xs : List Step) (a : Place) : Type 0 where
+  pub definitions : DefinitionsFit s xs (a .numbers)
+  pub numbering : Numbering
+  pub stands : Stands s numbering (a .numbers)
+  pub short : a .at + length (allBytes count s ig xs numbering) ≤ longestKey
