@@ -7,9 +7,13 @@
  * 0; a mapping has wz_mapping_words() words and is empty when all are 4294967295. What the words mean is in docs/STORE.md, what each cause
  * of a refusal is, in docs/CAUSES.md. A refused call has changed nothing.
  *
- * wz_...        anything may be lent: the call tests it, and refuses by 1 or 8.
- * wz_known_...  the store must be sound and the mapping allowed beside it, as wz_is_sound and wz_known_is_allowed tell; anything else is
- *               undefined behaviour. A store stays sound under every call, a mapping allowed while its store only grows.
+ * Comparisons, hashes and keys are lent a list of renamed types: words old type, present type, old type, present type; two types are the
+ * same where their present types are. It may be empty (NULL and 0).
+ *
+ * wz_...        anything may be lent: the call tests it, and refuses by 1, 8 or 14.
+ * wz_known_...  the store must be sound and the mapping allowed beside it, as wz_is_sound and wz_known_is_allowed tell, and `types` an index
+ *               that wz_known_index_types has made, or no words at all for the empty list; anything else is undefined behaviour. A store
+ *               stays sound under every call, a mapping allowed while its store only grows; an index is for any store.
  */
 #ifndef WARZHIGO_H
 #define WARZHIGO_H
@@ -80,11 +84,18 @@ size_t wz_output_bytes(void);
 /* Bytes that every key fits into. */
 size_t wz_key_bytes(void);
 
+/* The words that an index of a list of renamed types is made in. */
+size_t wz_index_words(void);
+
 /* Is it a sound store? */
 bool wz_is_sound(const uint32_t *store, size_t words);
 
 /* Is the mapping allowed beside this store? */
 bool wz_known_is_allowed(const uint32_t *store, size_t words, const uint32_t *mapping, size_t entries);
+
+/* Tests a list of renamed types (old, present, old, present) and makes its index in `index`, which must have wz_index_words() words: it is as
+ * many of them, from the first on, as this returns; 0 for a list that is refused, by 14. */
+size_t wz_known_index_types(const uint32_t *types, size_t type_words, uint32_t *index, size_t index_words);
 
 /* Where the entries are that one comparison, which answered `paired`, has made in an empty mapping: to set these words to 4294967295 empties it.
  * `sort` is 0 for operations, 1 for blocks, 2 for regions, and `lhs` the left number. The mapping must have its entries from that comparison
@@ -125,78 +136,89 @@ wz_outcome wz_known_set_operand(uint32_t *store, size_t words, uint32_t n, uint3
 
 /* Compares operations lhs and rhs, each with all inside it; locations are ignored where `locations` is true, and attributes whose kind's bit
  * is set in `bits`. What corresponds is entered into the mapping; entries made before a difference stay. */
-wz_verdict wz_operation_eq(const uint32_t *store, size_t words, uint32_t *mapping, size_t entries, uint32_t lhs, uint32_t rhs,
-                           bool locations, uint64_t bits);
+wz_verdict wz_operation_eq(const uint32_t *store, size_t words, const uint32_t *types, size_t type_words, uint32_t *mapping,
+                           size_t entries, uint32_t lhs, uint32_t rhs, bool locations, uint64_t bits);
 
 /* The same, with a store known to be sound and a mapping known to be allowed. */
-wz_verdict wz_known_operation_eq(const uint32_t *store, size_t words, uint32_t *mapping, size_t entries, uint32_t lhs, uint32_t rhs,
-                                 bool locations, uint64_t bits);
+wz_verdict wz_known_operation_eq(const uint32_t *store, size_t words, const uint32_t *types, size_t type_words, uint32_t *mapping,
+                                 size_t entries, uint32_t lhs, uint32_t rhs, bool locations, uint64_t bits);
 
 /* Compares blocks lhs and rhs likewise. */
-wz_verdict wz_basic_block_eq(const uint32_t *store, size_t words, uint32_t *mapping, size_t entries, uint32_t lhs, uint32_t rhs,
-                             bool locations, uint64_t bits);
+wz_verdict wz_basic_block_eq(const uint32_t *store, size_t words, const uint32_t *types, size_t type_words, uint32_t *mapping,
+                             size_t entries, uint32_t lhs, uint32_t rhs, bool locations, uint64_t bits);
 
 /* The same, with a store known to be sound and a mapping known to be allowed. */
-wz_verdict wz_known_basic_block_eq(const uint32_t *store, size_t words, uint32_t *mapping, size_t entries, uint32_t lhs, uint32_t rhs,
-                                   bool locations, uint64_t bits);
+wz_verdict wz_known_basic_block_eq(const uint32_t *store, size_t words, const uint32_t *types, size_t type_words, uint32_t *mapping,
+                                   size_t entries, uint32_t lhs, uint32_t rhs, bool locations, uint64_t bits);
 
 /* Compares regions lhs and rhs likewise. */
-wz_verdict wz_region_eq(const uint32_t *store, size_t words, uint32_t *mapping, size_t entries, uint32_t lhs, uint32_t rhs,
-                        bool locations, uint64_t bits);
+wz_verdict wz_region_eq(const uint32_t *store, size_t words, const uint32_t *types, size_t type_words, uint32_t *mapping, size_t entries,
+                        uint32_t lhs, uint32_t rhs, bool locations, uint64_t bits);
 
 /* The same, with a store known to be sound and a mapping known to be allowed. */
-wz_verdict wz_known_region_eq(const uint32_t *store, size_t words, uint32_t *mapping, size_t entries, uint32_t lhs, uint32_t rhs,
-                              bool locations, uint64_t bits);
+wz_verdict wz_known_region_eq(const uint32_t *store, size_t words, const uint32_t *types, size_t type_words, uint32_t *mapping,
+                              size_t entries, uint32_t lhs, uint32_t rhs, bool locations, uint64_t bits);
 
 /* The hash of operation n with all inside it. */
-wz_sum wz_operation_hash(const uint32_t *store, size_t words, uint32_t n, bool locations, uint64_t bits);
+wz_sum wz_operation_hash(const uint32_t *store, size_t words, const uint32_t *types, size_t type_words, uint32_t n, bool locations,
+                         uint64_t bits);
 
 /* The same, on a store known to be sound. */
-wz_sum wz_known_operation_hash(const uint32_t *store, size_t words, uint32_t n, bool locations, uint64_t bits);
+wz_sum wz_known_operation_hash(const uint32_t *store, size_t words, const uint32_t *types, size_t type_words, uint32_t n, bool locations,
+                               uint64_t bits);
 
 /* The hash of block n with all inside it. */
-wz_sum wz_basic_block_hash(const uint32_t *store, size_t words, uint32_t n, bool locations, uint64_t bits);
+wz_sum wz_basic_block_hash(const uint32_t *store, size_t words, const uint32_t *types, size_t type_words, uint32_t n, bool locations,
+                           uint64_t bits);
 
 /* The same, on a store known to be sound. */
-wz_sum wz_known_basic_block_hash(const uint32_t *store, size_t words, uint32_t n, bool locations, uint64_t bits);
+wz_sum wz_known_basic_block_hash(const uint32_t *store, size_t words, const uint32_t *types, size_t type_words, uint32_t n,
+                                 bool locations, uint64_t bits);
 
 /* The hash of region n with all inside it. */
-wz_sum wz_region_hash(const uint32_t *store, size_t words, uint32_t n, bool locations, uint64_t bits);
+wz_sum wz_region_hash(const uint32_t *store, size_t words, const uint32_t *types, size_t type_words, uint32_t n, bool locations,
+                      uint64_t bits);
 
 /* The same, on a store known to be sound. */
-wz_sum wz_known_region_hash(const uint32_t *store, size_t words, uint32_t n, bool locations, uint64_t bits);
+wz_sum wz_known_region_hash(const uint32_t *store, size_t words, const uint32_t *types, size_t type_words, uint32_t n, bool locations,
+                            uint64_t bits);
 
 /* Writes the key of operation n with all inside it: the bytes by which it is filed. Refused by 13 where the lent bytes are fewer than the
  * key has. */
-wz_key_answer wz_operation_key(const uint32_t *store, size_t words, uint8_t *key, size_t room, uint32_t n, bool locations, uint64_t bits);
+wz_key_answer wz_operation_key(const uint32_t *store, size_t words, const uint32_t *types, size_t type_words, uint8_t *key, size_t room,
+                               uint32_t n, bool locations, uint64_t bits);
 
 /* The same, on a store known to be sound. */
-wz_key_answer wz_known_operation_key(const uint32_t *store, size_t words, uint8_t *key, size_t room, uint32_t n, bool locations,
-                                     uint64_t bits);
+wz_key_answer wz_known_operation_key(const uint32_t *store, size_t words, const uint32_t *types, size_t type_words, uint8_t *key,
+                                     size_t room, uint32_t n, bool locations, uint64_t bits);
 
 /* The length of that key, on a store known to be sound. There must be an operation n; anything else is undefined behaviour. */
-size_t wz_known_operation_key_length(const uint32_t *store, size_t words, uint32_t n, bool locations, uint64_t bits);
+size_t wz_known_operation_key_length(const uint32_t *store, size_t words, const uint32_t *types, size_t type_words, uint32_t n,
+                                     bool locations, uint64_t bits);
 
 /* Writes the key of block n with all inside it likewise. */
-wz_key_answer wz_basic_block_key(const uint32_t *store, size_t words, uint8_t *key, size_t room, uint32_t n, bool locations,
-                                 uint64_t bits);
+wz_key_answer wz_basic_block_key(const uint32_t *store, size_t words, const uint32_t *types, size_t type_words, uint8_t *key, size_t room,
+                                 uint32_t n, bool locations, uint64_t bits);
 
 /* The same, on a store known to be sound. */
-wz_key_answer wz_known_basic_block_key(const uint32_t *store, size_t words, uint8_t *key, size_t room, uint32_t n, bool locations,
-                                       uint64_t bits);
+wz_key_answer wz_known_basic_block_key(const uint32_t *store, size_t words, const uint32_t *types, size_t type_words, uint8_t *key,
+                                       size_t room, uint32_t n, bool locations, uint64_t bits);
 
 /* The length of that key, on a store known to be sound. There must be a block n; anything else is undefined behaviour. */
-size_t wz_known_basic_block_key_length(const uint32_t *store, size_t words, uint32_t n, bool locations, uint64_t bits);
+size_t wz_known_basic_block_key_length(const uint32_t *store, size_t words, const uint32_t *types, size_t type_words, uint32_t n,
+                                       bool locations, uint64_t bits);
 
 /* Writes the key of region n with all inside it likewise. */
-wz_key_answer wz_region_key(const uint32_t *store, size_t words, uint8_t *key, size_t room, uint32_t n, bool locations, uint64_t bits);
+wz_key_answer wz_region_key(const uint32_t *store, size_t words, const uint32_t *types, size_t type_words, uint8_t *key, size_t room,
+                            uint32_t n, bool locations, uint64_t bits);
 
 /* The same, on a store known to be sound. */
-wz_key_answer wz_known_region_key(const uint32_t *store, size_t words, uint8_t *key, size_t room, uint32_t n, bool locations,
-                                  uint64_t bits);
+wz_key_answer wz_known_region_key(const uint32_t *store, size_t words, const uint32_t *types, size_t type_words, uint8_t *key,
+                                  size_t room, uint32_t n, bool locations, uint64_t bits);
 
 /* The length of that key, on a store known to be sound. There must be a region n; anything else is undefined behaviour. */
-size_t wz_known_region_key_length(const uint32_t *store, size_t words, uint32_t n, bool locations, uint64_t bits);
+size_t wz_known_region_key_length(const uint32_t *store, size_t words, const uint32_t *types, size_t type_words, uint32_t n,
+                                  bool locations, uint64_t bits);
 
 /* Compares two keys byte by byte, a proper beginning first: -1, 0 or 1. Any bytes may be lent. */
 int32_t wz_compare_keys(const uint8_t *lhs, size_t lhs_length, const uint8_t *rhs, size_t rhs_length);

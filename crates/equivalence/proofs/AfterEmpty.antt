@@ -17,12 +17,12 @@ use Rattle.equivalence.specs.Calls.{Answered}
 use Rattle.equivalence.specs.declared.types.EqResult.{EqResult}
 use Rattle.equivalence.proofs.Unmapped.{empty-words}
 
-pub answered-entered : (store before after : List ℕ) (ig : Ignore) (f : Sort) (l r : ℕ) (q : EqResult) → IsSound store → before ≡ emptyWords
-    → Answered store before after ig f l r q → EnteredBy (storeIn store) (mappingOf after) (pairedIn (answerOf q))
-answered-entered store before after ig f l r q sd empty a =
+pub answered-entered : (store types before after : List ℕ) (ig : Ignore) (f : Sort) (l r : ℕ) (q : EqResult) → IsSound store → before ≡ emptyWords
+    → Answered store types before after ig f l r q → EnteredBy (storeIn store) (mappingOf after) (pairedIn (answerOf q))
+answered-entered store types before after ig f l r q sd empty a =
     subst (λ (c : Comparison). EnteredBy (storeIn store) (c .mapping) (pairedIn (c .answer)))
-    (subst (λ (m : Mapping). comparison (soundBuffer store) (storeIn store) m ig f l r ≡ record { answer = answerOf q; mapping = mappingOf after }) empty-words
+    (subst (λ (m : Mapping). comparison (soundBuffer store) (storeIn store) types m ig f l r ≡ record { answer = answerOf q; mapping = mappingOf after }) empty-words
     (subst
-    (λ (b : List ℕ). comparison (soundBuffer store) (storeIn store) (mappingOf b) ig f l r ≡ record { answer = answerOf q; mapping = mappingOf after })
+    (λ (b : List ℕ). comparison (soundBuffer store) (storeIn store) types (mappingOf b) ig f l r ≡ record { answer = answerOf q; mapping = mappingOf after })
     empty (a .told)))
-    (comparison-entered (storeIn store) (sd .ruled) (soundBuffer store) ig f l r)
+    (comparison-entered (storeIn store) (sd .ruled) (soundBuffer store) types ig f l r)

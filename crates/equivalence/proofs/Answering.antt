@@ -1,7 +1,8 @@
 -- A comparison that is refused by a test answers its cause, and one that is not answers where its walk has come to: in a sound store no
 -- walk is too deep. Assumes nothing.
-use Prim.Native.Nat.{ℕ}
+use Prim.Native.Nat.{ℕ, zero, suc, _<_}
 use native.Mathlib.Decide.{ℕ-discrete}
+use native.Mathlib.Omega.{arith}
 use mathlib.Core.Bool.{Bool, true, false, true≢false, _&&_}
 use mathlib.Core.List.{List, [], _∷_}
 use mathlib.Core.Option.{none, some}
@@ -12,16 +13,21 @@ use Rattle.rules.specs.Fragments.{Sort, op, block, region, exists}
 use Rattle.rules.specs.Building.{firstFailed}
 use Rattle.rules.specs.Shells.{Ignore}
 use Rattle.rules.specs.Mapping.{Mapping, allowed}
+use Rattle.rules.specs.Types.{typesHold, renamed}
 use Rattle.rules.specs.Comparison.{State, unequal, oneLonger, tooDeep, Walk, on, ended, standing, _>>=_, pairOps, compareBy, start, compare}
 use Rattle.rules.specs.Answers.{Comparison, eq, neq, refused, shallow, compareTests, comparisonOf, comparisonBy, comparison}
 use Rattle.rules.proofs.Basics.Tests.{and-left, and-right}
 use Rattle.rules.proofs.Walking.Deep.{compare-not-deep}
 use Rattle.rules.proofs.Walking.Paired.{paired-most}
+use Rattle.rules.proofs.Types.Renamed.{exists-renamed, renamed-sound}
 use Rattle.layout.specs.Reading.{storeIn}
 use Rattle.layout.specs.Soundness.{soundBuffer, IsSound}
+use Rattle.renaming.specs.Index.{listIn, IsIndex}
+use Rattle.renaming.proofs.Indexed.{no-words, no-list}
+use Rattle.fragments.specs.Options.{Options, under}
 use Rattle.fragments.specs.Order.{blockList}
 use Rattle.equivalence.specs.MappingWords.{mappingLength, mappingOf}
-use Rattle.equivalence.specs.Walked.{answerOf, stateOf, outcome, Told, PairedFits, leftOf, rightOf, pairOfLists, regionWalk, opWalk, listsWalk}
+use Rattle.equivalence.specs.Walked.{answerOf, stateOf, outcome, Told, PairedFits, leftOf, rightOf, pairOfLists, regionWalk, opWalk, listsWalk, fragmentsWalk}
 use Rattle.equivalence.specs.Calls.{pairTests, Answered}
 use Rattle.equivalence.specs.declared.types.EqResult.{EqResult}
 use Rattle.equivalence.specs.declared.types.EqResult.the-variants.{Refused}
@@ -73,47 +79,55 @@ outcome-is (ended (unequal p) st) m h = refl
 outcome-is (ended (oneLonger p) st) m h = refl
 outcome-is (ended tooDeep st) m h = absurd (h st refl)
 
-module _ (b m : List ℕ) (ig : Ignore) (f : Sort) (l r : ℕ) where
-  pub unsound : soundBuffer b ≡ false → Answered b m m ig f l r (Refused 1)
+module _ (b types m : List ℕ) (ig : Ignore) (f : Sort) (l r : ℕ) where
+  pub unsound : soundBuffer b ≡ false → Answered b types m m ig f l r (Refused 1)
   unfolding comparison comparisonBy compareTests firstFailed answerOf
   unsound e = record { told = rw e refl; unchanged = λ c h. refl }
 
-  pub unallowed : soundBuffer b ≡ true → allowed (storeIn b) (mappingOf m) ≡ false → Answered b m m ig f l r (Refused 8)
+  pub unallowed : soundBuffer b ≡ true → allowed (storeIn b) (mappingOf m) ≡ false → Answered b types m m ig f l r (Refused 8)
   unfolding comparison comparisonBy compareTests firstFailed answerOf
   unallowed e a = record { told = rw (e, a) refl; unchanged = λ c h. refl }
 
-  module _ (sd : soundBuffer b ≡ true) (a : allowed (storeIn b) (mappingOf m) ≡ true) where
-    pub refused-pair : (c : ℕ) → firstFailed (pairTests (storeIn b) f l r) ≡ some c → Answered b m m ig f l r (Refused c)
+  pub untyped : soundBuffer b ≡ true → allowed (storeIn b) (mappingOf m) ≡ true → typesHold types ≡ false → Answered b types m m ig f l r (Refused 14)
+  unfolding comparison comparisonBy compareTests firstFailed answerOf
+  untyped e a t = record { told = rw (e, a, t) refl; unchanged = λ c h. refl }
+
+  module _ (sd : soundBuffer b ≡ true) (a : allowed (storeIn b) (mappingOf m) ≡ true) (ty : typesHold types ≡ true) where
+    abbrev walk : Walk
+    walk = compareBy (renamed types (storeIn b)) ig f l r (stateOf m 0)
+
+    pub refused-pair : (c : ℕ) → firstFailed (pairTests (storeIn b) f l r) ≡ some c → Answered b types m m ig f l r (Refused c)
     unfolding comparison comparisonBy compareTests firstFailed answerOf pairTests
-    refused-pair c e = record { told = rw (sd, a, e) refl; unchanged = λ k h. refl }
+    refused-pair c e = record { told = rw (sd, a, ty, e) refl; unchanged = λ k h. refl }
 
     pub walked : IsSound b → (q : EqResult) (z : List ℕ) → firstFailed (pairTests (storeIn b) f l r) ≡ none
-        → Told (compareBy (storeIn b) ig f l r (stateOf m 0)) q z → Answered b m z ig f l r q
+        → Told walk q z → Answered b types m z ig f l r q
     unfolding comparison comparisonBy compareTests firstFailed pairTests compare start stateOf Told
     walked h q z e t =
         let ex = pair-exists (storeIn b) f l r e .0 in
-        let deep = compare-not-deep (storeIn b) (h .ruled) ig f l r ex (mappingOf m) in
+        let deep = compare-not-deep (renamed types (storeIn b)) (renamed-sound types (storeIn b) (h .ruled)) ig f l r (exists-renamed types (storeIn b) f l ∙ ex) (mappingOf m) in
         record {
-          told = rw (sd, a, e) (outcome-is (compareBy (storeIn b) ig f l r (start (mappingOf m))) (mappingOf m) deep ∙ t);
-          unchanged = λ c k. let w = told-refused (compareBy (storeIn b) ig f l r (start (mappingOf m))) c z (subst (λ x. Told (compareBy (storeIn b) ig f l r (stateOf m 0)) x z) k t) in absurd (deep (w .0) (w .1));
+          told = rw (sd, a, ty, e) (outcome-is walk (mappingOf m) deep ∙ t);
+          unchanged = λ c k. let w = told-refused walk c z (subst (λ x. Told walk x z) k t) in absurd (deep (w .0) (w .1));
         }
 
 -- ---- the walk of each sort, and that it enters no more than there are operations and blocks
 
-pub few-walk : (s : Store) → sound s ≡ true → (ig : Ignore) (f : Sort) (l r : ℕ) → exists s f l ≡ true → (m : List ℕ) → PairedFits (compareBy s ig f l r (stateOf m 0))
+pub few-walk : (s : Store) → sound s ≡ true → (o : Options) (f : Sort) (l r : ℕ) → exists s f l ≡ true → (m : List ℕ) → PairedFits (fragmentsWalk s o f l r (stateOf m 0))
 unfolding stateOf
-few-walk s sd ig f l r e m = paired-most s sd ig f l r e (stateOf m 0)
+few-walk s sd o f l r e m =
+    paired-most (under o s) (renamed-sound (o .types) s sd) (o .ignore) f l r (exists-renamed (o .types) s f l ∙ e) (stateOf m 0)
 
-module _ (s : Store) (ig : Ignore) (l r : ℕ) (st : State) where
-  pub op-walk : compareBy s ig op l r st ≡ pairOps s ig l r st >>= opWalk s ig l r
+module _ (s : Store) (o : Options) (l r : ℕ) (st : State) where
+  pub op-walk : fragmentsWalk s o op l r st ≡ pairOps (under o s) (o .ignore) l r st >>= opWalk s o l r
   unfolding compareBy opWalk
   op-walk = refl
 
-  pub block-walk : compareBy s ig block l r st ≡ listsWalk s ig (Alone l r) st
+  pub block-walk : fragmentsWalk s o block l r st ≡ listsWalk s o (Alone l r) st
   unfolding compareBy listsWalk opWalk leftOf rightOf blockList pairOfLists
   block-walk = refl
 
-  pub region-walk : compareBy s ig region l r st ≡ regionWalk s ig l r st
+  pub region-walk : fragmentsWalk s o region l r st ≡ regionWalk s o l r st
   unfolding compareBy regionWalk
   region-walk = refl
 
@@ -124,3 +138,14 @@ allowed-long s b h = go (ℕ-discrete (length b) mappingLength)
     go : Dec (length b ≡ mappingLength) → length b ≡ mappingLength
     go (yes e) = e
     go (no ne) = absurd (true≢false (sym h ∙ wrong-length s b ne))
+
+-- ---- a lent list of renamed types
+
+-- no words are the index of the list that they are
+pub no-types : (w : List ℕ) → length w ≡ 0 → IsIndex w × (listIn w ≡ w)
+no-types [] e = (no-words, no-list)
+no-types (x ∷ w) e = absurd (omega (arith, e))
+
+pub not-none : (n : ℕ) → (n ≡ 0 → ⊥) → 0 < n
+not-none zero h = absurd (h refl)
+not-none (suc n) h = omega arith

@@ -6,14 +6,16 @@ use mathlib.Core.Bool.{true, false}
 use mathlib.Core.List.{List}
 use mathlib.Core.Path.{_≡_, refl, sym, ap, _∙_}
 use Rattle.rules.specs.Store.{Store, Owner, ofOp, ofBlock, valuesOf, maxValues}
-use Rattle.rules.specs.Shells.{Ignore, sameShells}
+use Rattle.rules.specs.Shells.{sameShells}
 use Rattle.rules.specs.Comparison.{standing, expect, enterOps, pairOps, enterBlocks, pairBlocks}
 use Rattle.rules.specs.Answers.{comparisonOf}
 use Rattle.rules.proofs.Basics.Tests.{and-right}
+use Rattle.rules.proofs.Types.Renamed.{values-renamed}
 use Rattle.layout.specs.Columns.{Cols, columns}
 use Rattle.layout.specs.Reading.{opCount, storeOf, storeIn, consecutive}
 use Rattle.layout.specs.Soundness.{IsSound}
 use Rattle.equivalence.specs.MappingWords.{mappingOf, opMapped, blockMapped, valuesMapped}
+use Rattle.fragments.specs.Options.{Options, under}
 use Rattle.fragments.specs.Rows.{RowOf}
 use Rattle.fragments.specs.declared.types.Row.{Row}
 use Rattle.fragments.proofs.ByRows.{headOfOp, head-whole}
@@ -40,35 +42,35 @@ side {l = l} {r = r} hl hr e =
       right = hr .values ∙ ap (consecutive (r .value)) (sym e);
     }
 
-module _ (b : List ℕ) (ig : Ignore) (x y : ℕ) {l r : Row} where
+module _ (b : List ℕ) (o : Options) (x y : ℕ) {l r : Row} where
   pub op-side : IsSound b → x < opCount (columns b) → y < opCount (columns b) → RowOf (columns b) (ofOp x) l → RowOf (columns b) (ofOp y) r
-      → sameShells (storeIn b) ig (ofOp x) (ofOp y) ≡ true → Side (columns b) (ofOp x) (ofOp y) l r
+      → sameShells (under o (storeIn b)) (o .ignore) (ofOp x) (ofOp y) ≡ true → Side (columns b) (ofOp x) (ofOp y) l r
   op-side s lx ly el er t =
-      let same = sym (op-shells ig (head-whole b s x lx) (head-whole b s y ly) el er) ∙ t in
-      side el er (as-many (columns b) ig l r (and-right (sameHeads (headOfOp (columns b) x) (headOfOp (columns b) y)) (sameRows (columns b) ig l r) same))
+      let same = sym (op-shells o (head-whole b s x lx) (head-whole b s y ly) el er) ∙ t in
+      side el er (as-many (columns b) o l r (and-right (sameHeads (headOfOp (columns b) x) (headOfOp (columns b) y)) (sameRows (columns b) o l r) same))
 
-  pub block-side : RowOf (columns b) (ofBlock x) l → RowOf (columns b) (ofBlock y) r → sameShells (storeIn b) ig (ofBlock x) (ofBlock y) ≡ true
+  pub block-side : RowOf (columns b) (ofBlock x) l → RowOf (columns b) (ofBlock y) r → sameShells (under o (storeIn b)) (o .ignore) (ofBlock x) (ofBlock y) ≡ true
       → Side (columns b) (ofBlock x) (ofBlock y) l r
-  block-side el er t = side el er (as-many (columns b) ig l r (sym (block-shells ig el er) ∙ t))
+  block-side el er t = side el er (as-many (columns b) o l r (sym (block-shells o el er) ∙ t))
 
 -- ---- what is told
 
-module _ (s : Store) (ig : Ignore) (l r : ℕ) (b : List ℕ) (n : ℕ) where
-  pub ops-unlike : sameShells s ig (ofOp l) (ofOp r) ≡ false → Told (pairOps s ig l r (stateOf b n)) (FirstNEQOps l r n) b
+module _ (s : Store) (o : Options) (l r : ℕ) (b : List ℕ) (n : ℕ) where
+  pub ops-unlike : sameShells (under o s) (o .ignore) (ofOp l) (ofOp r) ≡ false → Told (pairOps (under o s) (o .ignore) l r (stateOf b n)) (FirstNEQOps l r n) b
   unfolding Told outcome pairOps expect comparisonOf standing answerOf stateOf
   ops-unlike e = rw e refl
 
-  pub blocks-unlike : sameShells s ig (ofBlock l) (ofBlock r) ≡ false → Told (pairBlocks s ig l r (stateOf b n)) (FirstNEQBlocks l r n) b
+  pub blocks-unlike : sameShells (under o s) (o .ignore) (ofBlock l) (ofBlock r) ≡ false → Told (pairBlocks (under o s) (o .ignore) l r (stateOf b n)) (FirstNEQBlocks l r n) b
   unfolding Told outcome pairBlocks expect comparisonOf standing answerOf stateOf
   blocks-unlike e = rw e refl
 
   module _ (c : List ℕ) (ls rs : List ℕ) where
-    pub ops-alike : sameShells s ig (ofOp l) (ofOp r) ≡ true → valuesOf s (ofOp l) ≡ ls → valuesOf s (ofOp r) ≡ rs
-        → mappingOf c ≡ valuesMapped (opMapped (mappingOf b) l r) ls rs → Told (pairOps s ig l r (stateOf b n)) (Eq (n + 1)) c
+    pub ops-alike : sameShells (under o s) (o .ignore) (ofOp l) (ofOp r) ≡ true → valuesOf s (ofOp l) ≡ ls → valuesOf s (ofOp r) ≡ rs
+        → mappingOf c ≡ valuesMapped (opMapped (mappingOf b) l r) ls rs → Told (pairOps (under o s) (o .ignore) l r (stateOf b n)) (Eq (n + 1)) c
     unfolding Told outcome pairOps expect comparisonOf standing answerOf stateOf enterOps valuesMapped opMapped
-    ops-alike e el er m = rw (e, el, er, m) refl
+    ops-alike e el er m = rw (e, values-renamed (o .types) s (ofOp l) ∙ el, values-renamed (o .types) s (ofOp r) ∙ er, m) refl
 
-    pub blocks-alike : sameShells s ig (ofBlock l) (ofBlock r) ≡ true → valuesOf s (ofBlock l) ≡ ls → valuesOf s (ofBlock r) ≡ rs
-        → mappingOf c ≡ valuesMapped (blockMapped (mappingOf b) l r) ls rs → Told (pairBlocks s ig l r (stateOf b n)) (Eq (n + 1)) c
+    pub blocks-alike : sameShells (under o s) (o .ignore) (ofBlock l) (ofBlock r) ≡ true → valuesOf s (ofBlock l) ≡ ls → valuesOf s (ofBlock r) ≡ rs
+        → mappingOf c ≡ valuesMapped (blockMapped (mappingOf b) l r) ls rs → Told (pairBlocks (under o s) (o .ignore) l r (stateOf b n)) (Eq (n + 1)) c
     unfolding Told outcome pairBlocks expect comparisonOf standing answerOf stateOf enterBlocks valuesMapped blockMapped
-    blocks-alike e el er m = rw (e, el, er, m) refl
+    blocks-alike e el er m = rw (e, values-renamed (o .types) s (ofBlock l) ∙ el, values-renamed (o .types) s (ofBlock r) ∙ er, m) refl

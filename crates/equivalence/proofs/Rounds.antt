@@ -3,103 +3,105 @@
 use Prim.Native.Nat.{ℕ, suc, _+_, _-_, _<_, _≤_, min}
 use native.Mathlib.Decide.{decLt}
 use native.Mathlib.Omega.{arith}
-use mathlib.Core.Bool.{true, false, _&&_}
+use mathlib.Core.Bool.{true, false}
 use mathlib.Core.List.{List, [], _∷_, List·Memᴰ, List·Memᴰ·head}
 use mathlib.Core.Path.{_≡_, refl, sym, ap, ap₂, subst, _∙_}
 use lib.ListN.{length}
-use Rattle.rules.specs.Store.{Store, opAround, opsOf, regionsOf, regionExists, sound}
-use Rattle.rules.specs.Fragments.{op, region, exists, levels}
-use Rattle.rules.specs.Shells.{Ignore}
-use Rattle.rules.specs.Comparison.{State, Walk, on, standing, _>>=_, eachPair, expect, operandsAgree, successorsAgree, checkNames, checkOps, pass1, pass2, pass3, compareLists, compareRegions, compareBy}
+use Rattle.rules.specs.Store.{Store, opAround, opsOf, blocksOf, regionsOf, regionExists, sound}
+use Rattle.rules.specs.Fragments.{region, exists, levels}
+use Rattle.rules.specs.Types.{renamed}
+use Rattle.rules.specs.Comparison.{State, Walk, on, standing, _>>=_, eachPair, expect, checkNames, checkOps, pass3, compareLists, compareRegions, compareBy}
 use Rattle.rules.specs.Answers.{comparisonOf}
 use Rattle.rules.proofs.Walking.Enough.{enough-one}
 use Rattle.rules.proofs.Walking.Deep.{walks-not-deep}
 use Rattle.rules.proofs.Walking.Paired.{Grows, grows-each, grows-ops, grows-pass2, grows-pass3, grows-regions}
+use Rattle.rules.proofs.Types.Renamed.{renamed-sound}
 use Rattle.layout.specs.Columns.{Cols, at, opRegionFirst, opRegionEnd}
 use Rattle.layout.specs.Reading.{opCount, regionCount, storeOf}
 use Rattle.layout.proofs.Laid.{Laid}
 use Rattle.layout.proofs.Ranges.{range, range-empty, range-first, length-range, regions-range, in-range}
+use Rattle.fragments.specs.Options.{Options, under}
 use Rattle.fragments.specs.Order.{blockList}
 use Rattle.fragments.specs.declared.types.Blocks.{Blocks}
 use Rattle.fragments.specs.declared.types.Blocks.the-variants as list
 use Rattle.fragments.proofs.Below.{below, aroundList, around-all, op-falls}
-use Rattle.equivalence.specs.MappingWords.{mappingOf}
-use Rattle.equivalence.specs.Walked.{answerOf, stateOf, outcome, Told, PairedFits, leftOf, rightOf, lefts, rights, pairOfLists, regionWalk, opWalk, opsWalk, listsWalk}
+use Rattle.equivalence.specs.MappingWords.{mappingOf, namesAgree}
+use Rattle.equivalence.specs.Walked.{answerOf, stateOf, outcome, Told, PairedFits, leftOf, rightOf, lefts, rights, pairOfLists, regionWalk, opWalk, opsWalk, listsWalk, pass1Walk, pass2Walk}
 use Rattle.equivalence.specs.declared.types.EqResult.{EqResult}
 use Rattle.equivalence.specs.declared.types.EqResult.the-variants.{Eq, FirstNEQOps}
 use Rattle.equivalence.specs.declared.types.BlockLists.{BlockLists}
 use Rattle.equivalence.specs.declared.types.BlockLists.the-variants.{InRegions}
 use Rattle.equivalence.proofs.Telling.{NotEq, told-ended, told-bind, few-part}
 
-module _ (s : Store) (ig : Ignore) where
+module _ (s : Store) (o : Options) where
   -- ---- two regions
 
   -- one region more to enter makes no difference
-  pub region-lists : sound s ≡ true → (l r : ℕ) → regionExists s l ≡ true → (st : State) → regionWalk s ig l r st ≡ listsWalk s ig (InRegions l r) st
-  unfolding regionWalk listsWalk opWalk leftOf rightOf blockList pairOfLists compareRegions compareBy exists
-  region-lists sd l r e st = sym (enough-one s ig levels l r st (λ t h. walks-not-deep s sd ig region l r e st t h))
+  pub region-lists : sound s ≡ true → (l r : ℕ) → regionExists s l ≡ true → (st : State) → regionWalk s o l r st ≡ listsWalk s o (InRegions l r) st
+  unfolding regionWalk listsWalk opWalk leftOf rightOf blockList pairOfLists compareRegions compareBy exists renamed blocksOf regionExists
+  region-lists sd l r e st = sym (enough-one (under o s) (o .ignore) levels l r st (λ t h. walks-not-deep (under o s) (renamed-sound (o .types) s sd) (o .ignore) region l r e st t h))
 
   -- ---- two operations
 
-  pub names-disagree : (l r : ℕ) (b : List ℕ) (n : ℕ) → (operandsAgree s (mappingOf b) l r && successorsAgree s (mappingOf b) l r) ≡ false
-      → Told (opWalk s ig l r (stateOf b n)) (FirstNEQOps l r n) b
+  pub names-disagree : (l r : ℕ) (b : List ℕ) (n : ℕ) → namesAgree (under o s) (mappingOf b) l r ≡ false
+      → Told (opWalk s o l r (stateOf b n)) (FirstNEQOps l r n) b
   unfolding Told outcome opWalk checkOps checkNames expect comparisonOf standing answerOf stateOf
   names-disagree l r b n e = rw e refl
 
-  pub names-passed : (l r : ℕ) (b : List ℕ) (n : ℕ) → (operandsAgree s (mappingOf b) l r && successorsAgree s (mappingOf b) l r) ≡ true
-      → opWalk s ig l r (stateOf b n) ≡ eachPair (regionWalk s ig) (regionsOf s l) (regionsOf s r) (stateOf b n)
-  unfolding opWalk checkOps checkNames expect stateOf regionWalk
+  pub names-passed : (l r : ℕ) (b : List ℕ) (n : ℕ) → namesAgree (under o s) (mappingOf b) l r ≡ true
+      → opWalk s o l r (stateOf b n) ≡ eachPair (regionWalk s o) (regionsOf s l) (regionsOf s r) (stateOf b n)
+  unfolding opWalk checkOps checkNames expect stateOf regionWalk renamed regionsOf
   names-passed l r b n e = rw e refl
 
-  pub grows-region : (l r : ℕ) → Grows (regionWalk s ig l r)
+  pub grows-region : (l r : ℕ) → Grows (regionWalk s o l r)
   unfolding regionWalk
-  grows-region l r = grows-regions s ig levels l r
+  grows-region l r = grows-regions (under o s) (o .ignore) levels l r
 
-  pub grows-op : (l r : ℕ) → Grows (opWalk s ig l r)
+  pub grows-op : (l r : ℕ) → Grows (opWalk s o l r)
   unfolding opWalk
-  grows-op l r = grows-ops s _ (grows-regions s ig levels) l r
+  grows-op l r = grows-ops (under o s) _ (grows-regions (under o s) (o .ignore) levels) l r
 
   -- ---- two lists of blocks
 
-  pub grows-ops-in : (l r : ℕ) → Grows (opsWalk s ig l r)
+  pub grows-ops-in : (l r : ℕ) → Grows (opsWalk s o l r)
   unfolding opsWalk
-  grows-ops-in l r = grows-each (opWalk s ig) grows-op _ _
+  grows-ops-in l r = grows-each (opWalk s o) grows-op _ _
 
   module _ (x : BlockLists) (st : State) where
     abbrev pub first : Walk
-    first = pass1 s ig (pairOfLists x) (lefts s x) (rights s x) st
+    first = pass1Walk s o x st
 
     abbrev pub second : State → Walk
-    second = pass2 s ig (lefts s x) (rights s x)
+    second = pass2Walk s o x
 
     abbrev third : State → Walk
-    third = pass3 s (opWalk s ig) (lefts s x) (rights s x)
+    third = pass3 (under o s) (opWalk s o) (lefts s x) (rights s x)
 
     grows-third : Grows third
-    grows-third = grows-pass3 s (opWalk s ig) grows-op (lefts s x) (rights s x)
+    grows-third = grows-pass3 (under o s) (opWalk s o) grows-op (lefts s x) (rights s x)
 
-    pub few-first : PairedFits (listsWalk s ig x st) → PairedFits first
+    pub few-first : PairedFits (listsWalk s o x st) → PairedFits first
     unfolding listsWalk compareLists
-    few-first h = few-part (first >>= second) first second (grows-pass2 s ig (lefts s x) (rights s x)) refl (few-part (listsWalk s ig x st) (first >>= second) third grows-third refl h)
+    few-first h = few-part (first >>= second) first second (grows-pass2 (under o s) (o .ignore) (lefts s x) (rights s x)) refl (few-part (listsWalk s o x st) (first >>= second) third grows-third refl h)
 
-    pub first-ended : (q : EqResult) (b : List ℕ) → NotEq q → Told first q b → Told (listsWalk s ig x st) q b
+    pub first-ended : (q : EqResult) (b : List ℕ) → NotEq q → Told first q b → Told (listsWalk s o x st) q b
     unfolding listsWalk compareLists
     first-ended q b k h = told-ended (first >>= second) third q b k (told-ended first second q b k h)
 
     module _ (b : List ℕ) {n : ℕ} {q : EqResult} (e : q ≡ Eq n) (h : Told first q b) where
-      past-first : listsWalk s ig x st ≡ second (stateOf b n) >>= third
+      past-first : listsWalk s o x st ≡ second (stateOf b n) >>= third
       unfolding listsWalk compareLists
       past-first = ap (λ (w : Walk). w >>= third) (told-bind first second b e h)
 
-      pub few-second : PairedFits (listsWalk s ig x st) → PairedFits (second (stateOf b n))
-      few-second f = few-part (listsWalk s ig x st) (second (stateOf b n)) third grows-third past-first f
+      pub few-second : PairedFits (listsWalk s o x st) → PairedFits (second (stateOf b n))
+      few-second f = few-part (listsWalk s o x st) (second (stateOf b n)) third grows-third past-first f
 
-      pub second-ended : (o : EqResult) (c : List ℕ) → NotEq o → Told (second (stateOf b n)) o c → Told (listsWalk s ig x st) o c
-      second-ended o c k t = subst (λ (w : Walk). Told w o c) (sym past-first) (told-ended (second (stateOf b n)) third o c k t)
+      pub second-ended : (p : EqResult) (c : List ℕ) → NotEq p → Told (second (stateOf b n)) p c → Told (listsWalk s o x st) p c
+      second-ended p c k t = subst (λ (w : Walk). Told w p c) (sym past-first) (told-ended (second (stateOf b n)) third p c k t)
 
-      pub third-starts : (c : List ℕ) {m : ℕ} {o : EqResult} → o ≡ Eq m → Told (second (stateOf b n)) o c
-          → listsWalk s ig x st ≡ eachPair (opsWalk s ig) (lefts s x) (rights s x) (stateOf c m)
-      unfolding opsWalk pass3
+      pub third-starts : (c : List ℕ) {m : ℕ} {p : EqResult} → p ≡ Eq m → Told (second (stateOf b n)) p c
+          → listsWalk s o x st ≡ eachPair (opsWalk s o) (lefts s x) (rights s x) (stateOf c m)
+      unfolding opsWalk pass3 renamed opsOf
       third-starts c f t = past-first ∙ told-bind (second (stateOf b n)) third c f t
 
 -- ---- what is below a block's operations

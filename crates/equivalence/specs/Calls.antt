@@ -1,4 +1,4 @@
--- What a comparison gives: the rules' answer and mapping, for every buffer, mapping, ignore rule and pair of numbers.
+-- What a comparison gives: the rules' answer and mapping, for every buffer, list of renamed types, mapping, ignore rule and pair of numbers.
 use Prim.Native.Nat.{ℕ}
 use mathlib.Core.Bool.{Bool, _&&_}
 use mathlib.Core.List.{List, [], _∷_}
@@ -18,8 +18,8 @@ use Rattle.equivalence.specs.declared.types.EqResult.the-variants.{Refus
 unfoldable pub pairTests : Store → Sort → ℕ → ℕ → List (Bool × ℕ)
 pairTests s f l r = (exists s f l && exists s f r, 2) ∷ (shallow s f l && shallow s f r, 12) ∷ []
 
--- of two fragments of one sort, begun with a lent mapping
-pub record Answered (store before after : List ℕ) (ig : rules.Ignore) (f : Sort) (l r : ℕ) (q : EqResult) : Type 0 where
-  pub told : comparison (soundBuffer store) (storeIn store) (mappingOf before) ig f l r ≡ record { answer = answerOf q; mapping = mappingOf after }
+-- of two fragments of one sort, under a list of renamed types, begun with a lent mapping
+pub record Answered (store types before after : List ℕ) (ig : rules.Ignore) (f : Sort) (l r : ℕ) (q : EqResult) : Type 0 where
+  pub told : comparison (soundBuffer store) (storeIn store) types (mappingOf before) ig f l r ≡ record { answer = answerOf q; mapping = mappingOf after }
   -- "refused: ... mapping as they were": every word
   pub unchanged : (cause : ℕ) → q ≡ Refused cause → after ≡ before

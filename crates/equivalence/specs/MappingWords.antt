@@ -6,6 +6,7 @@ use lib.Dec.{eqb, ltb}
 use lib.ListN.{take, drop, set, replicate}
 use Rattle.rules.specs.Store.{Store, typeOf, maxValues, maxBlocks}
 use Rattle.rules.specs.Mapping.{Mapping, noImage, image, enterAll}
+use Rattle.rules.specs.Comparison.{operandsAgree, successorsAgree}
 
 abbrev pub mappingLength : ℕ
 mappingLength = 2816
@@ -48,3 +49,8 @@ sameOperand s m a b = eqb (image (m .values) a) b && eqb (typeOf s a) (typeOf s 
 -- "each successor's image equals the right one": one pair
 unfoldable pub sameSuccessor : Mapping → ℕ → ℕ → Bool
 sameSuccessor m a b = eqb (image (m .blocks) a) b
+
+-- ---- what two operations name
+
+abbrev pub namesAgree : Store → Mapping → ℕ → ℕ → Bool
+namesAgree s m l r = operandsAgree s m l r && successorsAgree s m l r

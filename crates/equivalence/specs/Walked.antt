@@ -4,11 +4,12 @@ use mathlib.Core.List.{List}
 use mathlib.Core.Path.{_≡_}
 use lib.ListN.{length}
 use Rattle.rules.specs.Store.{Store, opsOf}
-use Rattle.rules.specs.Fragments.{op, block, region, levels}
-use Rattle.rules.specs.Shells as rules
-use Rattle.rules.specs.Comparison.{State, Pair, Walk, standing, eachPair, pairOf, checkOps, compareLists, compareRegions}
+use Rattle.rules.specs.Fragments.{Sort, op, block, region, levels}
+use Rattle.rules.specs.Comparison.{State, Pair, Walk, standing, pairwise, eachPair, pairOf, pairOps, checkOps, pass1, pass2, compareLists, compareRegions, compareBy}
 use Rattle.rules.specs.Answers.{Compared, Comparison, eq, neq, refused, comparisonOf}
 use Rattle.layout.specs.Soundness.{IsSound}
+use Rattle.renaming.specs.Index.{IsIndex}
+use Rattle.fragments.specs.Options.{Options, under}
 use Rattle.fragments.specs.Order.{blockList}
 use Rattle.fragments.specs.declared.types.Blocks.{Blocks}
 use Rattle.fragments.specs.declared.types.Blocks.the-variants as list
@@ -38,9 +39,10 @@ outcome w = comparisonOf w (standing w .mapping)
 unfoldable pub Told : Walk → EqResult → List ℕ → Type 0
 Told w q b = outcome w ≡ record { answer = answerOf q; mapping = mappingOf b }
 
--- a sound store, and a mapping of the right length: what every step of a walk asks for
-pub record ReadyToCompare (store mapping : List ℕ) : Type 0 where
+-- a sound store, an index of renamed types, and a mapping of the right length: what every step of a walk asks for
+pub record ReadyToCompare (store types mapping : List ℕ) : Type 0 where
   pub sound : IsSound store
+  pub indexed : IsIndex types
   pub long : length mapping ≡ mappingLength
 
 -- a walk enters no more than there are operations and blocks
@@ -80,16 +82,32 @@ unfoldable pub Bounded : BlockLists → Type 0
 Bounded (InRegions l r) = (l ≤ 256) × (r ≤ 256)
 Bounded (Alone l r) = (l ≤ 256) × (r ≤ 256)
 
--- the walk over two regions, over two operations that are paired, and over two lists of blocks
-unfoldable pub regionWalk : Store → rules.Ignore → ℕ → ℕ → State → Walk
-regionWalk s ig l r st = compareRegions levels s ig l r st
+-- ---- walks: types are read as the present ones, and children are those of the store itself
 
-unfoldable pub opWalk : Store → rules.Ignore → ℕ → ℕ → State → Walk
-opWalk s ig l r st = checkOps s (compareRegions levels s ig) l r st
+-- over two regions, over two operations that are paired, and over two lists of blocks
+unfoldable pub regionWalk : Store → Options → ℕ → ℕ → State → Walk
+regionWalk s o l r st = compareRegions levels (under o s) (o .ignore) l r st
+
+unfoldable pub opWalk : Store → Options → ℕ → ℕ → State → Walk
+opWalk s o l r st = checkOps (under o s) (compareRegions levels (under o s) (o .ignore)) l r st
 
 -- over the operations of two blocks that are paired
-unfoldable pub opsWalk : Store → rules.Ignore → ℕ → ℕ → State → Walk
-opsWalk s ig l r st = eachPair (opWalk s ig) (opsOf s l) (opsOf s r) st
+unfoldable pub opsWalk : Store → Options → ℕ → ℕ → State → Walk
+opsWalk s o l r st = eachPair (opWalk s o) (opsOf s l) (opsOf s r) st
 
-unfoldable pub listsWalk : Store → rules.Ignore → BlockLists → State → Walk
-listsWalk s ig x st = compareLists s ig (opWalk s ig) (pairOfLists x) (lefts s x) (rights s x) st
+unfoldable pub listsWalk : Store → Options → BlockLists → State → Walk
+listsWalk s o x st = compareLists (under o s) (o .ignore) (opWalk s o) (pairOfLists x) (lefts s x) (rights s x) st
+
+-- its first two passes, and the second in two blocks
+abbrev pub pass1Walk : Store → Options → BlockLists → State → Walk
+pass1Walk s o x st = pass1 (under o s) (o .ignore) (pairOfLists x) (lefts s x) (rights s x) st
+
+abbrev pub pairsWalk : Store → Options → ℕ → ℕ → State → Walk
+pairsWalk s o l r st = pairwise (pairOps (under o s) (o .ignore)) (pairOf block l r) (opsOf s l) (opsOf s r) st
+
+abbrev pub pass2Walk : Store → Options → BlockLists → State → Walk
+pass2Walk s o x st = pass2 (under o s) (o .ignore) (lefts s x) (rights s x) st
+
+-- over two fragments of one sort
+abbrev pub fragmentsWalk : Store → Options → Sort → ℕ → ℕ → State → Walk
+fragmentsWalk s o f l r st = compareBy (under o s) (o .ignore) f l r st

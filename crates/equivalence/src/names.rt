@@ -5,18 +5,21 @@ use layout::columns::VALUE_TYPE;
 use layout::columns::at;
 use layout::slices::operands_of;
 use layout::slices::successors_of;
+use renaming::lookup::same_type;
 ghost use mathlib.Core.Path.{_≡_};
-ghost use mathlib.Core.Bool.{true, _&&_};
+ghost use mathlib.Core.Bool.{true};
 ghost use Prim.Native.Nat.{_<_};
 ghost use lib.Dec.{ltb};
 ghost use lib.ListN.{length, getD};
 ghost use Rattle.rules.specs.Lists.{all, allPairs};
 ghost use Rattle.rules.specs.Mapping.{orSelf};
+ghost use Rattle.rules.specs.Types.{renamed};
 ghost use Rattle.layout.specs.Columns.{columns};
 ghost use Rattle.rules.specs.Comparison.{operandsAgree, successorsAgree};
 ghost use Rattle.layout.specs.Reading.{opCount, valueCount, storeIn};
-ghost use Rattle.layout.specs.Soundness.{Arranged};
-ghost use Rattle.equivalence.specs.MappingWords.{mappingLength, mappingOf, sameOperand, sameSuccessor};
+ghost use Rattle.layout.specs.Soundness.{Arranged, IsSound};
+ghost use Rattle.renaming.specs.Index.{listIn, IsIndex};
+ghost use Rattle.equivalence.specs.MappingWords.{mappingLength, mappingOf, sameOperand, sameSuccessor, namesAgree};
 ghost use Rattle.equivalence.specs.Walked.{ReadyToCompare};
 
 // The image of number n, whose entry is at i, or n itself if it is not mapped.
@@ -32,18 +35,23 @@ fn image_at(mapping: &[u32], i: usize, n: u32) -> u32
 }
 
 // If an operand is mapped, its image must match. Otherwise, it must be identical (e.g. a free/external value shared by both sides). The
-// types of both must be the same.
-fn value_agrees(store: &[u32], mapping: &[u32], l: u32, r: u32) -> bool
+// present types of both must be the same.
+fn value_agrees(store: &[u32], types: &[u32], mapping: &[u32], l: u32, r: u32) -> bool
     requires { ⌜ Arranged (now store) ⌝ }
+    requires { ⌜ IsIndex (now types) ⌝ }
     requires { ⌜ length (now mapping) ≡ mappingLength ⌝ }
     requires { ⌜ l < valueCount (columns (now store)) ⌝ }
     requires { ⌜ r < valueCount (columns (now store)) ⌝ }
-    ensures { λ q. ⌜ q ≡ sameOperand (storeIn (now (store .entry))) (mappingOf (now (mapping .entry))) l r ⌝ }
+    ensures { λ q. ⌜ q ≡ sameOperand (renamed (listIn (now (types .entry))) (storeIn (now (store .entry)))) (mappingOf (now (mapping .entry))) l r ⌝ }
 {
     if image_at(mapping, l as usize, l) != r {
         return false;
     }
-    at(store, VALUE_TYPE, l as usize) == at(store, VALUE_TYPE, r as usize)
+    same_type(
+        types,
+        at(store, VALUE_TYPE, l as usize),
+        at(store, VALUE_TYPE, r as usize),
+    )
 }
 
 // If a successor is mapped, its image must match. Otherwise, it must be identical (e.g. a free/external block shared by both sides).
@@ -66,17 +74,18 @@ fn shorter(l: &[u32], r: &[u32]) -> usize
 }
 
 // Each pair of two lists of operands agrees.
-pub fn operands_agree(store: &[u32], mapping: &[u32], l: &[u32], r: &[u32]) -> bool
+pub fn operands_agree(store: &[u32], types: &[u32], mapping: &[u32], l: &[u32], r: &[u32]) -> bool
     requires { ⌜ Arranged (now store) ⌝ }
+    requires { ⌜ IsIndex (now types) ⌝ }
     requires { ⌜ length (now mapping) ≡ mappingLength ⌝ }
     requires { ⌜ all (λ v. ltb v (valueCount (columns (now store)))) (now l) ≡ true ⌝ }
     requires { ⌜ all (λ v. ltb v (valueCount (columns (now store)))) (now r) ≡ true ⌝ }
-    ensures { λ q. ⌜ q ≡ allPairs (sameOperand (storeIn (now (store .entry))) (mappingOf (now (mapping .entry)))) (now (l .entry)) (now (r .entry)) ⌝ }
+    ensures { λ q. ⌜ q ≡ allPairs (sameOperand (renamed (listIn (now (types .entry))) (storeIn (now (store .entry)))) (mappingOf (now (mapping .entry)))) (now (l .entry)) (now (r .entry)) ⌝ }
 {
     let n = shorter(l, r);
     let mut i = 0;
     while i < n {
-        if !value_agrees(store, mapping, l[i], r[i]) {
+        if !value_agrees(store, types, mapping, l[i], r[i]) {
             return false;
         }
         i += 1;
@@ -102,14 +111,15 @@ pub fn successors_agree(mapping: &[u32], l: &[u32], r: &[u32]) -> bool
 }
 
 // Each operand of two operations agrees.
-fn op_operands_agree(store: &[u32], mapping: &[u32], lhs: usize, rhs: usize) -> bool
-    requires { ⌜ ReadyToCompare (now store) (now mapping) ⌝ }
+fn op_operands_agree(store: &[u32], types: &[u32], mapping: &[u32], lhs: usize, rhs: usize) -> bool
+    requires { ⌜ ReadyToCompare (now store) (now types) (now mapping) ⌝ }
     requires { ⌜ lhs < opCount (columns (now store)) ⌝ }
     requires { ⌜ rhs < opCount (columns (now store)) ⌝ }
-    ensures { λ q. ⌜ q ≡ operandsAgree (storeIn (now (store .entry))) (mappingOf (now (mapping .entry))) lhs rhs ⌝ }
+    ensures { λ q. ⌜ q ≡ operandsAgree (renamed (listIn (now (types .entry))) (storeIn (now (store .entry)))) (mappingOf (now (mapping .entry))) lhs rhs ⌝ }
 {
     operands_agree(
         store,
+        types,
         mapping,
         operands_of(store, lhs),
         operands_of(store, rhs),
@@ -118,7 +128,8 @@ fn op_operands_agree(store: &[u32], mapping: &[u32], lhs: usize, rhs: usize) -> 
 
 // Each successor of two operations agrees.
 fn op_successors_agree(store: &[u32], mapping: &[u32], lhs: usize, rhs: usize) -> bool
-    requires { ⌜ ReadyToCompare (now store) (now mapping) ⌝ }
+    requires { ⌜ IsSound (now store) ⌝ }
+    requires { ⌜ length (now mapping) ≡ mappingLength ⌝ }
     requires { ⌜ lhs < opCount (columns (now store)) ⌝ }
     requires { ⌜ rhs < opCount (columns (now store)) ⌝ }
     ensures { λ q. ⌜ q ≡ successorsAgree (storeIn (now (store .entry))) (mappingOf (now (mapping .entry))) lhs rhs ⌝ }
@@ -131,13 +142,13 @@ fn op_successors_agree(store: &[u32], mapping: &[u32], lhs: usize, rhs: usize) -
 }
 
 // The operands and the successors of two operations agree.
-pub fn names_agree(store: &[u32], mapping: &[u32], lhs: usize, rhs: usize) -> bool
-    requires { ⌜ ReadyToCompare (now store) (now mapping) ⌝ }
+pub fn names_agree(store: &[u32], types: &[u32], mapping: &[u32], lhs: usize, rhs: usize) -> bool
+    requires { ⌜ ReadyToCompare (now store) (now types) (now mapping) ⌝ }
     requires { ⌜ lhs < opCount (columns (now store)) ⌝ }
     requires { ⌜ rhs < opCount (columns (now store)) ⌝ }
-    ensures { λ q. ⌜ q ≡ (operandsAgree (storeIn (now (store .entry))) (mappingOf (now (mapping .entry))) lhs rhs && successorsAgree (storeIn (now (store .entry))) (mappingOf (now (mapping .entry))) lhs rhs) ⌝ }
+    ensures { λ q. ⌜ q ≡ namesAgree (renamed (listIn (now (types .entry))) (storeIn (now (store .entry)))) (mappingOf (now (mapping .entry))) lhs rhs ⌝ }
 {
-    if !op_operands_agree(store, mapping, lhs, rhs) {
+    if !op_operands_agree(store, types, mapping, lhs, rhs) {
         return false;
     }
     op_successors_agree(store, mapping, lhs, rhs)

@@ -5,17 +5,15 @@ use crate::pairing::block_eq_map;
 use crate::pairing::op_eq_map;
 use crate::types::BlockLists;
 use crate::types::EqResult;
+use crate::types::Pair;
 use crate::types::ZipNext;
 use fragments::ignoring::Ignore;
 ghost use Prim.Native.Nat.{_<_};
 ghost use mathlib.Core.Path.{_≡_};
-ghost use Rattle.rules.specs.Fragments.{block};
-ghost use Rattle.rules.specs.Comparison.{pairOf, pairwise, pairOps, pass1, pass2};
 ghost use Rattle.layout.specs.Columns.{columns};
 ghost use Rattle.layout.specs.Reading.{blockCount, storeIn};
-ghost use Rattle.rules.specs.Store.{opsOf};
-ghost use Rattle.fragments.specs.Ignoring.{ignoreOf};
-ghost use Rattle.equivalence.specs.Walked.{ReadyToCompare, Told, PairedFits, stateOf, lefts, rights, pairOfLists, neqOf, Bounded};
+ghost use Rattle.fragments.specs.Options.{optionsOf};
+ghost use Rattle.equivalence.specs.Walked.{ReadyToCompare, Told, PairedFits, stateOf, neqOf, Bounded, pass1Walk, pairsWalk, pass2Walk};
 ghost use Rattle.equivalence.specs.Order.{ListsExist};
 
 // One list is longer: the first unequal pair is the two regions. Two blocks alone are lists of the same length, so theirs is never reached.
@@ -32,15 +30,16 @@ fn lengths_neq(lists: BlockLists, paired: u32) -> EqResult
 // Pass 1: blocks and their arguments.
 pub fn map_blocks(
     store: &[u32],
+    types: &[u32],
     mapping: &mut [u32],
     lists: BlockLists,
     ignore: Ignore,
     paired: u32,
 ) -> EqResult
-    requires { ⌜ ReadyToCompare (now store) (now mapping) ⌝ }
+    requires { ⌜ ReadyToCompare (now store) (now types) (now mapping) ⌝ }
     requires { ⌜ ListsExist (columns (now store)) lists ⌝ }
-    requires { ⌜ PairedFits (pass1 (storeIn (now store)) (ignoreOf ignore) (pairOfLists lists) (lefts (storeIn (now store)) lists) (rights (storeIn (now store)) lists) (stateOf (now mapping) paired)) ⌝ }
-    ensures { λ q. ⌜ Told (pass1 (storeIn (now (store .entry))) (ignoreOf ignore) (pairOfLists lists) (lefts (storeIn (now (store .entry))) lists) (rights (storeIn (now (store .entry))) lists) (stateOf (now (mapping .entry)) paired)) q (now (mapping .exit)) ⌝ }
+    requires { ⌜ PairedFits (pass1Walk (storeIn (now store)) (optionsOf ignore (now types)) lists (stateOf (now mapping) paired)) ⌝ }
+    ensures { λ q. ⌜ Told (pass1Walk (storeIn (now (store .entry))) (optionsOf ignore (now (types .entry))) lists (stateOf (now (mapping .entry)) paired)) q (now (mapping .exit)) ⌝ }
 {
     let mut count = paired;
     let mut a = 0;
@@ -48,7 +47,8 @@ pub fn map_blocks(
     loop {
         match next_blocks(store, lists, a, b) {
             ZipNext::Both(l, r) => {
-                let mapped = block_eq_map(store, mapping, l, r, ignore, count);
+                let found = Pair { lhs: l, rhs: r };
+                let mapped = block_eq_map(store, types, mapping, found, ignore, count);
                 let EqResult::Eq(n) = mapped else {
                     return mapped;
                 };
@@ -65,25 +65,26 @@ pub fn map_blocks(
 // Pass 2 in two blocks: their operations and results. If one block has more operations, the first unequal pair is the two blocks.
 fn map_ops_in(
     store: &[u32],
+    types: &[u32],
     mapping: &mut [u32],
-    lhs: usize,
-    rhs: usize,
+    pair: Pair,
     ignore: Ignore,
     paired: u32,
 ) -> EqResult
-    requires { ⌜ ReadyToCompare (now store) (now mapping) ⌝ }
-    requires { ⌜ lhs < blockCount (columns (now store)) ⌝ }
-    requires { ⌜ rhs < blockCount (columns (now store)) ⌝ }
-    requires { ⌜ PairedFits (pairwise (pairOps (storeIn (now store)) (ignoreOf ignore)) (pairOf block lhs rhs) (opsOf (storeIn (now store)) lhs) (opsOf (storeIn (now store)) rhs) (stateOf (now mapping) paired)) ⌝ }
-    ensures { λ q. ⌜ Told (pairwise (pairOps (storeIn (now (store .entry))) (ignoreOf ignore)) (pairOf block lhs rhs) (opsOf (storeIn (now (store .entry))) lhs) (opsOf (storeIn (now (store .entry))) rhs) (stateOf (now (mapping .entry)) paired)) q (now (mapping .exit)) ⌝ }
+    requires { ⌜ ReadyToCompare (now store) (now types) (now mapping) ⌝ }
+    requires { ⌜ pair .lhs < blockCount (columns (now store)) ⌝ }
+    requires { ⌜ pair .rhs < blockCount (columns (now store)) ⌝ }
+    requires { ⌜ PairedFits (pairsWalk (storeIn (now store)) (optionsOf ignore (now types)) (pair .lhs) (pair .rhs) (stateOf (now mapping) paired)) ⌝ }
+    ensures { λ q. ⌜ Told (pairsWalk (storeIn (now (store .entry))) (optionsOf ignore (now (types .entry))) (pair .lhs) (pair .rhs) (stateOf (now (mapping .entry)) paired)) q (now (mapping .exit)) ⌝ }
 {
     let mut count = paired;
     let mut a = 0;
     let mut b = 0;
     loop {
-        match next_ops(store, lhs, rhs, a, b) {
+        match next_ops(store, pair.lhs, pair.rhs, a, b) {
             ZipNext::Both(l, r) => {
-                let mapped = op_eq_map(store, mapping, l, r, ignore, count);
+                let found = Pair { lhs: l, rhs: r };
+                let mapped = op_eq_map(store, types, mapping, found, ignore, count);
                 let EqResult::Eq(n) = mapped else {
                     return mapped;
                 };
@@ -93,7 +94,7 @@ fn map_ops_in(
             }
             ZipNext::Neither => return EqResult::Eq(count),
             ZipNext::Unequal => {
-                return EqResult::FirstNEQBlocks(lhs as u32, rhs as u32, count);
+                return EqResult::FirstNEQBlocks(pair.lhs as u32, pair.rhs as u32, count);
             }
         }
     }
@@ -102,15 +103,16 @@ fn map_ops_in(
 // Pass 2: every block's operations and their results.
 pub fn map_ops(
     store: &[u32],
+    types: &[u32],
     mapping: &mut [u32],
     lists: BlockLists,
     ignore: Ignore,
     paired: u32,
 ) -> EqResult
-    requires { ⌜ ReadyToCompare (now store) (now mapping) ⌝ }
+    requires { ⌜ ReadyToCompare (now store) (now types) (now mapping) ⌝ }
     requires { ⌜ ListsExist (columns (now store)) lists ⌝ }
-    requires { ⌜ PairedFits (pass2 (storeIn (now store)) (ignoreOf ignore) (lefts (storeIn (now store)) lists) (rights (storeIn (now store)) lists) (stateOf (now mapping) paired)) ⌝ }
-    ensures { λ q. ⌜ Told (pass2 (storeIn (now (store .entry))) (ignoreOf ignore) (lefts (storeIn (now (store .entry))) lists) (rights (storeIn (now (store .entry))) lists) (stateOf (now (mapping .entry)) paired)) q (now (mapping .exit)) ⌝ }
+    requires { ⌜ PairedFits (pass2Walk (storeIn (now store)) (optionsOf ignore (now types)) lists (stateOf (now mapping) paired)) ⌝ }
+    ensures { λ q. ⌜ Told (pass2Walk (storeIn (now (store .entry))) (optionsOf ignore (now (types .entry))) lists (stateOf (now (mapping .entry)) paired)) q (now (mapping .exit)) ⌝ }
 {
     let mut count = paired;
     let mut lfrom = 0;
@@ -120,7 +122,8 @@ pub fn map_ops(
         let ZipNext::Both(l, r) = next else {
             return EqResult::Eq(count);
         };
-        let mapped = map_ops_in(store, mapping, l, r, ignore, count);
+        let found = Pair { lhs: l, rhs: r };
+        let mapped = map_ops_in(store, types, mapping, found, ignore, count);
         let EqResult::Eq(n) = mapped else {
             return mapped;
         };

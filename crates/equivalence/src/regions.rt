@@ -9,6 +9,7 @@ use crate::passes::map_blocks;
 use crate::passes::map_ops;
 use crate::types::BlockLists;
 use crate::types::EqResult;
+use crate::types::Pair;
 use crate::types::ZipNext;
 use fragments::ignoring::Ignore;
 use fragments::rows::op_regions;
@@ -21,7 +22,7 @@ ghost use Rattle.rules.specs.Store.{regionsOf};
 ghost use Rattle.layout.specs.Columns.{columns};
 ghost use Rattle.layout.specs.Reading.{opCount, blockCount, regionCount, storeIn};
 ghost use Rattle.layout.specs.Soundness.{IsSound};
-ghost use Rattle.fragments.specs.Ignoring.{ignoreOf};
+ghost use Rattle.fragments.specs.Options.{optionsOf};
 ghost use Rattle.equivalence.specs.Walked.{ReadyToCompare, Told, PairedFits, stateOf, regionWalk, opWalk, opsWalk, listsWalk};
 ghost use Rattle.equivalence.specs.Order.{ListsExist};
 
@@ -43,19 +44,21 @@ fn region_pairs(store: &[u32], lhs: usize, rhs: usize) -> usize
 // Compare everything that `op_eq_map` left unchecked: operands, successors and nested regions. Their mapping must already be updated.
 pub fn op_eq_mapped(
     store: &[u32],
+    types: &[u32],
     mapping: &mut [u32],
-    lhs: usize,
-    rhs: usize,
+    pair: Pair,
     ignore: Ignore,
     paired: u32,
 ) -> EqResult
-    requires { ⌜ ReadyToCompare (now store) (now mapping) ⌝ }
-    requires { ⌜ lhs < opCount (columns (now store)) ⌝ }
-    requires { ⌜ rhs < opCount (columns (now store)) ⌝ }
-    requires { ⌜ PairedFits (opWalk (storeIn (now store)) (ignoreOf ignore) lhs rhs (stateOf (now mapping) paired)) ⌝ }
-    ensures { λ q. ⌜ Told (opWalk (storeIn (now (store .entry))) (ignoreOf ignore) lhs rhs (stateOf (now (mapping .entry)) paired)) q (now (mapping .exit)) ⌝ }
+    requires { ⌜ ReadyToCompare (now store) (now types) (now mapping) ⌝ }
+    requires { ⌜ pair .lhs < opCount (columns (now store)) ⌝ }
+    requires { ⌜ pair .rhs < opCount (columns (now store)) ⌝ }
+    requires { ⌜ PairedFits (opWalk (storeIn (now store)) (optionsOf ignore (now types)) (pair .lhs) (pair .rhs) (stateOf (now mapping) paired)) ⌝ }
+    ensures { λ q. ⌜ Told (opWalk (storeIn (now (store .entry))) (optionsOf ignore (now (types .entry))) (pair .lhs) (pair .rhs) (stateOf (now (mapping .entry)) paired)) q (now (mapping .exit)) ⌝ }
 {
-    if !names_agree(store, mapping, lhs, rhs) {
+    let lhs = pair.lhs;
+    let rhs = pair.rhs;
+    if !names_agree(store, types, mapping, lhs, rhs) {
         return EqResult::FirstNEQOps(lhs as u32, rhs as u32, paired);
     }
     let rule = Ignore {
@@ -68,7 +71,11 @@ pub fn op_eq_mapped(
     let mut count = paired;
     let mut i = 0;
     while i < pairs {
-        let compared = region_eq(store, mapping, l + i, r + i, rule, count);
+        let found = Pair {
+            lhs: l + i,
+            rhs: r + i,
+        };
+        let compared = region_eq(store, types, mapping, found, rule, count);
         let EqResult::Eq(n) = compared else {
             return compared;
         };
@@ -81,22 +88,23 @@ pub fn op_eq_mapped(
 // Compare two regions.
 pub fn region_eq(
     store: &[u32],
+    types: &[u32],
     mapping: &mut [u32],
-    lhs: usize,
-    rhs: usize,
+    pair: Pair,
     ignore: Ignore,
     paired: u32,
 ) -> EqResult
-    requires { ⌜ ReadyToCompare (now store) (now mapping) ⌝ }
-    requires { ⌜ lhs < regionCount (columns (now store)) ⌝ }
-    requires { ⌜ rhs < regionCount (columns (now store)) ⌝ }
-    requires { ⌜ PairedFits (regionWalk (storeIn (now store)) (ignoreOf ignore) lhs rhs (stateOf (now mapping) paired)) ⌝ }
-    ensures { λ q. ⌜ Told (regionWalk (storeIn (now (store .entry))) (ignoreOf ignore) lhs rhs (stateOf (now (mapping .entry)) paired)) q (now (mapping .exit)) ⌝ }
+    requires { ⌜ ReadyToCompare (now store) (now types) (now mapping) ⌝ }
+    requires { ⌜ pair .lhs < regionCount (columns (now store)) ⌝ }
+    requires { ⌜ pair .rhs < regionCount (columns (now store)) ⌝ }
+    requires { ⌜ PairedFits (regionWalk (storeIn (now store)) (optionsOf ignore (now types)) (pair .lhs) (pair .rhs) (stateOf (now mapping) paired)) ⌝ }
+    ensures { λ q. ⌜ Told (regionWalk (storeIn (now (store .entry))) (optionsOf ignore (now (types .entry))) (pair .lhs) (pair .rhs) (stateOf (now (mapping .entry)) paired)) q (now (mapping .exit)) ⌝ }
 {
     blocks_eq(
         store,
+        types,
         mapping,
-        BlockLists::InRegions(lhs, rhs),
+        BlockLists::InRegions(pair.lhs, pair.rhs),
         ignore,
         paired,
     )
@@ -105,27 +113,28 @@ pub fn region_eq(
 // Compare two lists of blocks, in three passes: the first two map all definitions, so that uses can be compared in the third.
 pub fn blocks_eq(
     store: &[u32],
+    types: &[u32],
     mapping: &mut [u32],
     lists: BlockLists,
     ignore: Ignore,
     paired: u32,
 ) -> EqResult
-    requires { ⌜ ReadyToCompare (now store) (now mapping) ⌝ }
+    requires { ⌜ ReadyToCompare (now store) (now types) (now mapping) ⌝ }
     requires { ⌜ ListsExist (columns (now store)) lists ⌝ }
-    requires { ⌜ PairedFits (listsWalk (storeIn (now store)) (ignoreOf ignore) lists (stateOf (now mapping) paired)) ⌝ }
-    ensures { λ q. ⌜ Told (listsWalk (storeIn (now (store .entry))) (ignoreOf ignore) lists (stateOf (now (mapping .entry)) paired)) q (now (mapping .exit)) ⌝ }
+    requires { ⌜ PairedFits (listsWalk (storeIn (now store)) (optionsOf ignore (now types)) lists (stateOf (now mapping) paired)) ⌝ }
+    ensures { λ q. ⌜ Told (listsWalk (storeIn (now (store .entry))) (optionsOf ignore (now (types .entry))) lists (stateOf (now (mapping .entry)) paired)) q (now (mapping .exit)) ⌝ }
 {
     let rule = Ignore {
         locations: ignore.locations,
         bits: ignore.bits,
     };
     // Pass 1: blocks and their arguments.
-    let blocks = map_blocks(store, mapping, lists, rule, paired);
+    let blocks = map_blocks(store, types, mapping, lists, rule, paired);
     let EqResult::Eq(entered) = blocks else {
         return blocks;
     };
     // Pass 2: every block's operations and their results.
-    let ops = map_ops(store, mapping, lists, rule, entered);
+    let ops = map_ops(store, types, mapping, lists, rule, entered);
     let EqResult::Eq(mapped) = ops else {
         return ops;
     };
@@ -138,7 +147,8 @@ pub fn blocks_eq(
         let ZipNext::Both(l, r) = next else {
             return EqResult::Eq(count);
         };
-        let compared = check_ops_in(store, mapping, l, r, rule, count);
+        let found = Pair { lhs: l, rhs: r };
+        let compared = check_ops_in(store, types, mapping, found, rule, count);
         let EqResult::Eq(n) = compared else {
             return compared;
         };
@@ -151,17 +161,17 @@ pub fn blocks_eq(
 // Pass 3 in two blocks, whose operations and results are mapped.
 fn check_ops_in(
     store: &[u32],
+    types: &[u32],
     mapping: &mut [u32],
-    lhs: usize,
-    rhs: usize,
+    pair: Pair,
     ignore: Ignore,
     paired: u32,
 ) -> EqResult
-    requires { ⌜ ReadyToCompare (now store) (now mapping) ⌝ }
-    requires { ⌜ lhs < blockCount (columns (now store)) ⌝ }
-    requires { ⌜ rhs < blockCount (columns (now store)) ⌝ }
-    requires { ⌜ PairedFits (opsWalk (storeIn (now store)) (ignoreOf ignore) lhs rhs (stateOf (now mapping) paired)) ⌝ }
-    ensures { λ q. ⌜ Told (opsWalk (storeIn (now (store .entry))) (ignoreOf ignore) lhs rhs (stateOf (now (mapping .entry)) paired)) q (now (mapping .exit)) ⌝ }
+    requires { ⌜ ReadyToCompare (now store) (now types) (now mapping) ⌝ }
+    requires { ⌜ pair .lhs < blockCount (columns (now store)) ⌝ }
+    requires { ⌜ pair .rhs < blockCount (columns (now store)) ⌝ }
+    requires { ⌜ PairedFits (opsWalk (storeIn (now store)) (optionsOf ignore (now types)) (pair .lhs) (pair .rhs) (stateOf (now mapping) paired)) ⌝ }
+    ensures { λ q. ⌜ Told (opsWalk (storeIn (now (store .entry))) (optionsOf ignore (now (types .entry))) (pair .lhs) (pair .rhs) (stateOf (now (mapping .entry)) paired)) q (now (mapping .exit)) ⌝ }
 {
     let rule = Ignore {
         locations: ignore.locations,
@@ -171,11 +181,12 @@ fn check_ops_in(
     let mut lfrom = 0;
     let mut rfrom = 0;
     loop {
-        let next = next_ops(store, lhs, rhs, lfrom, rfrom);
+        let next = next_ops(store, pair.lhs, pair.rhs, lfrom, rfrom);
         let ZipNext::Both(l, r) = next else {
             return EqResult::Eq(count);
         };
-        let compared = op_eq_mapped(store, mapping, l, r, rule, count);
+        let found = Pair { lhs: l, rhs: r };
+        let compared = op_eq_mapped(store, types, mapping, found, rule, count);
         let EqResult::Eq(n) = compared else {
             return compared;
         };

@@ -1,4 +1,5 @@
 // What a comparison answers, and what it walks through.
+use fragments::types::Sort;
 
 // The result of a comparison: equal, or the first pair found to be unequal, left and right, each with how many pairs of operations and
 // blocks were mapped (the last number). Or the cause for which it is refused.
@@ -8,6 +9,19 @@ pub enum EqResult {
     FirstNEQRegions(u32, u32, u32),
     FirstNEQBlocks(u32, u32, u32),
     Refused(u32),
+}
+
+// Two operations, blocks or regions, by their numbers.
+pub struct Pair {
+    pub lhs: usize,
+    pub rhs: usize,
+}
+
+// Two fragments of one sort.
+pub struct Fragments {
+    pub sort: Sort,
+    pub lhs: u32,
+    pub rhs: u32,
 }
 
 // Two lists of blocks that are compared: those of two regions, or two blocks, each a list of one.

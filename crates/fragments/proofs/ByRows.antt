@@ -7,6 +7,8 @@ use mathlib.Core.Path.{_≡_, refl, sym, ap, subst, _∙_}
 use lib.ListN.{length}
 use Rattle.rules.specs.Store.{Op, Block, Owner, ofOp, ofBlock, typeOf, valuesOf, regionsOf}
 use Rattle.rules.specs.Shells.{Ignore, unignored, unignoredLocation, shellOf}
+use Rattle.rules.specs.Types.{present}
+use Rattle.rules.proofs.Types.Renamed.{shellRenamed, shell-renamed}
 use Rattle.layout.specs.Columns.{Cols, at, columns, opKind, opRegionFirst, opRegionEnd, opSuccessorFirst, opSuccessorEnd, opOperandFirst, opOperandEnd, opLocation, opResultFirst, opResultEnd, blockLocation, blockArgumentFirst, blockArgumentEnd, valueType}
 use Rattle.layout.specs.Reading.{opCount, blockCount, valueCount, slotsOf, slice, attributesFrom, opOf, blockOf, storeOf, consecutive}
 use Rattle.layout.specs.Owners.{countColumn, ownerNumber, keyCount}
@@ -73,7 +75,7 @@ module _ (b : List ℕ) (s : IsSound b) where
         → ((ig : Ignore) → shellOf (storeOf C) ig w .attributes ≡ unignored ig (attributesFrom C (slotsOf w) (keyCount C w))) → {location slot keys first many : ℕ}
         → location ≡ place → slot ≡ slotsOf w → keys ≡ keyCount C w → first ≡ a → many ≡ e - a
         → RowOf C w (record { location = location; slot = slot; attributes = keys; value = first; values = many })
-    unfolding rowShell
+    unfolding rowShell shellRenamed
     row-read kinds where-it-is its-keys p q k f m =
         subst (RowOf C w) (λ i. record { location = sym p i; slot = sym q i; attributes = sym k i; value = sym f i; values = sym m i })
         (record {
@@ -83,11 +85,11 @@ module _ (b : List ℕ) (s : IsSound b) where
                 kinds = kinds;
                 values = omega (arith, r .rises, r .fits, laid .counts .values);
               };
-          shell = λ ig i. record {
-            location = where-it-is ig i;
-            attributes = (its-keys ig ∙ slots-kept C ig (slotsOf w) (keyCount C w)) i;
-            types = (shell-types ig w ∙ types-slice w a e r own) i;
-          };
+          shell = λ o. shell-renamed (o .types) (storeOf C) (o .ignore) w ∙ (λ i. record {
+            location = where-it-is (o .ignore) i;
+            attributes = (its-keys (o .ignore) ∙ slots-kept C (o .ignore) (slotsOf w) (keyCount C w)) i;
+            types = map (present (o .types)) ((shell-types (o .ignore) w ∙ types-slice w a e r own) i);
+          });
           values = own ∙ range-consecutive a e;
         })
 

@@ -2,5 +2,6 @@
 pub mod Sizes
 pub mod Sorts
 pub mod Ignoring
+pub mod Options
 pub mod Rows
 pub mod Order

@@ -1,12 +1,15 @@
 -- What an operation or a block has by itself, read off its row: what is compared of two, and what is hashed of one.
 use Prim.Native.Nat.{ℕ, _+_, _≤_}
+use mathlib.Core.List.{List, map}
 use mathlib.Core.Path.{_≡_}
 use lib.ListN.{length}
 use Rattle.rules.specs.Store.{Store, Owner, opAt, regionsOf, valuesOf, maxValues}
-use Rattle.rules.specs.Shells.{Ignore, Shell, shellOf, unignoredLocation}
+use Rattle.rules.specs.Shells.{Shell, shellOf, unignoredLocation}
+use Rattle.rules.specs.Types.{present}
 use Rattle.layout.specs.Columns.{Cols, valueType, slotCount}
 use Rattle.layout.specs.Reading.{slice, storeOf, consecutive}
 use Rattle.fragments.specs.Ignoring.{keptFrom, Kinds}
+use Rattle.fragments.specs.Options.{Options, under}
 use Rattle.fragments.specs.declared.types.Row.{Row}
 use Rattle.fragments.specs.declared.types.Head.{Head}
 
@@ -16,19 +19,23 @@ pub record RowFits (C : Cols) (r : Row) : Type 0 where
   pub kinds : Kinds C (r .slot) (r .slot + r .attributes)
   pub values : r .value + r .values ≤ maxValues
 
+-- the types of its values, as the store has them
+abbrev pub rowTypes : Cols → Row → List ℕ
+rowTypes C r = slice (C valueType) (r .value) (r .value + r .values)
+
 -- the shell that is read off it
-unfoldable pub rowShell : Cols → Ignore → Row → Shell
-rowShell C ig r =
+unfoldable pub rowShell : Cols → Options → Row → Shell
+rowShell C o r =
     record {
-      location = unignoredLocation ig (r .location);
-      attributes = keptFrom C ig (r .slot) (r .slot + r .attributes);
-      types = slice (C valueType) (r .value) (r .value + r .values);
+      location = unignoredLocation (o .ignore) (r .location);
+      attributes = keptFrom C (o .ignore) (r .slot) (r .slot + r .attributes);
+      types = map (present (o .types)) (rowTypes C r);
     }
 
 -- the row is that of an operation or a block
 pub record RowOf (C : Cols) (w : Owner) (r : Row) : Type 0 where
   pub fits : RowFits C r
-  pub shell : (ig : Ignore) → shellOf (storeOf C) ig w ≡ rowShell C ig r
+  pub shell : (o : Options) → shellOf (under o (storeOf C)) (o .ignore) w ≡ rowShell C o r
   pub values : valuesOf (storeOf C) w ≡ consecutive (r .value) (r .values)
 
 -- what an operation has besides its row

@@ -4,13 +4,14 @@ use Prim.Native.Nat.{ℕ}
 use mathlib.Core.Bool.{Bool, true, false, true≢false, cond}
 use mathlib.Core.List.{List, [], _∷_}
 use mathlib.Core.Option.{Option, none, some}
-use mathlib.Core.Path.{_≡_, refl, sym, ap, _∙_}
+use mathlib.Core.Path.{_≡_, refl, sym, ap, ap₂, _∙_}
 use Rattle.rules.specs.Store.{Store}
 use Rattle.rules.specs.Fragments.{Sort, exists}
 use Rattle.rules.specs.Building.{firstFailed}
 use Rattle.rules.specs.Shells.{Ignore}
+use Rattle.rules.specs.Types.{typesHold, renamed}
 use Rattle.rules.specs.Hash.{hash}
-use Rattle.rules.specs.Answers.{shallow, hashTests, hashedBy, hashed}
+use Rattle.rules.specs.Answers.{Hashed, shallow, hashTests, hashedBy, hashed}
 use Rattle.layout.specs.Reading.{storeIn}
 use Rattle.layout.specs.Soundness.{soundBuffer, IsSound}
 use Rattle.layout.proofs.Empty.{sound-of}
@@ -39,20 +40,36 @@ existing s f n h = first-passed (exists s f n) (shallow s f n) 2 12 h
 
 -- ---- answers
 
-module _ (b : List ℕ) (ig : Ignore) (f : Sort) (n : ℕ) where
-  pub unsound : soundBuffer b ≡ false → Answered b ig f n (Refused 1)
-  unfolding hashed hashedBy hashTests firstFailed fragmentTests hashedOf
-  unsound h = record { told = ap (λ (t : Bool). hashedBy (cond t (firstFailed (fragmentTests (storeIn b) f n)) (some 1)) (storeIn b) ig f n) h }
+module _ (b types : List ℕ) (ig : Ignore) (f : Sort) (n : ℕ) where
+  -- by whether the buffer is sound, whether the list of types holds, and which test of the fragment fails first
+  by : Bool → Bool → Option ℕ → Hashed
+  by lent held o = hashedBy (cond lent (cond held o (some 14)) (some 1)) (renamed types (storeIn b)) ig f n
+
+  abbrev first : Option ℕ
+  first = firstFailed (fragmentTests (storeIn b) f n)
+
+  by-tests : hashed (soundBuffer b) (storeIn b) types ig f n ≡ by (soundBuffer b) (typesHold types) first
+  unfolding hashed hashTests firstFailed fragmentTests by
+  by-tests = refl
+
+  pub unsound : soundBuffer b ≡ false → Answered b types ig f n (Refused 1)
+  unfolding hashedBy hashedOf by
+  unsound h = record { told = by-tests ∙ ap (λ (t : Bool). by t (typesHold types) first) h }
 
   module _ (h : IsSound b) where
-    by-tests : hashed (soundBuffer b) (storeIn b) ig f n ≡ hashedBy (firstFailed (fragmentTests (storeIn b) f n)) (storeIn b) ig f n
-    unfolding hashed hashTests firstFailed fragmentTests
-    by-tests = ap (λ (t : Bool). hashedBy (cond t (firstFailed (fragmentTests (storeIn b) f n)) (some 1)) (storeIn b) ig f n) (sound-of b h)
+    pub untyped : typesHold types ≡ false → Answered b types ig f n (Refused 14)
+    unfolding hashedBy hashedOf by
+    untyped k = record { told = by-tests ∙ ap₂ (λ (t u : Bool). by t u first) (sound-of b h) k }
 
-    pub refused : (cause : ℕ) → firstFailed (fragmentTests (storeIn b) f n) ≡ some cause → Answered b ig f n (Refused cause)
-    unfolding hashedBy hashedOf
-    refused cause e = record { told = by-tests ∙ ap (λ (o : Option ℕ). hashedBy o (storeIn b) ig f n) e }
+    module _ (k : typesHold types ≡ true) where
+      tested : {o : Option ℕ} → first ≡ o → hashed (soundBuffer b) (storeIn b) types ig f n ≡ hashedBy o (renamed types (storeIn b)) ig f n
+      unfolding by
+      tested e = by-tests ∙ (λ i. by (sound-of b h i) (k i) (e i))
 
-    pub answered : (word : ℕ) → firstFailed (fragmentTests (storeIn b) f n) ≡ none → word ≡ hash (storeIn b) ig f n → Answered b ig f n (Hash word)
-    unfolding hashedBy hashedOf
-    answered word e w = record { told = by-tests ∙ ap (λ (o : Option ℕ). hashedBy o (storeIn b) ig f n) e ∙ ap (λ (k : ℕ). hashedOf (Hash k)) (sym w) }
+      pub refused : (cause : ℕ) → first ≡ some cause → Answered b types ig f n (Refused cause)
+      unfolding hashedBy hashedOf
+      refused cause e = record { told = tested e }
+
+      pub answered : (word : ℕ) → first ≡ none → word ≡ hash (renamed types (storeIn b)) ig f n → Answered b types ig f n (Hash word)
+      unfolding hashedBy hashedOf
+      answered word e w = record { told = tested e ∙ ap (λ (k : ℕ). hashedOf (Hash k)) (sym w) }

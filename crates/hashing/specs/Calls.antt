@@ -1,4 +1,4 @@
--- What a hash gives: the rules' answer, for every buffer, ignore rule and number.
+-- What a hash gives: the rules' answer, for every buffer, list of renamed types, ignore rule and number.
 use Prim.Native.Nat.{ℕ}
 use mathlib.Core.Bool.{Bool}
 use mathlib.Core.List.{List, [], _∷_}
@@ -18,10 +18,10 @@ unfoldable pub hashedOf : Hashed → rules.Hashed
 hashedOf (Hash w) = rules.hashIs w
 hashedOf (Refused cause) = rules.refusedHash cause
 
--- what is tested of a fragment of a sound store before anything is fed
+-- what is tested of a fragment of a sound store, after the list of types, before anything is fed
 unfoldable pub fragmentTests : Store → Sort → ℕ → List (Bool × ℕ)
 fragmentTests s f n = (exists s f n, 2) ∷ (shallow s f n, 12) ∷ []
 
 -- of a fragment
-pub record Answered (store : List ℕ) (ig : Ignore) (f : Sort) (n : ℕ) (q : Hashed) : Type 0 where
-  pub told : hashed (soundBuffer store) (storeIn store) ig f n ≡ hashedOf q
+pub record Answered (store types : List ℕ) (ig : Ignore) (f : Sort) (n : ℕ) (q : Hashed) : Type 0 where
+  pub told : hashed (soundBuffer store) (storeIn store) types ig f n ≡ hashedOf q

@@ -17,10 +17,12 @@ ghost use Rattle.rules.specs.Lists.{concatMap};
 ghost use Rattle.rules.specs.Store.{regionsOf};
 ghost use Rattle.rules.specs.Fragments.{op};
 ghost use Rattle.rules.specs.Hash.{fnvFrom, hash};
+ghost use Rattle.rules.specs.Types.{renamed};
 ghost use Rattle.layout.specs.Columns.{columns};
 ghost use Rattle.layout.specs.Reading.{consecutive, opCount, storeIn};
-ghost use Rattle.layout.specs.Soundness.{IsSound};
+ghost use Rattle.renaming.specs.Index.{listIn};
 ghost use Rattle.fragments.specs.Ignoring.{ignoreOf};
+ghost use Rattle.fragments.specs.Options.{Readable};
 ghost use Rattle.hashing.specs.Walked.{bytesIn};
 
 // Hash each use of a list.
@@ -37,16 +39,16 @@ fn hash_own_names(list: &[u32], first: usize, end: usize, word: u64) -> u64
 }
 
 // Hash an operation without regions: its shell, its operands, its successors. No block is defined within it.
-pub fn hash_alone(store: &[u32], n: usize, ignore: Ignore) -> u64
-    requires { ⌜ IsSound (now store) ⌝ }
+pub fn hash_alone(store: &[u32], types: &[u32], n: usize, ignore: Ignore) -> u64
+    requires { ⌜ Readable (now store) (now types) ⌝ }
     requires { ⌜ n < opCount (columns (now store)) ⌝ }
     requires { ⌜ regionsOf (storeIn (now store)) n ≡ [] ⌝ }
-    ensures { λ r. ⌜ r ≡ hash (storeIn (now (store .entry))) (ignoreOf ignore) op n ⌝ }
+    ensures { λ r. ⌜ r ≡ hash (renamed (listIn (now (types .entry))) (storeIn (now (store .entry)))) (ignoreOf ignore) op n ⌝ }
 {
     let row = op_row(store, n);
     let end = row.value + row.values;
     let head = with_head(START, at(store, OP_KIND, n), 0);
-    let shell = hash_row(store, ignore, row, head);
+    let shell = hash_row(store, types, ignore, row, head);
     let fed = hash_own_names(operands_of(store, n), row.value, end, shell);
     hash_own_names(successors_of(store, n), 0, 0, fed)
 }

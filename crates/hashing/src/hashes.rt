@@ -20,9 +20,12 @@ ghost use Rattle.rules.specs.Building.{firstFailed};
 ghost use Rattle.layout.specs.Reading.{opCount, storeIn};
 ghost use Rattle.layout.specs.Causes.{causeOf};
 ghost use Rattle.rules.specs.Fragments.{op, steps};
+ghost use Rattle.rules.specs.Hash.{fnvStart};
 ghost use Rattle.layout.specs.Columns.{columns};
 ghost use Rattle.layout.specs.Soundness.{IsSound};
+ghost use Rattle.renaming.specs.Index.{listIn};
 ghost use Rattle.fragments.specs.Ignoring.{ignoreOf};
+ghost use Rattle.fragments.specs.Options.{optionsOf, Readable};
 ghost use Rattle.fragments.specs.Sorts.{sortOf};
 ghost use Rattle.numbering.specs.Numbered.{DefinitionsFit};
 ghost use Rattle.hashing.specs.Walked.{Fed};
@@ -40,49 +43,56 @@ fn hash_cause(store: &[u32], sort: Sort, n: u32) -> Cause
 }
 
 // Hash an operation: its shell, then its operands, successors and nested regions.
-fn hash_op(store: &[u32], numbers: &mut WalkNumbers, n: usize, ignore: Ignore, word: u64) -> u64
-    requires { ⌜ IsSound (now store) ⌝ }
+fn hash_op(
+    store: &[u32],
+    types: &[u32],
+    numbers: &mut WalkNumbers,
+    n: usize,
+    ignore: Ignore,
+    word: u64,
+) -> u64
+    requires { ⌜ Readable (now store) (now types) ⌝ }
     requires { ⌜ n < opCount (columns (now store)) ⌝ }
     requires { ⌜ DefinitionsFit (storeIn (now store)) (steps (storeIn (now store)) op n) (now numbers) ⌝ }
-    ensures { λ r. ⌜ Fed (storeIn (now (store .entry))) (ignoreOf ignore) (steps (storeIn (now (store .entry))) op n) (now (numbers .entry)) (now (numbers .exit)) word r ⌝ }
+    ensures { λ r. ⌜ Fed (storeIn (now (store .entry))) (optionsOf ignore (now (types .entry))) (steps (storeIn (now (store .entry))) op n) (now (numbers .entry)) (now (numbers .exit)) word r ⌝ }
 {
-    let shell = hash_op_shell(store, numbers, n, ignore, word);
-    hash_op_full(store, numbers, n, ignore, shell)
+    let shell = hash_op_shell(store, types, numbers, n, ignore, word);
+    hash_op_full(store, types, numbers, n, ignore, shell)
 }
 
 // Hash a fragment by its sort. A block is a list of one block.
 fn hash_steps(
     store: &[u32],
+    types: &[u32],
     numbers: &mut WalkNumbers,
     sort: Sort,
     n: usize,
     ignore: Ignore,
-    word: u64,
 ) -> u64
-    requires { ⌜ IsSound (now store) ⌝ }
+    requires { ⌜ Readable (now store) (now types) ⌝ }
     requires { ⌜ Rattle.rules.specs.Fragments.exists (storeIn (now store)) (sortOf sort) n ≡ true ⌝ }
     requires { ⌜ DefinitionsFit (storeIn (now store)) (steps (storeIn (now store)) (sortOf sort) n) (now numbers) ⌝ }
-    ensures { λ r. ⌜ Fed (storeIn (now (store .entry))) (ignoreOf ignore) (steps (storeIn (now (store .entry))) (sortOf sort) n) (now (numbers .entry)) (now (numbers .exit)) word r ⌝ }
+    ensures { λ r. ⌜ Fed (storeIn (now (store .entry))) (optionsOf ignore (now (types .entry))) (steps (storeIn (now (store .entry))) (sortOf sort) n) (now (numbers .entry)) (now (numbers .exit)) fnvStart r ⌝ }
 {
     match sort {
-        Sort::Op => hash_op(store, numbers, n, ignore, word),
-        Sort::Block => hash_blocks_full(store, numbers, Blocks::Alone(n), ignore, word),
-        Sort::Region => hash_blocks_full(store, numbers, Blocks::InRegion(n), ignore, word),
+        Sort::Op => hash_op(store, types, numbers, n, ignore, START),
+        Sort::Block => hash_blocks_full(store, types, numbers, Blocks::Alone(n), ignore, START),
+        Sort::Region => hash_blocks_full(store, types, numbers, Blocks::InRegion(n), ignore, START),
     }
 }
 
 // Compute a structural hash for a fragment.
-pub fn fragment_hash(store: &[u32], sort: Sort, n: u32, ignore: Ignore) -> Hashed
-    requires { ⌜ IsSound (now store) ⌝ }
-    ensures { λ q. ⌜ Answered (now (store .entry)) (ignoreOf ignore) (sortOf sort) n q ⌝ }
+pub fn fragment_hash(store: &[u32], types: &[u32], sort: Sort, n: u32, ignore: Ignore) -> Hashed
+    requires { ⌜ Readable (now store) (now types) ⌝ }
+    ensures { λ q. ⌜ Answered (now (store .entry)) (listIn (now (types .entry))) (ignoreOf ignore) (sortOf sort) n q ⌝ }
 {
     let cause = hash_cause(store, sort, n);
     if let Cause::Is(k) = cause {
         return Hashed::Refused(k);
     }
     if holds_nothing(store, sort, n as usize) {
-        return Hashed::Hash(hash_alone(store, n as usize, ignore));
+        return Hashed::Hash(hash_alone(store, types, n as usize, ignore));
     }
     let mut numbers = [0; NUMBERS_LENGTH];
-    Hashed::Hash(hash_steps(store, &mut numbers, sort, n as usize, ignore, START))
+    Hashed::Hash(hash_steps(store, types, &mut numbers, sort, n as usize, ignore))
 }

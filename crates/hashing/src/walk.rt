@@ -16,8 +16,7 @@ use numbering::words::WalkNumbers;
 ghost use Prim.Native.Nat.{_<_};
 ghost use Rattle.layout.specs.Columns.{columns};
 ghost use Rattle.layout.specs.Reading.{opCount, blockCount, storeIn};
-ghost use Rattle.layout.specs.Soundness.{IsSound};
-ghost use Rattle.fragments.specs.Ignoring.{ignoreOf};
+ghost use Rattle.fragments.specs.Options.{optionsOf, Readable};
 ghost use Rattle.fragments.specs.Order.{blockList, BlocksExist};
 ghost use Rattle.numbering.specs.Numbered.{DefinitionsFit};
 ghost use Rattle.numbering.specs.Parts.{fullSteps, opsInFull, listedSteps};
@@ -27,21 +26,22 @@ ghost use Rattle.hashing.specs.Walked.{Fed};
 // Does not hash components already hashed by `hash_op_shell`.
 pub fn hash_op_full(
     store: &[u32],
+    types: &[u32],
     numbers: &mut WalkNumbers,
     n: usize,
     ignore: Ignore,
     word: u64,
 ) -> u64
-    requires { ⌜ IsSound (now store) ⌝ }
+    requires { ⌜ Readable (now store) (now types) ⌝ }
     requires { ⌜ n < opCount (columns (now store)) ⌝ }
     requires { ⌜ DefinitionsFit (storeIn (now store)) (fullSteps (storeIn (now store)) n) (now numbers) ⌝ }
-    ensures { λ r. ⌜ Fed (storeIn (now (store .entry))) (ignoreOf ignore) (fullSteps (storeIn (now (store .entry))) n) (now (numbers .entry)) (now (numbers .exit)) word r ⌝ }
+    ensures { λ r. ⌜ Fed (storeIn (now (store .entry))) (optionsOf ignore (now (types .entry))) (fullSteps (storeIn (now (store .entry))) n) (now (numbers .entry)) (now (numbers .exit)) word r ⌝ }
 {
     let mut fed = hash_names(store, numbers, n, word);
     let end = number(store, OP_REGION_END, n);
     let mut r = number(store, OP_REGION_FIRST, n);
     while r < end {
-        fed = hash_blocks_full(store, numbers, Blocks::InRegion(r), ignore, fed);
+        fed = hash_blocks_full(store, types, numbers, Blocks::InRegion(r), ignore, fed);
         r += 1;
     }
     fed
@@ -55,24 +55,25 @@ pub fn hash_op_full(
 // So any use of a block or value that is defined anywhere in the list is already numbered by the time it's hashed: forward references too.
 pub fn hash_blocks_full(
     store: &[u32],
+    types: &[u32],
     numbers: &mut WalkNumbers,
     blocks: Blocks,
     ignore: Ignore,
     word: u64,
 ) -> u64
-    requires { ⌜ IsSound (now store) ⌝ }
+    requires { ⌜ Readable (now store) (now types) ⌝ }
     requires { ⌜ BlocksExist (columns (now store)) blocks ⌝ }
     requires { ⌜ DefinitionsFit (storeIn (now store)) (listedSteps (storeIn (now store)) (blockList (storeIn (now store)) blocks)) (now numbers) ⌝ }
-    ensures { λ r. ⌜ Fed (storeIn (now (store .entry))) (ignoreOf ignore) (listedSteps (storeIn (now (store .entry))) (blockList (storeIn (now (store .entry))) blocks)) (now (numbers .entry)) (now (numbers .exit)) word r ⌝ }
+    ensures { λ r. ⌜ Fed (storeIn (now (store .entry))) (optionsOf ignore (now (types .entry))) (listedSteps (storeIn (now (store .entry))) (blockList (storeIn (now (store .entry))) blocks)) (now (numbers .entry)) (now (numbers .exit)) word r ⌝ }
 {
-    let shells = hash_block_shells(store, numbers, blocks, ignore, word);
-    let mut fed = hash_op_shells(store, numbers, blocks, ignore, shells);
+    let shells = hash_block_shells(store, types, numbers, blocks, ignore, word);
+    let mut fed = hash_op_shells(store, types, numbers, blocks, ignore, shells);
     let mut from = 0;
     loop {
         let Found::At(b) = next_in(store, blocks, from) else {
             return fed;
         };
-        fed = hash_ops_full(store, numbers, b, ignore, fed);
+        fed = hash_ops_full(store, types, numbers, b, ignore, fed);
         from = b + 1;
     }
 }
@@ -80,15 +81,16 @@ pub fn hash_blocks_full(
 // Pass 3 of one block: its operations in full.
 fn hash_ops_full(
     store: &[u32],
+    types: &[u32],
     numbers: &mut WalkNumbers,
     b: usize,
     ignore: Ignore,
     word: u64,
 ) -> u64
-    requires { ⌜ IsSound (now store) ⌝ }
+    requires { ⌜ Readable (now store) (now types) ⌝ }
     requires { ⌜ b < blockCount (columns (now store)) ⌝ }
     requires { ⌜ DefinitionsFit (storeIn (now store)) (opsInFull (storeIn (now store)) b) (now numbers) ⌝ }
-    ensures { λ r. ⌜ Fed (storeIn (now (store .entry))) (ignoreOf ignore) (opsInFull (storeIn (now (store .entry))) b) (now (numbers .entry)) (now (numbers .exit)) word r ⌝ }
+    ensures { λ r. ⌜ Fed (storeIn (now (store .entry))) (optionsOf ignore (now (types .entry))) (opsInFull (storeIn (now (store .entry))) b) (now (numbers .entry)) (now (numbers .exit)) word r ⌝ }
 {
     let mut fed = word;
     let mut from = 0;
@@ -96,7 +98,7 @@ fn hash_ops_full(
         let Found::At(n) = next_op(store, b, from) else {
             return fed;
         };
-        fed = hash_op_full(store, numbers, n, ignore, fed);
+        fed = hash_op_full(store, types, numbers, n, ignore, fed);
         from = n + 1;
     }
 }

@@ -22,7 +22,8 @@ pub fn order_line(name: &[u8], lhs: &[u8], rhs: &[u8]) {
 }
 
 fn hash_of(store: &Store, n: u32) -> u64 {
-    match operation_hash(store, n, nothing()) {
+    let none: [u32; 0] = [];
+    match operation_hash(store, &none, n, nothing()) {
         Hashed::Hash(w) => w,
         Hashed::Refused(_) => 0,
     }
@@ -37,7 +38,8 @@ pub fn lookalikes(store: &Store) {
     io::write_all(1, b"\n");
     let mut left: Key = [KEPT; LENT];
     let mut right: Key = [KEPT; LENT];
-    operation_key(store, &mut left, 3, nothing());
-    operation_key(store, &mut right, 4, nothing());
+    let none: [u32; 0] = [];
+    operation_key(store, &none, &mut left, 3, nothing());
+    operation_key(store, &none, &mut right, 4, nothing());
     order_line(b"keys of 3 and 4", &left, &right);
 }

@@ -24,12 +24,27 @@ fn built(ok: bool) {
 
 // Bytes as long as operation 0's key, and one less.
 fn exact(store: &Store) {
+    let none: [u32; 0] = [];
     let mut same: [u8; 52] = [KEPT; 52];
-    let answer = operation_key(store, &mut same, 0, nothing());
+    let answer = operation_key(store, &none, &mut same, 0, nothing());
     say(b"exact length", answer, &same);
     let mut less: [u8; 51] = [KEPT; 51];
-    let refused = operation_key(store, &mut less, 0, nothing());
+    let refused = operation_key(store, &none, &mut less, 0, nothing());
     say(b"one byte less", refused, &less);
+}
+
+// Operation 0, whose result has type 5, under a list of renamed types.
+fn under(name: &[u8], store: &Store, types: &[u32]) {
+    let mut key: [u8; 52] = [KEPT; 52];
+    let answer = operation_key(store, types, &mut key, 0, nothing());
+    say(name, answer, &key);
+}
+
+fn renamed(store: &Store) {
+    under(b"type 5 renamed to 300", store, &[6, 7, 5, 300]);
+    under(b"other types renamed", store, &[6, 5, 8, 9]);
+    under(b"a chain of types", store, &[5, 300, 300, 7]);
+    under(b"half a row", store, &[5]);
 }
 
 fn causes(store: &Store) {
@@ -37,7 +52,8 @@ fn causes(store: &Store) {
     key_line(b"no such region", store, Sort::Region, 1, nothing());
     let short: [u32; 4] = [0; 4];
     let mut less: [u8; 51] = [KEPT; 51];
-    let answer = operation_key(&short, &mut less, 0, nothing());
+    let half: [u32; 1] = [5];
+    let answer = operation_key(&short, &half, &mut less, 0, nothing());
     say(b"no store", answer, &less);
 }
 
@@ -69,6 +85,7 @@ fn main() {
     key_line(b"operation with a region", &store, Sort::Op, 1, nothing());
     key_line(b"region without blocks", &store, Sort::Region, 0, nothing());
     exact(&store);
+    renamed(&store);
     causes(&store);
     built(form::attribute(&mut store));
     key_line(b"attribute", &store, Sort::Op, 0, nothing());

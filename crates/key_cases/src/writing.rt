@@ -23,10 +23,11 @@ pub fn nothing() -> Ignore {
 }
 
 pub fn write_key(store: &Store, key: &mut [u8], sort: Sort, n: u32, ignore: Ignore) -> Keyed {
+    let none: [u32; 0] = [];
     match sort {
-        Sort::Op => operation_key(store, key, n, ignore),
-        Sort::Block => basic_block_key(store, key, n, ignore),
-        Sort::Region => region_key(store, key, n, ignore),
+        Sort::Op => operation_key(store, &none, key, n, ignore),
+        Sort::Block => basic_block_key(store, &none, key, n, ignore),
+        Sort::Region => region_key(store, &none, key, n, ignore),
     }
 }
 

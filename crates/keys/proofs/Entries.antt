@@ -2,9 +2,9 @@
 use Prim.Native.Nat.{ℕ, _+_, _*_, _-_, _<_, _≤_}
 use native.Mathlib.Numerals.{add-one}
 use native.Mathlib.Omega.{arith}
-use mathlib.Core.List.{List, [], _∷_, _++_, append-nil}
-use mathlib.Core.Path.{_≡_, refl, sym, ap, subst, _∙_}
-use lib.ListN.{length, getD, take, drop}
+use mathlib.Core.List.{List, [], _∷_, _++_, map, append-nil}
+use mathlib.Core.Path.{_≡_, refl, sym, ap, ap₂, subst, _∙_}
+use lib.ListN.{length, length-map, getD, take, drop}
 use lib.Seq.{take-suc, take-all}
 use Rattle.rules.specs.Lists.{concatMap}
 use Rattle.rules.specs.Hash.{count, listBytes}
@@ -54,3 +54,13 @@ module _ {X : Type 0} (P : X → Type 0) (bytes : X → ℕ → List ℕ) (list 
 pub counted-list : (bytes : ℕ → List ℕ) (list : List ℕ) {a b c : List ℕ} {j l : ℕ} → Put (count (length list)) a 0 b j → Put (concatMap bytes list) b j c l → Put (listBytes count bytes list) a 0 c l
 unfolding listBytes
 counted-list bytes list f g = put-then (count (length list)) (concatMap bytes list) f g
+
+-- a list of which each is put through f is put as the list of what f gives
+each-mapped : (bytes : ℕ → List ℕ) (f : ℕ → ℕ) (list : List ℕ) → concatMap (λ (n : ℕ). bytes (f n)) list ≡ concatMap bytes (map f list)
+unfolding concatMap
+each-mapped bytes f [] = refl
+each-mapped bytes f (x ∷ xs) = ap (λ (bs : List ℕ). bytes (f x) ++ bs) (each-mapped bytes f xs)
+
+pub list-mapped : (bytes : ℕ → List ℕ) (f : ℕ → ℕ) (list : List ℕ) → listBytes count (λ (n : ℕ). bytes (f n)) list ≡ listBytes count bytes (map f list)
+unfolding listBytes
+list-mapped bytes f list = ap₂ _++_ (ap count (sym (length-map list f))) (each-mapped bytes f list)

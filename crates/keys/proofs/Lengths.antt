@@ -2,21 +2,23 @@
 use Prim.Native.Nat.{ℕ, _+_, _*_, _-_, _≤_}
 use native.Mathlib.Omega.{arith}
 use mathlib.Core.Bool.{Bool, true, false, cond, not}
-use mathlib.Core.List.{List, [], _∷_, _++_}
+use mathlib.Core.List.{List, [], _∷_, _++_, map}
 use mathlib.Core.Option.{Option, none, some}
 use mathlib.Core.Path.{_≡_, refl, sym, ap, _∙_}
-use lib.ListN.{length, length-append, length-take, drop}
+use lib.ListN.{length, length-append, length-map, length-take, drop}
 use Rattle.rules.specs.Lists.{concatMap, filter}
 use Rattle.rules.specs.Store.{Attribute, maxValues}
-use Rattle.rules.specs.Shells.{Ignore, Shell, ignored, unignored}
+use Rattle.rules.specs.Shells.{Ignore, ignored, unignored, unignoredLocation}
+use Rattle.rules.specs.Types.{present}
 use Rattle.rules.specs.Hash.{bytes, leaf, count, locationBytes, attributeBytes, listBytes, shellBytes}
 use Rattle.layout.specs.Columns.{Cols, slotCount, valueType}
 use Rattle.layout.specs.Reading.{tabulate, attributeAt, attributesFrom, slice}
 use Rattle.layout.proofs.Tabulate.{length-tabulate}
 use Rattle.fragments.specs.Ignoring.{keptFrom}
-use Rattle.fragments.specs.Rows.{RowFits, rowShell}
+use Rattle.fragments.specs.Options.{Options}
+use Rattle.fragments.specs.Rows.{RowFits, rowTypes, rowShell}
 use Rattle.fragments.specs.declared.types.Row.{Row}
-use Rattle.keys.specs.Written.{marksBytes}
+use Rattle.keys.specs.Written.{rowKept, marksBytes}
 use Rattle.keys.proofs.Shelling.{shell-bytes}
 
 -- each of a list has as many bytes
@@ -63,29 +65,36 @@ kept-few C ig a e =
     omega
     (arith, filter-few (λ (x : Attribute). not (ignored ig x)) (tabulate (e - a) (λ (i : ℕ). attributeAt C (a + i))), length-tabulate (e - a) (λ (i : ℕ). attributeAt C (a + i)))
 
--- ---- a shell
+-- ---- a row
 
-pub marks-few : (sh : Shell) → length (sh .attributes) ≤ slotCount → length (marksBytes sh) ≤ 12 + 12 * slotCount
+pub marks-few : (C : Cols) (ig : Ignore) (r : Row) → RowFits C r → length (marksBytes C ig r) ≤ 12 + 12 * slotCount
 unfolding marksBytes
-marks-few sh l =
+marks-few C ig r f =
+    let place : List ℕ = locationBytes (unignoredLocation ig (r .location)) in
+    let kept : List Attribute = rowKept C ig r in
     omega (
       arith,
-      length-append (locationBytes (sh .location)) (count (length (sh .attributes)) ++ concatMap attributeBytes (sh .attributes)),
-      location-few (sh .location),
-      attributes-long (sh .attributes),
+      length-append place (count (length kept) ++ concatMap attributeBytes kept),
+      location-few (unignoredLocation ig (r .location)),
+      attributes-long kept,
+      kept-few C ig (r .slot) (r .slot + r .attributes),
+      f .slots,
     )
 
-pub shell-few : (sh : Shell) → length (sh .attributes) ≤ slotCount → length (sh .types) ≤ maxValues → length (shellBytes count sh) ≤ 20 + 12 * slotCount + 4 * maxValues
-shell-few sh l m =
-    omega
-    (arith, ap length (shell-bytes sh), length-append (marksBytes sh) (listBytes count leaf (sh .types)), marks-few sh l, leaves (sh .types))
-
--- of a row
-pub types-few : (C : Cols) (r : Row) → RowFits C r → length (slice (C valueType) (r .value) (r .value + r .values)) ≤ maxValues
+pub types-few : (C : Cols) (r : Row) → RowFits C r → length (rowTypes C r) ≤ maxValues
 unfolding slice
 types-few C r f = omega (arith, length-take (r .value + r .values - r .value) (drop (r .value) (C valueType)), f .values)
 
-pub row-few : (C : Cols) (ig : Ignore) (r : Row) → RowFits C r → length (shellBytes count (rowShell C ig r)) ≤ 20 + 12 * slotCount + 4 * maxValues
+pub row-few : (C : Cols) (o : Options) (r : Row) → RowFits C r → length (shellBytes count (rowShell C o r)) ≤ 20 + 12 * slotCount + 4 * maxValues
 unfolding rowShell
-row-few C ig r f =
-    shell-few (rowShell C ig r) (omega (arith, kept-few C ig (r .slot) (r .slot + r .attributes), f .slots)) (types-few C r f)
+row-few C o r f =
+    let types : List ℕ = map (present (o .types)) (rowTypes C r) in
+    omega (
+      arith,
+      ap length (shell-bytes C o r),
+      length-append (marksBytes C (o .ignore) r) (listBytes count leaf types),
+      marks-few C (o .ignore) r f,
+      leaves types,
+      length-map (rowTypes C r) (present (o .types)),
+      types-few C r f,
+    )

@@ -1,20 +1,22 @@
 -- Location, attributes, types, kind and number of regions are what an operation or a block is, in the order in which they are put. Assumes nothing.
-use Prim.Native.Nat.{ℕ, _+_, _<_}
+use Prim.Native.Nat.{ℕ, _<_}
 use mathlib.Core.Bool.{Bool, true, false, cond}
 use mathlib.Core.List.{List, [], _++_, append-assoc}
 use mathlib.Core.Option.{Option, none, some}
 use mathlib.Core.Path.{_≡_, sym, ap, _∙_}
 use lib.ListN.{length}
 use Rattle.rules.specs.Lists.{concatMap}
-use Rattle.rules.specs.Store.{Op, Owner, ofOp, Attribute, regionsOf}
+use Rattle.rules.specs.Store.{Op, Owner, ofOp, Attribute, opAt, regionsOf}
 use Rattle.rules.specs.Shells.{Ignore, Shell, unignoredLocation}
+use Rattle.rules.specs.Types.{renamed}
 use Rattle.rules.specs.Hash.{leaf, count, locationBytes, attributeBytes, headBytes, listBytes, shellBytes}
 use Rattle.layout.specs.Columns.{Cols, at, opKind}
 use Rattle.layout.specs.Reading.{opCount, opOf, storeOf}
 use Rattle.layout.proofs.Tabulate.{op-read}
+use Rattle.fragments.specs.Options.{Options, under}
 use Rattle.fragments.specs.Rows.{RowOf, rowShell}
 use Rattle.fragments.specs.declared.types.Row.{Row}
-use Rattle.keys.specs.Written.{marksBytes, ownerBytes}
+use Rattle.keys.specs.Written.{rowKept, marksBytes, ownerBytes}
 
 -- ---- a location
 
@@ -36,19 +38,21 @@ pub attribute-bytes : (a : Attribute) {key kind content : ℕ} → key ≡ a .ke
 unfolding attributeBytes
 attribute-bytes a k m c = (λ i. leaf (k i) ++ leaf (m i) ++ leaf (c i))
 
-pub shell-bytes : (sh : Shell) → marksBytes sh ++ listBytes count leaf (sh .types) ≡ shellBytes count sh
-unfolding marksBytes shellBytes
-shell-bytes sh =
-    ap (λ (bs : List ℕ). bs ++ listBytes count leaf (sh .types)) (sym (append-assoc (locationBytes (sh .location)) (count (length (sh .attributes))) (concatMap attributeBytes (sh .attributes))))
+pub shell-bytes : (C : Cols) (o : Options) (r : Row) → marksBytes C (o .ignore) r ++ listBytes count leaf (rowShell C o r .types) ≡ shellBytes count (rowShell C o r)
+unfolding marksBytes rowShell shellBytes
+shell-bytes C o r =
+    let kept : List Attribute = rowKept C (o .ignore) r in
+    ap (λ (bs : List ℕ). bs ++ listBytes count leaf (rowShell C o r .types))
+    (sym (append-assoc (locationBytes (unignoredLocation (o .ignore) (r .location))) (count (length kept)) (concatMap attributeBytes kept)))
 
 -- ---- what an owner is
 
-pub head-bytes : (C : Cols) (n : ℕ) → n < opCount C → {kind regions : ℕ} → kind ≡ at C opKind n → regions ≡ length (regionsOf (storeOf C) n) → leaf kind ++ count regions ≡ headBytes (storeOf C) (ofOp n)
-unfolding headBytes opOf
-head-bytes C n l k e =
+pub head-bytes : (C : Cols) (o : Options) (n : ℕ) → n < opCount C → {kind regions : ℕ} → kind ≡ at C opKind n → regions ≡ length (regionsOf (storeOf C) n) → leaf kind ++ count regions ≡ headBytes (under o (storeOf C)) (ofOp n)
+unfolding renamed headBytes opAt opOf regionsOf
+head-bytes C o n l k e =
     let kind = k ∙ sym (ap (λ (x : Op). x .kind) (op-read C n l)) in
     (λ i. leaf (kind i) ++ count (e i))
 
-pub owner-bytes : {C : Cols} {o : Owner} {r : Row} → RowOf C o r → (ig : Ignore) → headBytes (storeOf C) o ++ shellBytes count (rowShell C ig r) ≡ ownerBytes (storeOf C) ig o
+pub owner-bytes : {C : Cols} {w : Owner} {r : Row} → RowOf C w r → (o : Options) → headBytes (under o (storeOf C)) w ++ shellBytes count (rowShell C o r) ≡ ownerBytes (storeOf C) o w
 unfolding ownerBytes
-owner-bytes {C} {o} h ig = ap (λ (x : Shell). headBytes (storeOf C) o ++ shellBytes count x) (sym (h .shell ig))
+owner-bytes {C} {w} h o = ap (λ (x : Shell). headBytes (under o (storeOf C)) w ++ shellBytes count x) (sym (h .shell o))

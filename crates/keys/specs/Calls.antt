@@ -1,4 +1,4 @@
--- What the key calls and the comparison of keys give: the rules' answers, for every buffer, ignore rule, number and lent bytes.
+-- What the key calls and the comparison of keys give: the rules' answers, for every buffer, list of types, ignore rule, number and lent bytes.
 use Prim.Native.Nat.{ℕ}
 use mathlib.Core.List.{List}
 use mathlib.Core.Path.{_≡_}
@@ -23,7 +23,7 @@ orderingOf Less = rules.less
 orderingOf Equal = rules.same
 orderingOf Greater = rules.greater
 
--- of a fragment, with the lent bytes before and after
-pub record Answered (store : List ℕ) (ig : Ignore) (f : Sort) (n : ℕ) (before after : List ℕ) (q : Keyed) : Type 0 where
-  pub told : keyed (soundBuffer store) (storeIn store) ig f n before .answer ≡ keyedOf q
-  pub bytes : keyed (soundBuffer store) (storeIn store) ig f n before .bytes ≡ after
+-- of a fragment under a lent list of types, with the lent bytes before and after
+pub record Answered (store types : List ℕ) (ig : Ignore) (f : Sort) (n : ℕ) (before after : List ℕ) (q : Keyed) : Type 0 where
+  pub told : keyed (soundBuffer store) (storeIn store) types ig f n before .answer ≡ keyedOf q
+  pub bytes : keyed (soundBuffer store) (storeIn store) types ig f n before .bytes ≡ after

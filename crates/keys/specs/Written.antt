@@ -4,11 +4,15 @@ use mathlib.Core.List.{List, [], _∷_, _++_}
 use mathlib.Core.Path.{_≡_}
 use lib.ListN.{length, take, drop}
 use Rattle.rules.specs.Lists.{concatMap}
-use Rattle.rules.specs.Store.{Store, Owner}
+use Rattle.rules.specs.Store.{Store, Owner, Attribute}
 use Rattle.rules.specs.Fragments.{Step, names}
-use Rattle.rules.specs.Shells.{Ignore, Shell, shellOf}
+use Rattle.rules.specs.Shells.{Ignore, shellOf, unignoredLocation}
 use Rattle.rules.specs.Hash.{count, Numbering, locationBytes, attributeBytes, headBytes, nameOf, nameBytes, listBytes, shellBytes, allBytes}
 use Rattle.rules.specs.Keys.{longestKey}
+use Rattle.layout.specs.Columns.{Cols}
+use Rattle.fragments.specs.Ignoring.{keptFrom}
+use Rattle.fragments.specs.Options.{Options, under}
+use Rattle.fragments.specs.declared.types.Row.{Row}
 use Rattle.numbering.specs.Words.{Stands}
 use Rattle.numbering.specs.Numbered.{Numbers, DefinitionsFit}
 
@@ -29,13 +33,17 @@ pub record Least (at long r : ℕ) : Type 0 where
 
 -- ---- lists
 
--- the location and the attributes of a shell
-unfoldable pub marksBytes : Shell → List ℕ
-marksBytes sh = locationBytes (sh .location) ++ (count (length (sh .attributes)) ++ concatMap attributeBytes (sh .attributes))
+-- the attributes that are kept of a row
+abbrev pub rowKept : Cols → Ignore → Row → List Attribute
+rowKept C ig r = keptFrom C ig (r .slot) (r .slot + r .attributes)
+
+-- the location and the attributes of a row: what it puts but for types
+unfoldable pub marksBytes : Cols → Ignore → Row → List ℕ
+marksBytes C ig r = locationBytes (unignoredLocation ig (r .location)) ++ (count (length (rowKept C ig r)) ++ concatMap attributeBytes (rowKept C ig r))
 
 -- what an operation or a block puts of itself
-unfoldable pub ownerBytes : Store → Ignore → Owner → List ℕ
-ownerBytes s ig w = headBytes s w ++ shellBytes count (shellOf s ig w)
+unfoldable pub ownerBytes : Store → Options → Owner → List ℕ
+ownerBytes s o w = headBytes (under o s) w ++ shellBytes count (shellOf (under o s) (o .ignore) w)
 
 -- what a list of uses puts, where these are defined
 unfoldable pub namesBytes : List ℕ → List ℕ → List ℕ
@@ -66,18 +74,22 @@ from ns k = record { numbers = ns; key = k; at = 0 }
 abbrev pub upTo : List ℕ → List ℕ → ℕ → Place
 upTo ns k r = record { numbers = ns; key = k; at = r }
 
--- between these places steps are numbered, and their bytes are put
-pub record Wrote (s : Store) (ig : Ignore) (xs : List Step) (a b : Place) : Type 0 where
-  pub numbers : Numbers s xs (a .numbers) (b .numbers)
-  pub put : (N : Numbering) → Stands s N (a .numbers) → Put (allBytes count s ig xs N) (a .key) (a .at) (b .key) (b .at)
+-- what steps of the store put of it, read with present types
+abbrev pub stepsBytes : Store → Options → List Step → Numbering → List ℕ
+stepsBytes s o xs N = allBytes count (under o s) (o .ignore) xs N
 
--- an operation's names are, under whatever ignore rule
+-- between these places steps are numbered, and their bytes are put
+pub record Wrote (s : Store) (o : Options) (xs : List Step) (a b : Place) : Type 0 where
+  pub numbers : Numbers s xs (a .numbers) (b .numbers)
+  pub put : (N : Numbering) → Stands s N (a .numbers) → Put (stepsBytes s o xs N) (a .key) (a .at) (b .key) (b .at)
+
+-- an operation's names are, under whatever options
 abbrev pub WroteNames : Store → ℕ → List ℕ → List ℕ → List ℕ → ℕ → Type 0
-WroteNames s n numbers before after r = (ig : Ignore) → Wrote s ig (names n ∷ []) (from numbers before) (upTo numbers after r)
+WroteNames s n numbers before after r = (o : Options) → Wrote s o (names n ∷ []) (from numbers before) (upTo numbers after r)
 
 -- numbers are left for what these steps define, and with their bytes the key is no longer than a key can be
-pub record KeyFits (s : Store) (ig : Ignore) (xs : List Step) (a : Place) : Type 0 where
+pub record KeyFits (s : Store) (o : Options) (xs : List Step) (a : Place) : Type 0 where
   pub definitions : DefinitionsFit s xs (a .numbers)
   pub numbering : Numbering
   pub stands : Stands s numbering (a .numbers)
-  pub short : a .at + length (allBytes count s ig xs numbering) ≤ longestKey
+  pub short : a .at + length (stepsBytes s o xs numbering) ≤ longestKey

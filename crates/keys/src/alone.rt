@@ -14,11 +14,14 @@ ghost use Prim.Native.Nat.{_-_, _<_, _≤_};
 ghost use lib.ListN.{length};
 ghost use Rattle.rules.specs.Store.{ofOp, opAt, regionsOf, valuesOf, maxOwnOperands};
 ghost use Rattle.rules.specs.Fragments.{op};
+ghost use Rattle.rules.specs.Types.{renamed};
 ghost use Rattle.rules.specs.Keys;
 ghost use Rattle.layout.specs.Columns.{columns};
 ghost use Rattle.layout.specs.Reading.{consecutive, opCount, storeIn};
 ghost use Rattle.layout.specs.Soundness.{IsSound};
+ghost use Rattle.renaming.specs.Index.{listIn};
 ghost use Rattle.fragments.specs.Ignoring.{ignoreOf};
+ghost use Rattle.fragments.specs.Options.{Readable};
 ghost use Rattle.keys.specs.Written.{Put, namesBytes};
 
 // How many uses there are, then each, where the numbers from `first` up to `end` are defined, and nothing else is.
@@ -51,13 +54,13 @@ fn put_own_uses(store: &[u32], key: &mut [u8], n: usize) -> usize
 }
 
 // The key of an operation without regions: its shell, its operands, its successors.
-pub fn put_alone(store: &[u32], key: &mut [u8], n: usize, ignore: Ignore) -> usize
-    requires { ⌜ IsSound (now store) ⌝ }
+pub fn put_alone(store: &[u32], types: &[u32], key: &mut [u8], n: usize, ignore: Ignore) -> usize
+    requires { ⌜ Readable (now store) (now types) ⌝ }
     requires { ⌜ n < opCount (columns (now store)) ⌝ }
     requires { ⌜ regionsOf (storeIn (now store)) n ≡ [] ⌝ }
-    ensures { λ r. ⌜ Put (Keys.key (storeIn (now (store .entry))) (ignoreOf ignore) op n) (now (key .entry)) 0 (now (key .exit)) r ⌝ }
+    ensures { λ r. ⌜ Put (Keys.key (renamed (listIn (now (types .entry))) (storeIn (now (store .entry)))) (ignoreOf ignore) op n) (now (key .entry)) 0 (now (key .exit)) r ⌝ }
 {
-    let at = put_own_op(store, key, n, ignore);
+    let at = put_own_op(store, types, key, n, ignore);
     let rest = least(at, key.len());
     at + put_own_uses(store, &mut key[rest..], n)
 }

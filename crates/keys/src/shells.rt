@@ -16,18 +16,21 @@ use layout::columns::words;
 use numbering::words::WalkNumbers;
 use numbering::words::define_block;
 use numbering::words::define_op;
-ghost use mathlib.Core.List.{[], _∷_};
+use renaming::lookup::present;
+ghost use mathlib.Core.List.{[], _∷_, map};
 ghost use mathlib.Core.Path.{_≡_};
 ghost use Prim.Native.Nat.{_<_, _≤_};
 ghost use lib.ListN.{length};
 ghost use Rattle.rules.specs.Store.{ofOp, ofBlock, maxValues};
 ghost use Rattle.rules.specs.Fragments.{shell};
 ghost use Rattle.rules.specs.Shells.{unignoredLocation};
+ghost use Rattle.rules.specs.Types;
 ghost use Rattle.rules.specs.Hash.{leaf, count, locationBytes, listBytes, shellBytes};
 ghost use Rattle.layout.specs.Columns.{bufferLength, columns};
 ghost use Rattle.layout.specs.Reading.{opCount, blockCount, storeIn};
-ghost use Rattle.layout.specs.Soundness.{IsSound};
+ghost use Rattle.renaming.specs.Index.{listIn, IsIndex};
 ghost use Rattle.fragments.specs.Ignoring.{ignoreOf};
+ghost use Rattle.fragments.specs.Options.{optionsOf, Readable};
 ghost use Rattle.fragments.specs.Rows.{RowFits, rowShell};
 ghost use Rattle.numbering.specs.Numbered.{DefinitionsFit};
 ghost use Rattle.keys.specs.Written.{Put, marksBytes, ownerBytes, from, upTo, Wrote};
@@ -42,16 +45,29 @@ fn put_location(key: &mut [u8], ignore: Ignore, location: u32) -> usize
     put_leaf(key, location)
 }
 
-// How many types there are, then each.
-fn put_types(key: &mut [u8], types: &[u32]) -> usize
+// The present type of a value. Where its 4 bytes don't fit nothing is looked up.
+fn put_type(index: &[u32], key: &mut [u8], t: u32) -> usize
+    requires { ⌜ IsIndex (now index) ⌝ }
+    ensures { λ r. ⌜ Put (leaf (Types.present (listIn (now (index .entry))) t)) (now (key .entry)) 0 (now (key .exit)) r ⌝ }
+{
+    if key.len() < 4 {
+        return 4;
+    }
+    let renamed = present(index, t);
+    put_leaf(key, renamed)
+}
+
+// How many types there are, then the present type of each.
+fn put_types(index: &[u32], key: &mut [u8], types: &[u32]) -> usize
+    requires { ⌜ IsIndex (now index) ⌝ }
     requires { ⌜ length (now types) ≤ maxValues ⌝ }
-    ensures { λ r. ⌜ Put (listBytes count leaf (now (types .entry))) (now (key .entry)) 0 (now (key .exit)) r ⌝ }
+    ensures { λ r. ⌜ Put (listBytes count leaf (map (Types.present (listIn (now (index .entry)))) (now (types .entry)))) (now (key .entry)) 0 (now (key .exit)) r ⌝ }
 {
     let mut at = put_count(key, types.len());
     let mut i = 0;
     while i < types.len() {
         let rest = least(at, key.len());
-        at += put_leaf(&mut key[rest..], types[i]);
+        at += put_type(index, &mut key[rest..], types[i]);
         i += 1;
     }
     at
@@ -61,7 +77,7 @@ fn put_types(key: &mut [u8], types: &[u32]) -> usize
 fn put_marks(store: &[u32], key: &mut [u8], ignore: Ignore, row: Row) -> usize
     requires { ⌜ length (now store) ≡ bufferLength ⌝ }
     requires { ⌜ RowFits (columns (now store)) row ⌝ }
-    ensures { λ r. ⌜ Put (marksBytes (rowShell (columns (now (store .entry))) (ignoreOf ignore) row)) (now (key .entry)) 0 (now (key .exit)) r ⌝ }
+    ensures { λ r. ⌜ Put (marksBytes (columns (now (store .entry))) (ignoreOf ignore) row) (now (key .entry)) 0 (now (key .exit)) r ⌝ }
 {
     let at = put_location(key, ignore, row.location);
     let end = row.slot + row.attributes;
@@ -70,68 +86,77 @@ fn put_marks(store: &[u32], key: &mut [u8], ignore: Ignore, row: Row) -> usize
 }
 
 // What operations and blocks have in common: location, attributes, and the types of the values.
-pub fn put_row(store: &[u32], key: &mut [u8], ignore: Ignore, row: Row) -> usize
+pub fn put_row(store: &[u32], types: &[u32], key: &mut [u8], ignore: Ignore, row: Row) -> usize
     requires { ⌜ length (now store) ≡ bufferLength ⌝ }
+    requires { ⌜ IsIndex (now types) ⌝ }
     requires { ⌜ RowFits (columns (now store)) row ⌝ }
-    ensures { λ r. ⌜ Put (shellBytes count (rowShell (columns (now (store .entry))) (ignoreOf ignore) row)) (now (key .entry)) 0 (now (key .exit)) r ⌝ }
+    ensures { λ r. ⌜ Put (shellBytes count (rowShell (columns (now (store .entry))) (optionsOf ignore (now (types .entry))) row)) (now (key .entry)) 0 (now (key .exit)) r ⌝ }
 {
     let at = put_marks(store, key, ignore, row);
-    let types = words(store, VALUE_TYPE, row.value, row.value + row.values);
+    let own = words(store, VALUE_TYPE, row.value, row.value + row.values);
     let rest = least(at, key.len());
-    at + put_types(&mut key[rest..], types)
+    at + put_types(types, &mut key[rest..], own)
 }
 
 // What an operation is, apart from all numbering: its kind, how many regions it has, and its row.
-pub fn put_own_op(store: &[u32], key: &mut [u8], n: usize, ignore: Ignore) -> usize
-    requires { ⌜ IsSound (now store) ⌝ }
+pub fn put_own_op(store: &[u32], types: &[u32], key: &mut [u8], n: usize, ignore: Ignore) -> usize
+    requires { ⌜ Readable (now store) (now types) ⌝ }
     requires { ⌜ n < opCount (columns (now store)) ⌝ }
-    ensures { λ r. ⌜ Put (ownerBytes (storeIn (now (store .entry))) (ignoreOf ignore) (ofOp n)) (now (key .entry)) 0 (now (key .exit)) r ⌝ }
+    ensures { λ r. ⌜ Put (ownerBytes (storeIn (now (store .entry))) (optionsOf ignore (now (types .entry))) (ofOp n)) (now (key .entry)) 0 (now (key .exit)) r ⌝ }
 {
     let kind = at(store, OP_KIND, n);
     let at = put_head(key, kind, op_regions(store, n));
     let rest = least(at, key.len());
-    at + put_row(store, &mut key[rest..], ignore, op_row(store, n))
+    at + put_row(store, types, &mut key[rest..], ignore, op_row(store, n))
 }
 
 // What a block is.
-pub fn put_own_block(store: &[u32], key: &mut [u8], n: usize, ignore: Ignore) -> usize
-    requires { ⌜ IsSound (now store) ⌝ }
+pub fn put_own_block(
+    store: &[u32],
+    types: &[u32],
+    key: &mut [u8],
+    n: usize,
+    ignore: Ignore,
+) -> usize
+    requires { ⌜ Readable (now store) (now types) ⌝ }
     requires { ⌜ n < blockCount (columns (now store)) ⌝ }
-    ensures { λ r. ⌜ Put (ownerBytes (storeIn (now (store .entry))) (ignoreOf ignore) (ofBlock n)) (now (key .entry)) 0 (now (key .exit)) r ⌝ }
+    ensures { λ r. ⌜ Put (ownerBytes (storeIn (now (store .entry))) (optionsOf ignore (now (types .entry))) (ofBlock n)) (now (key .entry)) 0 (now (key .exit)) r ⌝ }
 {
-    put_row(store, key, ignore, block_row(store, n))
+    put_row(store, types, key, ignore, block_row(store, n))
 }
 
 // The components of an operation that do not use or contain other things; and its results are defined.
 pub fn put_op_shell(
     store: &[u32],
+    types: &[u32],
     numbers: &mut WalkNumbers,
     key: &mut [u8],
     n: usize,
     ignore: Ignore,
 ) -> usize
-    requires { ⌜ IsSound (now store) ⌝ }
+    requires { ⌜ Readable (now store) (now types) ⌝ }
     requires { ⌜ n < opCount (columns (now store)) ⌝ }
     requires { ⌜ DefinitionsFit (storeIn (now store)) (shell (ofOp n) ∷ []) (now numbers) ⌝ }
-    ensures { λ r. ⌜ Wrote (storeIn (now (store .entry))) (ignoreOf ignore) (shell (ofOp n) ∷ []) (from (now (numbers .entry)) (now (key .entry))) (upTo (now (numbers .exit)) (now (key .exit)) r) ⌝ }
+    ensures { λ r. ⌜ Wrote (storeIn (now (store .entry))) (optionsOf ignore (now (types .entry))) (shell (ofOp n) ∷ []) (from (now (numbers .entry)) (now (key .entry))) (upTo (now (numbers .exit)) (now (key .exit)) r) ⌝ }
 {
     define_op(store, numbers, n);
-    put_own_op(store, key, n, ignore)
+    put_own_op(store, types, key, n, ignore)
 }
 
 // The components of a block that do not use or contain other things; and the block and its arguments are defined.
 pub fn put_block_shell(
     store: &[u32],
+    types: &[u32],
     numbers: &mut WalkNumbers,
     key: &mut [u8],
     n: usize,
     ignore: Ignore,
 ) -> usize
-    requires { ⌜ IsSound (now store) ⌝ }
+    requires { ⌜ Readable (now store) (now types) ⌝ }
     requires { ⌜ n < blockCount (columns (now store)) ⌝ }
     requires { ⌜ DefinitionsFit (storeIn (now store)) (shell (ofBlock n) ∷ []) (now numbers) ⌝ }
-    ensures { λ r. ⌜ Wrote (storeIn (now (store .entry))) (ignoreOf ignore) (shell (ofBlock n) ∷ []) (from (now (numbers .entry)) (now (key .entry))) (upTo (now (numbers .exit)) (now (key .exit)) r) ⌝ }
+    ensures { λ r. ⌜ Wrote (storeIn (now (store .entry))) (optionsOf ignore (now (types .entry))) (shell (ofBlock n) ∷ []) (from (now (numbers .entry)) (now (key .entry))) (upTo (now (numbers .exit)) (now (key .exit)) r) ⌝ }
 {
     define_block(store, numbers, n);
-    put_own_block(store, key, n, ignore)
+    put_own_block(store, types, key, n, ignore)
 }

@@ -4,14 +4,18 @@ use Prim.Native.Nat.{ℕ}
 use mathlib.Core.Bool.{Bool, true, false}
 use mathlib.Core.List.{List}
 use mathlib.Core.Path.{_≡_, refl, sym, ap, ap₂, _∙_}
+use Rattle.rules.specs.Store.{Store, sound}
 use Rattle.rules.specs.Fragments.{Sort, op, block, region}
 use Rattle.rules.specs.Shells.{Ignore}
 use Rattle.rules.specs.Mapping.{Mapping, allowed}
 use Rattle.rules.specs.Comparison.{Pair, unequal, oneLonger, tooDeep, State, Walk, on, ended, standing, pairOf, compare}
+use Rattle.rules.specs.Types.{typesHold, renamed}
 use Rattle.rules.specs.Answers.{Comparison, eq, neq, comparisonOf, comparison}
 use Rattle.rules.specs.Rust as rust
 use Rattle.rules.specs.Agreement.{namedBy, named, resultOf, answered, metOneLonger, ComparesAsTheRust, HashesAsTheRust}
 use Rattle.rules.specs.Laws.{In}
+use Rattle.rules.specs.Statements.{RenamedSound}
+use Rattle.rules.proofs.Types.Under.{renamed-sound}
 use Rattle.rules.proofs.Walking.Deep.{compare-not-deep}
 use Rattle.rules.proofs.Walking.Answered.{comparison-is}
 use Rattle.rules.proofs.Rust.Comparison.{compares-as-the-rust}
@@ -25,7 +29,7 @@ use Rattle.equivalence.specs.declared.types.EqResult.{EqResult}
 use Rattle.equivalence.specs.declared.types.EqResult.the-variants as code
 use Rattle.hashing.specs.declared.types.Hashed.the-variants.{Hash}
 use Rattle.laws.specs.Demand2.{verdictOf, AnswersAgree, Demand2OfCode}
-use Rattle.laws.proofs.Obeyed.{equal-only, ruled, hash-said}
+use Rattle.laws.proofs.Obeyed.{ruled, here, equal-only, hash-said}
 
 -- an answer that names a pair names it in the Rust's words too
 names-only : (q : EqResult) (p : Pair) (n : ℕ) → answerOf q ≡ neq p n → verdictOf q ≡ named p
@@ -53,33 +57,41 @@ same-words (ended (oneLonger p) st) deep m after q e =
     ap₂ rust.answers (sym (names-only q p (st .paired) (sym (ap (λ (c : Comparison). c .answer) e)))) (ap (λ (c : Comparison). c .mapping) e)
 same-words (ended tooDeep st) deep m after q e = absurd (deep st refl)
 
-module _ (b : List ℕ) (sd : soundBuffer b ≡ true) (ig : Ignore) (f : Sort) where
+module _ (b : List ℕ) (sd : soundBuffer b ≡ true) (types : List ℕ) (th : typesHold types ≡ true) (ig : Ignore) (f : Sort) where
+  -- the store as it is read
+  abbrev read : Store
+  read = renamed types (storeIn b)
+
+  sound-read : sound read ≡ true
+  unfolding RenamedSound
+  sound-read = renamed-sound types (storeIn b) (ruled b sd types th ig f)
+
   module _ (l r : ℕ) (il : In (storeIn b) f l) (ir : In (storeIn b) f r) (before after : List ℕ) (am : allowed (storeIn b) (mappingOf before) ≡ true)
-      (q : EqResult) (a : comparisons.Answered b before after ig f l r q) where
-    walked : comparisonOf (compare (storeIn b) ig f l r (mappingOf before)) (mappingOf before) ≡ record { answer = answerOf q; mapping = mappingOf after }
+      (q : EqResult) (a : comparisons.Answered b types before after ig f l r q) where
+    walked : comparisonOf (compare read ig f l r (mappingOf before)) (mappingOf before) ≡ record { answer = answerOf q; mapping = mappingOf after }
     walked =
-        sym (comparison-is (storeIn b) (ruled b sd ig f) ig f (mappingOf before) am l r il ir)
-        ∙ ap (λ (t : Bool). comparison t (storeIn b) (mappingOf before) ig f l r) (sym sd)
+        sym (comparison-is (storeIn b) (ruled b sd types th ig f) ig f types th (mappingOf before) am l r il ir)
+        ∙ ap (λ (t : Bool). comparison t (storeIn b) types (mappingOf before) ig f l r) (sym sd)
         ∙ a .told
 
-    as-the-rust : metOneLonger (compare (storeIn b) ig f l r (mappingOf before)) ≡ false
-        → rust.rustEq (storeIn b) ig f l r (mappingOf before) ≡ rust.answers (verdictOf q) (mappingOf after)
+    as-the-rust : metOneLonger (compare read ig f l r (mappingOf before)) ≡ false
+        → rust.rustEq read ig f l r (mappingOf before) ≡ rust.answers (verdictOf q) (mappingOf after)
     unfolding ComparesAsTheRust
     as-the-rust never =
-        compares-as-the-rust (storeIn b) (ruled b sd ig f) ig f l r (mappingOf before) never
-        ∙ same-words (compare (storeIn b) ig f l r (mappingOf before)) (λ t h. compare-not-deep (storeIn b) (ruled b sd ig f) ig f l r il (mappingOf before) t h)
+        compares-as-the-rust read sound-read ig f l r (mappingOf before) never
+        ∙ same-words (compare read ig f l r (mappingOf before)) (λ t h. compare-not-deep read sound-read ig f l r (here b sd types th ig f l il) (mappingOf before) t h)
         (mappingOf before) (mappingOf after) q walked
 
-  answers-agree : AnswersAgree b ig f
+  answers-agree : AnswersAgree b types ig f
   unfolding HashesAsTheRust
   answers-agree =
       record {
         compared = walked;
         comparedAsTheRust = as-the-rust;
-        hashed = λ n i h a. hash-said b sd ig f n i h a;
-        hashedAsTheRust = λ n i h a. hash-said b sd ig f n i h a ∙ ap Hash (sym (hashes-as-the-rust (storeIn b) (ruled b sd ig f) ig f n i));
+        hashed = λ n i h a. hash-said b sd types th ig f n i h a;
+        hashedAsTheRust = λ n i h a. hash-said b sd types th ig f n i h a ∙ ap Hash (sym (hashes-as-the-rust read sound-read ig f n (here b sd types th ig f n i)));
       }
 
 pub demand2-of-code : Demand2OfCode
 unfolding Demand2OfCode
-demand2-of-code buffer sd ig f = answers-agree buffer sd ig f
+demand2-of-code buffer sd types th ig f = answers-agree buffer sd types th ig f

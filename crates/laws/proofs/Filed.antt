@@ -13,8 +13,10 @@ use Rattle.rules.specs.Store.{Store, emptyStore}
 use Rattle.rules.specs.Fragments.{Sort}
 use Rattle.rules.specs.Building.{firstFailed, after}
 use Rattle.rules.specs.Shells.{Ignore}
+use Rattle.rules.specs.Types.{typesHold, renamed}
 use Rattle.rules.specs.Keys.{keyLength, key, keyTests, written, keyedBy, keyed, orderingNumber, compareBytes, fits, attributeFits, opFits, blockFits, valueFits, fieldsFit}
-use Rattle.rules.specs.Statements.{FiledAsEqual, FilersLaw}
+use Rattle.rules.specs.Statements.{FiledAsEqual, FilersLaw, RenamedSound}
+use Rattle.rules.proofs.Types.Under.{renamed-sound, renamed-fits}
 use Rattle.rules.proofs.Basics.Tests.{and-left, and-right, and-both, every-of, impossible}
 use Rattle.rules.proofs.Keys.Filed.{filers-law}
 use Rattle.rules.proofs.Keys.Fitting.{all-getD}
@@ -26,7 +28,7 @@ use Rattle.building.specs.Calls.{AfterCalls}
 use Rattle.building.proofs.Answering.{after-calls}
 use Rattle.keys.specs.Calls.{keyedOf, orderingOf}
 use Rattle.laws.specs.Filing.{Writes, AnswersFile, FilingOfCode, WordsFit}
-use Rattle.laws.proofs.Obeyed.{ruled, says, said}
+use Rattle.laws.proofs.Obeyed.{ruled, here, apart, says, said}
 
 -- ---- what was written is the rules' key
 
@@ -39,30 +41,34 @@ module _ (k before : List ℕ) where
       ap (λ (m : ℕ). take m left) (sym e) ∙ ap (take (length k)) (sym b) ∙ take-append-seam k (drop (length k) before)
   by-answer (some cause) n left a b = impossible cc
 
-module _ (b : List ℕ) (sd : soundBuffer b ≡ true) (ig : Ignore) (f : Sort) where
-  key-said : (x : ℕ) (k : List ℕ) → Writes b ig f x k → k ≡ key (storeIn b) ig f x
+module _ (b : List ℕ) (sd : soundBuffer b ≡ true) (types : List ℕ) (th : typesHold types ≡ true) (ig : Ignore) (f : Sort) where
+  -- the store as it is read
+  abbrev read : Store
+  read = renamed types (storeIn b)
+
+  key-said : (x : ℕ) (k : List ℕ) → Writes b types ig f x k → k ≡ key read ig f x
   unfolding keyed keyedOf
   key-said x k w =
-      let told = subst (λ (t : Bool). keyed t (storeIn b) ig f x (w .before) .answer ≡ keyLength (w .length)) sd (w .answered .told) in
-      let bytes = subst (λ (t : Bool). keyed t (storeIn b) ig f x (w .before) .bytes ≡ w .after) sd (w .answered .bytes) in
+      let told = subst (λ (t : Bool). keyed t (storeIn b) types ig f x (w .before) .answer ≡ keyLength (w .length)) sd (w .answered .told) in
+      let bytes = subst (λ (t : Bool). keyed t (storeIn b) types ig f x (w .before) .bytes ≡ w .after) sd (w .answered .bytes) in
       sym (w .begin)
-      ∙ by-answer (key (storeIn b) ig f x) (w .before) (firstFailed (keyTests true (storeIn b) ig f x (length (w .before)))) (w .length) (w .after) told bytes
+      ∙ by-answer (key read ig f x) (w .before) (firstFailed (keyTests true (storeIn b) types ig f x (length (w .before)))) (w .length) (w .after) told bytes
 
-  answers-file : fieldsFit (storeIn b) ≡ true → AnswersFile b ig f
-  unfolding AnswersFile FilersLaw FiledAsEqual
+  answers-file : fieldsFit read ≡ true → AnswersFile b types ig f
+  unfolding AnswersFile FilersLaw FiledAsEqual RenamedSound
   answers-file fit x y ix iy p q c k l wk wl r o =
-      let law = filers-law (storeIn b) (ruled b sd ig f) fit ig f x y ix iy p in
-      let same : compareBytes (key (storeIn b) ig f x) (key (storeIn b) ig f y) ≡ orderingOf r =
+      let law = filers-law read (renamed-sound types (storeIn b) (ruled b sd types th ig f)) fit ig f x y (here b sd types th ig f x ix) (here b sd types th ig f y iy) (apart b sd types th ig f x y p) in
+      let same : compareBytes (key read ig f x) (key read ig f y) ≡ orderingOf r =
       (λ i. compareBytes (sym (key-said x k wk) i) (sym (key-said y l wl) i)) ∙ sym o in (
-        λ e. says b sd ig f x y ix iy q c (law .0 (ap orderingNumber same ∙ e)),
-        λ e. ap orderingNumber (sym same) ∙ law .1 (said b sd ig f x y ix iy q c e),
+        λ e. says b sd types th ig f x y ix iy q c (law .0 (ap orderingNumber same ∙ e)),
+        λ e. ap orderingNumber (sym same) ∙ law .1 (said b sd types th ig f x y ix iy q c e),
       )
 
 pub filing-of-code : FilingOfCode
 unfolding FilingOfCode AfterCalls
-filing-of-code entry e calls fit buffer made ig f =
+filing-of-code entry e calls fit buffer made types th small ig f =
     let h = after-calls entry e calls buffer made in
-    answers-file buffer (h .1) ig f (subst (λ (s : Store). fieldsFit s ≡ true) (sym (h .0)) (after-fits emptyStore calls empty-fits fit))
+    answers-file buffer (h .1) types th ig f (renamed-fits types small (storeIn buffer) (subst (λ (s : Store). fieldsFit s ≡ true) (sym (h .0)) (after-fits emptyStore calls empty-fits fit)))
 
 -- ---- a store that is read from words
 

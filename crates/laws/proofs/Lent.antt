@@ -12,6 +12,6 @@ use Rattle.laws.specs.Lending.{AllowedAgain}
 
 pub allowed-again : AllowedAgain
 unfolding AllowedAgain
-allowed-again buffer sd ig f l r before after h q a =
+allowed-again buffer sd types ig f l r before after h q a =
     subst (λ (m : Mapping). allowed (storeIn buffer) m ≡ true) (ap (λ (c : Comparison). c .mapping) (a .told))
-    (comparison-allowed (storeIn buffer) (soundBuffer buffer) ig f l r (mappingOf before) h)
+    (comparison-allowed (storeIn buffer) (soundBuffer buffer) types ig f l r (mappingOf before) h)

@@ -13,9 +13,9 @@ use Rattle.equivalence.specs.MappingWords.{mappingOf}
 use Rattle.equivalence.specs.Calls as comparisons
 use Rattle.equivalence.specs.declared.types.EqResult.{EqResult}
 
--- on a sound buffer, whatever the numbers, answered or refused
+-- on a sound buffer, whatever the list of types and the numbers, answered or refused
 unfoldable pub AllowedAgain : Type 0
 AllowedAgain =
-    (buffer : List ℕ) → soundBuffer buffer ≡ true → (ig : Ignore) (f : Sort) (l r : ℕ) (before after : List ℕ)
-    → allowed (storeIn buffer) (mappingOf before) ≡ true → (q : EqResult) → comparisons.Answered buffer before after ig f l r q
+    (buffer : List ℕ) → soundBuffer buffer ≡ true → (types : List ℕ) (ig : Ignore) (f : Sort) (l r : ℕ) (before after : List ℕ)
+    → allowed (storeIn buffer) (mappingOf before) ≡ true → (q : EqResult) → comparisons.Answered buffer types before after ig f l r q
     → allowed (storeIn buffer) (mappingOf after) ≡ true

@@ -1,4 +1,5 @@
-// The calls on a store that is known to be sound, and with a mapping that is known to be allowed: neither is tested.
+// The calls on a store that is known to be sound, with an index of a list of renamed types, and with a mapping that is known to be allowed:
+// none of them is tested.
 use crate::answers::Entries;
 use crate::answers::KeyAnswer;
 use crate::answers::Outcome;
@@ -15,16 +16,19 @@ use building::types::Attribute;
 use calling::types::OpFields;
 use equivalence::comparison::fragments_eq;
 use equivalence::comparison::operations_eq;
+use equivalence::types::Fragments;
 use equivalence::unmapping::entered;
 use fragments::ignoring::Ignore;
 use fragments::types::Sort;
 use hashing::hashes::fragment_hash;
 use keys::keys::fragment_key;
 use keys::keys::key_length;
+use renaming::indexing::index_types;
 ghost use mathlib.Core.Bool.{true};
 ghost use mathlib.Core.Path.{_≡_};
 ghost use lib.ListN.{length};
 ghost use Rattle.rules.specs.Mapping.{allowed};
+ghost use Rattle.rules.specs.Types.{renamed};
 ghost use Rattle.rules.specs.Entered.{EnteredBy};
 ghost use Rattle.layout.specs.Reading.{storeIn};
 ghost use Rattle.equivalence.specs.MappingWords.{mappingLength, mappingOf};
@@ -33,6 +37,8 @@ ghost use Rattle.rules.specs.Building.{newOperation, newBlock, setAttribute, se
 ghost use Rattle.rules.specs.Fragments.{op, exists};
 ghost use Rattle.rules.specs.Keys;
 ghost use Rattle.layout.specs.Soundness.{IsSound};
+ghost use Rattle.renaming.specs.Index.{listIn, Indexes, indexLength};
+ghost use Rattle.fragments.specs.Options.{Readable};
 ghost use Rattle.calling.specs.Doing.{Did};
 ghost use Rattle.equivalence.specs.Calls as comparing;
 ghost use Rattle.hashing.specs.Calls as hashing;
@@ -46,6 +52,16 @@ pub extern "C" fn wz_known_is_allowed(store: &[u32], mapping: &[u32]) -> bool
     ensures { λ r. ⌜ r ≡ allowed (storeIn (now (store .entry))) (mappingOf (now (mapping .entry))) ⌝ }
 {
     equivalence::mapping::is_allowed(store, mapping)
+}
+
+// Tests a list of renamed types, and makes the index of it that the calls below are lent as `types`: it is as many of these words as the
+// answer says, which is 0 for a list that is refused (by 14). No words are the index of the empty list.
+#[no_mangle]
+pub extern "C" fn wz_known_index_types(types: &[u32], index: &mut [u32]) -> usize
+    requires { ⌜ length (now index) ≡ indexLength ⌝ }
+    ensures { λ n. ⌜ Indexes (now (types .entry)) (now (index .exit)) n ⌝ }
+{
+    index_types(types, index)
 }
 
 // 0 is an operation, 1 a block, any other a region.
@@ -156,46 +172,57 @@ pub extern "C" fn wz_known_set_operand(store: &mut [u32], n: u32, i: u32, v: u32
 #[no_mangle]
 pub extern "C" fn wz_known_operation_eq(
     store: &[u32],
+    types: &[u32],
     mapping: &mut [u32],
     lhs: u32,
     rhs: u32,
     locations: bool,
     bits: u64,
 ) -> Verdict
-    requires { ⌜ IsSound (now store) ⌝ }
+    requires { ⌜ Readable (now store) (now types) ⌝ }
     requires { ⌜ allowed (storeIn (now store)) (mappingOf (now mapping)) ≡ true ⌝ }
-    ensures { λ r. ⌜ comparing.Answered (now (store .entry)) (now (mapping .entry)) (now (mapping .exit)) (ignoring locations bits) op lhs rhs (verdictMeans r) ⌝ }
+    ensures { λ r. ⌜ comparing.Answered (now (store .entry)) (listIn (now (types .entry))) (now (mapping .entry)) (now (mapping .exit)) (ignoring locations bits) op lhs rhs (verdictMeans r) ⌝ }
 {
-    of_verdict(operations_eq(store, mapping, lhs, rhs, Ignore { locations, bits }))
+    of_verdict(operations_eq(store, types, mapping, lhs, rhs, Ignore { locations, bits }))
 }
 
 #[no_mangle]
-pub extern "C" fn wz_known_operation_hash(store: &[u32], n: u32, locations: bool, bits: u64) -> Sum
-    requires { ⌜ IsSound (now store) ⌝ }
-    ensures { λ r. ⌜ hashing.Answered (now (store .entry)) (ignoring locations bits) op n (sumMeans r) ⌝ }
+pub extern "C" fn wz_known_operation_hash(
+    store: &[u32],
+    types: &[u32],
+    n: u32,
+    locations: bool,
+    bits: u64,
+) -> Sum
+    requires { ⌜ Readable (now store) (now types) ⌝ }
+    ensures { λ r. ⌜ hashing.Answered (now (store .entry)) (listIn (now (types .entry))) (ignoring locations bits) op n (sumMeans r) ⌝ }
 {
-    of_hash(fragment_hash(store, Sort::Op, n, Ignore { locations, bits }))
+    of_hash(fragment_hash(store, types, Sort::Op, n, Ignore { locations, bits }))
 }
 
 #[no_mangle]
 pub extern "C" fn wz_known_basic_block_eq(
     store: &[u32],
+    types: &[u32],
     mapping: &mut [u32],
     lhs: u32,
     rhs: u32,
     locations: bool,
     bits: u64,
 ) -> Verdict
-    requires { ⌜ IsSound (now store) ⌝ }
+    requires { ⌜ Readable (now store) (now types) ⌝ }
     requires { ⌜ allowed (storeIn (now store)) (mappingOf (now mapping)) ≡ true ⌝ }
-    ensures { λ r. ⌜ comparing.Answered (now (store .entry)) (now (mapping .entry)) (now (mapping .exit)) (ignoring locations bits) Rattle.rules.specs.Fragments.block lhs rhs (verdictMeans r) ⌝ }
+    ensures { λ r. ⌜ comparing.Answered (now (store .entry)) (listIn (now (types .entry))) (now (mapping .entry)) (now (mapping .exit)) (ignoring locations bits) Rattle.rules.specs.Fragments.block lhs rhs (verdictMeans r) ⌝ }
 {
     of_verdict(fragments_eq(
         store,
+        types,
         mapping,
-        Sort::Block,
-        lhs,
-        rhs,
+        Fragments {
+            sort: Sort::Block,
+            lhs,
+            rhs,
+        },
         Ignore { locations, bits },
     ))
 }
@@ -203,130 +230,179 @@ pub extern "C" fn wz_known_basic_block_eq(
 #[no_mangle]
 pub extern "C" fn wz_known_basic_block_hash(
     store: &[u32],
+    types: &[u32],
     n: u32,
     locations: bool,
     bits: u64,
 ) -> Sum
-    requires { ⌜ IsSound (now store) ⌝ }
-    ensures { λ r. ⌜ hashing.Answered (now (store .entry)) (ignoring locations bits) Rattle.rules.specs.Fragments.block n (sumMeans r) ⌝ }
+    requires { ⌜ Readable (now store) (now types) ⌝ }
+    ensures { λ r. ⌜ hashing.Answered (now (store .entry)) (listIn (now (types .entry))) (ignoring locations bits) Rattle.rules.specs.Fragments.block n (sumMeans r) ⌝ }
 {
-    of_hash(fragment_hash(store, Sort::Block, n, Ignore { locations, bits }))
+    of_hash(fragment_hash(store, types, Sort::Block, n, Ignore { locations, bits }))
 }
 
 #[no_mangle]
 pub extern "C" fn wz_known_region_eq(
     store: &[u32],
+    types: &[u32],
     mapping: &mut [u32],
     lhs: u32,
     rhs: u32,
     locations: bool,
     bits: u64,
 ) -> Verdict
-    requires { ⌜ IsSound (now store) ⌝ }
+    requires { ⌜ Readable (now store) (now types) ⌝ }
     requires { ⌜ allowed (storeIn (now store)) (mappingOf (now mapping)) ≡ true ⌝ }
-    ensures { λ r. ⌜ comparing.Answered (now (store .entry)) (now (mapping .entry)) (now (mapping .exit)) (ignoring locations bits) Rattle.rules.specs.Fragments.region lhs rhs (verdictMeans r) ⌝ }
+    ensures { λ r. ⌜ comparing.Answered (now (store .entry)) (listIn (now (types .entry))) (now (mapping .entry)) (now (mapping .exit)) (ignoring locations bits) Rattle.rules.specs.Fragments.region lhs rhs (verdictMeans r) ⌝ }
 {
     of_verdict(fragments_eq(
         store,
+        types,
         mapping,
-        Sort::Region,
-        lhs,
-        rhs,
+        Fragments {
+            sort: Sort::Region,
+            lhs,
+            rhs,
+        },
         Ignore { locations, bits },
     ))
 }
 
 #[no_mangle]
-pub extern "C" fn wz_known_region_hash(store: &[u32], n: u32, locations: bool, bits: u64) -> Sum
-    requires { ⌜ IsSound (now store) ⌝ }
-    ensures { λ r. ⌜ hashing.Answered (now (store .entry)) (ignoring locations bits) Rattle.rules.specs.Fragments.region n (sumMeans r) ⌝ }
+pub extern "C" fn wz_known_region_hash(
+    store: &[u32],
+    types: &[u32],
+    n: u32,
+    locations: bool,
+    bits: u64,
+) -> Sum
+    requires { ⌜ Readable (now store) (now types) ⌝ }
+    ensures { λ r. ⌜ hashing.Answered (now (store .entry)) (listIn (now (types .entry))) (ignoring locations bits) Rattle.rules.specs.Fragments.region n (sumMeans r) ⌝ }
 {
-    of_hash(fragment_hash(store, Sort::Region, n, Ignore { locations, bits }))
+    of_hash(fragment_hash(store, types, Sort::Region, n, Ignore { locations, bits }))
 }
 
 #[no_mangle]
 pub extern "C" fn wz_known_operation_key(
     store: &[u32],
+    types: &[u32],
     key: &mut [u8],
     n: u32,
     locations: bool,
     bits: u64,
 ) -> KeyAnswer
-    requires { ⌜ IsSound (now store) ⌝ }
-    ensures { λ r. ⌜ keys.Answered (now (store .entry)) (ignoring locations bits) op n (now (key .entry)) (now (key .exit)) (keyAnswerMeans r) ⌝ }
+    requires { ⌜ Readable (now store) (now types) ⌝ }
+    ensures { λ r. ⌜ keys.Answered (now (store .entry)) (listIn (now (types .entry))) (ignoring locations bits) op n (now (key .entry)) (now (key .exit)) (keyAnswerMeans r) ⌝ }
 {
-    of_key(fragment_key(store, key, Sort::Op, n, Ignore { locations, bits }))
+    of_key(fragment_key(store, types, key, Sort::Op, n, Ignore { locations, bits }))
 }
 
 // How long the key will be, of an operation that exists.
 #[no_mangle]
 pub extern "C" fn wz_known_operation_key_length(
     store: &[u32],
+    types: &[u32],
     n: u32,
     locations: bool,
     bits: u64,
 ) -> usize
-    requires { ⌜ IsSound (now store) ⌝ }
+    requires { ⌜ Readable (now store) (now types) ⌝ }
     requires { ⌜ exists (storeIn (now store)) op n ≡ true ⌝ }
-    ensures { λ r. ⌜ r ≡ length (Keys.key (storeIn (now (store .entry))) (ignoring locations bits) op n) ⌝ }
+    ensures { λ r. ⌜ r ≡ length (Keys.key (renamed (listIn (now (types .entry))) (storeIn (now (store .entry)))) (ignoring locations bits) op n) ⌝ }
 {
-    key_length(store, Sort::Op, n as usize, Ignore { locations, bits })
+    key_length(
+        store,
+        types,
+        Sort::Op,
+        n as usize,
+        Ignore { locations, bits },
+    )
 }
 
 #[no_mangle]
 pub extern "C" fn wz_known_basic_block_key(
     store: &[u32],
+    types: &[u32],
     key: &mut [u8],
     n: u32,
     locations: bool,
     bits: u64,
 ) -> KeyAnswer
-    requires { ⌜ IsSound (now store) ⌝ }
-    ensures { λ r. ⌜ keys.Answered (now (store .entry)) (ignoring locations bits) Rattle.rules.specs.Fragments.block n (now (key .entry)) (now (key .exit)) (keyAnswerMeans r) ⌝ }
+    requires { ⌜ Readable (now store) (now types) ⌝ }
+    ensures { λ r. ⌜ keys.Answered (now (store .entry)) (listIn (now (types .entry))) (ignoring locations bits) Rattle.rules.specs.Fragments.block n (now (key .entry)) (now (key .exit)) (keyAnswerMeans r) ⌝ }
 {
-    of_key(fragment_key(store, key, Sort::Block, n, Ignore { locations, bits }))
+    of_key(fragment_key(
+        store,
+        types,
+        key,
+        Sort::Block,
+        n,
+        Ignore { locations, bits },
+    ))
 }
 
 // How long the key will be, of a block that exists.
 #[no_mangle]
 pub extern "C" fn wz_known_basic_block_key_length(
     store: &[u32],
+    types: &[u32],
     n: u32,
     locations: bool,
     bits: u64,
 ) -> usize
-    requires { ⌜ IsSound (now store) ⌝ }
+    requires { ⌜ Readable (now store) (now types) ⌝ }
     requires { ⌜ exists (storeIn (now store)) Rattle.rules.specs.Fragments.block n ≡ true ⌝ }
-    ensures { λ r. ⌜ r ≡ length (Keys.key (storeIn (now (store .entry))) (ignoring locations bits) Rattle.rules.specs.Fragments.block n) ⌝ }
+    ensures { λ r. ⌜ r ≡ length (Keys.key (renamed (listIn (now (types .entry))) (storeIn (now (store .entry)))) (ignoring locations bits) Rattle.rules.specs.Fragments.block n) ⌝ }
 {
-    key_length(store, Sort::Block, n as usize, Ignore { locations, bits })
+    key_length(
+        store,
+        types,
+        Sort::Block,
+        n as usize,
+        Ignore { locations, bits },
+    )
 }
 
 #[no_mangle]
 pub extern "C" fn wz_known_region_key(
     store: &[u32],
+    types: &[u32],
     key: &mut [u8],
     n: u32,
     locations: bool,
     bits: u64,
 ) -> KeyAnswer
-    requires { ⌜ IsSound (now store) ⌝ }
-    ensures { λ r. ⌜ keys.Answered (now (store .entry)) (ignoring locations bits) Rattle.rules.specs.Fragments.region n (now (key .entry)) (now (key .exit)) (keyAnswerMeans r) ⌝ }
+    requires { ⌜ Readable (now store) (now types) ⌝ }
+    ensures { λ r. ⌜ keys.Answered (now (store .entry)) (listIn (now (types .entry))) (ignoring locations bits) Rattle.rules.specs.Fragments.region n (now (key .entry)) (now (key .exit)) (keyAnswerMeans r) ⌝ }
 {
-    of_key(fragment_key(store, key, Sort::Region, n, Ignore { locations, bits }))
+    of_key(fragment_key(
+        store,
+        types,
+        key,
+        Sort::Region,
+        n,
+        Ignore { locations, bits },
+    ))
 }
 
 // How long the key will be, of a region that exists.
 #[no_mangle]
 pub extern "C" fn wz_known_region_key_length(
     store: &[u32],
+    types: &[u32],
     n: u32,
     locations: bool,
     bits: u64,
 ) -> usize
-    requires { ⌜ IsSound (now store) ⌝ }
+    requires { ⌜ Readable (now store) (now types) ⌝ }
     requires { ⌜ exists (storeIn (now store)) Rattle.rules.specs.Fragments.region n ≡ true ⌝ }
-    ensures { λ r. ⌜ r ≡ length (Keys.key (storeIn (now (store .entry))) (ignoring locations bits) Rattle.rules.specs.Fragments.region n) ⌝ }
+    ensures { λ r. ⌜ r ≡ length (Keys.key (renamed (listIn (now (types .entry))) (storeIn (now (store .entry)))) (ignoring locations bits) Rattle.rules.specs.Fragments.region n) ⌝ }
 {
-    key_length(store, Sort::Region, n as usize, Ignore { locations, bits })
+    key_length(
+        store,
+        types,
+        Sort::Region,
+        n as usize,
+        Ignore { locations, bits },
+    )
 }

@@ -3,6 +3,7 @@ ghost use mathlib.Core.Path.{_≡_};
 ghost use Rattle.rules.specs.Keys.{longestKey};
 ghost use Rattle.rules.specs.Listings.{maxOutput};
 ghost use Rattle.layout.specs.Columns.{bufferLength};
+ghost use Rattle.renaming.specs.Index.{indexLength};
 ghost use Rattle.equivalence.specs.MappingWords.{mappingLength};
 
 // The words of a store; all 0 is an empty one.
@@ -35,4 +36,12 @@ pub extern "C" fn wz_key_bytes() -> usize
     ensures { λ r. ⌜ r ≡ longestKey ⌝ }
 {
     keys::keys::LONGEST_KEY
+}
+
+// The words that an index of a list of renamed types is made in.
+#[no_mangle]
+pub extern "C" fn wz_index_words() -> usize
+    ensures { λ r. ⌜ r ≡ indexLength ⌝ }
+{
+    renaming::indexing::INDEX_LENGTH
 }

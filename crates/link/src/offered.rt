@@ -111,16 +111,18 @@ pub extern "C" fn wz_set_operand(store: &mut [u32], n: u32, i: u32, v: u32) -> O
 #[no_mangle]
 pub extern "C" fn wz_operation_eq(
     store: &[u32],
+    types: &[u32],
     mapping: &mut [u32],
     lhs: u32,
     rhs: u32,
     locations: bool,
     bits: u64,
 ) -> Verdict
-    ensures { λ r. ⌜ comparing.Answered (now (store .entry)) (now (mapping .entry)) (now (mapping .exit)) (ignoring locations bits) op lhs rhs (verdictMeans r) ⌝ }
+    ensures { λ r. ⌜ comparing.Answered (now (store .entry)) (now (types .entry)) (now (mapping .entry)) (now (mapping .exit)) (ignoring locations bits) op lhs rhs (verdictMeans r) ⌝ }
 {
     of_verdict(equivalence::calls::operation_eq(
         store,
+        types,
         mapping,
         lhs,
         rhs,
@@ -129,25 +131,33 @@ pub extern "C" fn wz_operation_eq(
 }
 
 #[no_mangle]
-pub extern "C" fn wz_operation_hash(store: &[u32], n: u32, locations: bool, bits: u64) -> Sum
-    ensures { λ r. ⌜ hashing.Answered (now (store .entry)) (ignoring locations bits) op n (sumMeans r) ⌝ }
+pub extern "C" fn wz_operation_hash(
+    store: &[u32],
+    types: &[u32],
+    n: u32,
+    locations: bool,
+    bits: u64,
+) -> Sum
+    ensures { λ r. ⌜ hashing.Answered (now (store .entry)) (now (types .entry)) (ignoring locations bits) op n (sumMeans r) ⌝ }
 {
-    of_hash(hashing::calls::operation_hash(store, n, Ignore { locations, bits }))
+    of_hash(hashing::calls::operation_hash(store, types, n, Ignore { locations, bits }))
 }
 
 #[no_mangle]
 pub extern "C" fn wz_basic_block_eq(
     store: &[u32],
+    types: &[u32],
     mapping: &mut [u32],
     lhs: u32,
     rhs: u32,
     locations: bool,
     bits: u64,
 ) -> Verdict
-    ensures { λ r. ⌜ comparing.Answered (now (store .entry)) (now (mapping .entry)) (now (mapping .exit)) (ignoring locations bits) Rattle.rules.specs.Fragments.block lhs rhs (verdictMeans r) ⌝ }
+    ensures { λ r. ⌜ comparing.Answered (now (store .entry)) (now (types .entry)) (now (mapping .entry)) (now (mapping .exit)) (ignoring locations bits) Rattle.rules.specs.Fragments.block lhs rhs (verdictMeans r) ⌝ }
 {
     of_verdict(equivalence::calls::basic_block_eq(
         store,
+        types,
         mapping,
         lhs,
         rhs,
@@ -156,70 +166,93 @@ pub extern "C" fn wz_basic_block_eq(
 }
 
 #[no_mangle]
-pub extern "C" fn wz_basic_block_hash(store: &[u32], n: u32, locations: bool, bits: u64) -> Sum
-    ensures { λ r. ⌜ hashing.Answered (now (store .entry)) (ignoring locations bits) Rattle.rules.specs.Fragments.block n (sumMeans r) ⌝ }
+pub extern "C" fn wz_basic_block_hash(
+    store: &[u32],
+    types: &[u32],
+    n: u32,
+    locations: bool,
+    bits: u64,
+) -> Sum
+    ensures { λ r. ⌜ hashing.Answered (now (store .entry)) (now (types .entry)) (ignoring locations bits) Rattle.rules.specs.Fragments.block n (sumMeans r) ⌝ }
 {
-    of_hash(hashing::calls::basic_block_hash(store, n, Ignore { locations, bits }))
+    of_hash(hashing::calls::basic_block_hash(store, types, n, Ignore { locations, bits }))
 }
 
 #[no_mangle]
 pub extern "C" fn wz_region_eq(
     store: &[u32],
+    types: &[u32],
     mapping: &mut [u32],
     lhs: u32,
     rhs: u32,
     locations: bool,
     bits: u64,
 ) -> Verdict
-    ensures { λ r. ⌜ comparing.Answered (now (store .entry)) (now (mapping .entry)) (now (mapping .exit)) (ignoring locations bits) Rattle.rules.specs.Fragments.region lhs rhs (verdictMeans r) ⌝ }
+    ensures { λ r. ⌜ comparing.Answered (now (store .entry)) (now (types .entry)) (now (mapping .entry)) (now (mapping .exit)) (ignoring locations bits) Rattle.rules.specs.Fragments.region lhs rhs (verdictMeans r) ⌝ }
 {
-    of_verdict(equivalence::calls::region_eq(store, mapping, lhs, rhs, Ignore { locations, bits }))
+    of_verdict(equivalence::calls::region_eq(
+        store,
+        types,
+        mapping,
+        lhs,
+        rhs,
+        Ignore { locations, bits },
+    ))
 }
 
 #[no_mangle]
-pub extern "C" fn wz_region_hash(store: &[u32], n: u32, locations: bool, bits: u64) -> Sum
-    ensures { λ r. ⌜ hashing.Answered (now (store .entry)) (ignoring locations bits) Rattle.rules.specs.Fragments.region n (sumMeans r) ⌝ }
+pub extern "C" fn wz_region_hash(
+    store: &[u32],
+    types: &[u32],
+    n: u32,
+    locations: bool,
+    bits: u64,
+) -> Sum
+    ensures { λ r. ⌜ hashing.Answered (now (store .entry)) (now (types .entry)) (ignoring locations bits) Rattle.rules.specs.Fragments.region n (sumMeans r) ⌝ }
 {
-    of_hash(hashing::calls::region_hash(store, n, Ignore { locations, bits }))
+    of_hash(hashing::calls::region_hash(store, types, n, Ignore { locations, bits }))
 }
 
 #[no_mangle]
 pub extern "C" fn wz_operation_key(
     store: &[u32],
+    types: &[u32],
     key: &mut [u8],
     n: u32,
     locations: bool,
     bits: u64,
 ) -> KeyAnswer
-    ensures { λ r. ⌜ keys.Answered (now (store .entry)) (ignoring locations bits) op n (now (key .entry)) (now (key .exit)) (keyAnswerMeans r) ⌝ }
+    ensures { λ r. ⌜ keys.Answered (now (store .entry)) (now (types .entry)) (ignoring locations bits) op n (now (key .entry)) (now (key .exit)) (keyAnswerMeans r) ⌝ }
 {
-    of_key(keys::calls::operation_key(store, key, n, Ignore { locations, bits }))
+    of_key(keys::calls::operation_key(store, types, key, n, Ignore { locations, bits }))
 }
 
 #[no_mangle]
 pub extern "C" fn wz_basic_block_key(
     store: &[u32],
+    types: &[u32],
     key: &mut [u8],
     n: u32,
     locations: bool,
     bits: u64,
 ) -> KeyAnswer
-    ensures { λ r. ⌜ keys.Answered (now (store .entry)) (ignoring locations bits) Rattle.rules.specs.Fragments.block n (now (key .entry)) (now (key .exit)) (keyAnswerMeans r) ⌝ }
+    ensures { λ r. ⌜ keys.Answered (now (store .entry)) (now (types .entry)) (ignoring locations bits) Rattle.rules.specs.Fragments.block n (now (key .entry)) (now (key .exit)) (keyAnswerMeans r) ⌝ }
 {
-    of_key(keys::calls::basic_block_key(store, key, n, Ignore { locations, bits }))
+    of_key(keys::calls::basic_block_key(store, types, key, n, Ignore { locations, bits }))
 }
 
 #[no_mangle]
 pub extern "C" fn wz_region_key(
     store: &[u32],
+    types: &[u32],
     key: &mut [u8],
     n: u32,
     locations: bool,
     bits: u64,
 ) -> KeyAnswer
-    ensures { λ r. ⌜ keys.Answered (now (store .entry)) (ignoring locations bits) Rattle.rules.specs.Fragments.region n (now (key .entry)) (now (key .exit)) (keyAnswerMeans r) ⌝ }
+    ensures { λ r. ⌜ keys.Answered (now (store .entry)) (now (types .entry)) (ignoring locations bits) Rattle.rules.specs.Fragments.region n (now (key .entry)) (now (key .exit)) (keyAnswerMeans r) ⌝ }
 {
-    of_key(keys::calls::region_key(store, key, n, Ignore { locations, bits }))
+    of_key(keys::calls::region_key(store, types, key, n, Ignore { locations, bits }))
 }
 
 // Any bytes compare; nothing is refused.

@@ -15,6 +15,8 @@ use Rattle.rules.specs.Fragments.{Sort, exists}
 use Rattle.rules.specs.Building.{firstFailed}
 use Rattle.rules.specs.Shells.{Ignore}
 use Rattle.rules.specs.Mapping.{Mapping, emptyMapping, allowed}
+use Rattle.rules.specs.Lists.{every, all}
+use Rattle.rules.specs.Types.{wholeRows, oldTypes, presentTypes, eachOnce, typesHold}
 use Rattle.rules.specs.Answers.{Comparison, refused, compareTests, comparisonBy, comparison}
 use Rattle.rules.specs.Listings.{prints, tallied, opsIn, lineDoes, twinsAnswer, twinsProgram}
 use Rattle.rules.proofs.Basics.Tests.{and-right}
@@ -58,16 +60,16 @@ as-many m after e long = long ∙ ap length e ∙ empty-length
 -- ---- the comparison
 
 module _ (b m after left : List ℕ) (q : Query) (r : EqResult) (sound : IsSound b) (e : m ≡ emptyWords) where
-  answered : Answered b m after (ignoreOf (q .ignore)) (sortOf (q .sort)) (q .left) (q .right) r → answerOf r ≡ answerTo b q
+  answered : Answered b [] m after (ignoreOf (q .ignore)) (sortOf (q .sort)) (q .left) (q .right) r → answerOf r ≡ answerTo b q
   unfolding answerTo
   answered h =
       let ig = ignoreOf (q .ignore) in
       let f = sortOf (q .sort) in
       sym
-      (subst (λ (x : Mapping). comparison true (storeIn b) x ig f (q .left) (q .right) .answer ≡ answerOf r) (words-are m e)
-      (subst (λ (t : Bool). comparison t (storeIn b) (mappingOf m) ig f (q .left) (q .right) .answer ≡ answerOf r) (sound-of b sound) (ap (λ (c : Comparison). c .answer) (h .told))))
+      (subst (λ (x : Mapping). comparison true (storeIn b) [] x ig f (q .left) (q .right) .answer ≡ answerOf r) (words-are m e)
+      (subst (λ (t : Bool). comparison t (storeIn b) [] (mappingOf m) ig f (q .left) (q .right) .answer ≡ answerOf r) (sound-of b sound) (ap (λ (c : Comparison). c .answer) (h .told))))
 
-  pub compares : Answered b m after (ignoreOf (q .ignore)) (sortOf (q .sort)) (q .left) (q .right) r
+  pub compares : Answered b [] m after (ignoreOf (q .ignore)) (sortOf (q .sort)) (q .left) (q .right) r
       → left ≡ emptyWords → QueryCompared b left q r
   compares h w = record { same = answered h; empty = w }
 
@@ -90,8 +92,8 @@ answers (Refused c) (inr (inr (inr e))) cause h = omega (arith, e)
 
 -- with a sound store and an allowed mapping, a missing fragment is refused
 missing : (s : Store) (m : Mapping) (ig : Ignore) (f : Sort) (l r : ℕ) → allowed s m ≡ true → (exists s f l && exists s f r) ≡ false
-    → comparison true s m ig f l r .answer ≡ refused 2
-unfolding comparison comparisonBy compareTests firstFailed
+    → comparison true s [] m ig f l r .answer ≡ refused 2
+unfolding comparison comparisonBy compareTests firstFailed typesHold wholeRows oldTypes presentTypes eachOnce every all
 missing s m ig f l r a e = rw (a, e) refl
 
 pub right-exists : (b : List ℕ) (q : Query) (r : EqResult) → answerOf r ≡ answerTo b q → NotRefused r → exists (storeIn b) (sortOf (q .sort)) (q .right) ≡ true

@@ -34,9 +34,9 @@ verdictLine (eq paired) = equalLine paired
 verdictLine (neq p paired) = unequalLine p paired
 verdictLine (refused cause) = []
 
--- the answer to a query, begun with an empty mapping
+-- the answer to a query, with no type renamed, begun with an empty mapping
 unfoldable pub answerTo : List ℕ → Query → Compared
-answerTo store q = comparison true (storeIn store) emptyMapping (ignoreOf (q .ignore)) (sortOf (q .sort)) (q .left) (q .right) .answer
+answerTo store q = comparison true (storeIn store) [] emptyMapping (ignoreOf (q .ignore)) (sortOf (q .sort)) (q .left) (q .right) .answer
 
 -- it is answered, and the mapping is empty again
 pub record QueryCompared (store mapping : List ℕ) (q : Query) (r : EqResult) : Type 0 where

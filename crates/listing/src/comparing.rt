@@ -4,6 +4,7 @@ use crate::types::LineResult;
 use crate::types::Progress;
 use equivalence::comparison::fragments_eq;
 use equivalence::types::EqResult;
+use equivalence::types::Fragments;
 use equivalence::unmapping::paired_of;
 use equivalence::unmapping::unmap_entered;
 use fragments::types::Sort;
@@ -24,7 +25,8 @@ ghost use Rattle.listing.specs.Tally.{TallyFits};
 ghost use Rattle.listing.specs.Progress.{progressOf};
 ghost use Rattle.listing.specs.Asking.{verdictLine, QueryCompared, Stepped, stepRoom};
 
-// Compares the fragments of a query. The mapping is empty before, and what was entered is taken out again.
+// Compares the fragments of a query. No type is renamed: no words of the store are lent as the index of a list. The mapping is empty before,
+// and what was entered is taken out again.
 fn compare(store: &[u32], mapping: &mut [u32], query: Query) -> EqResult
     requires { ⌜ IsSound (now store) ⌝ }
     requires { ⌜ now mapping ≡ emptyWords ⌝ }
@@ -32,7 +34,12 @@ fn compare(store: &[u32], mapping: &mut [u32], query: Query) -> EqResult
 {
     let sort = query.sort;
     let ignore = query.ignore;
-    let result = fragments_eq(store, mapping, sort, query.left, query.right, ignore);
+    let of = Fragments {
+        sort,
+        lhs: query.left,
+        rhs: query.right,
+    };
+    let result = fragments_eq(store, &store[..0], mapping, of, ignore);
     unmap_entered(store, mapping, sort, query.left, paired_of(result));
     result
 }

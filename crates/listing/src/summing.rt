@@ -1,4 +1,5 @@
-// A `q` of `sums`: both hashes are computed before anything is printed, since the right one may be refused.
+// A `q` of `sums`: both hashes are computed before anything is printed, since the right one may be refused. No type is renamed: no words of
+// the store are lent as the index of a list.
 use crate::types::LineResult;
 use crate::types::Progress;
 use hashing::hashes::fragment_hash;
@@ -23,8 +24,8 @@ pub fn sums_does(store: &[u32], out: &mut [u8], progress: Progress, query: Query
 {
     let sort = query.sort;
     let ignore = query.ignore;
-    let left = fragment_hash(store, sort, query.left, ignore);
-    let right = fragment_hash(store, sort, query.right, ignore);
+    let left = fragment_hash(store, &store[..0], sort, query.left, ignore);
+    let right = fragment_hash(store, &store[..0], sort, query.right, ignore);
     match left {
         Hashed::Refused(cause) => LineResult::Stopped(cause),
         Hashed::Hash(l) => match right {

@@ -27,7 +27,8 @@ fn fields(store: &Store, value: u32, result: u32, twins: bool) -> bool {
     let mut after = mapping;
     after[2] = 3;
     after[OP_ENTRIES + 1] = 2;
-    let answer = operation_eq(store, &mut mapping, 1, 2, ignore_nothing());
+    let none: [u32; 0] = [];
+    let answer = operation_eq(store, &none, &mut mapping, 1, 2, ignore_nothing());
     if !words_eq(&mapping, &after) {
         return false;
     }
@@ -58,8 +59,9 @@ pub fn stay(store: &Store) -> bool {
     let mut mapping: Mapping = [NO_IMAGE; MAPPING_LENGTH];
     mapping[0] = 1;
     let lent = mapping;
+    let none: [u32; 0] = [];
     unequal(
-        operation_eq(store, &mut mapping, 0, 1, ignore_nothing()),
+        operation_eq(store, &none, &mut mapping, 0, 1, ignore_nothing()),
         0,
         1,
         0,

@@ -1,4 +1,5 @@
-// Cases of comparisons with a mapping that the caller lends: what its entries do, what stays in it, and cause 8. Each line that the program
+// Cases of comparisons with a mapping and a list of renamed types that the caller lends: what entries do, what stays in a mapping, and
+// causes 8 and 14. Each line that the program
 // writes says whether the answers of a group of cases were those of document 01.
 mod answers;
 mod entries;
@@ -31,5 +32,6 @@ fn main() {
         b"the last entries that are allowed",
         refusals::allowed(&store),
     );
+    say(b"cause 14", refusals::lists(&store));
     say(b"several causes at once", refusals::first_cause(&store));
 }

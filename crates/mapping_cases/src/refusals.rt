@@ -16,51 +16,85 @@ use fragments::types::Sort;
 use layout::columns::OPS;
 use layout::lists::words_eq;
 
-// The comparison of the fragment by this number with itself.
-fn compare(store: &[u32], mapping: &mut [u32], sort: Sort, n: u32) -> EqResult {
+// What is asked, of the fragment by this number with itself, and why it is refused.
+struct Refusal {
+    n: u32,
+    cause: u32,
+}
+
+// The comparison of a fragment with itself.
+fn compare(store: &[u32], types: &[u32], mapping: &mut [u32], sort: Sort, n: u32) -> EqResult {
     match sort {
-        Sort::Op => operation_eq(store, mapping, n, n, ignore_nothing()),
-        Sort::Region => region_eq(store, mapping, n, n, ignore_nothing()),
-        Sort::Block => basic_block_eq(store, mapping, n, n, ignore_nothing()),
+        Sort::Op => operation_eq(store, types, mapping, n, n, ignore_nothing()),
+        Sort::Region => region_eq(store, types, mapping, n, n, ignore_nothing()),
+        Sort::Block => basic_block_eq(store, types, mapping, n, n, ignore_nothing()),
     }
 }
 
-// It is refused by this cause. `kept` is a copy of the mapping.
+// It is refused. `kept` is a copy of the mapping.
 fn refuses(
     store: &[u32],
+    types: &[u32],
     mapping: &mut [u32],
     kept: &[u32],
     sort: Sort,
-    n: u32,
-    cause: u32,
+    why: Refusal,
 ) -> bool {
-    let answer = compare(store, mapping, sort, n);
-    if !refused(answer, cause) {
+    let answer = compare(store, types, mapping, sort, why.n);
+    if !refused(answer, why.cause) {
         return false;
     }
     words_eq(mapping, kept)
 }
 
-// The same of each of the three comparisons.
-fn all_refuse(store: &[u32], mapping: &mut [u32], kept: &[u32], n: u32, cause: u32) -> bool {
-    if !refuses(store, mapping, kept, Sort::Op, n, cause) {
+// The same of each of the three comparisons, under a list of renamed types.
+fn all_refuse_under(
+    store: &[u32],
+    types: &[u32],
+    mapping: &mut [u32],
+    kept: &[u32],
+    n: u32,
+    cause: u32,
+) -> bool {
+    if !refuses(store, types, mapping, kept, Sort::Op, Refusal { n, cause }) {
         return false;
     }
-    if !refuses(store, mapping, kept, Sort::Region, n, cause) {
+    if !refuses(
+        store,
+        types,
+        mapping,
+        kept,
+        Sort::Region,
+        Refusal { n, cause },
+    ) {
         return false;
     }
-    refuses(store, mapping, kept, Sort::Block, n, cause)
+    refuses(
+        store,
+        types,
+        mapping,
+        kept,
+        Sort::Block,
+        Refusal { n, cause },
+    )
 }
 
-// The same of a mapping of the right length.
+// The same with no type renamed.
+fn all_refuse(store: &[u32], mapping: &mut [u32], kept: &[u32], n: u32, cause: u32) -> bool {
+    let none: [u32; 0] = [];
+    all_refuse_under(store, &none, mapping, kept, n, cause)
+}
+
+// The same of a mapping of the right length, under a list.
 fn mapping_refused(
     store: &Store,
+    types: &[u32],
     mapping: &mut Mapping,
     kept: &Mapping,
     n: u32,
     cause: u32,
 ) -> bool {
-    all_refuse(store, mapping, kept, n, cause)
+    all_refuse_under(store, types, mapping, kept, n, cause)
 }
 
 // An entry too few, and one too many.
@@ -82,7 +116,8 @@ fn not_allowed(store: &Store, entry: usize, image: u32) -> bool {
         mapping[entry] = image;
     }
     let kept = mapping;
-    mapping_refused(store, &mut mapping, &kept, 0, 8)
+    let none: [u32; 0] = [];
+    mapping_refused(store, &none, &mut mapping, &kept, 0, 8)
 }
 
 // An entry of a value, block or operation that is not there.
@@ -107,21 +142,58 @@ pub fn allowed(store: &Store) -> bool {
     mapping[3] = 3;
     mapping[BLOCK_ENTRIES] = 0;
     mapping[OP_ENTRIES + 2] = 2;
-    equal(operation_eq(store, &mut mapping, 1, 1, ignore_nothing()), 1)
+    let none: [u32; 0] = [];
+    equal(
+        operation_eq(store, &none, &mut mapping, 1, 1, ignore_nothing()),
+        1,
+    )
 }
 
-// A store that is not sound comes before the mapping, and the mapping before a fragment that is not there.
-pub fn first_cause(store: &Store) -> bool {
+// A list of renamed types that is refused.
+fn list_refused(store: &Store, types: &[u32]) -> bool {
     let mut mapping: Mapping = [NO_IMAGE; MAPPING_LENGTH];
-    if !mapping_refused(store, &mut mapping, &[NO_IMAGE; MAPPING_LENGTH], 9, 2) {
+    mapping_refused(
+        store,
+        types,
+        &mut mapping,
+        &[NO_IMAGE; MAPPING_LENGTH],
+        9,
+        14,
+    )
+}
+
+// A half row, an old type twice, a chain, a swap, a type that becomes itself, and a list that is too long.
+pub fn lists(store: &Store) -> bool {
+    list_refused(store, &[1, 2, 3])
+        && list_refused(store, &[1, 2, 1, 2])
+        && list_refused(store, &[1, 2, 2, 3])
+        && list_refused(store, &[2, 3, 1, 2])
+        && list_refused(store, &[1, 2, 2, 1])
+        && list_refused(store, &[NO_IMAGE, NO_IMAGE])
+        && list_refused(store, &[0; 130])
+}
+
+// A store that is not sound comes before the mapping, the mapping before the list of renamed types, and the list before a fragment that is
+// not there.
+pub fn first_cause(store: &Store) -> bool {
+    let half: [u32; 1] = [1];
+    let mut mapping: Mapping = [NO_IMAGE; MAPPING_LENGTH];
+    if !mapping_refused(
+        store,
+        &[1, 2],
+        &mut mapping,
+        &[NO_IMAGE; MAPPING_LENGTH],
+        9,
+        2,
+    ) {
         return false;
     }
     mapping[0] = 4;
     let kept = mapping;
-    if !mapping_refused(store, &mut mapping, &kept, 9, 8) {
+    if !mapping_refused(store, &half, &mut mapping, &kept, 9, 8) {
         return false;
     }
     let mut counted = *store;
     counted[OPS] = 513;
-    mapping_refused(&counted, &mut mapping, &kept, 9, 1)
+    mapping_refused(&counted, &half, &mut mapping, &kept, 9, 1)
 }

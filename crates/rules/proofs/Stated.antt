@@ -34,19 +34,19 @@ after-sound calls = kept.after-sound emptyStore calls kept.empty-sound
 
 pub comparison-is : stated.ComparisonIs
 unfolding stated.ComparisonIs
-comparison-is s sd ig f m am l r il ir = walking.comparison-is s sd ig f m am l r il ir
+comparison-is s sd types th ig f m am l r il ir = walking.comparison-is s sd ig f types th m am l r il ir
 
 pub never-refused : stated.NeverRefused
 unfolding stated.NeverRefused
-never-refused s sd ig f m am l r il ir cause e = walking.never-refused s sd ig f m am l r il ir cause e
+never-refused s sd types th ig f m am l r il ir cause e = walking.never-refused s sd ig f types th m am l r il ir cause e
 
 pub hashed-is : stated.HashedIs
 unfolding stated.HashedIs
-hashed-is s sd ig f n i = walking.hashed-is s sd ig f n i
+hashed-is s sd types th ig f n i = walking.hashed-is s sd ig f types th n i
 
 pub equal-answered : stated.EqualAnswered
 unfolding stated.EqualAnswered
-equal-answered s sd ig f a b ia ib = walking.equal-answered s sd ig f a b ia ib
+equal-answered s sd types th ig f a b ia ib = walking.equal-answered s sd types th ig f a b ia ib
 
 pub allowed-kept : stated.AllowedKept
 unfolding stated.AllowedKept

@@ -30,11 +30,11 @@ oneEntry v i = record { values = set (emptyMapping .values) v i; blocks = emptyM
 
 unfoldable pub Holds : Case → Type 0
 Holds (compares calls ig f l r a) =
-    comparison (sound (after emptyStore calls)) (after emptyStore calls) emptyMapping ig f l r .answer ≡ a
+    comparison (sound (after emptyStore calls)) (after emptyStore calls) [] emptyMapping ig f l r .answer ≡ a
 Holds (maps calls ig f l r b i) =
-    image (comparison (sound (after emptyStore calls)) (after emptyStore calls) emptyMapping ig f l r .mapping .blocks) b ≡ i
+    image (comparison (sound (after emptyStore calls)) (after emptyStore calls) [] emptyMapping ig f l r .mapping .blocks) b ≡ i
 Holds (begun calls v i ig f l r a) =
-    comparison (sound (after emptyStore calls)) (after emptyStore calls) (oneEntry v i) ig f l r .answer ≡ a
+    comparison (sound (after emptyStore calls)) (after emptyStore calls) [] (oneEntry v i) ig f l r .answer ≡ a
 Holds (builds calls c a) = answer (after emptyStore calls) c ≡ a
 
 unfoldable pub AllHold : List Case → Type 0

@@ -51,8 +51,8 @@ pub record KeyCases : Type 0 where
   pub oneHashOf : hash (having oneHash) (ignoring false 0) op 1 ≡ hash (having oneHash) (ignoring false 0) op 2
   pub twoKeys : compareBytes (key (having oneHash) (ignoring false 0) op 1) (key (having oneHash) (ignoring false 0) op 2) ≡ less
   -- one byte too few, and bytes behind the key
-  pub tooShort : keyed true (having (enclosing 1 1 [] ∷ [])) (ignoring false 0) region 0 (replicate 7 238) ≡ record { answer = refusedKey 13; bytes = replicate 7 238 }
-  pub behindIt : keyed true (having (enclosing 1 1 [] ∷ [])) (ignoring false 0) region 0 (replicate 9 238) ≡ record { answer = keyLength 8; bytes = eight 0 ++ (238 ∷ []) }
+  pub tooShort : keyed true (having (enclosing 1 1 [] ∷ [])) [] (ignoring false 0) region 0 (replicate 7 238) ≡ record { answer = refusedKey 13; bytes = replicate 7 238 }
+  pub behindIt : keyed true (having (enclosing 1 1 [] ∷ [])) [] (ignoring false 0) region 0 (replicate 9 238) ≡ record { answer = keyLength 8; bytes = eight 0 ++ (238 ∷ []) }
   -- a proper beginning first, whatever follows; else the first byte that differs decides
   pub beginning : compareBytes (1 ∷ []) (1 ∷ 0 ∷ []) ≡ less
   pub longer : compareBytes (1 ∷ 0 ∷ []) (1 ∷ []) ≡ greater

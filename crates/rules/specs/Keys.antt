@@ -12,6 +12,7 @@ use Rattle.rules.specs.Fragments.{Sort, exists, steps}
 use Rattle.rules.specs.Building.{Call, newOperation, newBlock, setAttribute, setOperand, firstFailed}
 use Rattle.rules.specs.Shells.{Ignore}
 use Rattle.rules.specs.Hash.{count, noNumbers, allBytes}
+use Rattle.rules.specs.Types.{typesHold, renamed}
 use Rattle.rules.specs.Answers.{shallow}
 
 -- "the bytes that its hash takes in, with the count of every list (results, operands, successors, blocks, arguments, operations) in 8
@@ -58,12 +59,13 @@ pub record Keying : Type 0 where
   pub answer : Keyed
   pub bytes : List ℕ
 
-unfoldable pub keyTests : Bool → Store → Ignore → Sort → ℕ → ℕ → List (Bool × ℕ)
-keyTests lent s ig f n room =
+unfoldable pub keyTests : Bool → Store → List ℕ → Ignore → Sort → ℕ → ℕ → List (Bool × ℕ)
+keyTests lent s types ig f n room =
     (lent, 1)
+    ∷ (typesHold types, 14)
     ∷ (exists s f n, 2)
     ∷ (shallow s f n, 12)
-    ∷ (leb (length (key s ig f n)) room, 13)
+    ∷ (leb (length (key (renamed types s) ig f n)) room, 13)
     ∷ []
 
 -- bytes from the begin of lent ones on, which stay behind them
@@ -74,9 +76,10 @@ unfoldable pub keyedBy : Option ℕ → List ℕ → List ℕ → Keying
 keyedBy none k bytes = record { answer = keyLength (length k); bytes = written k bytes }
 keyedBy (some cause) k bytes = record { answer = refusedKey cause; bytes = bytes }
 
--- `operation_key`, `basic_block_key`, `region_key`
-unfoldable pub keyed : Bool → Store → Ignore → Sort → ℕ → List ℕ → Keying
-keyed lent s ig f n bytes = keyedBy (firstFailed (keyTests lent s ig f n (length bytes))) (key s ig f n) bytes
+-- `operation_key`, `basic_block_key`, `region_key` with a lent list of types
+unfoldable pub keyed : Bool → Store → List ℕ → Ignore → Sort → ℕ → List ℕ → Keying
+keyed lent s types ig f n bytes =
+    keyedBy (firstFailed (keyTests lent s types ig f n (length bytes))) (key (renamed types s) ig f n) bytes
 
 -- ---- "Other fields are 32-bit unsigned": a key holds 4 bytes of each, which tell numbers apart only below 2^32
 

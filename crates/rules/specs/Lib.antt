@@ -6,6 +6,7 @@ pub mod Fragments
 pub mod Building
 pub mod Shells
 pub mod Mapping
+pub mod Types
 pub mod Comparison
 pub mod Hash
 pub mod Answers
@@ -22,3 +23,4 @@ pub mod Statements
 pub mod Cases
 pub mod ListingCases
 pub mod KeyCases
+pub mod TypeCases

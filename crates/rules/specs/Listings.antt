@@ -192,11 +192,11 @@ twinsAnswer (neq p paired) f r now =
     prints (unequalLine p paired) (record { store = now .store; tally = tallied false (now .store) f r (now .tally) })
 twinsAnswer (refusedCompared cause) f r now = stops cause
 
--- "Each `q` starts with an empty mapping."
+-- "Each `q` starts with an empty mapping." No type is renamed: order 3's list is, "in the programs", empty.
 unfoldable pub twinsProgram : Program
 twinsProgram =
     record {
-      ask = λ now f l r ig. twinsAnswer (comparison true (now .store) emptyMapping ig f l r .answer) f r now;
+      ask = λ now f l r ig. twinsAnswer (comparison true (now .store) [] emptyMapping ig f l r .answer) f r now;
       close = λ now. shareLine (now .tally);
     }
 
@@ -213,7 +213,7 @@ sumsAnswer (refusedHash cause) right now = stops cause
 unfoldable pub sumsProgram : Program
 sumsProgram =
     record {
-      ask = λ now f l r ig. sumsAnswer (hashed true (now .store) ig f l) (hashed true (now .store) ig f r) now;
+      ask = λ now f l r ig. sumsAnswer (hashed true (now .store) [] ig f l) (hashed true (now .store) [] ig f r) now;
       close = λ now. [];
     }
 

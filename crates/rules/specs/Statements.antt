@@ -15,12 +15,13 @@ use Rattle.rules.specs.Fragments.{Sort, op, NamesNothingOf, Premise, fra
 use Rattle.rules.specs.Building.{Call, tests, firstFailed, applied, built, after}
 use Rattle.rules.specs.Shells.{Ignore, unignored, sameAttribute}
 use Rattle.rules.specs.Mapping.{Mapping, emptyMapping, allowed}
+use Rattle.rules.specs.Types.{typesHold, present, renamed}
 use Rattle.rules.specs.Comparison.{State, standing, compare, compareBy}
 use Rattle.rules.specs.Hash.{hash}
 use Rattle.rules.specs.Answers.{eq, refused, comparisonOf, comparison, hashIs, hashed}
-use Rattle.rules.specs.Keys.{key, keyed, keyLength, written, longestKey, same, less, compareBytes, orderingNumber, reversed, fieldsFit, callFits}
+use Rattle.rules.specs.Keys.{key, keyed, keyLength, written, longestKey, same, less, compareBytes, orderingNumber, reversed, fits, fieldsFit, callFits}
 use Rattle.rules.specs.Listings.{perCent, twins, sums, maxOutput}
-use Rattle.rules.specs.Laws.{In, Equal, equal}
+use Rattle.rules.specs.Laws.{In, Equal, equal, Laws}
 use Rattle.rules.specs.Form.{canonical}
 use Rattle.rules.specs.Entered.{EnteredBy}
 use Rattle.rules.specs.Cases.{ignoring, operation, firstOperand}
@@ -87,12 +88,45 @@ pub record TotalOrder : Type 0 where
 -- the key of a fragment that exists is written wherever it fits: `keyed-is`
 unfoldable pub KeyedIs : Type 0
 KeyedIs =
-    (s : Store) → sound s ≡ true → (ig : Ignore) (f : Sort) (n : ℕ) (bytes : List ℕ) → In s f n → length (key s ig f n) ≤ length bytes
-    → keyed true s ig f n bytes ≡ record { answer = keyLength (length (key s ig f n)); bytes = written (key s ig f n) bytes }
+    (s : Store) → sound s ≡ true → (types : List ℕ) → typesHold types ≡ true → (ig : Ignore) (f : Sort) (n : ℕ) (bytes : List ℕ)
+    → In s f n → length (key (renamed types s) ig f n) ≤ length bytes
+    → keyed true s types ig f n bytes
+    ≡ record { answer = keyLength (length (key (renamed types s) ig f n)); bytes = written (key (renamed types s) ig f n) bytes }
 
 -- a key has at most so many bytes: `key-longest`
 unfoldable pub KeyLongest : Type 0
 KeyLongest = (s : Store) → sound s ≡ true → (ig : Ignore) (f : Sort) (n : ℕ) → In s f n → length (key s ig f n) ≤ longestKey
+
+-- ---- renamed types
+
+-- a sound store stays sound: `renamed-sound`
+unfoldable pub RenamedSound : Type 0
+RenamedSound = (types : List ℕ) (s : Store) → sound s ≡ true → sound (renamed types s) ≡ true
+
+-- and what exists in it, and which fragments satisfy the premise of the laws, is the same: `renamed-in`, `renamed-premise`
+unfoldable pub RenamedIn : Type 0
+RenamedIn = (types : List ℕ) (s : Store) (f : Sort) (a : ℕ) → In (renamed types s) f a ↔ In s f a
+
+unfoldable pub RenamedPremise : Type 0
+RenamedPremise = (types : List ℕ) (s : Store) (f : Sort) (a b : ℕ) → Premise (renamed types s) f a b ↔ Premise s f a b
+
+-- an empty list changes nothing: `renamed-none`
+unfoldable pub RenamedNone : Type 0
+RenamedNone = (s : Store) → renamed [] s ≡ s
+
+-- a type is looked up once: where the list holds, its present type has no row: `present-once`
+unfoldable pub PresentOnce : Type 0
+PresentOnce = (types : List ℕ) → typesHold types ≡ true → (t : ℕ) → present types (present types t) ≡ present types t
+
+-- order 3: "Fragments compared, hashed and keyed under one such list obey the same four laws", after every list of calls: `laws-renamed`
+unfoldable pub LawsRenamed : Type 0
+LawsRenamed = (calls : List Call) (types : List ℕ) (ig : Ignore) (f : Sort) → Laws (renamed types (after emptyStore calls)) ig f
+
+-- "and order 2's law on keys", where the types in the list are below 2^32: `filers-law-renamed`
+unfoldable pub FilersLawRenamed : Type 0
+FilersLawRenamed =
+    (calls : List Call) → all callFits calls ≡ true → (types : List ℕ) → all fits types ≡ true
+    → (ig : Ignore) (f : Sort) → FiledAsEqual (renamed types (after emptyStore calls)) ig f
 
 -- ---- 01's premise is needed
 
@@ -153,13 +187,15 @@ AcceptedExactly =
 -- `never-refused`
 unfoldable pub ComparisonIs : Type 0
 ComparisonIs =
-    (s : Store) → sound s ≡ true → (ig : Ignore) (f : Sort) (m : Mapping) → allowed s m ≡ true → (l r : ℕ) → In s f l → In s f r
-    → comparison true s m ig f l r ≡ comparisonOf (compare s ig f l r m) m
+    (s : Store) → sound s ≡ true → (types : List ℕ) → typesHold types ≡ true
+    → (ig : Ignore) (f : Sort) (m : Mapping) → allowed s m ≡ true → (l r : ℕ) → In s f l → In s f r
+    → comparison true s types m ig f l r ≡ comparisonOf (compare (renamed types s) ig f l r m) m
 
 unfoldable pub NeverRefused : Type 0
 NeverRefused =
-    (s : Store) → sound s ≡ true → (ig : Ignore) (f : Sort) (m : Mapping) → allowed s m ≡ true → (l r : ℕ) → In s f l → In s f r
-    → (cause : ℕ) → comparison true s m ig f l r .answer ≡ refused cause → ⊥
+    (s : Store) → sound s ≡ true → (types : List ℕ) → typesHold types ≡ true
+    → (ig : Ignore) (f : Sort) (m : Mapping) → allowed s m ≡ true → (l r : ℕ) → In s f l → In s f r
+    → (cause : ℕ) → comparison true s types m ig f l r .answer ≡ refused cause → ⊥
 
 -- it leaves the mapping allowed, so that it may be lent again: `allowed-kept`
 unfoldable pub AllowedKept : Type 0
@@ -175,13 +211,15 @@ EntersPaired =
 
 -- a hash of a fragment that exists is given: `hashed-is`
 unfoldable pub HashedIs : Type 0
-HashedIs = (s : Store) → sound s ≡ true → (ig : Ignore) (f : Sort) (n : ℕ) → In s f n → hashed true s ig f n ≡ hashIs (hash s ig f n)
+HashedIs =
+    (s : Store) → sound s ≡ true → (types : List ℕ) → typesHold types ≡ true → (ig : Ignore) (f : Sort) (n : ℕ) → In s f n
+    → hashed true s types ig f n ≡ hashIs (hash (renamed types s) ig f n)
 
 -- equality is the answer eq: `equal-answered`
 unfoldable pub EqualAnswered : Type 0
 EqualAnswered =
-    (s : Store) → sound s ≡ true → (ig : Ignore) (f : Sort) (a b : ℕ) → In s f a → In s f b
-    → (equal s ig f a b ≡ true) ↔ ((n : ℕ) × (comparison true s emptyMapping ig f a b .answer ≡ eq n))
+    (s : Store) → sound s ≡ true → (types : List ℕ) → typesHold types ≡ true → (ig : Ignore) (f : Sort) (a b : ℕ) → In s f a → In s f b
+    → (equal (renamed types s) ig f a b ≡ true) ↔ ((n : ℕ) × (comparison true s types emptyMapping ig f a b .answer ≡ eq n))
 
 -- ---- counts
 

@@ -95,7 +95,7 @@ pub fn allowed(effort: Effort) -> Series<Lent, 3> {
 fn tests<'a>(store: &'a Store, mapping: &'a [u32]) -> [Runner<'a>; 3] {
     let nothing = u32::MAX;
     let mut lent_mapping = mapping.to_vec();
-    let mut refused = move || lent::operation_eq(black_box(store.words()), &mut lent_mapping, nothing, nothing, &Ignore::NOTHING);
+    let mut refused = move || lent::operation_eq(black_box(store.words()), &[], &mut lent_mapping, nothing, nothing, &Ignore::NOTHING);
     assert_eq!(refused().expect_err("there is no such operation").number(), 2, "the mapping isn't allowed");
     let call = runner(move || {
         let _ = black_box(refused());

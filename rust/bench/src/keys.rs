@@ -103,7 +103,7 @@ impl Filed {
     }
 
     fn offered(&self, key: &mut [u8]) -> usize {
-        lent::operation_key(self.store.words(), self.left.number(), &Ignore::NOTHING, key).expect("a key")
+        lent::operation_key(self.store.words(), &[], self.left.number(), &Ignore::NOTHING, key).expect("a key")
     }
 
     /// The hash, the key in each way, and two keys compared.

@@ -14,6 +14,7 @@ mod plot;
 mod programs;
 mod race;
 mod reader;
+mod renaming;
 mod report;
 mod shapes;
 mod sides;
@@ -66,13 +67,23 @@ fn main() -> ExitCode {
 fn measure(efforts: Efforts) -> Results {
     let Efforts { passes, short, middle, long } = efforts;
     let (mut shapes, mut around) = (fragments::shapes(short), fragments::around(short));
-    let mut keys = keys::shapes(short);
+    let (mut keys, mut lists) = (keys::shapes(short), renaming::lists(short));
     let (mut calls, mut stores) = (building::each_call(middle), building::whole_stores(middle));
     let (mut soundness, mut allowed, mut emptying) = (checks::soundness(short), checks::allowed(short), checks::emptying(middle));
     let mut programs = programs::all(long);
     for number in 1..=passes {
-        let parts: [&mut dyn Pass; 9] =
-            [&mut shapes, &mut around, &mut keys, &mut calls, &mut stores, &mut soundness, &mut allowed, &mut emptying, &mut programs];
+        let parts: [&mut dyn Pass; 10] = [
+            &mut shapes,
+            &mut around,
+            &mut keys,
+            &mut lists,
+            &mut calls,
+            &mut stores,
+            &mut soundness,
+            &mut allowed,
+            &mut emptying,
+            &mut programs,
+        ];
         parts.into_iter().for_each(|part| told(number, part));
     }
     Results {
@@ -80,6 +91,7 @@ fn measure(efforts: Efforts) -> Results {
         shapes: fragments::by_shape(shapes),
         around: fragments::measured(around),
         keys: keys::by_shape(keys),
+        lists: renaming::rows(lists),
         calls: building::built(calls),
         stores: building::built(stores),
         soundness: checks::sound_rows(soundness),

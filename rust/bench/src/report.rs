@@ -10,6 +10,7 @@ use crate::fragments::{Measured, Row, Times};
 use crate::keys;
 use crate::programs;
 use crate::race::Effort;
+use crate::renaming;
 use crate::table::{Table, milliseconds, number, thousands};
 
 /// All that was measured.
@@ -18,6 +19,7 @@ pub struct Results {
     pub shapes: Vec<Row>,
     pub around: Vec<Measured>,
     pub keys: Vec<keys::Row>,
+    pub lists: Vec<renaming::Times>,
     pub calls: Vec<Built>,
     pub stores: Vec<Built>,
     pub soundness: Vec<Soundness>,
@@ -44,7 +46,7 @@ pub fn page(results: &Results) -> String {
     let Efforts { passes, short, middle, long } = results.efforts;
     let rounds = |effort: Effort| (passes * effort.rounds).to_string();
     let (shapes, hashed) = (&results.shapes, |shape| shape != Shape::Unequal);
-    let places: [(&str, String); 23] = [
+    let places: [(&str, String); 24] = [
         ("processor", processor()),
         ("compiler", compiler()),
         ("short rounds", rounds(short)),
@@ -62,6 +64,7 @@ pub fn page(results: &Results) -> String {
         ("keys", key_ratios(&results.keys, keys::Times::ratio).to_string()),
         ("roomy keys", key_ratios(&results.keys, keys::Times::roomy_ratio).to_string()),
         ("flat keys", flat_keys(&results.keys[0]).to_string()),
+        ("lists", lists(&results.lists).to_string()),
         ("calls", building("One sort", &results.calls).to_string()),
         ("stores", building("Whole store", &results.stores).to_string()),
         ("soundness", soundness(&results.soundness).to_string()),
@@ -180,6 +183,26 @@ fn flat_keys(row: &keys::Row) -> Table {
     ];
     for (name, nanos) in rows {
         table.row(name, row.sizes.iter().map(|times| number(nanos(times))));
+    }
+    table
+}
+
+fn lists(sizes: &[renaming::Times]) -> Table {
+    let mut table = Table::new(["ns".to_string()].into_iter().chain(renaming::sizes().map(|n| n.to_string())));
+    let rows: [(&str, fn(&renaming::Times) -> f64); 10] = [
+        ("comparison, no list", |times| times.comparison),
+        ("comparison, no type differs", |times| times.comparison_same),
+        ("comparison, every type differs", |times| times.comparison_other),
+        ("hash, no list", |times| times.hash),
+        ("hash, every type renamed", |times| times.hash_listed),
+        ("key, no list", |times| times.key),
+        ("key, every type renamed", |times| times.key_listed),
+        ("offered hash, no list", |times| times.offered),
+        ("offered hash, 64 rows lent", |times| times.offered_listed),
+        ("`Renamed::from_words`, 64 rows", |times| times.made),
+    ];
+    for (name, nanos) in rows {
+        table.row(name, sizes.iter().map(|times| number(nanos(times))));
     }
     table
 }

@@ -6,6 +6,7 @@ use crate::ffi::{Sum, Verdict};
 use crate::ids::{BlockId, Id, OpId, RegionId};
 use crate::mapping::Mapping;
 use crate::refused::Refused;
+use crate::renamed::Options;
 use crate::store::Store;
 
 /// What is ignored when fragments are compared or hashed, or their keys are written.
@@ -173,10 +174,10 @@ impl EqResult<u32, u32, u32> {
 
 /// Compares two fragments, and notes in the mapping what was entered.
 #[inline]
-fn compare<I: Fragment>(store: &Store, mapping: &mut Mapping, lhs: I, rhs: I, ignore: &Ignore) -> Result<EqResult, Refused> {
+fn compare<I: Fragment>(store: &Store, mapping: &mut Mapping, lhs: I, rhs: I, options: Options) -> Result<EqResult, Refused> {
     let identity = store.sound.identity();
     let (lhs, rhs) = (lhs.number_in(identity), rhs.number_in(identity));
-    let result = store.sound.compare(I::SORT, &mut mapping.words, (lhs, rhs), ignore)?.result()?;
+    let result = store.sound.compare(I::SORT, &mut mapping.words, (lhs, rhs), options)?.result()?;
     mapping.note(store, I::SORT, lhs, result.paired());
     Ok(result.within(store))
 }
@@ -198,26 +199,44 @@ fn compare<I: Fragment>(store: &Store, mapping: &mut Mapping, lhs: I, rhs: I, ig
 /// # Ok::<(), warzhigo::Refused>(())
 /// ```
 #[inline]
-pub fn operation_eq(store: &Store, mapping: &mut Mapping, lhs: OpId, rhs: OpId, ignore: &Ignore) -> Result<EqResult, Refused> {
-    compare(store, mapping, lhs, rhs, ignore)
+pub fn operation_eq<'a>(
+    store: &Store,
+    mapping: &mut Mapping,
+    lhs: OpId,
+    rhs: OpId,
+    ignore: impl Into<Options<'a>>,
+) -> Result<EqResult, Refused> {
+    compare(store, mapping, lhs, rhs, ignore.into())
 }
 
 /// Compares two blocks, each with all inside it; as [`operation_eq`].
 #[inline]
-pub fn basic_block_eq(store: &Store, mapping: &mut Mapping, lhs: BlockId, rhs: BlockId, ignore: &Ignore) -> Result<EqResult, Refused> {
-    compare(store, mapping, lhs, rhs, ignore)
+pub fn basic_block_eq<'a>(
+    store: &Store,
+    mapping: &mut Mapping,
+    lhs: BlockId,
+    rhs: BlockId,
+    ignore: impl Into<Options<'a>>,
+) -> Result<EqResult, Refused> {
+    compare(store, mapping, lhs, rhs, ignore.into())
 }
 
 /// Compares two regions, each with all inside it; as [`operation_eq`].
 #[inline]
-pub fn region_eq(store: &Store, mapping: &mut Mapping, lhs: RegionId, rhs: RegionId, ignore: &Ignore) -> Result<EqResult, Refused> {
-    compare(store, mapping, lhs, rhs, ignore)
+pub fn region_eq<'a>(
+    store: &Store,
+    mapping: &mut Mapping,
+    lhs: RegionId,
+    rhs: RegionId,
+    ignore: impl Into<Options<'a>>,
+) -> Result<EqResult, Refused> {
+    compare(store, mapping, lhs, rhs, ignore.into())
 }
 
 /// The hash of a fragment.
 #[inline]
-fn hash<I: Fragment>(store: &Store, fragment: I, ignore: &Ignore) -> Result<u64, Refused> {
-    store.sound.hash(I::SORT, fragment.number_in(store.sound.identity()), ignore).result()
+fn hash<I: Fragment>(store: &Store, fragment: I, options: Options) -> Result<u64, Refused> {
+    store.sound.hash(I::SORT, fragment.number_in(store.sound.identity()), options).result()
 }
 
 /// The hash of an operation with all inside it, the same for equal operations (under the premise of the laws, docs/AUDIT.md). Refused by
@@ -233,18 +252,18 @@ fn hash<I: Fragment>(store: &Store, fragment: I, ignore: &Ignore) -> Result<u64,
 /// # Ok::<(), warzhigo::Refused>(())
 /// ```
 #[inline]
-pub fn operation_hash(store: &Store, op: OpId, ignore: &Ignore) -> Result<u64, Refused> {
-    hash(store, op, ignore)
+pub fn operation_hash<'a>(store: &Store, op: OpId, ignore: impl Into<Options<'a>>) -> Result<u64, Refused> {
+    hash(store, op, ignore.into())
 }
 
 /// The hash of a block with all inside it; as [`operation_hash`].
 #[inline]
-pub fn basic_block_hash(store: &Store, block: BlockId, ignore: &Ignore) -> Result<u64, Refused> {
-    hash(store, block, ignore)
+pub fn basic_block_hash<'a>(store: &Store, block: BlockId, ignore: impl Into<Options<'a>>) -> Result<u64, Refused> {
+    hash(store, block, ignore.into())
 }
 
 /// The hash of a region with all inside it; as [`operation_hash`].
 #[inline]
-pub fn region_hash(store: &Store, region: RegionId, ignore: &Ignore) -> Result<u64, Refused> {
-    hash(store, region, ignore)
+pub fn region_hash<'a>(store: &Store, region: RegionId, ignore: impl Into<Options<'a>>) -> Result<u64, Refused> {
+    hash(store, region, ignore.into())
 }

@@ -1,5 +1,6 @@
 //! The C functions of `liblink.a`, as `crates/link` exports them and `include/warzhigo.h` declares them, and all unsafe code of this
-//! crate: [`lent`] has those that anything may be lent to, [`known`] those that ask for a sound store and an allowed mapping.
+//! crate: [`lent`] has those that anything may be lent to, [`known`] those that ask for a sound store, an index of a list of types and an
+//! allowed mapping.
 //!
 //! A slice crosses as its pointer and its length, an answer as a struct of numbers.
 
@@ -69,9 +70,11 @@ unsafe extern "C" {
     fn wz_mapping_words() -> usize;
     fn wz_output_bytes() -> usize;
     fn wz_key_bytes() -> usize;
+    fn wz_index_words() -> usize;
 
     fn wz_is_sound(store: *const u32, words: usize) -> bool;
     fn wz_known_is_allowed(store: *const u32, words: usize, mapping: *const u32, entries: usize) -> bool;
+    fn wz_known_index_types(types: *const u32, type_words: usize, index: *mut u32, index_words: usize) -> usize;
     #[cfg_attr(not(test), allow(dead_code))]
     fn wz_known_entered(store: *const u32, words: usize, mapping: *const u32, entries: usize, sort: u32, lhs: u32, paired: u32) -> Entries;
 
@@ -86,29 +89,29 @@ unsafe extern "C" {
     fn wz_set_operand(store: *mut u32, words: usize, n: u32, i: u32, v: u32) -> Outcome;
     fn wz_known_set_operand(store: *mut u32, words: usize, n: u32, i: u32, v: u32) -> Outcome;
 
-    fn wz_operation_eq(store: *const u32, words: usize, mapping: *mut u32, entries: usize, lhs: u32, rhs: u32, locations: bool, bits: u64) -> Verdict;
-    fn wz_known_operation_eq(store: *const u32, words: usize, mapping: *mut u32, entries: usize, lhs: u32, rhs: u32, locations: bool, bits: u64) -> Verdict;
-    fn wz_basic_block_eq(store: *const u32, words: usize, mapping: *mut u32, entries: usize, lhs: u32, rhs: u32, locations: bool, bits: u64) -> Verdict;
-    fn wz_known_basic_block_eq(store: *const u32, words: usize, mapping: *mut u32, entries: usize, lhs: u32, rhs: u32, locations: bool, bits: u64) -> Verdict;
-    fn wz_region_eq(store: *const u32, words: usize, mapping: *mut u32, entries: usize, lhs: u32, rhs: u32, locations: bool, bits: u64) -> Verdict;
-    fn wz_known_region_eq(store: *const u32, words: usize, mapping: *mut u32, entries: usize, lhs: u32, rhs: u32, locations: bool, bits: u64) -> Verdict;
+    fn wz_operation_eq(store: *const u32, words: usize, types: *const u32, type_words: usize, mapping: *mut u32, entries: usize, lhs: u32, rhs: u32, locations: bool, bits: u64) -> Verdict;
+    fn wz_known_operation_eq(store: *const u32, words: usize, types: *const u32, type_words: usize, mapping: *mut u32, entries: usize, lhs: u32, rhs: u32, locations: bool, bits: u64) -> Verdict;
+    fn wz_basic_block_eq(store: *const u32, words: usize, types: *const u32, type_words: usize, mapping: *mut u32, entries: usize, lhs: u32, rhs: u32, locations: bool, bits: u64) -> Verdict;
+    fn wz_known_basic_block_eq(store: *const u32, words: usize, types: *const u32, type_words: usize, mapping: *mut u32, entries: usize, lhs: u32, rhs: u32, locations: bool, bits: u64) -> Verdict;
+    fn wz_region_eq(store: *const u32, words: usize, types: *const u32, type_words: usize, mapping: *mut u32, entries: usize, lhs: u32, rhs: u32, locations: bool, bits: u64) -> Verdict;
+    fn wz_known_region_eq(store: *const u32, words: usize, types: *const u32, type_words: usize, mapping: *mut u32, entries: usize, lhs: u32, rhs: u32, locations: bool, bits: u64) -> Verdict;
 
-    fn wz_operation_hash(store: *const u32, words: usize, n: u32, locations: bool, bits: u64) -> Sum;
-    fn wz_known_operation_hash(store: *const u32, words: usize, n: u32, locations: bool, bits: u64) -> Sum;
-    fn wz_basic_block_hash(store: *const u32, words: usize, n: u32, locations: bool, bits: u64) -> Sum;
-    fn wz_known_basic_block_hash(store: *const u32, words: usize, n: u32, locations: bool, bits: u64) -> Sum;
-    fn wz_region_hash(store: *const u32, words: usize, n: u32, locations: bool, bits: u64) -> Sum;
-    fn wz_known_region_hash(store: *const u32, words: usize, n: u32, locations: bool, bits: u64) -> Sum;
+    fn wz_operation_hash(store: *const u32, words: usize, types: *const u32, type_words: usize, n: u32, locations: bool, bits: u64) -> Sum;
+    fn wz_known_operation_hash(store: *const u32, words: usize, types: *const u32, type_words: usize, n: u32, locations: bool, bits: u64) -> Sum;
+    fn wz_basic_block_hash(store: *const u32, words: usize, types: *const u32, type_words: usize, n: u32, locations: bool, bits: u64) -> Sum;
+    fn wz_known_basic_block_hash(store: *const u32, words: usize, types: *const u32, type_words: usize, n: u32, locations: bool, bits: u64) -> Sum;
+    fn wz_region_hash(store: *const u32, words: usize, types: *const u32, type_words: usize, n: u32, locations: bool, bits: u64) -> Sum;
+    fn wz_known_region_hash(store: *const u32, words: usize, types: *const u32, type_words: usize, n: u32, locations: bool, bits: u64) -> Sum;
 
-    fn wz_operation_key(store: *const u32, words: usize, key: *mut u8, room: usize, n: u32, locations: bool, bits: u64) -> KeyAnswer;
-    fn wz_known_operation_key(store: *const u32, words: usize, key: *mut u8, room: usize, n: u32, locations: bool, bits: u64) -> KeyAnswer;
-    fn wz_known_operation_key_length(store: *const u32, words: usize, n: u32, locations: bool, bits: u64) -> usize;
-    fn wz_basic_block_key(store: *const u32, words: usize, key: *mut u8, room: usize, n: u32, locations: bool, bits: u64) -> KeyAnswer;
-    fn wz_known_basic_block_key(store: *const u32, words: usize, key: *mut u8, room: usize, n: u32, locations: bool, bits: u64) -> KeyAnswer;
-    fn wz_known_basic_block_key_length(store: *const u32, words: usize, n: u32, locations: bool, bits: u64) -> usize;
-    fn wz_region_key(store: *const u32, words: usize, key: *mut u8, room: usize, n: u32, locations: bool, bits: u64) -> KeyAnswer;
-    fn wz_known_region_key(store: *const u32, words: usize, key: *mut u8, room: usize, n: u32, locations: bool, bits: u64) -> KeyAnswer;
-    fn wz_known_region_key_length(store: *const u32, words: usize, n: u32, locations: bool, bits: u64) -> usize;
+    fn wz_operation_key(store: *const u32, words: usize, types: *const u32, type_words: usize, key: *mut u8, room: usize, n: u32, locations: bool, bits: u64) -> KeyAnswer;
+    fn wz_known_operation_key(store: *const u32, words: usize, types: *const u32, type_words: usize, key: *mut u8, room: usize, n: u32, locations: bool, bits: u64) -> KeyAnswer;
+    fn wz_known_operation_key_length(store: *const u32, words: usize, types: *const u32, type_words: usize, n: u32, locations: bool, bits: u64) -> usize;
+    fn wz_basic_block_key(store: *const u32, words: usize, types: *const u32, type_words: usize, key: *mut u8, room: usize, n: u32, locations: bool, bits: u64) -> KeyAnswer;
+    fn wz_known_basic_block_key(store: *const u32, words: usize, types: *const u32, type_words: usize, key: *mut u8, room: usize, n: u32, locations: bool, bits: u64) -> KeyAnswer;
+    fn wz_known_basic_block_key_length(store: *const u32, words: usize, types: *const u32, type_words: usize, n: u32, locations: bool, bits: u64) -> usize;
+    fn wz_region_key(store: *const u32, words: usize, types: *const u32, type_words: usize, key: *mut u8, room: usize, n: u32, locations: bool, bits: u64) -> KeyAnswer;
+    fn wz_known_region_key(store: *const u32, words: usize, types: *const u32, type_words: usize, key: *mut u8, room: usize, n: u32, locations: bool, bits: u64) -> KeyAnswer;
+    fn wz_known_region_key_length(store: *const u32, words: usize, types: *const u32, type_words: usize, n: u32, locations: bool, bits: u64) -> usize;
     fn wz_compare_keys(lhs: *const u8, lhs_length: usize, rhs: *const u8, rhs_length: usize) -> i32;
 
     fn wz_twins(listing: *const u8, length: usize, store: *mut u32, words: usize, mapping: *mut u32, entries: usize, out: *mut u8, room: usize) -> Output;

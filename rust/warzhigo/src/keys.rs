@@ -4,10 +4,11 @@ use alloc::vec;
 use alloc::vec::Vec;
 use core::cmp::Ordering;
 
-use crate::equivalence::{Fragment, Ignore};
+use crate::equivalence::Fragment;
 use crate::ffi::{KeyAnswer, lent};
 use crate::ids::{BlockId, OpId, RegionId};
 use crate::refused::Refused;
+use crate::renamed::Options;
 use crate::store::Store;
 
 impl KeyAnswer {
@@ -22,16 +23,16 @@ impl KeyAnswer {
 }
 
 /// The key of a fragment.
-fn key<I: Fragment>(store: &Store, fragment: I, ignore: &Ignore) -> Result<Vec<u8>, Refused> {
-    let mut key = vec![0; store.sound.key_length(fragment, ignore)?];
-    key_into(store, fragment, ignore, &mut key)?;
+fn key<I: Fragment>(store: &Store, fragment: I, options: Options) -> Result<Vec<u8>, Refused> {
+    let mut key = vec![0; store.sound.key_length(fragment, options)?];
+    key_into(store, fragment, options, &mut key)?;
     Ok(key)
 }
 
 /// The key of a fragment in lent bytes, and its length.
 #[inline]
-fn key_into<I: Fragment>(store: &Store, fragment: I, ignore: &Ignore, key: &mut [u8]) -> Result<usize, Refused> {
-    store.sound.key(I::SORT, fragment.number_in(store.sound.identity()), ignore, key).result()
+fn key_into<I: Fragment>(store: &Store, fragment: I, options: Options, key: &mut [u8]) -> Result<usize, Refused> {
+    store.sound.key(I::SORT, fragment.number_in(store.sound.identity()), options, key).result()
 }
 
 /// The key of an operation with all inside it: bytes that stand for its structure, by which it is filed.
@@ -53,18 +54,18 @@ fn key_into<I: Fragment>(store: &Store, fragment: I, ignore: &Ignore, key: &mut 
 /// assert_eq!(shelf.len(), 1);
 /// # Ok::<(), warzhigo::Refused>(())
 /// ```
-pub fn operation_key(store: &Store, op: OpId, ignore: &Ignore) -> Result<Vec<u8>, Refused> {
-    key(store, op, ignore)
+pub fn operation_key<'a>(store: &Store, op: OpId, ignore: impl Into<Options<'a>>) -> Result<Vec<u8>, Refused> {
+    key(store, op, ignore.into())
 }
 
 /// The key of a block with all inside it; as [`operation_key`].
-pub fn basic_block_key(store: &Store, block: BlockId, ignore: &Ignore) -> Result<Vec<u8>, Refused> {
-    key(store, block, ignore)
+pub fn basic_block_key<'a>(store: &Store, block: BlockId, ignore: impl Into<Options<'a>>) -> Result<Vec<u8>, Refused> {
+    key(store, block, ignore.into())
 }
 
 /// The key of a region with all inside it; as [`operation_key`].
-pub fn region_key(store: &Store, region: RegionId, ignore: &Ignore) -> Result<Vec<u8>, Refused> {
-    key(store, region, ignore)
+pub fn region_key<'a>(store: &Store, region: RegionId, ignore: impl Into<Options<'a>>) -> Result<Vec<u8>, Refused> {
+    key(store, region, ignore.into())
 }
 
 /// Writes the key of an operation into lent bytes, from the first on, and gives its length; bytes behind it are as they were. Refused by 2,
@@ -83,20 +84,20 @@ pub fn region_key(store: &Store, region: RegionId, ignore: &Ignore) -> Result<Ve
 /// # Ok::<(), warzhigo::Refused>(())
 /// ```
 #[inline]
-pub fn operation_key_into(store: &Store, op: OpId, ignore: &Ignore, key: &mut [u8]) -> Result<usize, Refused> {
-    key_into(store, op, ignore, key)
+pub fn operation_key_into<'a>(store: &Store, op: OpId, ignore: impl Into<Options<'a>>, key: &mut [u8]) -> Result<usize, Refused> {
+    key_into(store, op, ignore.into(), key)
 }
 
 /// Writes the key of a block into lent bytes; as [`operation_key_into`].
 #[inline]
-pub fn basic_block_key_into(store: &Store, block: BlockId, ignore: &Ignore, key: &mut [u8]) -> Result<usize, Refused> {
-    key_into(store, block, ignore, key)
+pub fn basic_block_key_into<'a>(store: &Store, block: BlockId, ignore: impl Into<Options<'a>>, key: &mut [u8]) -> Result<usize, Refused> {
+    key_into(store, block, ignore.into(), key)
 }
 
 /// Writes the key of a region into lent bytes; as [`operation_key_into`].
 #[inline]
-pub fn region_key_into(store: &Store, region: RegionId, ignore: &Ignore, key: &mut [u8]) -> Result<usize, Refused> {
-    key_into(store, region, ignore, key)
+pub fn region_key_into<'a>(store: &Store, region: RegionId, ignore: impl Into<Options<'a>>, key: &mut [u8]) -> Result<usize, Refused> {
+    key_into(store, region, ignore.into(), key)
 }
 
 /// Compares two keys byte by byte, a proper beginning first. Any bytes may be given. It is the order that byte slices have in Rust, so keys
@@ -154,20 +155,22 @@ impl Store {
     /// assert_eq!(store.key(op, &Ignore::NOTHING)?, operation_key(&store, op, &Ignore::NOTHING)?);
     /// # Ok::<(), warzhigo::Refused>(())
     /// ```
-    pub fn key(&self, fragment: impl Into<FragmentId>, ignore: &Ignore) -> Result<Vec<u8>, Refused> {
+    pub fn key<'a>(&self, fragment: impl Into<FragmentId>, ignore: impl Into<Options<'a>>) -> Result<Vec<u8>, Refused> {
+        let options = ignore.into();
         match fragment.into() {
-            FragmentId::Op(op) => key(self, op, ignore),
-            FragmentId::Block(block) => key(self, block, ignore),
-            FragmentId::Region(region) => key(self, region, ignore),
+            FragmentId::Op(op) => key(self, op, options),
+            FragmentId::Block(block) => key(self, block, options),
+            FragmentId::Region(region) => key(self, region, options),
         }
     }
 
     /// Writes the key of a fragment into lent bytes; as [`operation_key_into`].
-    pub fn key_into(&self, fragment: impl Into<FragmentId>, ignore: &Ignore, key: &mut [u8]) -> Result<usize, Refused> {
+    pub fn key_into<'a>(&self, fragment: impl Into<FragmentId>, ignore: impl Into<Options<'a>>, key: &mut [u8]) -> Result<usize, Refused> {
+        let options = ignore.into();
         match fragment.into() {
-            FragmentId::Op(op) => key_into(self, op, ignore, key),
-            FragmentId::Block(block) => key_into(self, block, ignore, key),
-            FragmentId::Region(region) => key_into(self, region, ignore, key),
+            FragmentId::Op(op) => key_into(self, op, options, key),
+            FragmentId::Block(block) => key_into(self, block, options, key),
+            FragmentId::Region(region) => key_into(self, region, options, key),
         }
     }
 }

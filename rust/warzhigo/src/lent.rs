@@ -2,7 +2,8 @@
 //! it is lent, and a refused one has changed nothing. [`Store`](crate::Store) and [`Mapping`](crate::Mapping) need no such test, and are
 //! the quicker way.
 //!
-//! A store is [`store_words`] words, all 0 when empty; a mapping [`mapping_words`] words, all 4294967295 when empty: docs/STORE.md.
+//! A store is [`store_words`] words, all 0 when empty; a mapping [`mapping_words`] words, all 4294967295 when empty: docs/STORE.md. A list of
+//! renamed types is words too: old, present, old, present; it may be empty.
 //!
 //! ```
 //! use warzhigo::lent::{self, NewOperation};
@@ -93,50 +94,50 @@ pub fn set_operand(store: &mut [u32], op: u32, index: u32, value: u32) -> Result
     lent::set_operand(store, op, index, value).accepted().map(|_| ())
 }
 
-/// Compares two operations. Refused by 1, 8, 2 or 12.
-pub fn operation_eq(store: &[u32], mapping: &mut [u32], lhs: u32, rhs: u32, ignore: &Ignore) -> Result<EqResult, Refused> {
-    lent::compare(Sort::Op, store, mapping, (lhs, rhs), ignore).result()
+/// Compares two operations. Refused by 1, 8, 14, 2 or 12.
+pub fn operation_eq(store: &[u32], types: &[u32], mapping: &mut [u32], lhs: u32, rhs: u32, ignore: &Ignore) -> Result<EqResult, Refused> {
+    lent::compare(Sort::Op, store, types, mapping, (lhs, rhs), ignore).result()
 }
 
-/// Compares two blocks. Refused by 1, 8, 2 or 12.
-pub fn basic_block_eq(store: &[u32], mapping: &mut [u32], lhs: u32, rhs: u32, ignore: &Ignore) -> Result<EqResult, Refused> {
-    lent::compare(Sort::Block, store, mapping, (lhs, rhs), ignore).result()
+/// Compares two blocks. Refused by 1, 8, 14, 2 or 12.
+pub fn basic_block_eq(store: &[u32], types: &[u32], mapping: &mut [u32], lhs: u32, rhs: u32, ignore: &Ignore) -> Result<EqResult, Refused> {
+    lent::compare(Sort::Block, store, types, mapping, (lhs, rhs), ignore).result()
 }
 
-/// Compares two regions. Refused by 1, 8, 2 or 12.
-pub fn region_eq(store: &[u32], mapping: &mut [u32], lhs: u32, rhs: u32, ignore: &Ignore) -> Result<EqResult, Refused> {
-    lent::compare(Sort::Region, store, mapping, (lhs, rhs), ignore).result()
+/// Compares two regions. Refused by 1, 8, 14, 2 or 12.
+pub fn region_eq(store: &[u32], types: &[u32], mapping: &mut [u32], lhs: u32, rhs: u32, ignore: &Ignore) -> Result<EqResult, Refused> {
+    lent::compare(Sort::Region, store, types, mapping, (lhs, rhs), ignore).result()
 }
 
-/// The hash of an operation. Refused by 1, 2 or 12.
-pub fn operation_hash(store: &[u32], op: u32, ignore: &Ignore) -> Result<u64, Refused> {
-    lent::hash(Sort::Op, store, op, ignore).result()
+/// The hash of an operation. Refused by 1, 14, 2 or 12.
+pub fn operation_hash(store: &[u32], types: &[u32], op: u32, ignore: &Ignore) -> Result<u64, Refused> {
+    lent::hash(Sort::Op, store, types, op, ignore).result()
 }
 
-/// The hash of a block. Refused by 1, 2 or 12.
-pub fn basic_block_hash(store: &[u32], block: u32, ignore: &Ignore) -> Result<u64, Refused> {
-    lent::hash(Sort::Block, store, block, ignore).result()
+/// The hash of a block. Refused by 1, 14, 2 or 12.
+pub fn basic_block_hash(store: &[u32], types: &[u32], block: u32, ignore: &Ignore) -> Result<u64, Refused> {
+    lent::hash(Sort::Block, store, types, block, ignore).result()
 }
 
-/// The hash of a region. Refused by 1, 2 or 12.
-pub fn region_hash(store: &[u32], region: u32, ignore: &Ignore) -> Result<u64, Refused> {
-    lent::hash(Sort::Region, store, region, ignore).result()
+/// The hash of a region. Refused by 1, 14, 2 or 12.
+pub fn region_hash(store: &[u32], types: &[u32], region: u32, ignore: &Ignore) -> Result<u64, Refused> {
+    lent::hash(Sort::Region, store, types, region, ignore).result()
 }
 
 /// Writes the key of an operation into lent bytes, from the first on, and gives its length; bytes behind it are as they were. Refused by 1,
-/// 2, 12 or 13, and then nothing is written.
-pub fn operation_key(store: &[u32], op: u32, ignore: &Ignore, key: &mut [u8]) -> Result<usize, Refused> {
-    lent::key(Sort::Op, store, op, ignore, key).result()
+/// 14, 2, 12 or 13, and then nothing is written.
+pub fn operation_key(store: &[u32], types: &[u32], op: u32, ignore: &Ignore, key: &mut [u8]) -> Result<usize, Refused> {
+    lent::key(Sort::Op, store, types, op, ignore, key).result()
 }
 
-/// Writes the key of a block. Refused by 1, 2, 12 or 13.
-pub fn basic_block_key(store: &[u32], block: u32, ignore: &Ignore, key: &mut [u8]) -> Result<usize, Refused> {
-    lent::key(Sort::Block, store, block, ignore, key).result()
+/// Writes the key of a block. Refused by 1, 14, 2, 12 or 13.
+pub fn basic_block_key(store: &[u32], types: &[u32], block: u32, ignore: &Ignore, key: &mut [u8]) -> Result<usize, Refused> {
+    lent::key(Sort::Block, store, types, block, ignore, key).result()
 }
 
-/// Writes the key of a region. Refused by 1, 2, 12 or 13.
-pub fn region_key(store: &[u32], region: u32, ignore: &Ignore, key: &mut [u8]) -> Result<usize, Refused> {
-    lent::key(Sort::Region, store, region, ignore, key).result()
+/// Writes the key of a region. Refused by 1, 14, 2, 12 or 13.
+pub fn region_key(store: &[u32], types: &[u32], region: u32, ignore: &Ignore, key: &mut [u8]) -> Result<usize, Refused> {
+    lent::key(Sort::Region, store, types, region, ignore, key).result()
 }
 
 /// The program [`twins`](crate::twins) in lent buffers: store and mapping may hold anything, and are emptied first. Afterwards the store is

@@ -20,6 +20,7 @@
 //! - [`Store`] holds the IR: the four building calls make it, and views such as [`Operation`] read it.
 //! - [`operation_eq`], [`basic_block_eq`] and [`region_eq`] compare, [`operation_hash`], [`basic_block_hash`] and [`region_hash`] hash; names
 //!   and parameters are those of pliron's `irbuild::equivalence`. [`Ignore`] says what doesn't count, [`Mapping`] what corresponds.
+//! - [`Renamed`] is a list of types that have been renamed: calls that are asked under one compare, hash and file by present types.
 //! - [`operation_key`], [`basic_block_key`] and [`region_key`] give the bytes by which a fragment is filed, and [`compare_keys`] their order.
 //! - A call outside the rules is [`Refused`] by number, and has changed nothing.
 //! - [`twins`] and [`sums`] answer the questions of a whole listing. [`lent`] has every call on words of any origin.
@@ -45,6 +46,7 @@ mod listing;
 mod mapping;
 mod reading;
 mod refused;
+mod renamed;
 mod store;
 mod touched;
 
@@ -57,6 +59,7 @@ pub use listing::{sums, twins};
 pub use mapping::Mapping;
 pub use reading::{Block, Operation, Region, Totals, Value};
 pub use refused::Refused;
+pub use renamed::{Options, Renamed};
 pub use store::{Attribute, NewOperation, Owner, Store};
 
 /// The code in README.md.

@@ -7,7 +7,7 @@ use core::{error, fmt};
 /// ```
 /// let store = warzhigo::Store::new();
 /// let words = &store.words()[1..];
-/// let refused = warzhigo::lent::operation_hash(words, 0, &warzhigo::Ignore::NOTHING).unwrap_err();
+/// let refused = warzhigo::lent::operation_hash(words, &[], 0, &warzhigo::Ignore::NOTHING).unwrap_err();
 /// assert_eq!(refused.number(), 1);
 /// assert_eq!(refused.to_string(), "refused, cause 1: the store is of wrong length or not sound");
 /// ```
@@ -18,6 +18,7 @@ impl Refused {
     pub(crate) const NOT_SOUND: Refused = Refused(1);
     pub(crate) const NOTHING_THERE: Refused = Refused(2);
     pub(crate) const MAPPING: Refused = Refused(8);
+    pub(crate) const TYPES: Refused = Refused(14);
 
     pub(crate) fn by(cause: u32) -> Refused {
         Refused(cause)
@@ -44,6 +45,7 @@ impl Refused {
             11 => "the listing or a line is too long, or the last line feed is missing",
             12 => "an operation inside is nested deeper than 32",
             13 => "the lent key is too short",
+            14 => "the list of renamed types has a half row, over 64 rows, an old type twice, or a present type that has a row itself",
             _ => "a cause that this version doesn't know",
         }
     }
@@ -64,7 +66,7 @@ mod tests {
 
     #[test]
     fn every_cause_has_words_of_its_own() {
-        for cause in 1..=13 {
+        for cause in 1..=14 {
             let (refused, unknown) = (Refused::by(cause), Refused::by(0));
             assert_eq!(refused.number(), cause);
             assert_ne!(refused.meaning(), unknown.meaning());

@@ -1,4 +1,4 @@
-/* The header from C: two operations built, compared, hashed and filed, and a listing's question answered. Gives the number of the first thing that
+/* The header from C: two operations built, compared, hashed and filed, types renamed, and a listing's question answered. Gives the number of the first thing that
  * isn't as it should be, or 0. */
 #include "warzhigo.h"
 
@@ -18,17 +18,17 @@ int main(void) {
     wz_outcome placed = wz_new_operation(store, wz_store_words(), 8, true, 0, 1, 0, &type, 1, NULL, 0, NULL, 0);
     if (placed.code != 2 || placed.number != 2) return 3;
 
-    wz_verdict equal = wz_operation_eq(store, wz_store_words(), mapping, wz_mapping_words(), 0, 1, true, 0);
+    wz_verdict equal = wz_operation_eq(store, wz_store_words(), NULL, 0, mapping, wz_mapping_words(), 0, 1, true, 0);
     if (equal.code != 0 || equal.paired != 1 || mapping[0] != 1) return 4;
-    wz_verdict unequal = wz_known_operation_eq(store, wz_store_words(), mapping, wz_mapping_words(), 0, 1, false, 0);
+    wz_verdict unequal = wz_known_operation_eq(store, wz_store_words(), NULL, 0, mapping, wz_mapping_words(), 0, 1, false, 0);
     if (unequal.code != 1 || unequal.left != 0 || unequal.right != 1 || unequal.paired != 0) return 5;
-    wz_verdict refused = wz_operation_eq(store, wz_store_words(), mapping, 1, 0, 1, false, 0);
+    wz_verdict refused = wz_operation_eq(store, wz_store_words(), NULL, 0, mapping, 1, 0, 1, false, 0);
     if (refused.code != 4 || refused.left != 8) return 6;
 
-    wz_sum left = wz_operation_hash(store, wz_store_words(), 0, true, 0);
-    wz_sum right = wz_known_operation_hash(store, wz_store_words(), 1, true, 0);
+    wz_sum left = wz_operation_hash(store, wz_store_words(), NULL, 0, 0, true, 0);
+    wz_sum right = wz_known_operation_hash(store, wz_store_words(), NULL, 0, 1, true, 0);
     if (left.code != 0 || right.code != 0 || left.word != right.word) return 7;
-    if (wz_operation_hash(store, wz_store_words(), 2, true, 0).cause != 2) return 8;
+    if (wz_operation_hash(store, wz_store_words(), NULL, 0, 2, true, 0).cause != 2) return 8;
 
     uint32_t *keyed = malloc(wz_store_words() * sizeof *keyed);
     memcpy(keyed, store, wz_store_words() * sizeof *keyed);
@@ -42,16 +42,27 @@ int main(void) {
 
     uint8_t *key = malloc(wz_key_bytes());
     uint8_t *other = malloc(wz_key_bytes());
-    wz_key_answer filed = wz_operation_key(keyed, wz_store_words(), key, wz_key_bytes(), 0, true, 0);
-    wz_key_answer again = wz_known_operation_key(keyed, wz_store_words(), other, wz_key_bytes(), 1, true, 0);
+    wz_key_answer filed = wz_operation_key(keyed, wz_store_words(), NULL, 0, key, wz_key_bytes(), 0, true, 0);
+    wz_key_answer again = wz_known_operation_key(keyed, wz_store_words(), NULL, 0, other, wz_key_bytes(), 1, true, 0);
     if (filed.code != 0 || again.code != 0 || filed.length != 48 || key[0] != 8 || key[20] != 1 || key[28] != 5) return 11;
     if (wz_compare_keys(key, filed.length, other, again.length) != 0 || wz_compare_keys(key, 1, other, again.length) != -1) return 12;
-    if (wz_known_operation_key_length(keyed, wz_store_words(), 1, false, 0) != 52) return 13;
-    wz_key_answer refused_key = wz_operation_key(keyed, wz_store_words(), key, 47, 0, true, 0);
+    if (wz_known_operation_key_length(keyed, wz_store_words(), NULL, 0, 1, false, 0) != 52) return 13;
+    wz_key_answer refused_key = wz_operation_key(keyed, wz_store_words(), NULL, 0, key, 47, 0, true, 0);
     if (refused_key.code != 1 || refused_key.cause != 13 || refused_key.length != 0) return 14;
-    if (wz_known_operation_key(keyed, wz_store_words(), NULL, 0, 0, true, 0).cause != 13) return 15;
-    if (wz_operation_key(keyed, wz_store_words(), NULL, 0, 2, true, 0).cause != 2) return 16;
+    if (wz_known_operation_key(keyed, wz_store_words(), NULL, 0, NULL, 0, 0, true, 0).cause != 13) return 15;
+    if (wz_operation_key(keyed, wz_store_words(), NULL, 0, NULL, 0, 2, true, 0).cause != 2) return 16;
 
+    const uint32_t list[] = {5, 6}, half[] = {5};
+    uint32_t *index = malloc(wz_index_words() * sizeof *index);
+    size_t rows = wz_known_index_types(list, 2, index, wz_index_words());
+    if (rows == 0 || wz_known_index_types(half, 1, index, wz_index_words()) != 0) return 17;
+    rows = wz_known_index_types(list, 2, index, wz_index_words());
+    wz_sum renamed = wz_operation_hash(keyed, wz_store_words(), list, 2, 0, true, 0);
+    wz_sum known = wz_known_operation_hash(keyed, wz_store_words(), index, rows, 0, true, 0);
+    if (renamed.code != 0 || known.code != 0 || renamed.word != known.word || renamed.word == left.word) return 18;
+    if (wz_operation_key(keyed, wz_store_words(), half, 1, key, wz_key_bytes(), 0, true, 0).cause != 14) return 19;
+
+    free(index);
     free(keyed);
     free(key);
     free(other);

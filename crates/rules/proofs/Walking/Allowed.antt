@@ -5,7 +5,7 @@ use native.Mathlib.Omega.{arith}
 use mathlib.Core.Bool.{Bool, true, _&&_, _||_}
 use mathlib.Core.List.{List, [], _∷_, List·Memᴰ, List·Memᴰ·head, List·Memᴰ·tail}
 use mathlib.Core.Option.{Option, none, some}
-use mathlib.Core.Path.{_≡_, refl, _∙_}
+use mathlib.Core.Path.{_≡_, refl, sym, _∙_}
 use borrow.Author.Tests.{lt-ltb, eqb-true, eq-eqb}
 use lib.Dec.{eqb, ltb}
 use lib.ListN.{length, set, length-set}
@@ -15,7 +15,9 @@ use Rattle.rules.specs.Building.{firstFailed}
 use Rattle.rules.specs.Shells.{Ignore}
 use Rattle.rules.specs.Mapping.{Mapping, noImage, enterAll, entriesAllowed, tableAllowed, allowed}
 use Rattle.rules.specs.Comparison.{State, unequal, oneLonger, tooDeep, Walk, on, ended, standing, enterOps, enterBlocks, start, compare}
+use Rattle.rules.specs.Types.{renamed}
 use Rattle.rules.specs.Answers.{compareTests, comparisonOf, comparisonBy, comparison}
+use Rattle.rules.proofs.Types.Renamed.{exists-renamed, allowed-renamed}
 use Rattle.rules.proofs.Basics.Tests.{and-left, and-right, and-both, or-right, passed, every-of}
 use Rattle.rules.proofs.Soundness.Accepted.{firstFailed-none}
 use Rattle.rules.proofs.Soundness.Children.{values-in}
@@ -89,15 +91,15 @@ module _ (s : Store) where
   kept-by (ended (oneLonger p) st) m h k = k
   kept-by (ended tooDeep st) m h k = h
 
-  -- answered or refused
-  pub comparison-allowed : (lent : Bool) (ig : Ignore) (f : Sort) (l r : ℕ) (m : Mapping) → allowed s m ≡ true
-      → allowed s (comparison lent s m ig f l r .mapping) ≡ true
-  unfolding comparison comparisonBy compareTests
-  comparison-allowed lent ig f l r m h = go (firstFailed (compareTests lent s m f l r)) refl
-    where
-      go : (o : Option ℕ) → firstFailed (compareTests lent s m f l r) ≡ o → allowed s (comparisonBy o s m ig f l r .mapping) ≡ true
-      go none e =
-          let both = firstFailed-none (compareTests lent s m f l r) e .1 .1 .0 in
-          kept-by (compare s ig f l r m) m h
-          (allowed-kept ig f l r (and-left _ (exists s f r) both) (and-right (exists s f l) _ both) m h)
-      go (some cause) e = h
+-- answered or refused
+pub comparison-allowed : (s : Store) (lent : Bool) (types : List ℕ) (ig : Ignore) (f : Sort) (l r : ℕ) (m : Mapping) → allowed s m ≡ true
+    → allowed s (comparison lent s types m ig f l r .mapping) ≡ true
+unfolding comparison comparisonBy compareTests
+comparison-allowed s lent types ig f l r m h = go (firstFailed (compareTests lent s types m f l r)) refl
+  where
+    go : (o : Option ℕ) → firstFailed (compareTests lent s types m f l r) ≡ o → allowed s (comparisonBy o (renamed types s) m ig f l r .mapping) ≡ true
+    go none e =
+        let both = firstFailed-none (compareTests lent s types m f l r) e .1 .1 .1 .0 in
+        let kept = allowed-kept (renamed types s) ig f l r (exists-renamed types s f l ∙ and-left _ (exists s f r) both) (exists-renamed types s f r ∙ and-right (exists s f l) _ both) m (allowed-renamed types s m ∙ h) in
+        kept-by s (compare (renamed types s) ig f l r m) m h (sym (allowed-renamed types s _) ∙ kept)
+    go (some cause) e = h

@@ -6,7 +6,7 @@ use mathlib.Core.Bool.{true}
 use mathlib.Core.List.{List, [], _∷_, List·Memᴰ, List·Memᴰ·head, List·Memᴰ·tail, List·Memᴰ·eq-of-singleton}
 use mathlib.Core.Logic.{_↔_}
 use mathlib.Core.Option.{Option, none, some}
-use mathlib.Core.Path.{_≡_, refl}
+use mathlib.Core.Path.{_≡_, refl, _∙_}
 use borrow.Author.Tests.{ltb-true, lt-ltb, eq-eqb}
 use lib.ListN.{replicate, length-replicate}
 use Rattle.rules.specs.Lists.{isSome}
@@ -17,8 +17,10 @@ use Rattle.rules.specs.Shells.{Ignore}
 use Rattle.rules.specs.Mapping.{Mapping, noImage, emptyMapping, entriesAllowed, tableAllowed, allowed}
 use Rattle.rules.specs.Comparison.{unequal, oneLonger, tooDeep, Walk, on, ended, compare}
 use Rattle.rules.specs.Hash.{hash}
+use Rattle.rules.specs.Types.{typesHold, renamed}
 use Rattle.rules.specs.Answers.{eq, neq, refused, shallow, compareTests, comparisonOf, comparisonBy, comparison, hashIs, hashTests, hashedBy, hashed}
 use Rattle.rules.specs.Laws.{succeeds, equal}
+use Rattle.rules.proofs.Types.Renamed.{exists-renamed, renamed-sound}
 use Rattle.rules.proofs.Basics.Tests.{and-both, every-of, clash, impossible}
 use Rattle.rules.proofs.Soundness.Children.{ops-in}
 use Rattle.rules.proofs.Soundness.Accepted.{all-passed}
@@ -77,30 +79,31 @@ module _ (s : Store) (sd : sound s ≡ true) where
 -- ---- answers
 
 module _ (s : Store) (sd : sound s ≡ true) (ig : Ignore) (f : Sort) where
-  module _ (m : Mapping) (am : allowed s m ≡ true) (l r : ℕ) (el : exists s f l ≡ true) (er : exists s f r ≡ true) where
-    compare-accepted : firstFailed (compareTests true s m f l r) ≡ none
+  module _ (types : List ℕ) (th : typesHold types ≡ true) (m : Mapping) (am : allowed s m ≡ true) (l r : ℕ) (el : exists s f l ≡ true) (er : exists s f r ≡ true) where
+    compare-accepted : firstFailed (compareTests true s types m f l r) ≡ none
     unfolding compareTests
     compare-accepted =
-        all-passed _ (refl, (am, (and-both _ _ el er, (and-both _ _ (fragment-shallow s sd f l el) (fragment-shallow s sd f r er), tt))))
+        all-passed _ (refl, (am, (th, (and-both _ _ el er, (and-both _ _ (fragment-shallow s sd f l el) (fragment-shallow s sd f r er), tt)))))
 
-    pub comparison-is : comparison true s m ig f l r ≡ comparisonOf (compare s ig f l r m) m
+    pub comparison-is : comparison true s types m ig f l r ≡ comparisonOf (compare (renamed types s) ig f l r m) m
     unfolding comparison comparisonBy
     comparison-is = rw compare-accepted
 
-    pub never-refused : (cause : ℕ) → comparison true s m ig f l r .answer ≡ refused cause → ⊥
+    pub never-refused : (cause : ℕ) → comparison true s types m ig f l r .answer ≡ refused cause → ⊥
     unfolding comparisonOf
-    never-refused cause h = go (compare s ig f l r m) refl (rw comparison-is at h)
+    never-refused cause h = go (compare (renamed types s) ig f l r m) refl (rw comparison-is at h)
       where
-        go : (w : Walk) → compare s ig f l r m ≡ w → comparisonOf w m .answer ≡ refused cause → ⊥
+        go : (w : Walk) → compare (renamed types s) ig f l r m ≡ w → comparisonOf w m .answer ≡ refused cause → ⊥
         go (on st) e c = impossible cc
         go (ended (unequal p) st) e c = impossible cc
         go (ended (oneLonger p) st) e c = impossible cc
-        go (ended tooDeep st) e c = compare-not-deep s sd ig f l r el m st e
+        go (ended tooDeep st) e c = compare-not-deep (renamed types s) (renamed-sound types s sd) ig f l r (exists-renamed types s f l ∙ el) m st e
 
-  pub hashed-is : (n : ℕ) → exists s f n ≡ true → hashed true s ig f n ≡ hashIs (hash s ig f n)
+  pub hashed-is : (types : List ℕ) → typesHold types ≡ true → (n : ℕ) → exists s f n ≡ true
+      → hashed true s types ig f n ≡ hashIs (hash (renamed types s) ig f n)
   unfolding hashed hashedBy hashTests
-  hashed-is n e =
-      let t : firstFailed (hashTests true s f n) ≡ none = all-passed _ (refl, (e, (fragment-shallow s sd f n e, tt))) in
+  hashed-is types th n e =
+      let t : firstFailed (hashTests true s types f n) ≡ none = all-passed _ (refl, (th, (e, (fragment-shallow s sd f n e, tt)))) in
       rw t
 
 -- ---- the empty mapping is allowed, and equality is the answer eq
@@ -126,8 +129,8 @@ eq-answer (ended (unequal p) st) m = (λ h. clash h refl, λ h. let e : neq p (s
 eq-answer (ended (oneLonger p) st) m = (λ h. clash h refl, λ h. let e : neq p (st .paired) ≡ eq (h .0) = h .1 in cc)
 eq-answer (ended tooDeep st) m = (λ h. clash h refl, λ h. let e : refused 12 ≡ eq (h .0) = h .1 in cc)
 
-pub equal-answered : (s : Store) → sound s ≡ true → (ig : Ignore) (f : Sort) (a b : ℕ) → exists s f a ≡ true → exists s f b ≡ true
-    → (equal s ig f a b ≡ true) ↔ ((p : ℕ) × (comparison true s emptyMapping ig f a b .answer ≡ eq p))
+pub equal-answered : (s : Store) → sound s ≡ true → (types : List ℕ) → typesHold types ≡ true → (ig : Ignore) (f : Sort) (a b : ℕ) → exists s f a ≡ true → exists s f b ≡ true
+    → (equal (renamed types s) ig f a b ≡ true) ↔ ((p : ℕ) × (comparison true s types emptyMapping ig f a b .answer ≡ eq p))
 unfolding equal
-equal-answered s sd ig f a b ea eb =
-    rw (comparison-is s sd ig f emptyMapping (empty-allowed s) a b ea eb) (eq-answer (compare s ig f a b emptyMapping) emptyMapping)
+equal-answered s sd types th ig f a b ea eb =
+    rw (comparison-is s sd ig f types th emptyMapping (empty-allowed s) a b ea eb) (eq-answer (compare (renamed types s) ig f a b emptyMapping) emptyMapping)

@@ -17,8 +17,10 @@ use Rattle.rules.specs.Building.{firstFailed}
 use Rattle.rules.specs.Shells.{Ignore}
 use Rattle.rules.specs.Mapping.{Mapping, noImage, emptyMapping, enterAll}
 use Rattle.rules.specs.Comparison.{State, unequal, oneLonger, tooDeep, Walk, on, ended, standing, enterOps, enterBlocks, start, compare}
+use Rattle.rules.specs.Types.{renamed}
 use Rattle.rules.specs.Answers.{compareTests, comparisonOf, comparisonBy, comparison}
 use Rattle.rules.specs.Entered.{countBelow, mapped, ownerEntry, EnteredBy, pairedIn}
+use Rattle.rules.proofs.Types.Renamed.{exists-renamed, entered-renamed, renamed-sound}
 use Rattle.rules.proofs.Basics.Counts.{count-more, count-zero}
 use Rattle.rules.proofs.Basics.Tests.{and-left, and-right}
 use Rattle.rules.proofs.Soundness.Accepted.{firstFailed-none}
@@ -171,7 +173,7 @@ entered-by s sd ig f l r el er =
     f l r el er (start emptyMapping) (at-start s) .by
 
 -- answered or refused
-module _ (s : Store) (sd : sound s ≡ true) (lent : Bool) (ig : Ignore) (f : Sort) (l r : ℕ) where
+module _ (s : Store) (sd : sound s ≡ true) (lent : Bool) (types : List ℕ) (ig : Ignore) (f : Sort) (l r : ℕ) where
   by-walk : (w : Walk) → EnteredBy s (standing w .mapping) (standing w .paired)
       → EnteredBy s (comparisonOf w emptyMapping .mapping) (pairedIn (comparisonOf w emptyMapping .answer))
   unfolding comparisonOf standing pairedIn
@@ -180,14 +182,14 @@ module _ (s : Store) (sd : sound s ≡ true) (lent : Bool) (ig : Ignore) (f : So
   by-walk (ended (oneLonger p) st) h = h
   by-walk (ended tooDeep st) h = none-entered s
 
-  pub comparison-entered : EnteredBy s (comparison lent s emptyMapping ig f l r .mapping) (pairedIn (comparison lent s emptyMapping ig f l r .answer))
+  pub comparison-entered : EnteredBy s (comparison lent s types emptyMapping ig f l r .mapping) (pairedIn (comparison lent s types emptyMapping ig f l r .answer))
   unfolding comparison comparisonBy compareTests pairedIn
-  comparison-entered = go (firstFailed (compareTests lent s emptyMapping f l r)) refl
+  comparison-entered = go (firstFailed (compareTests lent s types emptyMapping f l r)) refl
     where
-      go : (o : Option ℕ) → firstFailed (compareTests lent s emptyMapping f l r) ≡ o
-          → EnteredBy s (comparisonBy o s emptyMapping ig f l r .mapping) (pairedIn (comparisonBy o s emptyMapping ig f l r .answer))
+      go : (o : Option ℕ) → firstFailed (compareTests lent s types emptyMapping f l r) ≡ o
+          → EnteredBy s (comparisonBy o (renamed types s) emptyMapping ig f l r .mapping) (pairedIn (comparisonBy o (renamed types s) emptyMapping ig f l r .answer))
       go none e =
-          let both = firstFailed-none (compareTests lent s emptyMapping f l r) e .1 .1 .0 in
-          by-walk (compare s ig f l r emptyMapping)
-          (entered-by s sd ig f l r (and-left _ (exists s f r) both) (and-right (exists s f l) _ both))
+          let both = firstFailed-none (compareTests lent s types emptyMapping f l r) e .1 .1 .1 .0 in
+          by-walk (compare (renamed types s) ig f l r emptyMapping)
+          (entered-renamed types s (entered-by (renamed types s) (renamed-sound types s sd) ig f l r (exists-renamed types s f l ∙ and-left _ (exists s f r) both) (exists-renamed types s f r ∙ and-right (exists s f l) _ both)))
       go (some cause) e = none-entered s

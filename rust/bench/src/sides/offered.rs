@@ -53,13 +53,13 @@ impl Side for Offered {
 
     /// Who lends words doesn't know where the entries are, so all of them are emptied.
     fn compare(&self, mapping: &mut Vec<u32>, left: u32, right: u32) -> lent::EqResult {
-        let answer = lent::operation_eq(&self.words, mapping, left, right, &Ignore::NOTHING);
+        let answer = lent::operation_eq(&self.words, &[], mapping, left, right, &Ignore::NOTHING);
         mapping.fill(u32::MAX);
         answer.expect("an answer")
     }
 
     fn hash(&self, op: u32) -> u64 {
-        lent::operation_hash(&self.words, op, &Ignore::NOTHING).expect("a hash")
+        lent::operation_hash(&self.words, &[], op, &Ignore::NOTHING).expect("a hash")
     }
 
     fn verdict(answer: lent::EqResult) -> Verdict {

@@ -1,13 +1,16 @@
-//! The calls that don't test what they are lent, behind two types that hold what those calls ask for, from the time they are made:
-//! [`SoundWords`] are sound, and [`AllowedWords`] are a mapping that is allowed beside the store that they belong to.
+//! The calls that don't test what they are lent, behind three types that hold what those calls ask for, from the time they are made:
+//! [`SoundWords`] are sound, [`IndexWords`] an index of a list of renamed types, and [`AllowedWords`] a mapping that is allowed beside the store
+//! that they belong to.
 
 use alloc::boxed::Box;
 use alloc::vec;
+use alloc::vec::Vec;
 
 use super::*;
-use crate::equivalence::{Fragment, Ignore, Sort};
+use crate::equivalence::{Fragment, Sort};
 use crate::ids::{Identity, Mapped};
 use crate::refused::Refused;
+use crate::renamed::Options;
 use crate::store::{Attribute, NewOperation, Owner};
 
 /// The entry of a number without an image.
@@ -20,8 +23,8 @@ pub(crate) struct SoundWords {
     identity: Identity,
 }
 
-// SAFETY, of every call on known words below: `words` of `SoundWords` are sound, and where a mapping is lent, `is_for` has said that it is
-// allowed beside them: that is all that these calls ask for. Pointers and lengths are as in `lent`.
+// SAFETY, of every call on known words below: `words` of `SoundWords` are sound, those of `IndexWords` an index, and where a mapping is lent,
+// `is_for` has said that it is allowed beside them: that is all that these calls ask for. Pointers and lengths are as in `lent`.
 
 impl SoundWords {
     /// The empty store.
@@ -100,7 +103,7 @@ impl SoundWords {
 
     /// Refused by 8 where the mapping has entries of another store.
     #[inline]
-    pub(crate) fn compare(&self, sort: Sort, mapping: &mut AllowedWords, pair: (u32, u32), ignore: &Ignore) -> Result<Verdict, Refused> {
+    pub(crate) fn compare(&self, sort: Sort, mapping: &mut AllowedWords, pair: (u32, u32), options: Options) -> Result<Verdict, Refused> {
         if !mapping.is_for(self.identity) {
             return Err(Refused::MAPPING);
         }
@@ -110,9 +113,10 @@ impl SoundWords {
             Sort::Region => wz_known_region_eq,
         };
         let (store, words) = (self.words.as_ptr(), self.words.len());
+        let (index, rows) = options.types.index.lent();
         let (map, entries) = (mapping.words.as_mut_ptr(), mapping.words.len());
         // SAFETY: as above.
-        Ok(unsafe { call(store, words, map, entries, pair.0, pair.1, ignore.locations, ignore.bits) })
+        Ok(unsafe { call(store, words, index, rows, map, entries, pair.0, pair.1, options.ignore.locations, options.ignore.bits) })
     }
 
     /// Where the last comparison in this store has made its entries in the mapping, which was empty before it: of its left fragment and its
@@ -126,30 +130,34 @@ impl SoundWords {
     }
 
     #[inline]
-    pub(crate) fn hash(&self, sort: Sort, n: u32, ignore: &Ignore) -> Sum {
+    pub(crate) fn hash(&self, sort: Sort, n: u32, options: Options) -> Sum {
         let call = match sort {
             Sort::Op => wz_known_operation_hash,
             Sort::Block => wz_known_basic_block_hash,
             Sort::Region => wz_known_region_hash,
         };
+        let (index, rows) = options.types.index.lent();
         // SAFETY: as above.
-        unsafe { call(self.words.as_ptr(), self.words.len(), n, ignore.locations, ignore.bits) }
+        unsafe { call(self.words.as_ptr(), self.words.len(), index, rows, n, options.ignore.locations, options.ignore.bits) }
     }
 
     #[inline]
-    pub(crate) fn key(&self, sort: Sort, n: u32, ignore: &Ignore, key: &mut [u8]) -> KeyAnswer {
+    pub(crate) fn key(&self, sort: Sort, n: u32, options: Options, key: &mut [u8]) -> KeyAnswer {
         let call = match sort {
             Sort::Op => wz_known_operation_key,
             Sort::Block => wz_known_basic_block_key,
             Sort::Region => wz_known_region_key,
         };
+        let (store, words) = (self.words.as_ptr(), self.words.len());
+        let (index, rows) = options.types.index.lent();
+        let (bytes, room) = (key.as_mut_ptr(), key.len());
         // SAFETY: as above.
-        unsafe { call(self.words.as_ptr(), self.words.len(), key.as_mut_ptr(), key.len(), n, ignore.locations, ignore.bits) }
+        unsafe { call(store, words, index, rows, bytes, room, n, options.ignore.locations, options.ignore.bits) }
     }
 
     /// How long a key will be. Refused by 2 where the fragment is of another store.
     #[inline]
-    pub(crate) fn key_length<I: Fragment>(&self, fragment: I, ignore: &Ignore) -> Result<usize, Refused> {
+    pub(crate) fn key_length<I: Fragment>(&self, fragment: I, options: Options) -> Result<usize, Refused> {
         if fragment.identity() != self.identity {
             return Err(Refused::NOTHING_THERE);
         }
@@ -158,9 +166,45 @@ impl SoundWords {
             Sort::Block => wz_known_basic_block_key_length,
             Sort::Region => wz_known_region_key_length,
         };
+        let (store, words) = (self.words.as_ptr(), self.words.len());
+        let (index, rows) = options.types.index.lent();
         // SAFETY: as above; and the fragment exists, as these calls ask for too: its id is of this store, and a store's numbers don't go
         // away.
-        Ok(unsafe { call(self.words.as_ptr(), self.words.len(), fragment.number(), ignore.locations, ignore.bits) })
+        Ok(unsafe { call(store, words, index, rows, fragment.number(), options.ignore.locations, options.ignore.bits) })
+    }
+}
+
+/// An index of a list of renamed types: no words for the empty list, or as the library has made it. Nothing writes to it.
+#[derive(Clone)]
+pub(crate) struct IndexWords {
+    words: Vec<u32>,
+}
+
+impl IndexWords {
+    /// That of the empty list.
+    pub(crate) const fn none() -> IndexWords {
+        IndexWords { words: Vec::new() }
+    }
+
+    /// That of this list, if it holds; else it is refused by 14.
+    pub(crate) fn tested(types: &[u32]) -> Result<IndexWords, Refused> {
+        let mut words = vec![0; lent::index_words()];
+        // SAFETY: as in `lent`: the list may be any words, and the index has the length that is asked for.
+        let length = unsafe { wz_known_index_types(types.as_ptr(), types.len(), words.as_mut_ptr(), words.len()) };
+        words.truncate(if types.is_empty() { 0 } else { length });
+        match length {
+            0 => Err(Refused::TYPES),
+            _ => Ok(IndexWords { words }),
+        }
+    }
+
+    pub(crate) fn words(&self) -> &[u32] {
+        &self.words
+    }
+
+    #[inline]
+    fn lent(&self) -> (*const u32, usize) {
+        (self.words.as_ptr(), self.words.len())
     }
 }
 
@@ -237,7 +281,7 @@ impl AllowedWords {
 #[cfg(test)]
 mod tests {
     use super::*;
-    use crate::{Mapping, OpId, Store, operation_eq};
+    use crate::{Ignore, Mapping, OpId, Store, operation_eq};
 
     /// An operation with a block of so many others, and as many strangers between it and them.
     fn fragment(store: &mut Store, inner: usize, strangers: usize) -> OpId {

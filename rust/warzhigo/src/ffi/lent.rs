@@ -32,6 +32,13 @@ pub(crate) fn key_bytes() -> usize {
     unsafe { wz_key_bytes() }
 }
 
+/// The words that an index of a list of renamed types is made in.
+#[inline]
+pub(crate) fn index_words() -> usize {
+    // SAFETY: it takes nothing, and gives a constant.
+    unsafe { wz_index_words() }
+}
+
 // SAFETY, of every call below: a pointer and a length that stand side by side are those of one Rust slice, which is borrowed for the whole
 // call, `&mut` where the function writes. The functions are proved to stay within what they are lent, whatever it holds, and to return;
 // none keeps a pointer.
@@ -85,37 +92,39 @@ pub(crate) fn set_operand(store: &mut [u32], op: u32, index: u32, value: u32) ->
 }
 
 #[inline]
-pub(crate) fn compare(sort: Sort, store: &[u32], mapping: &mut [u32], pair: (u32, u32), ignore: &Ignore) -> Verdict {
+pub(crate) fn compare(sort: Sort, store: &[u32], types: &[u32], mapping: &mut [u32], pair: (u32, u32), ignore: &Ignore) -> Verdict {
     let call = match sort {
         Sort::Op => wz_operation_eq,
         Sort::Block => wz_basic_block_eq,
         Sort::Region => wz_region_eq,
     };
-    let (words, entries) = (store.len(), mapping.len());
+    let (list, rows) = (types.as_ptr(), types.len());
+    let (map, entries) = (mapping.as_mut_ptr(), mapping.len());
     // SAFETY: as above.
-    unsafe { call(store.as_ptr(), words, mapping.as_mut_ptr(), entries, pair.0, pair.1, ignore.locations, ignore.bits) }
+    unsafe { call(store.as_ptr(), store.len(), list, rows, map, entries, pair.0, pair.1, ignore.locations, ignore.bits) }
 }
 
 #[inline]
-pub(crate) fn hash(sort: Sort, store: &[u32], n: u32, ignore: &Ignore) -> Sum {
+pub(crate) fn hash(sort: Sort, store: &[u32], types: &[u32], n: u32, ignore: &Ignore) -> Sum {
     let call = match sort {
         Sort::Op => wz_operation_hash,
         Sort::Block => wz_basic_block_hash,
         Sort::Region => wz_region_hash,
     };
     // SAFETY: as above.
-    unsafe { call(store.as_ptr(), store.len(), n, ignore.locations, ignore.bits) }
+    unsafe { call(store.as_ptr(), store.len(), types.as_ptr(), types.len(), n, ignore.locations, ignore.bits) }
 }
 
 #[inline]
-pub(crate) fn key(sort: Sort, store: &[u32], n: u32, ignore: &Ignore, key: &mut [u8]) -> KeyAnswer {
+pub(crate) fn key(sort: Sort, store: &[u32], types: &[u32], n: u32, ignore: &Ignore, key: &mut [u8]) -> KeyAnswer {
     let call = match sort {
         Sort::Op => wz_operation_key,
         Sort::Block => wz_basic_block_key,
         Sort::Region => wz_region_key,
     };
+    let (list, rows) = (types.as_ptr(), types.len());
     // SAFETY: as above.
-    unsafe { call(store.as_ptr(), store.len(), key.as_mut_ptr(), key.len(), n, ignore.locations, ignore.bits) }
+    unsafe { call(store.as_ptr(), store.len(), list, rows, key.as_mut_ptr(), key.len(), n, ignore.locations, ignore.bits) }
 }
 
 #[inline]

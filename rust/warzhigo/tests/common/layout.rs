@@ -1,4 +1,4 @@
-//! Where words of a store stand, as docs/STORE.md says: only to damage them.
+//! Where words of a store stand, as docs/STORE.md says: only to damage them, or to replace types.
 
 use super::numbers::Random;
 
@@ -9,6 +9,7 @@ pub const OPERAND_FIRST: usize = 4104;
 pub const OPERAND_END: usize = 4616;
 pub const SUCCESSOR_FIRST: usize = 5128;
 pub const SUCCESSOR_END: usize = 5640;
+pub const VALUE_TYPE: usize = 9480;
 
 /// Columns side by side: where the first begins, the length of each, how many, and by which count they are filled.
 const COLUMNS: [(usize, usize, usize, usize); 6] =

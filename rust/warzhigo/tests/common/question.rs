@@ -5,7 +5,7 @@ use std::collections::BTreeMap;
 pub use oracle::Sort;
 use oracle::{Oracle, Verdict};
 use warzhigo::lent::{self, EqResult};
-use warzhigo::{Ignore, Mapping, Refused, Store};
+use warzhigo::{Ignore, Mapping, Options, Refused, Renamed, Store};
 
 use super::numbers::Random;
 use super::walk::{Entries, Found};
@@ -67,7 +67,13 @@ impl Named for warzhigo::EqResult {
 impl Question {
     /// By ids. Both numbers have to exist.
     pub fn inner(&self, store: &Store, mapping: &mut Mapping) -> Result<Found, Refused> {
+        self.inner_under(&Renamed::none(), store, mapping)
+    }
+
+    /// By ids, under a list of renamed types.
+    pub fn inner_under(&self, types: &Renamed, store: &Store, mapping: &mut Mapping) -> Result<Found, Refused> {
         let Question { sort, lhs, rhs, ref ignore } = *self;
+        let ignore = (ignore, types);
         match sort {
             Sort::Op => {
                 let [l, r] = [lhs, rhs].map(|n| store.op_id(n).expect("an operation that exists"));
@@ -86,12 +92,17 @@ impl Question {
 
     /// On lent words.
     pub fn lent(&self, store: &[u32], mapping: &mut [u32]) -> Result<Found, Refused> {
+        self.lent_under(&[], store, mapping)
+    }
+
+    /// On lent words, one of them a list of renamed types.
+    pub fn lent_under(&self, types: &[u32], store: &[u32], mapping: &mut [u32]) -> Result<Found, Refused> {
         let call = match self.sort {
             Sort::Op => lent::operation_eq,
             Sort::Block => lent::basic_block_eq,
             Sort::Region => lent::region_eq,
         };
-        call(store, mapping, self.lhs, self.rhs, &self.ignore).map(Named::found)
+        call(store, types, mapping, self.lhs, self.rhs, &self.ignore).map(Named::found)
     }
 
     /// By pliron's own text.
@@ -101,7 +112,8 @@ impl Question {
 }
 
 /// The hash of one by ids. It has to exist.
-pub fn hash_inner(store: &Store, sort: Sort, n: u32, ignore: &Ignore) -> Result<u64, Refused> {
+pub fn hash_inner<'a>(store: &Store, sort: Sort, n: u32, ignore: impl Into<Options<'a>>) -> Result<u64, Refused> {
+    let ignore = ignore.into();
     match sort {
         Sort::Op => warzhigo::operation_hash(store, store.op_id(n).expect("an operation that exists"), ignore),
         Sort::Block => warzhigo::basic_block_hash(store, store.block_id(n).expect("a block that exists"), ignore),
@@ -111,15 +123,21 @@ pub fn hash_inner(store: &Store, sort: Sort, n: u32, ignore: &Ignore) -> Result<
 
 /// The hash of one on lent words.
 pub fn hash_lent(store: &[u32], sort: Sort, n: u32, ignore: &Ignore) -> Result<u64, Refused> {
+    hash_lent_under(&[], store, sort, n, ignore)
+}
+
+/// The hash of one on lent words, one of them a list of renamed types.
+pub fn hash_lent_under(types: &[u32], store: &[u32], sort: Sort, n: u32, ignore: &Ignore) -> Result<u64, Refused> {
     match sort {
-        Sort::Op => lent::operation_hash(store, n, ignore),
-        Sort::Block => lent::basic_block_hash(store, n, ignore),
-        Sort::Region => lent::region_hash(store, n, ignore),
+        Sort::Op => lent::operation_hash(store, types, n, ignore),
+        Sort::Block => lent::basic_block_hash(store, types, n, ignore),
+        Sort::Region => lent::region_hash(store, types, n, ignore),
     }
 }
 
 /// The key of one by ids. It has to exist.
-pub fn key_inner(store: &Store, sort: Sort, n: u32, ignore: &Ignore) -> Result<Vec<u8>, Refused> {
+pub fn key_inner<'a>(store: &Store, sort: Sort, n: u32, ignore: impl Into<Options<'a>>) -> Result<Vec<u8>, Refused> {
+    let ignore = ignore.into();
     match sort {
         Sort::Op => warzhigo::operation_key(store, store.op_id(n).expect("an operation that exists"), ignore),
         Sort::Block => warzhigo::basic_block_key(store, store.block_id(n).expect("a block that exists"), ignore),
@@ -138,10 +156,15 @@ pub fn key_into(store: &Store, sort: Sort, n: u32, ignore: &Ignore, key: &mut [u
 
 /// The key of one on lent words.
 pub fn key_lent(store: &[u32], sort: Sort, n: u32, ignore: &Ignore, key: &mut [u8]) -> Result<usize, Refused> {
+    key_lent_under(&[], store, sort, n, ignore, key)
+}
+
+/// The key of one on lent words, one of them a list of renamed types.
+pub fn key_lent_under(types: &[u32], store: &[u32], sort: Sort, n: u32, ignore: &Ignore, key: &mut [u8]) -> Result<usize, Refused> {
     match sort {
-        Sort::Op => lent::operation_key(store, n, ignore, key),
-        Sort::Block => lent::basic_block_key(store, n, ignore, key),
-        Sort::Region => lent::region_key(store, n, ignore, key),
+        Sort::Op => lent::operation_key(store, types, n, ignore, key),
+        Sort::Block => lent::basic_block_key(store, types, n, ignore, key),
+        Sort::Region => lent::region_key(store, types, n, ignore, key),
     }
 }
 

@@ -1,4 +1,4 @@
-//! Stores, comparisons, hashes and keys at random: ours, pliron's own text, and the models beside them.
+//! Stores, comparisons, hashes, keys and lists of renamed types at random: ours, pliron's own text, and the models beside them.
 //!
 //! Seeds are numbers from 0 on, one for each store. `WARZHIGO_STORES` makes more stores than usual, and `WARZHIGO_FIRST` begins with
 //! another seed than 0.
@@ -9,6 +9,7 @@ mod common;
 mod comparing;
 mod counts;
 mod laws;
+mod renaming;
 mod trial;
 
 use std::env;
@@ -35,6 +36,7 @@ fn stores_comparisons_hashes_and_keys() {
         for _ in 0..6 {
             trial.comparisons(&mut mapping, &mut counts);
             trial.laws(&mut mapping, &mut counts);
+            trial.renamed(&mut mapping, &mut counts);
         }
         trial.shelf(&mut counts);
     }

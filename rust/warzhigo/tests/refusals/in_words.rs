@@ -1,12 +1,12 @@
 //! How a refusal presents itself. Causes 9, 10 and 11 are only printed, and 12 is never met: no call gives them as a value.
 
-use warzhigo::{Attribute, Ignore, Mapping, NewOperation, Refused, Store, operation_eq, operation_key_into};
+use warzhigo::{Attribute, Ignore, Mapping, NewOperation, Refused, Renamed, Store, operation_eq, operation_key_into};
 
 use crate::common::call::{Call, New};
 use crate::stores::{deep, filled, small};
 
-/// One refusal by each cause from 1 to 8, and by 13.
-fn refusals() -> [Option<Refused>; 9] {
+/// One refusal by each cause from 1 to 8, by 13 and by 14.
+fn refusals() -> [Option<Refused>; 10] {
     let (mut store, deepest) = deep();
     let (op, parent, foreign) = (store.op_id(0).unwrap(), store.block_id(deepest), small().op_id(0).unwrap());
     let typed = store.new_operation(&NewOperation { result_types: &[1], ..Default::default() }).unwrap();
@@ -25,12 +25,13 @@ fn refusals() -> [Option<Refused>; 9] {
         store.set_operand(op, 0, value).err(),
         operation_eq(&store, &mut mapping, op, op, &Ignore::NOTHING).err(),
         operation_key_into(&store, op, &Ignore::NOTHING, &mut []).err(),
+        Renamed::new(&[(3, 3)]).err(),
     ]
 }
 
 #[test]
 fn refusals_have_a_number_and_a_meaning() {
-    for (refused, number) in refusals().into_iter().zip((1..=8).chain([13])) {
+    for (refused, number) in refusals().into_iter().zip((1..=8).chain([13, 14])) {
         let refused = refused.expect("a refused call");
         assert_eq!(refused.number(), number);
         assert!(!refused.meaning().is_empty(), "{number}");
@@ -44,5 +45,5 @@ fn meanings_differ() {
     let mut meanings: Vec<&str> = refusals().into_iter().flatten().map(Refused::meaning).collect();
     meanings.sort();
     meanings.dedup();
-    assert_eq!(meanings.len(), 9);
+    assert_eq!(meanings.len(), 10);
 }

@@ -13,7 +13,10 @@ use Rattle.layout.specs.Reading.{opCount, storeIn}
 use Rattle.layout.specs.Causes.{causeOf}
 use Rattle.layout.proofs.Empty.{sound-of}
 use Rattle.layout.proofs.Laid.{laid-facts}
+use Rattle.renaming.specs.Index.{listIn}
+use Rattle.renaming.proofs.Indexed.{index-holds}
 use Rattle.fragments.specs.Ignoring.{ignoreOf}
+use Rattle.fragments.specs.Options.{optionsOf, under}
 use Rattle.fragments.specs.Sorts.{sortOf}
 use Rattle.fragments.proofs.ByRows.{headOfOp, head-whole}
 use Rattle.fragments.proofs.There.{there}
@@ -28,8 +31,12 @@ use borrow.Author.Needs.{needs}
 use Rattle.equivalence.proofs.comparison.operations_eq.Statement.{statement}
 use Rattle.equivalence.proofs.comparison.operations_eq.Tie as tie
 
+-- the start, from behind the tests
+abbrev from : tie.After-pair-cause → tie.Start
+from c = c .before .before .before .before
+
 pair-cause-requires : tie.Need-pair-cause-requires
-pair-cause-requires c κs = search needs
+pair-cause-requires c κs = c .before .before .before .pre .0 .sound
 
 enum-known-cause : tie.Need-enum-known-cause
 enum-known-cause c = search needs
@@ -37,10 +44,10 @@ enum-known-cause c = search needs
 returns : tie.Need-returns
 unfolding causeOf sortOf
 returns c =
-    let s = c .before .before .before .before .before .before in
+    let s = from (c .before .before .before) in
     let a = s .args in
     let b = a .store .now in
-    refused-pair b (a .mapping .now) (ignoreOf (a .ignore)) op (a .lhs) (a .rhs) (sound-of b (s .pre .0)) (s .pre .1) _ (sym (c .before .before .before .pair-cause .ensures) ∙ ap causeOf (c .before .cause .given .1))
+    refused-pair b (listIn (a .types .now)) (a .mapping .now) (ignoreOf (a .ignore)) op (a .lhs) (a .rhs) (sound-of b (s .pre .0 .sound)) (s .pre .1) (index-holds _ (s .pre .0 .indexed)) _ (sym (c .before .before .before .pair-cause .ensures) ∙ ap causeOf (c .before .cause .given .1))
 
 enum-told : tie.Need-enum-told
 enum-told c = search needs
@@ -48,7 +55,7 @@ enum-told c = search needs
 -- no test has failed
 module _ (c : tie.After-enum-told) where
   abbrev begun : tie.Start
-  begun = c .before .before .before .before .before
+  begun = from (c .before .before)
 
   abbrev cols : Cols
   cols = columns (begun .args .store .now)
@@ -67,13 +74,13 @@ module _ (c : tie.After-enum-told) where
   r-here = there cols op (begun .args .rhs) (both .1)
 
   few : opCount cols ≤ 512
-  few = laid-facts cols (begun .pre .0 .laid) .counts .ops
+  few = laid-facts cols (begun .pre .0 .sound .laid) .counts .ops
 
 at-requires : tie.Need-at-requires
-at-requires c κs = (begun c .pre .0 .sized, (omega arith, omega (arith, l-here c, few c)))
+at-requires c κs = (begun c .pre .0 .sound .sized, (omega arith, omega (arith, l-here c, few c)))
 
 at-requires-2 : tie.Need-at-requires-2
-at-requires-2 c κs = (begun (c .before) .pre .0 .sized, (omega arith, omega (arith, r-here (c .before), few (c .before))))
+at-requires-2 c κs = (begun (c .before) .pre .0 .sound .sized, (omega arith, omega (arith, r-here (c .before), few (c .before))))
 
 returns-2 : tie.Need-returns-2
 unfolding headOfOp
@@ -83,13 +90,13 @@ returns-2 c =
     let a = s .args in
     let b = a .store .now in
     let S = storeIn b in
-    let ig = ignoreOf (a .ignore) in
+    let o = optionsOf (a .ignore) (a .types .now) in
     let m = a .mapping .now in
     let q = FirstNEQOps (a .lhs) (a .rhs) 0 in
     let st = stateOf m 0 in
-    let unlike = kinds-unlike (columns b) ig (head-whole b (s .pre .0) (a .lhs) (l-here t)) (head-whole b (s .pre .0) (a .rhs) (r-here t)) (λ e. c .if1 .taken (c .before .before .at .ensures ∙ e ∙ sym (c .before .at2 .ensures))) in
-    let told = told-ended (pairOps S ig (a .lhs) (a .rhs) st) (opWalk S ig (a .lhs) (a .rhs)) q m (inl refl) (ops-unlike S ig (a .lhs) (a .rhs) m 0 unlike) in
-    walked b m ig op (a .lhs) (a .rhs) (sound-of b (s .pre .0)) (s .pre .1) (s .pre .0) q m (passed t) (subst (λ (w : Walk). Told w q m) (sym (op-walk S ig (a .lhs) (a .rhs) st)) told)
+    let unlike = kinds-unlike (columns b) o (head-whole b (s .pre .0 .sound) (a .lhs) (l-here t)) (head-whole b (s .pre .0 .sound) (a .rhs) (r-here t)) (λ e. c .if1 .taken (c .before .before .at .ensures ∙ e ∙ sym (c .before .at2 .ensures))) in
+    let told = told-ended (pairOps (under o S) (o .ignore) (a .lhs) (a .rhs) st) (opWalk S o (a .lhs) (a .rhs)) q m (inl refl) (ops-unlike S o (a .lhs) (a .rhs) m 0 unlike) in
+    walked b (listIn (a .types .now)) m (o .ignore) op (a .lhs) (a .rhs) (sound-of b (s .pre .0 .sound)) (s .pre .1) (index-holds _ (s .pre .0 .indexed)) (s .pre .0 .sound) q m (passed t) (subst (λ (w : Walk). Told w q m) (sym (op-walk S o (a .lhs) (a .rhs) st)) told)
 
 ops-eq-requires : tie.Need-ops-eq-requires
 ops-eq-requires c κs =
@@ -97,10 +104,10 @@ ops-eq-requires c κs =
     let s = begun t in
     let a = s .args in
     let S = storeIn (a .store .now) in
-    (record { sound = s .pre .0; long = allowed-long S (a .mapping .now) (s .pre .1) }, (l-here t, (r-here t, few-walk S (s .pre .0 .ruled) (ignoreOf (a .ignore)) op (a .lhs) (a .rhs) (both t .0) (a .mapping .now))))
+    (record { sound = s .pre .0 .sound; indexed = s .pre .0 .indexed; long = allowed-long S (a .mapping .now) (s .pre .1) }, (l-here t, (r-here t, few-walk S (s .pre .0 .sound .ruled) (optionsOf (a .ignore) (a .types .now)) op (a .lhs) (a .rhs) (both t .0) (a .mapping .now))))
 
 same-length : tie.Need-same-length
-same-length c = c .before .before .ops-eq .kept .1 .0
+same-length c = c .before .before .ops-eq .kept .1 .1 .0
 
 returns-3 : tie.Need-returns-3
 returns-3 c =
@@ -109,7 +116,7 @@ returns-3 c =
     let a = s .args in
     let b = a .store .now in
     let r = c .before .before .ops-eq in
-    walked b (a .mapping .now) (ignoreOf (a .ignore)) op (a .lhs) (a .rhs) (sound-of b (s .pre .0)) (s .pre .1) (s .pre .0) (r .result) (r .last .1 .0) (passed t) (r .ensures)
+    walked b (listIn (a .types .now)) (a .mapping .now) (ignoreOf (a .ignore)) op (a .lhs) (a .rhs) (sound-of b (s .pre .0 .sound)) (s .pre .1) (index-holds _ (s .pre .0 .indexed)) (s .pre .0 .sound) (r .result) (r .last .1 .1 .0) (passed t) (r .ensures)
 
 pub operations-eq-spec : {M : Type 1} → statement M
 operations-eq-spec =

@@ -3,7 +3,7 @@ use native.Mathlib.Omega.{arith}
 use mathlib.Core.Path.{sym, subst, _∙_}
 use Rattle.rules.specs.Comparison.{Walk, pairOps}
 use Rattle.layout.specs.Reading.{storeIn}
-use Rattle.fragments.specs.Ignoring.{ignoreOf}
+use Rattle.fragments.specs.Options.{Options, optionsOf, under}
 use Rattle.equivalence.specs.Walked.{stateOf, Told, PairedFits, opWalk}
 use Rattle.equivalence.proofs.Telling.{told-ended, told-bind}
 use Rattle.equivalence.proofs.Answering.{op-walk}
@@ -11,55 +11,64 @@ use borrow.Author.Needs.{needs}
 use Rattle.equivalence.proofs.comparison.ops_eq.Statement.{statement}
 use Rattle.equivalence.proofs.comparison.ops_eq.Tie as tie
 
+-- the start, from behind the first call
+abbrev begun : tie.After-op-eq-map → tie.Start
+begun c = c .before .before .before .before .before
+
+abbrev rule : tie.Start → Options
+rule s = optionsOf (s .args .ignore) (s .args .types .now)
+
 op-eq-map-requires : tie.Need-op-eq-map-requires
 op-eq-map-requires c κs =
-    let p = c .before .before .before .pre in
+    let p = c .before .before .before .before .pre in
     (p .0, (p .1 .0, (p .1 .1 .0, omega arith)))
 
 enum-known-mapped : tie.Need-enum-known-mapped
 enum-known-mapped c = search needs
 
 same-length : tie.Need-same-length
-same-length c = c .before .before .before .op-eq-map .kept .1 .0
+same-length c = c .before .before .before .op-eq-map .kept .1 .1 .0
 
 returns : tie.Need-returns
 returns c =
-    let a = c .before .before .before .before .before .before .before .args in
+    let s = begun (c .before .before .before) in
+    let a = s .args in
     let S = storeIn (a .store .now) in
-    let ig = ignoreOf (a .ignore) in
+    let o = rule s in
     let st = stateOf (a .mapping .now) 0 in
     let m = c .before .before .before .op-eq-map in
-    subst (λ (w : Walk). Told w (m .result) (m .last .1 .0)) (sym (op-walk S ig (a .lhs) (a .rhs) st)) (told-ended (pairOps S ig (a .lhs) (a .rhs) st) (opWalk S ig (a .lhs) (a .rhs)) (m .result) (m .last .1 .0) (c .match .keys2) (m .ensures))
+    subst (λ (w : Walk). Told w (m .result) (m .last .1 .1 .0)) (sym (op-walk S o (a .pair .lhs) (a .pair .rhs) st)) (told-ended (pairOps (under o S) (o .ignore) (a .pair .lhs) (a .pair .rhs) st) (opWalk S o (a .pair .lhs) (a .pair .rhs)) (m .result) (m .last .1 .1 .0) (c .match .keys2) (m .ensures))
 
 op-eq-mapped-requires : tie.Need-op-eq-mapped-requires
 op-eq-mapped-requires c κs =
     let known = c .before .before in
     let paired = known .before .before .before .before in
-    let s = paired .before .before .before .before in
+    let s = begun paired in
     let a = s .args in
     let p = s .pre in
     let S = storeIn (a .store .now) in
-    let ig = ignoreOf (a .ignore) in
+    let o = rule s in
     let st = stateOf (a .mapping .now) 0 in
     let m = paired .op-eq-map in
-    let next = op-walk S ig (a .lhs) (a .rhs) st ∙ told-bind (pairOps S ig (a .lhs) (a .rhs) st) (opWalk S ig (a .lhs) (a .rhs)) (m .last .1 .0) (known .mapped .given .1) (m .ensures) in
-    (record { sound = p .0 .sound; long = m .kept .1 .0 ∙ p .0 .long }, (p .1 .0, (p .1 .1 .0, subst (λ (w : Walk). PairedFits w) next (p .1 .1 .1))))
+    let next = op-walk S o (a .pair .lhs) (a .pair .rhs) st ∙ told-bind (pairOps (under o S) (o .ignore) (a .pair .lhs) (a .pair .rhs) st) (opWalk S o (a .pair .lhs) (a .pair .rhs)) (m .last .1 .1 .0) (known .mapped .given .1) (m .ensures) in
+    (record { sound = p .0 .sound; indexed = p .0 .indexed; long = m .kept .1 .1 .0 ∙ p .0 .long }, (p .1 .0, (p .1 .1 .0, subst (λ (w : Walk). PairedFits w) next (p .1 .1 .1))))
 
 same-length-2 : tie.Need-same-length-2
-same-length-2 c = let known = c .before .before .before .before .before in c .before .before .op-eq-mapped .kept .1 .0 ∙ known .before .before .before .before .op-eq-map .kept .1 .0
+same-length-2 c = let known = c .before .before .before .before .before in c .before .before .op-eq-mapped .kept .1 .1 .0 ∙ known .before .before .before .before .op-eq-map .kept .1 .1 .0
 
 returns-2 : tie.Need-returns-2
 returns-2 c =
     let known = c .before .before .before .before .before in
     let paired = known .before .before .before .before in
-    let a = paired .before .before .before .before .args in
+    let s = begun paired in
+    let a = s .args in
     let S = storeIn (a .store .now) in
-    let ig = ignoreOf (a .ignore) in
+    let o = rule s in
     let st = stateOf (a .mapping .now) 0 in
     let m = paired .op-eq-map in
-    let next = op-walk S ig (a .lhs) (a .rhs) st ∙ told-bind (pairOps S ig (a .lhs) (a .rhs) st) (opWalk S ig (a .lhs) (a .rhs)) (m .last .1 .0) (known .mapped .given .1) (m .ensures) in
+    let next = op-walk S o (a .pair .lhs) (a .pair .rhs) st ∙ told-bind (pairOps (under o S) (o .ignore) (a .pair .lhs) (a .pair .rhs) st) (opWalk S o (a .pair .lhs) (a .pair .rhs)) (m .last .1 .1 .0) (known .mapped .given .1) (m .ensures) in
     let r = c .before .before .op-eq-mapped in
-    subst (λ (w : Walk). Told w (r .result) (r .last .1 .0)) (sym next) (r .ensures)
+    subst (λ (w : Walk). Told w (r .result) (r .last .1 .1 .0)) (sym next) (r .ensures)
 
 pub ops-eq-spec : {M : Type 1} → statement M
 ops-eq-spec =

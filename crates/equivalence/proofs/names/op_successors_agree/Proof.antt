@@ -14,20 +14,20 @@ use Rattle.equivalence.proofs.names.op_successors_agree.Tie as tie
 successors-of-requires : tie.Need-successors-of-requires
 successors-of-requires c κs =
     let s = c .before .before in
-    (record { sized = s .pre .0 .sound .sized; laid = s .pre .0 .sound .laid }, s .pre .1 .0)
+    (record { sized = s .pre .0 .sized; laid = s .pre .0 .laid }, s .pre .1 .1 .0)
 
 successors-of-requires-2 : tie.Need-successors-of-requires-2
 successors-of-requires-2 c κs =
     let s = c .before .before .before in
-    (record { sized = s .pre .0 .sound .sized; laid = s .pre .0 .sound .laid }, s .pre .1 .1)
+    (record { sized = s .pre .0 .sized; laid = s .pre .0 .laid }, s .pre .1 .1 .1)
 
 successors-agree-requires : tie.Need-successors-agree-requires
 successors-agree-requires c κs =
     let s = c .before .before .before .before in
     let a = s .args in
     let el = c .before .successors-of .ensures in
-    let l = subst (λ (xs : List ℕ). all (λ (v : ℕ). ltb v 256) xs ≡ true) (sym el) (successors-below (a .store .now) (s .pre .0 .sound) (a .lhs) (s .pre .1 .0)) in
-    (s .pre .0 .long, l)
+    let l = subst (λ (xs : List ℕ). all (λ (v : ℕ). ltb v 256) xs ≡ true) (sym el) (successors-below (a .store .now) (s .pre .0) (a .lhs) (s .pre .1 .1 .0)) in
+    (s .pre .1 .0, l)
 
 returns : tie.Need-returns
 unfolding successorsAgree sameSuccessor

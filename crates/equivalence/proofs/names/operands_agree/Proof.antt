@@ -2,8 +2,10 @@
 use Prim.Native.Nat.{ℕ, _-_, _<_, min}
 use mathlib.Core.Bool.{Bool}
 use lib.ListN.{length}
+use Rattle.rules.specs.Types.{renamed}
 use Rattle.layout.specs.Columns.{columns}
 use Rattle.layout.specs.Reading.{storeOf}
+use Rattle.renaming.specs.Index.{listIn}
 use Rattle.layout.proofs.Scans.{AtBoth, Scanned, scan-starts, scan-on, failed, held}
 use Rattle.equivalence.specs.MappingWords.{mappingOf, sameOperand}
 use Rattle.equivalence.proofs.Pairs.{pair-in, pair-fails, pairs-done, below-at}
@@ -12,10 +14,10 @@ use Rattle.equivalence.proofs.names.operands_agree.Statement.{statement
 use Rattle.equivalence.proofs.names.operands_agree.Tie as tie
 
 abbrev Inv-loop : tie.InvT-loop
-Inv-loop store mapping l r n i₀ i = Scanned (AtBoth (sameOperand (storeOf (columns store)) (mappingOf mapping)) l r) (min (length l) (length r)) n i
+Inv-loop store types mapping l r n i₀ i = Scanned (AtBoth (sameOperand (renamed (listIn types) (storeOf (columns store))) (mappingOf mapping)) l r) (min (length l) (length r)) n i
 
 abbrev μ-loop : tie.MeasureT-loop
-μ-loop store mapping l r n i₀ i = n - i
+μ-loop store types mapping l r n i₀ i = n - i
 
 shorter-requires : tie.Need-shorter-requires Inv-loop μ-loop
 shorter-requires c κs = search needs
@@ -24,12 +26,16 @@ loop-holds : tie.Need-loop-holds Inv-loop μ-loop
 loop-holds c = scan-starts _ _ _ (c .shorter .ensures)
 
 abbrev agree : tie.Start Inv-loop μ-loop → ℕ → ℕ → Bool
-agree s = sameOperand (storeOf (columns (s .args .store .now))) (mappingOf (s .args .mapping .now))
+agree s = sameOperand (renamed (listIn (s .args .types .now)) (storeOf (columns (s .args .store .now)))) (mappingOf (s .args .mapping .now))
+
+-- the start, from behind the count
+abbrev from : tie.After-shorter Inv-loop μ-loop → tie.Start Inv-loop μ-loop
+from c = c .before .before .before .before .before .before
 
 -- a turn of the loop
 module _ (c : tie.In-loop Inv-loop μ-loop) where
   abbrev begun : tie.Start Inv-loop μ-loop
-  begun = c .before .before .before .before .before .before .before
+  begun = from (c .before .before)
 
   abbrev i : ℕ
   i = c .before .loop .i
@@ -53,7 +59,7 @@ value-agrees-requires : tie.Need-value-agrees-requires Inv-loop μ-loop
 value-agrees-requires c κs =
     let turn = c .before .before in
     let s = begun turn in
-    (s .pre .0, (s .pre .1 .0, (below-at _ (s .args .l .now) (s .pre .1 .1 .0) (i turn) (here turn .0), below-at _ (s .args .r .now) (s .pre .1 .1 .1) (i turn) (here turn .1))))
+    (s .pre .0, (s .pre .1 .0, (s .pre .1 .1 .0, (below-at _ (s .args .l .now) (s .pre .1 .1 .1 .0) (i turn) (here turn .0), below-at _ (s .args .r .now) (s .pre .1 .1 .1 .1) (i turn) (here turn .1)))))
 
 returns : tie.Need-returns Inv-loop μ-loop
 returns c =
@@ -74,7 +80,7 @@ loop-again c =
 
 returns-2 : tie.Need-returns-2 Inv-loop μ-loop
 returns-2 c =
-    let s = c .before .before .before .before .before .before .before in
+    let s = from (c .before .before) in
     pairs-done (agree s) (s .args .l .now) (s .args .r .now) (c .before .loop .inv) (c .loop-test .left)
 
 pub operands-agree-spec : {M : Type 1} → statement M

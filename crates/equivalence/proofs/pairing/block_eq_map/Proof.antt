@@ -9,7 +9,7 @@ use Rattle.layout.specs.Columns.{Cols, columns}
 use Rattle.layout.specs.Reading.{storeIn, consecutive}
 use Rattle.layout.proofs.Laid.{laid-facts}
 use Rattle.layout.proofs.Scans.{failed, held}
-use Rattle.fragments.specs.Ignoring.{ignoreOf}
+use Rattle.fragments.specs.Options.{Options, optionsOf, under}
 use Rattle.equivalence.specs.MappingWords.{valuesMapped}
 use Rattle.equivalence.proofs.Alike.{block-shells}
 use Rattle.equivalence.proofs.Paired.{Side, block-side, blocks-unlike, blocks-alike}
@@ -21,67 +21,87 @@ module _ (s : tie.Start) where
   abbrev cols : Cols
   cols = columns (s .args .store .now)
 
-  l-small : s .args .lhs < 256
+  l-small : s .args .pair .lhs < 256
   l-small = omega (arith, laid-facts cols (s .pre .0 .sound .laid) .counts .blocks, s .pre .1 .0)
 
-  r-small : s .args .rhs < 256
+  r-small : s .args .pair .rhs < 256
   r-small = omega (arith, laid-facts cols (s .pre .0 .sound .laid) .counts .blocks, s .pre .1 .1 .0)
 
--- the start, from behind the test of the shells; and that place, from behind the values
-abbrev begun : tie.Else1 → tie.Start
-begun c = c .before .before .before .before .before .before
+  -- what is ignored, and which types are renamed
+  abbrev rule : Options
+  rule = optionsOf (s .args .ignore) (s .args .types .now)
 
-abbrev tested : tie.After-map-values → tie.Else1
-tested c = c .before .before .before .before .before .before .before
+-- the start, from behind the rows, and from behind the test of the shells
+abbrev start : tie.After-block-row2 → tie.Start
+start c = c .before .before .before .before .before
+
+abbrev begun : tie.Else1 → tie.Start
+begun c = start (c .before .before)
+
+-- that test, from behind the entry, and that entry from behind the values
+abbrev tested : tie.After-map-block → tie.Else1
+tested c = c .before .before
+
+abbrev mapped : tie.After-map-values → tie.After-map-block
+mapped c = c .before .before .before .before .before
 
 -- the shells are compared by the rows
-alike : (c : tie.Else1) → sameShells (storeIn (begun c .args .store .now)) (ignoreOf (begun c .args .ignore)) (ofBlock (begun c .args .lhs)) (ofBlock (begun c .args .rhs)) ≡ true
-alike c = block-shells (ignoreOf (begun c .args .ignore)) (c .before .before .before .block-row .ensures) (c .before .before .block-row2 .ensures) ∙ held (c .before .rows-eq .ensures) (c .if1 .left)
+alike : (c : tie.Else1) → sameShells (under (rule (begun c)) (storeIn (begun c .args .store .now))) (rule (begun c) .ignore) (ofBlock (begun c .args .pair .lhs)) (ofBlock (begun c .args .pair .rhs)) ≡ true
+alike c = block-shells (rule (begun c)) (c .before .before .before .block-row .ensures) (c .before .before .block-row2 .ensures) ∙ held (c .before .rows-eq .ensures) (c .if1 .left)
 
 -- where they are alike, the rows' values are ranges, as many
-sides : (c : tie.Else1) → Side (cols (begun c)) (ofBlock (begun c .args .lhs)) (ofBlock (begun c .args .rhs)) (c .before .before .before .block-row .result) (c .before .before .block-row2 .result)
+sides : (c : tie.Else1) → Side (cols (begun c)) (ofBlock (begun c .args .pair .lhs)) (ofBlock (begun c .args .pair .rhs)) (c .before .before .before .block-row .result) (c .before .before .block-row2 .result)
 sides c =
     let a = begun c .args in
-    block-side (a .store .now) (ignoreOf (a .ignore)) (a .lhs) (a .rhs) (c .before .before .before .block-row .ensures) (c .before .before .block-row2 .ensures) (alike c)
+    block-side (a .store .now) (rule (begun c)) (a .pair .lhs) (a .pair .rhs) (c .before .before .before .block-row .ensures) (c .before .before .block-row2 .ensures) (alike c)
 
 block-row-requires : tie.Need-block-row-requires
-block-row-requires c κs = (c .before .before .pre .0 .sound, c .before .before .pre .1 .0)
+block-row-requires c κs =
+    let p = c .before .before .before .pre in
+    (p .0 .sound, p .1 .0)
 
 block-row-requires-2 : tie.Need-block-row-requires-2
-block-row-requires-2 c κs = (c .before .before .before .pre .0 .sound, c .before .before .before .pre .1 .1 .0)
+block-row-requires-2 c κs =
+    let p = c .before .before .before .before .pre in
+    (p .0 .sound, p .1 .1 .0)
 
 rows-eq-requires : tie.Need-rows-eq-requires
-rows-eq-requires c κs = (c .before .before .before .before .pre .0 .sound .sized, (c .before .block-row .ensures .fits, c .block-row2 .ensures .fits))
+rows-eq-requires c κs =
+    let p = start c .pre in
+    (p .0 .sound .sized, (p .0 .indexed, (c .before .block-row .ensures .fits, c .block-row2 .ensures .fits)))
 
-cast-t11 : tie.Need-cast-t11
-cast-t11 c = record { fits = omega (arith, l-small (c .before .before .before .before .before .before)) }
+cast-t13 : tie.Need-cast-t13
+cast-t13 c = record { fits = omega (arith, l-small (start (c .before .before))) }
 
-cast-t12 : tie.Need-cast-t12
-cast-t12 c = record { fits = omega (arith, r-small (c .before .before .before .before .before .before)) }
+cast-t14 : tie.Need-cast-t14
+cast-t14 c = record { fits = omega (arith, r-small (start (c .before .before))) }
 
 returns : tie.Need-returns
 returns c =
-    let a = c .before .before .before .before .before .before .args in
-    blocks-unlike (storeIn (a .store .now)) (ignoreOf (a .ignore)) (a .lhs) (a .rhs) (a .mapping .now) (a .paired) (block-shells (ignoreOf (a .ignore)) (c .before .before .before .block-row .ensures) (c .before .before .block-row2 .ensures) ∙ failed (c .before .rows-eq .ensures) (c .if1 .taken))
+    let rows = c .before .before in
+    let s = start rows in
+    let a = s .args in
+    blocks-unlike (storeIn (a .store .now)) (rule s) (a .pair .lhs) (a .pair .rhs) (a .mapping .now) (a .paired) (block-shells (rule s) (rows .before .block-row .ensures) (rows .block-row2 .ensures) ∙ failed (c .before .rows-eq .ensures) (c .if1 .taken))
 
 cast-map-block : tie.Need-cast-map-block
-cast-map-block c = record { fits = omega (arith, r-small (c .before .before .before .before .before .before .before)) }
+cast-map-block c = record { fits = omega (arith, r-small (begun (c .before))) }
 
 map-block-requires : tie.Need-map-block-requires
 map-block-requires c κs =
-    let s = c .before .before .before .before .before .before .before in
+    let s = begun (c .before) in
     (s .pre .0 .long, l-small s)
 
 cast-map-values : tie.Need-cast-map-values
-cast-map-values c = omega (arith, sides (c .before .before .before .before .before .before) .rightFits)
+cast-map-values c = omega (arith, sides (tested (c .before .before .before .before)) .rightFits)
 
 map-values-requires : tie.Need-map-values-requires
 map-values-requires c κs =
-    let there = c .before .before .before .before .before .before in
-    (c .before .before .before .before .map-block .kept .0 ∙ begun there .pre .0 .long, (sides there .leftFits, sides there .rightFits))
+    let entered = c .before .before .before .before in
+    let k = tested entered in
+    (entered .map-block .kept .0 ∙ begun k .pre .0 .long, (sides k .leftFits, sides k .rightFits))
 
-add-t16 : tie.Need-add-t16
-add-t16 c = record { fits = omega (arith, begun (tested (c .before .before)) .pre .1 .1 .1) }
+add-t18 : tie.Need-add-t18
+add-t18 c = record { fits = omega (arith, begun (tested (mapped (c .before .before))) .pre .1 .1 .1) }
 
 same-length : tie.Need-same-length
 same-length c = search needs
@@ -89,12 +109,13 @@ same-length c = search needs
 returns-2 : tie.Need-returns-2
 returns-2 c =
     let entered = c .before .before in
-    let k = tested entered in
-    let a = begun k .args in
+    let k = tested (mapped entered) in
+    let s = begun k in
+    let a = s .args in
     let l = k .before .before .before .block-row .result in
     let r = k .before .before .block-row2 .result in
-    blocks-alike (storeIn (a .store .now)) (ignoreOf (a .ignore)) (a .lhs) (a .rhs) (a .mapping .now) (a .paired) (entered .map-values .last .0) (consecutive (l .value) (l .values)) (consecutive (r .value) (l .values)) (alike k) (sides k .left) (sides k .right)
-    (entered .map-values .ensures ∙ ap (λ m. valuesMapped m (consecutive (l .value) (l .values)) (consecutive (r .value) (l .values))) (entered .before .before .before .before .before .map-block .ensures))
+    blocks-alike (storeIn (a .store .now)) (rule s) (a .pair .lhs) (a .pair .rhs) (a .mapping .now) (a .paired) (entered .map-values .last .0) (consecutive (l .value) (l .values)) (consecutive (r .value) (l .values)) (alike k) (sides k .left) (sides k .right)
+    (entered .map-values .ensures ∙ ap (λ m. valuesMapped m (consecutive (l .value) (l .values)) (consecutive (r .value) (l .values))) (mapped entered .map-block .ensures))
 
 pub block-eq-map-spec : {M : Type 1} → statement M
 block-eq-map-spec =
@@ -103,13 +124,13 @@ block-eq-map-spec =
     block-row-requires
     block-row-requires-2
     rows-eq-requires
-    cast-t11
-    cast-t12
+    cast-t13
+    cast-t14
     returns
     cast-map-block
     map-block-requires
     cast-map-values
     map-values-requires
-    add-t16
+    add-t18
     same-length
     returns-2)

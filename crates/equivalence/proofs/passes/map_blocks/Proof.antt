@@ -11,9 +11,9 @@ use Rattle.layout.specs.Columns.{Cols, columns}
 use Rattle.layout.specs.Reading.{blockCount, storeIn}
 use Rattle.layout.proofs.Laid.{laid-facts}
 use Rattle.layout.proofs.Seeking.{Rising}
-use Rattle.fragments.specs.Ignoring.{ignoreOf}
+use Rattle.fragments.specs.Options.{Options, optionsOf, under}
 use Rattle.fragments.proofs.Ordered.{block-list-rises, block-in}
-use Rattle.equivalence.specs.Walked.{leftOf, rightOf, stateOf, answerOf, lefts, rights, pairOfLists}
+use Rattle.equivalence.specs.Walked.{leftOf, rightOf, stateOf, answerOf, lefts, rights, pairOfLists, pass1Walk}
 use Rattle.equivalence.proofs.Ordered.{bounded}
 use Rattle.equivalence.proofs.Telling.{named-neq}
 use Rattle.equivalence.proofs.Zipped.{Zips, Rest, Turn, pairwise-zips, rest-begins, rest-fits, turn, turn-ends, turn-rest, pairwise-ends, pairwise-uneven-ends}
@@ -22,17 +22,20 @@ use Rattle.equivalence.proofs.passes.map_blocks.Statement.{statement}
 use Rattle.equivalence.proofs.passes.map_blocks.Tie as tie
 
 abbrev Inv-loop : tie.InvT-loop
-Inv-loop store mapping₀ lists ignore paired count₀ a₀ b₀ mapping count a b =
+Inv-loop store types mapping₀ lists ignore paired count₀ a₀ b₀ mapping count a b =
     (length mapping ≡ length mapping₀)
-    × Rest (pairwise (pairBlocks (storeIn store) (ignoreOf ignore)) (pairOfLists lists)) (lefts (storeIn store) lists) (rights (storeIn store) lists)
-    (pass1 (storeIn store) (ignoreOf ignore) (pairOfLists lists) (lefts (storeIn store) lists) (rights (storeIn store) lists) (stateOf mapping₀ paired))
+    × Rest (pairwise (pairBlocks (under (optionsOf ignore types) (storeIn store)) (optionsOf ignore types .ignore)) (pairOfLists lists)) (lefts (storeIn store) lists) (rights (storeIn store) lists)
+    (pass1Walk (storeIn store) (optionsOf ignore types) lists (stateOf mapping₀ paired))
     a b mapping count
 
 abbrev μ-loop : tie.MeasureT-loop
-μ-loop store mapping₀ lists ignore paired count₀ a₀ b₀ mapping count a b = 256 - a
+μ-loop store types mapping₀ lists ignore paired count₀ a₀ b₀ mapping count a b = 256 - a
 
 -- the walk and its lists
 module _ (s : tie.Start Inv-loop μ-loop) where
+  abbrev rule : Options
+  rule = optionsOf (s .args .ignore) (s .args .types .now)
+
   abbrev cols : Cols
   cols = columns (s .args .store .now)
 
@@ -46,16 +49,16 @@ module _ (s : tie.Start Inv-loop μ-loop) where
   rs = rights store (s .args .lists)
 
   abbrev step : ℕ → ℕ → State → Walk
-  step = pairBlocks store (ignoreOf (s .args .ignore))
+  step = pairBlocks (under rule store) (rule .ignore)
 
   abbrev walk : List ℕ → List ℕ → State → Walk
   walk = pairwise step (pairOfLists (s .args .lists))
 
   abbrev whole : Walk
-  whole = pass1 store (ignoreOf (s .args .ignore)) (pairOfLists (s .args .lists)) ls rs (stateOf (s .args .mapping .now) (s .args .paired))
+  whole = pass1Walk store rule (s .args .lists) (stateOf (s .args .mapping .now) (s .args .paired))
 
   zips : Zips step walk
-  zips = pairwise-zips step (grows-pair-blocks store (ignoreOf (s .args .ignore))) (pairOfLists (s .args .lists))
+  zips = pairwise-zips step (grows-pair-blocks (under rule store) (rule .ignore)) (pairOfLists (s .args .lists))
 
   lRise : Rising ls
   lRise = block-list-rises store (leftOf (s .args .lists))
@@ -66,13 +69,17 @@ module _ (s : tie.Start Inv-loop μ-loop) where
   few : blockCount cols ≤ 256
   few = laid-facts cols (s .pre .0 .sound .laid) .counts .blocks
 
+-- the start, from the loop
+abbrev from : tie.At-loop Inv-loop μ-loop → tie.Start Inv-loop μ-loop
+from c = c .before .before .before .before
+
 -- in the loop, with a pair found
 module _ (c : tie.After-known-told Inv-loop μ-loop) where
   abbrev looped : tie.At-loop Inv-loop μ-loop
   looped = c .before .before .before .before
 
   abbrev begun : tie.Start Inv-loop μ-loop
-  begun = looped .before .before .before
+  begun = from looped
 
   abbrev l : ℕ
   l = c .before .l .given .0 .0
@@ -92,12 +99,12 @@ module _ (c : tie.After-known-told Inv-loop μ-loop) where
 loop-holds : tie.Need-loop-holds Inv-loop μ-loop
 unfolding pass1
 loop-holds c =
-    let s = c .before .before in
+    let s = c .before .before .before in
     (refl, rest-begins (zips s) (ls s) (rs s) (s .args .mapping .now) (s .args .paired))
 
 next-blocks-requires : tie.Need-next-blocks-requires Inv-loop μ-loop
 next-blocks-requires c κs =
-    let p = c .before .before .before .pre in
+    let p = c .before .before .before .before .pre in
     (p .0 .sound, p .1 .0)
 
 enum-known-l : tie.Need-enum-known-l Inv-loop μ-loop
@@ -107,19 +114,19 @@ block-eq-map-requires : tie.Need-block-eq-map-requires Inv-loop μ-loop
 block-eq-map-requires c κs =
     let s = begun (c .before) in
     let m = looped (c .before) .loop in
-    (record { sound = s .pre .0 .sound; long = m .inv .0 ∙ s .pre .0 .long }, (l-here (c .before), (r-here (c .before), rest-fits (zips s) (m .inv .1) (s .pre .1 .1))))
+    (record { sound = s .pre .0 .sound; indexed = s .pre .0 .indexed; long = m .inv .0 ∙ s .pre .0 .long }, (l-here (c .before), (r-here (c .before), rest-fits (zips s) (m .inv .1) (s .pre .1 .1))))
 
 enum-known-mapped : tie.Need-enum-known-mapped Inv-loop μ-loop
 enum-known-mapped c = search needs
 
 same-length : tie.Need-same-length Inv-loop μ-loop
-same-length c = c .before .before .before .block-eq-map .kept .1 .0 ∙ looped (c .before .before .before .before .before) .loop .inv .0
+same-length c = c .before .before .before .block-eq-map .kept .1 .1 .0 ∙ looped (c .before .before .before .before .before) .loop .inv .0
 
 returns : tie.Need-returns Inv-loop μ-loop
 returns c =
     let found = c .before .before .before .before .before in
     let mapped = c .before .before .before .block-eq-map in
-    turn-ends (zips (begun found)) (here found) (mapped .result) (mapped .last .1 .0) (mapped .ensures) (c .match2 .keys2)
+    turn-ends (zips (begun found)) (here found) (mapped .result) (mapped .last .1 .1 .0) (mapped .ensures) (c .match2 .keys2)
 
 add-a : tie.Need-add-a Inv-loop μ-loop
 add-a c =
@@ -140,7 +147,7 @@ loop-again : tie.Need-loop-again Inv-loop μ-loop
 loop-again c =
     let mapped = c .before .before .before .before .before .block-eq-map in
     let found = c .before .before .before .before .before .before .before in
-    (mapped .kept .1 .0 ∙ looped found .loop .inv .0, turn-rest (zips (begun found)) (here found) (mapped .result) (mapped .last .1 .0) (mapped .ensures) (c .before .mapped .given .1))
+    (mapped .kept .1 .1 .0 ∙ looped found .loop .inv .0, turn-rest (zips (begun found)) (here found) (mapped .result) (mapped .last .1 .1 .0) (mapped .ensures) (c .before .mapped .given .1))
 
 enum-told : tie.Need-enum-told Inv-loop μ-loop
 enum-told c = search needs
@@ -150,7 +157,7 @@ same-length-2 c = c .before .before .before .loop .inv .0
 
 returns-2 : tie.Need-returns-2 Inv-loop μ-loop
 returns-2 c =
-    let s = c .before .before .before .before .before .before in
+    let s = from (c .before .before .before) in
     let m = c .before .before .before .loop in
     pairwise-ends (step s) (pairOfLists (s .args .lists)) (m .inv .1) (c .before .before .next-blocks .ensures) (c .enum-told .given .1)
 
@@ -159,7 +166,7 @@ enum-told-2 c = search needs
 
 lengths-neq-requires : tie.Need-lengths-neq-requires Inv-loop μ-loop
 lengths-neq-requires c κs =
-    let s = c .before .before .before .before .before .before in
+    let s = from (c .before .before .before) in
     bounded (cols s) (laid-facts (cols s) (s .pre .0 .sound .laid)) (s .args .lists) (s .pre .1 .0)
 
 same-length-3 : tie.Need-same-length-3 Inv-loop μ-loop
@@ -167,7 +174,7 @@ same-length-3 c = c .before .before .before .before .loop .inv .0
 
 returns-3 : tie.Need-returns-3 Inv-loop μ-loop
 returns-3 c =
-    let s = c .before .before .before .before .before .before .before in
+    let s = from (c .before .before .before .before) in
     let x = s .args .lists in
     let m = c .before .before .before .before .loop in
     pairwise-uneven-ends (step s) (pairOfLists x) (m .inv .1) (c .before .before .before .next-blocks .ensures) (lRise s) (rRise s) (c .lengths-neq .result) (ap answerOf (c .lengths-neq .ensures) ∙ named-neq x (m .count)) (c .before .enum-told2 .given .1)

@@ -12,9 +12,9 @@ use Rattle.layout.specs.Columns.{Cols, columns}
 use Rattle.layout.specs.Reading.{opCount, blockCount, storeIn}
 use Rattle.layout.proofs.Laid.{laid-facts}
 use Rattle.layout.proofs.Seeking.{ops-rise}
-use Rattle.fragments.specs.Ignoring.{ignoreOf}
+use Rattle.fragments.specs.Options.{Options, optionsOf, under}
 use Rattle.fragments.proofs.Ordered.{op-in}
-use Rattle.equivalence.specs.Walked.{stateOf, answerOf}
+use Rattle.equivalence.specs.Walked.{stateOf, answerOf, pairsWalk}
 use Rattle.equivalence.specs.declared.types.EqResult.the-variants.{FirstNEQBlocks}
 use Rattle.equivalence.proofs.Zipped.{Zips, Rest, Turn, pairwise-zips, rest-begins, rest-fits, turn, turn-ends, turn-rest, pairwise-ends, pairwise-uneven-ends}
 use borrow.Author.Needs.{needs}
@@ -22,17 +22,20 @@ use Rattle.equivalence.proofs.passes.map_ops_in.Statement.{statement}
 use Rattle.equivalence.proofs.passes.map_ops_in.Tie as tie
 
 abbrev Inv-loop : tie.InvT-loop
-Inv-loop store mapping₀ lhs rhs ignore paired count₀ a₀ b₀ mapping count a b =
+Inv-loop store types mapping₀ pair ignore paired count₀ a₀ b₀ mapping count a b =
     (length mapping ≡ length mapping₀)
-    × Rest (pairwise (pairOps (storeIn store) (ignoreOf ignore)) (pairOf block lhs rhs)) (opsOf (storeIn store) lhs) (opsOf (storeIn store) rhs)
-    (pairwise (pairOps (storeIn store) (ignoreOf ignore)) (pairOf block lhs rhs) (opsOf (storeIn store) lhs) (opsOf (storeIn store) rhs) (stateOf mapping₀ paired))
+    × Rest (pairwise (pairOps (under (optionsOf ignore types) (storeIn store)) (optionsOf ignore types .ignore)) (pairOf block (pair .lhs) (pair .rhs))) (opsOf (storeIn store) (pair .lhs)) (opsOf (storeIn store) (pair .rhs))
+    (pairsWalk (storeIn store) (optionsOf ignore types) (pair .lhs) (pair .rhs) (stateOf mapping₀ paired))
     a b mapping count
 
 abbrev μ-loop : tie.MeasureT-loop
-μ-loop store mapping₀ lhs rhs ignore paired count₀ a₀ b₀ mapping count a b = 512 - a
+μ-loop store types mapping₀ pair ignore paired count₀ a₀ b₀ mapping count a b = 512 - a
 
 -- the walk and its lists
 module _ (s : tie.Start Inv-loop μ-loop) where
+  abbrev rule : Options
+  rule = optionsOf (s .args .ignore) (s .args .types .now)
+
   abbrev cols : Cols
   cols = columns (s .args .store .now)
 
@@ -40,22 +43,22 @@ module _ (s : tie.Start Inv-loop μ-loop) where
   store = storeIn (s .args .store .now)
 
   abbrev blocks : Pair
-  blocks = pairOf block (s .args .lhs) (s .args .rhs)
+  blocks = pairOf block (s .args .pair .lhs) (s .args .pair .rhs)
 
   abbrev ls : List ℕ
-  ls = opsOf store (s .args .lhs)
+  ls = opsOf store (s .args .pair .lhs)
 
   abbrev rs : List ℕ
-  rs = opsOf store (s .args .rhs)
+  rs = opsOf store (s .args .pair .rhs)
 
   abbrev step : ℕ → ℕ → State → Walk
-  step = pairOps store (ignoreOf (s .args .ignore))
+  step = pairOps (under rule store) (rule .ignore)
 
   abbrev walk : List ℕ → List ℕ → State → Walk
   walk = pairwise step blocks
 
   zips : Zips step walk
-  zips = pairwise-zips step (grows-pair-ops store (ignoreOf (s .args .ignore))) blocks
+  zips = pairwise-zips step (grows-pair-ops (under rule store) (rule .ignore)) blocks
 
   few : opCount cols ≤ 512
   few = laid-facts cols (s .pre .0 .sound .laid) .counts .ops
@@ -63,13 +66,17 @@ module _ (s : tie.Start Inv-loop μ-loop) where
   few-blocks : blockCount cols ≤ 256
   few-blocks = laid-facts cols (s .pre .0 .sound .laid) .counts .blocks
 
+-- the start, from the loop
+abbrev from : tie.At-loop Inv-loop μ-loop → tie.Start Inv-loop μ-loop
+from c = c .before .before .before .before
+
 -- in the loop, with a pair found
 module _ (c : tie.After-known-told Inv-loop μ-loop) where
   abbrev looped : tie.At-loop Inv-loop μ-loop
   looped = c .before .before .before .before
 
   abbrev begun : tie.Start Inv-loop μ-loop
-  begun = looped .before .before .before
+  begun = from looped
 
   abbrev l : ℕ
   l = c .before .l .given .0 .0
@@ -78,22 +85,22 @@ module _ (c : tie.After-known-told Inv-loop μ-loop) where
   r = c .before .l .given .0 .1 .0
 
   here : Turn (step begun) (walk begun) (ls begun) (rs begun) (walk begun (ls begun) (rs begun) (stateOf (begun .args .mapping .now) (begun .args .paired))) (looped .loop .a) (stateOf (looped .loop .mapping) (looped .loop .count)) l r
-  here = turn (zips begun) (looped .loop .inv .1) (ops-rise (store begun) (begun .args .lhs)) (ops-rise (store begun) (begun .args .rhs)) (c .before .before .before .next-ops .ensures) (c .before .l .given .1)
+  here = turn (zips begun) (looped .loop .inv .1) (ops-rise (store begun) (begun .args .pair .lhs)) (ops-rise (store begun) (begun .args .pair .rhs)) (c .before .before .before .next-ops .ensures) (c .before .l .given .1)
 
   l-here : l < opCount (cols begun)
-  l-here = op-in (cols begun) (begun .args .lhs) l (here .lIn)
+  l-here = op-in (cols begun) (begun .args .pair .lhs) l (here .lIn)
 
   r-here : r < opCount (cols begun)
-  r-here = op-in (cols begun) (begun .args .rhs) r (here .rIn)
+  r-here = op-in (cols begun) (begun .args .pair .rhs) r (here .rIn)
 
 loop-holds : tie.Need-loop-holds Inv-loop μ-loop
 loop-holds c =
-    let s = c .before .before in
+    let s = c .before .before .before in
     (refl, rest-begins (zips s) (ls s) (rs s) (s .args .mapping .now) (s .args .paired))
 
 next-ops-requires : tie.Need-next-ops-requires Inv-loop μ-loop
 next-ops-requires c κs =
-    let p = c .before .before .before .pre in
+    let p = c .before .before .before .before .pre in
     (p .0 .sound, (p .1 .0, p .1 .1 .0))
 
 enum-known-l : tie.Need-enum-known-l Inv-loop μ-loop
@@ -103,19 +110,19 @@ op-eq-map-requires : tie.Need-op-eq-map-requires Inv-loop μ-loop
 op-eq-map-requires c κs =
     let s = begun (c .before) in
     let m = looped (c .before) .loop in
-    (record { sound = s .pre .0 .sound; long = m .inv .0 ∙ s .pre .0 .long }, (l-here (c .before), (r-here (c .before), rest-fits (zips s) (m .inv .1) (s .pre .1 .1 .1))))
+    (record { sound = s .pre .0 .sound; indexed = s .pre .0 .indexed; long = m .inv .0 ∙ s .pre .0 .long }, (l-here (c .before), (r-here (c .before), rest-fits (zips s) (m .inv .1) (s .pre .1 .1 .1))))
 
 enum-known-mapped : tie.Need-enum-known-mapped Inv-loop μ-loop
 enum-known-mapped c = search needs
 
 same-length : tie.Need-same-length Inv-loop μ-loop
-same-length c = c .before .before .before .op-eq-map .kept .1 .0 ∙ looped (c .before .before .before .before .before) .loop .inv .0
+same-length c = c .before .before .before .op-eq-map .kept .1 .1 .0 ∙ looped (c .before .before .before .before .before) .loop .inv .0
 
 returns : tie.Need-returns Inv-loop μ-loop
 returns c =
     let found = c .before .before .before .before .before in
     let mapped = c .before .before .before .op-eq-map in
-    turn-ends (zips (begun found)) (here found) (mapped .result) (mapped .last .1 .0) (mapped .ensures) (c .match2 .keys2)
+    turn-ends (zips (begun found)) (here found) (mapped .result) (mapped .last .1 .1 .0) (mapped .ensures) (c .match2 .keys2)
 
 add-a : tie.Need-add-a Inv-loop μ-loop
 add-a c =
@@ -136,7 +143,7 @@ loop-again : tie.Need-loop-again Inv-loop μ-loop
 loop-again c =
     let mapped = c .before .before .before .before .before .op-eq-map in
     let found = c .before .before .before .before .before .before .before in
-    (mapped .kept .1 .0 ∙ looped found .loop .inv .0, turn-rest (zips (begun found)) (here found) (mapped .result) (mapped .last .1 .0) (mapped .ensures) (c .before .mapped .given .1))
+    (mapped .kept .1 .1 .0 ∙ looped found .loop .inv .0, turn-rest (zips (begun found)) (here found) (mapped .result) (mapped .last .1 .1 .0) (mapped .ensures) (c .before .mapped .given .1))
 
 enum-told : tie.Need-enum-told Inv-loop μ-loop
 enum-told c = search needs
@@ -146,32 +153,33 @@ same-length-2 c = c .before .before .before .loop .inv .0
 
 returns-2 : tie.Need-returns-2 Inv-loop μ-loop
 returns-2 c =
-    let s = c .before .before .before .before .before .before in
+    let s = from (c .before .before .before) in
     let m = c .before .before .before .loop in
     pairwise-ends (step s) (blocks s) (m .inv .1) (c .before .before .next-ops .ensures) (c .enum-told .given .1)
 
 enum-told-2 : tie.Need-enum-told-2 Inv-loop μ-loop
 enum-told-2 c = search needs
 
-cast-t17 : tie.Need-cast-t17 Inv-loop μ-loop
-cast-t17 c =
-    let s = c .before .before .before .before .before .before in
-    record { fits = omega (arith, few-blocks s, s .pre .1 .0) }
-
 cast-t18 : tie.Need-cast-t18 Inv-loop μ-loop
 cast-t18 c =
-    let s = c .before .before .before .before .before .before in
+    let s = from (c .before .before .before .before) in
+    record { fits = omega (arith, few-blocks s, s .pre .1 .0) }
+
+cast-t19 : tie.Need-cast-t19 Inv-loop μ-loop
+cast-t19 c =
+    let s = from (c .before .before .before .before .before) in
     record { fits = omega (arith, few-blocks s, s .pre .1 .1 .0) }
 
 same-length-3 : tie.Need-same-length-3 Inv-loop μ-loop
-same-length-3 c = c .before .before .before .loop .inv .0
+same-length-3 c = c .before .before .before .before .before .loop .inv .0
 
 returns-3 : tie.Need-returns-3 Inv-loop μ-loop
 unfolding answerOf
 returns-3 c =
-    let s = c .before .before .before .before .before .before in
-    let m = c .before .before .before .loop in
-    pairwise-uneven-ends (step s) (blocks s) (m .inv .1) (c .before .before .next-ops .ensures) (ops-rise (store s) (s .args .lhs)) (ops-rise (store s) (s .args .rhs)) (FirstNEQBlocks (s .args .lhs) (s .args .rhs) (m .count)) refl (c .enum-told2 .given .1)
+    let told = c .before .before in
+    let m = told .before .before .before .loop in
+    let s = from (told .before .before .before) in
+    pairwise-uneven-ends (step s) (blocks s) (m .inv .1) (told .before .before .next-ops .ensures) (ops-rise (store s) (s .args .pair .lhs)) (ops-rise (store s) (s .args .pair .rhs)) (FirstNEQBlocks (s .args .pair .lhs) (s .args .pair .rhs) (m .count)) refl (told .enum-told2 .given .1)
 
 pub map-ops-in-spec : {M : Type 1} → statement M
 map-ops-in-spec =
@@ -194,7 +202,7 @@ map-ops-in-spec =
     same-length-2
     returns-2
     enum-told-2
-    cast-t17
     cast-t18
+    cast-t19
     same-length-3
     returns-3)

@@ -1,8 +1,16 @@
--- `lent_hash` meets its contract: cause 1 comes first. Assumes nothing.
+-- `lent_hash` meets its contract: cause 1 comes first, and where no list of types is lent, its words are their own index. Assumes nothing.
+use Prim.Native.Nat.{ℕ}
+use mathlib.Core.List.{List, []}
+use mathlib.Core.Path.{_≡_, sym, ap, subst, _∙_}
+use Rattle.layout.specs.Soundness.{IsSound}
 use Rattle.layout.proofs.Empty.{sound-facts}
 use Rattle.layout.proofs.Scans.{failed, held}
+use Rattle.renaming.specs.Index.{listIn, IsIndex}
+use Rattle.renaming.proofs.Indexed.{no-words, no-list}
 use Rattle.fragments.specs.Sorts.{sortOf}
 use Rattle.fragments.specs.Ignoring.{ignoreOf}
+use Rattle.numbering.proofs.Lone.{no-children}
+use Rattle.hashing.specs.Calls.{Answered}
 use Rattle.hashing.proofs.Answering.{unsound}
 use borrow.Author.Needs.{needs}
 use Rattle.hashing.proofs.calls.lent_hash.Statement.{statement}
@@ -13,14 +21,42 @@ is-sound-requires c κs = search needs
 
 returns : tie.Need-returns
 returns c =
-    let a = c .before .before .before .args in
-    unsound (a .store .now) (ignoreOf (a .ignore)) (sortOf (a .sort)) (a .n) (failed (c .before .is-sound .ensures) (c .if1 .taken))
+    let a = c .before .before .before .before .args in
+    unsound (a .store .now) (a .types .now) (ignoreOf (a .ignore)) (sortOf (a .sort)) (a .n) (failed (c .before .is-sound .ensures) (c .if1 .taken))
+
+-- with a sound store
+module _ (c : tie.Else1) where
+  abbrev begun : tie.Start
+  begun = c .before .before .before .before
+
+  sound : IsSound (begun .args .store .now)
+  sound = sound-facts (begun .args .store .now) (held (c .before .is-sound .ensures) (c .if1 .left))
 
 fragment-hash-requires : tie.Need-fragment-hash-requires
-fragment-hash-requires c κs = sound-facts (c .before .before .before .args .store .now) (held (c .before .is-sound .ensures) (c .if1 .left))
+fragment-hash-requires c κs =
+    let a = begun (c .before) .args in
+    record { sound = sound (c .before); indexed = subst IsIndex (sym (no-children (a .types .now) (c .if2 .taken))) no-words }
 
 returns-2 : tie.Need-returns-2
-returns-2 c = c .fragment-hash .ensures
+returns-2 c =
+    let tested = c .before in
+    let a = begun (tested .before) .args in
+    let none : a .types .now ≡ [] = no-children (a .types .now) (tested .if2 .taken) in
+    subst (λ (types : List ℕ). Answered (a .store .now) types (ignoreOf (a .ignore)) (sortOf (a .sort)) (a .n) (c .fragment-hash .result)) (ap listIn none ∙ no-list ∙ sym none) (c .fragment-hash .ensures)
+
+indexed-hash-requires : tie.Need-indexed-hash-requires
+indexed-hash-requires c κs = sound (c .before)
+
+returns-3 : tie.Need-returns-3
+returns-3 c = c .indexed-hash .ensures
 
 pub lent-hash-spec : {M : Type 1} → statement M
-lent-hash-spec = tie.close (tie.spec is-sound-requires returns fragment-hash-requires returns-2)
+lent-hash-spec =
+    tie.close
+    (tie.spec
+    is-sound-requires
+    returns
+    fragment-hash-requires
+    returns-2
+    indexed-hash-requires
+    returns-3)

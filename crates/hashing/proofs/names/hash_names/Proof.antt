@@ -52,7 +52,7 @@ returns c =
     let s = c .before .before .before .before .before in
     let S = storeIn (s .args .store .now) in
     let fed = c .before .before .hash-operands in
-    λ ig. fed-names S ig (s .args .n)
+    λ o. fed-names S o (s .args .n)
     (subst (λ (xs : List ℕ). FeedsOperands S (s .args .numbers .now) xs (s .args .word) (fed .result)) (c .before .before .before .operands-of .ensures) (fed .ensures))
     (subst (λ (xs : List ℕ). FeedsSuccessors (s .args .numbers .now) xs (fed .result) (c .hash-successors .result)) (c .before .successors-of .ensures) (c .hash-successors .ensures))
 

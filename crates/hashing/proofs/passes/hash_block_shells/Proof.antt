@@ -7,7 +7,7 @@ use Rattle.layout.specs.Columns.{Cols, columns}
 use Rattle.layout.specs.Reading.{blockCount, storeIn}
 use Rattle.layout.proofs.Laid.{laid-facts}
 use Rattle.layout.proofs.Seeking.{NextChild, none-next}
-use Rattle.fragments.specs.Ignoring.{ignoreOf}
+use Rattle.fragments.specs.Options.{optionsOf}
 use Rattle.fragments.specs.Order.{blockList}
 use Rattle.fragments.proofs.Ordered.{next-in-list, block-in}
 use Rattle.numbering.specs.Parts.{blockShells}
@@ -19,17 +19,17 @@ use Rattle.hashing.proofs.passes.hash_block_shells.Statement.{statement
 use Rattle.hashing.proofs.passes.hash_block_shells.Tie as tie
 
 abbrev Inv-loop : tie.InvT-loop
-Inv-loop store numbers₀ blocks ignore word fed₀ from₀ numbers fed from = Passing (hashWalk (storeIn store) (ignoreOf ignore)) (eachShell ofBlock) (blockList (storeIn store) blocks) from (numbers₀, word) (numbers, fed)
+Inv-loop store types numbers₀ blocks ignore word fed₀ from₀ numbers fed from = Passing (hashWalk (storeIn store) (optionsOf ignore types)) (eachShell ofBlock) (blockList (storeIn store) blocks) from (numbers₀, word) (numbers, fed)
 
 abbrev μ-loop : tie.MeasureT-loop
-μ-loop store numbers₀ blocks ignore word fed₀ from₀ numbers fed from = 256 - from
+μ-loop store types numbers₀ blocks ignore word fed₀ from₀ numbers fed from = 256 - from
 
 module _ (s : tie.Start Inv-loop μ-loop) where
   abbrev store : Store
   store = storeIn (s .args .store .now)
 
   abbrev walk : StepRelation (List ℕ × ℕ)
-  walk = hashWalk store (ignoreOf (s .args .ignore))
+  walk = hashWalk store (optionsOf (s .args .ignore) (s .args .types .now))
 
   -- the list that is gone through
   abbrev list : List ℕ
@@ -38,7 +38,7 @@ module _ (s : tie.Start Inv-loop μ-loop) where
 -- in the loop, with the next one found
 module _ (c : tie.After-known-told Inv-loop μ-loop) where
   abbrev begun : tie.Start Inv-loop μ-loop
-  begun = c .before .before .before .before .before .before
+  begun = c .before .before .before .before .before .before .before
 
   abbrev cols : Cols
   cols = columns (begun .args .store .now)
@@ -53,17 +53,17 @@ module _ (c : tie.After-known-told Inv-loop μ-loop) where
   here = block-in cols (begun .args .blocks) n (begun .pre .1 .0) (found .child)
 
   few : n < 256
-  few = omega (arith, here, laid-facts cols (begun .pre .0 .laid) .counts .blocks)
+  few = omega (arith, here, laid-facts cols (begun .pre .0 .sound .laid) .counts .blocks)
 
 loop-holds : tie.Need-loop-holds Inv-loop μ-loop
 loop-holds c =
-    let s = c .before in
+    let s = c .before .before in
     pass-begun (walk s) (each-shell ofBlock) (list s)
 
 next-in-requires : tie.Need-next-in-requires Inv-loop μ-loop
 next-in-requires c κs =
-    let p = c .before .before .pre in
-    (p .0, p .1 .0)
+    let p = c .before .before .before .pre in
+    (p .0 .sound, p .1 .0)
 
 enum-known-b : tie.Need-enum-known-b Inv-loop μ-loop
 enum-known-b c = search needs
@@ -74,7 +74,7 @@ enum-told c = search needs
 returns : tie.Need-returns Inv-loop μ-loop
 unfolding blockShells
 returns c =
-    let s = c .before .before .before .before .before in
+    let s = c .before .before .before .before .before .before in
     let m = c .before .before .before .loop in
     shells-fed ofBlock (list s)
     (pass-over (walk s) (each-shell ofBlock) (list s) (m .from) (m .inv) (none-next (m .from) (list s) _ (c .before .before .next-in .ensures) (c .enum-told .given .1)))

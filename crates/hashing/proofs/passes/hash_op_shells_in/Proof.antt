@@ -7,7 +7,7 @@ use Rattle.layout.specs.Columns.{Cols, columns}
 use Rattle.layout.specs.Reading.{opCount, storeIn}
 use Rattle.layout.proofs.Laid.{laid-facts}
 use Rattle.layout.proofs.Seeking.{NextChild, none-next, next-op}
-use Rattle.fragments.specs.Ignoring.{ignoreOf}
+use Rattle.fragments.specs.Options.{optionsOf}
 use Rattle.fragments.proofs.Ordered.{op-in}
 use Rattle.numbering.specs.Parts.{opShells}
 use Rattle.numbering.proofs.Passing.{StepRelation, Passing, pass-begun, pass-over, pass-room, pass-again}
@@ -18,17 +18,17 @@ use Rattle.hashing.proofs.passes.hash_op_shells_in.Statement.{statement
 use Rattle.hashing.proofs.passes.hash_op_shells_in.Tie as tie
 
 abbrev Inv-loop : tie.InvT-loop
-Inv-loop store numbers₀ b ignore word fed₀ from₀ numbers fed from = Passing (hashWalk (storeIn store) (ignoreOf ignore)) (eachShell ofOp) (opsOf (storeIn store) b) from (numbers₀, word) (numbers, fed)
+Inv-loop store types numbers₀ b ignore word fed₀ from₀ numbers fed from = Passing (hashWalk (storeIn store) (optionsOf ignore types)) (eachShell ofOp) (opsOf (storeIn store) b) from (numbers₀, word) (numbers, fed)
 
 abbrev μ-loop : tie.MeasureT-loop
-μ-loop store numbers₀ b ignore word fed₀ from₀ numbers fed from = 512 - from
+μ-loop store types numbers₀ b ignore word fed₀ from₀ numbers fed from = 512 - from
 
 module _ (s : tie.Start Inv-loop μ-loop) where
   abbrev store : Store
   store = storeIn (s .args .store .now)
 
   abbrev walk : StepRelation (List ℕ × ℕ)
-  walk = hashWalk store (ignoreOf (s .args .ignore))
+  walk = hashWalk store (optionsOf (s .args .ignore) (s .args .types .now))
 
   -- the list that is gone through
   abbrev list : List ℕ
@@ -37,7 +37,7 @@ module _ (s : tie.Start Inv-loop μ-loop) where
 -- in the loop, with the next one found
 module _ (c : tie.After-known-told Inv-loop μ-loop) where
   abbrev begun : tie.Start Inv-loop μ-loop
-  begun = c .before .before .before .before .before .before
+  begun = c .before .before .before .before .before .before .before
 
   abbrev cols : Cols
   cols = columns (begun .args .store .now)
@@ -52,18 +52,18 @@ module _ (c : tie.After-known-told Inv-loop μ-loop) where
   here = op-in cols (begun .args .b) n (found .child)
 
   few : n < 512
-  few = omega (arith, here, laid-facts cols (begun .pre .0 .laid) .counts .ops)
+  few = omega (arith, here, laid-facts cols (begun .pre .0 .sound .laid) .counts .ops)
 
 loop-holds : tie.Need-loop-holds Inv-loop μ-loop
 unfolding opShells
 loop-holds c =
-    let s = c .before in
+    let s = c .before .before in
     pass-begun (walk s) (each-shell ofOp) (list s)
 
 next-op-requires : tie.Need-next-op-requires Inv-loop μ-loop
 next-op-requires c κs =
-    let p = c .before .before .pre in
-    (record { sized = p .0 .sized; laid = p .0 .laid }, p .1 .0)
+    let p = c .before .before .before .pre in
+    (record { sized = p .0 .sound .sized; laid = p .0 .sound .laid }, p .1 .0)
 
 enum-known-n : tie.Need-enum-known-n Inv-loop μ-loop
 enum-known-n c = search needs
@@ -74,7 +74,7 @@ enum-told c = search needs
 returns : tie.Need-returns Inv-loop μ-loop
 unfolding opShells
 returns c =
-    let s = c .before .before .before .before .before in
+    let s = c .before .before .before .before .before .before in
     let m = c .before .before .before .loop in
     shells-fed ofOp (list s)
     (pass-over (walk s) (each-shell ofOp) (list s) (m .from) (m .inv) (none-next (m .from) (list s) _ (c .before .before .next-op .ensures) (c .enum-told .given .1)))

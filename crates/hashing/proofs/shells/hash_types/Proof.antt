@@ -1,28 +1,39 @@
 -- `hash_types` meets its contract: what is left to feed into the word as it is, is the whole fed into the word as it was. Assumes nothing.
-use Prim.Native.Nat.{_-_, _≤_}
+use Prim.Native.Nat.{ℕ, _-_, _≤_}
 use native.Mathlib.Omega.{arith}
-use mathlib.Core.Path.{refl}
+use mathlib.Core.List.{List}
+use mathlib.Core.Path.{refl, sym, ap, _∙_}
 use lib.ListN.{length}
-use Rattle.rules.specs.Hash.{leaf}
+use Rattle.rules.specs.Types.{present}
+use Rattle.rules.specs.Hash.{fnvFrom, leaf}
+use Rattle.rules.proofs.Form.Hashes.{concatMap-map}
+use Rattle.renaming.specs.Index.{listIn}
 use Rattle.hashing.proofs.Bytes.{LeftOf, entry-fed, entries-fed}
 use borrow.Author.Needs.{needs}
 use Rattle.hashing.proofs.shells.hash_types.Statement.{statement}
 use Rattle.hashing.proofs.shells.hash_types.Tie as tie
 
+-- what a type feeds: its present type
+abbrev typeBytes : List ℕ → ℕ → List ℕ
+typeBytes index t = leaf (present (listIn index) t)
+
 abbrev Inv-loop : tie.InvT-loop
-Inv-loop types word fed₀ i₀ fed i = (i ≤ length types) × LeftOf leaf types word i fed
+Inv-loop index types word fed₀ i₀ fed i = (i ≤ length types) × LeftOf (typeBytes index) types word i fed
 
 abbrev μ-loop : tie.MeasureT-loop
-μ-loop types word fed₀ i₀ fed i = length types - i
+μ-loop index types word fed₀ i₀ fed i = length types - i
 
 loop-holds : tie.Need-loop-holds Inv-loop μ-loop
 loop-holds c = (omega arith, refl)
 
-mul-with-leaf : tie.Need-mul-with-leaf Inv-loop μ-loop
-mul-with-leaf c = search needs
+mul-old : tie.Need-mul-old Inv-loop μ-loop
+mul-old c = search needs
 
-shared-slice-read-with-leaf : tie.Need-shared-slice-read-with-leaf Inv-loop μ-loop
-shared-slice-read-with-leaf c = search needs
+shared-slice-read-old : tie.Need-shared-slice-read-old Inv-loop μ-loop
+shared-slice-read-old c = search needs
+
+present-requires : tie.Need-present-requires Inv-loop μ-loop
+present-requires c κs = search needs
 
 with-leaf-requires : tie.Need-with-leaf-requires Inv-loop μ-loop
 with-leaf-requires c κs = search needs
@@ -35,14 +46,19 @@ loop-less c = omega arith
 
 loop-again : tie.Need-loop-again Inv-loop μ-loop
 loop-again c =
-    let a = c .before .before .before .before .before .args in
-    let h = c .before .before .loop-test .taken in
-    (omega arith, entry-fed leaf (a .types .now) (a .word) (c .before .before .before .loop .i) (c .before .before .before .loop .fed) h (c .before .before .before .loop .inv .1) (c .with-leaf .ensures))
+    let looked = c .before in
+    let test = looked .before .before in
+    let m = test .before .loop in
+    let a = test .before .before .before .before .args in
+    let one = c .with-leaf .ensures ∙ ap (λ (t : ℕ). fnvFrom (m .fed) (leaf t)) (looked .present .ensures) in
+    (omega (arith, test .loop-test .taken), entry-fed (typeBytes (a .index .now)) (a .types .now) (a .word) (m .i) (m .fed) (test .loop-test .taken) (m .inv .1) one)
 
 returns : tie.Need-returns Inv-loop μ-loop
 returns c =
-    let a = c .before .before .before .args in
-    entries-fed leaf (a .types .now) (a .word) (c .before .loop .i) (c .before .loop .fed) (c .loop-test .left) (c .before .loop .inv .1)
+    let m = c .before .loop in
+    let a = c .before .before .before .before .args in
+    entries-fed (typeBytes (a .index .now)) (a .types .now) (a .word) (m .i) (m .fed) (c .loop-test .left) (m .inv .1)
+    ∙ ap (fnvFrom (a .word)) (sym (concatMap-map leaf (present (listIn (a .index .now))) (a .types .now)))
 
 pub hash-types-spec : {M : Type 1} → statement M
 hash-types-spec =
@@ -51,8 +67,9 @@ hash-types-spec =
     Inv-loop
     μ-loop
     loop-holds
-    mul-with-leaf
-    shared-slice-read-with-leaf
+    mul-old
+    shared-slice-read-old
+    present-requires
     with-leaf-requires
     add-i
     loop-less

@@ -7,7 +7,6 @@ use mathlib.Core.Path.{_≡_, refl, sym, ap₂, subst, _∙_}
 use Rattle.rules.specs.Lists.{concatMap}
 use Rattle.rules.specs.Store.{Store, opsOf, regionsOf}
 use Rattle.rules.specs.Fragments.{Step}
-use Rattle.rules.specs.Shells as rules
 use Rattle.layout.specs.Columns.{Cols, columns}
 use Rattle.layout.specs.Reading.{opCount, blockCount, regionCount, storeIn}
 use Rattle.layout.proofs.Laid.{Laid, laid-facts}
@@ -15,7 +14,7 @@ use Rattle.layout.proofs.Ranges.{range, regions-range, in-range}
 use Rattle.layout.proofs.Seeking.{NextChild, none-next, next-op}
 use Rattle.layout.proofs.children.next_op.Reads as next-op-reads
 use Rattle.layout.proofs.columns.number.Reads as number-reads
-use Rattle.fragments.specs.Ignoring.{ignoreOf}
+use Rattle.fragments.specs.Options.{Options, optionsOf}
 use Rattle.fragments.specs.Order.{blockList, BlocksExist}
 use Rattle.fragments.specs.declared.types.Blocks.the-variants.{InRegion, Alone}
 use Rattle.fragments.proofs.Ordered.{next-in-list, block-in, op-in}
@@ -47,32 +46,32 @@ use Rattle.hashing.proofs.walk.+hash_blocks_full+hash_op_full+hash_ops_
 
 -- ---- what falls, and what the three ask of one another where it has fallen to t
 
-abbrev μ-blocks : Measures 2 blocks-kinds.ps ℕ
-μ-blocks κs a = 3 * below (storeIn (a .0 .now)) (aroundList (storeIn (a .0 .now)) (a .1 .1 .0)) + 1
+abbrev μ-blocks : Measures 3 blocks-kinds.ps ℕ
+μ-blocks κs a = 3 * below (storeIn (a .0 .now)) (aroundList (storeIn (a .0 .now)) (a .1 .1 .1 .0)) + 1
 
-abbrev μ-ops : Measures 2 ops-kinds.ps ℕ
-μ-ops κs a = 3 * below (storeIn (a .0 .now)) (aroundList (storeIn (a .0 .now)) (Alone (a .1 .1 .0)))
+abbrev μ-ops : Measures 3 ops-kinds.ps ℕ
+μ-ops κs a = 3 * below (storeIn (a .0 .now)) (aroundList (storeIn (a .0 .now)) (Alone (a .1 .1 .1 .0)))
 
-abbrev μ-op : Measures 2 op-kinds.ps ℕ
-μ-op κs a = 3 * below (storeIn (a .0 .now)) (a .1 .1 .0) + 2
+abbrev μ-op : Measures 3 op-kinds.ps ℕ
+μ-op κs a = 3 * below (storeIn (a .0 .now)) (a .1 .1 .1 .0) + 2
 
-abbrev blocks-at : ℕ → In 2 blocks-kinds.ps
-blocks-at t = and 2 blocks-kinds.ps (is 2 blocks-kinds.ps μ-blocks t) blocks.Pre
+abbrev blocks-at : ℕ → In 3 blocks-kinds.ps
+blocks-at t = and 3 blocks-kinds.ps (is 3 blocks-kinds.ps μ-blocks t) blocks.Pre
 
-abbrev blocks-below : ℕ → In 2 blocks-kinds.ps
-blocks-below t = and 2 blocks-kinds.ps (falls 2 blocks-kinds.ps _<_ μ-blocks t) blocks.Pre
+abbrev blocks-below : ℕ → In 3 blocks-kinds.ps
+blocks-below t = and 3 blocks-kinds.ps (falls 3 blocks-kinds.ps _<_ μ-blocks t) blocks.Pre
 
-abbrev ops-at : ℕ → In 2 ops-kinds.ps
-ops-at t = and 2 ops-kinds.ps (is 2 ops-kinds.ps μ-ops t) ops.Pre
+abbrev ops-at : ℕ → In 3 ops-kinds.ps
+ops-at t = and 3 ops-kinds.ps (is 3 ops-kinds.ps μ-ops t) ops.Pre
 
-abbrev ops-below : ℕ → In 2 ops-kinds.ps
-ops-below t = and 2 ops-kinds.ps (falls 2 ops-kinds.ps _<_ μ-ops t) ops.Pre
+abbrev ops-below : ℕ → In 3 ops-kinds.ps
+ops-below t = and 3 ops-kinds.ps (falls 3 ops-kinds.ps _<_ μ-ops t) ops.Pre
 
-abbrev op-at : ℕ → In 2 op-kinds.ps
-op-at t = and 2 op-kinds.ps (is 2 op-kinds.ps μ-op t) op.Pre
+abbrev op-at : ℕ → In 3 op-kinds.ps
+op-at t = and 3 op-kinds.ps (is 3 op-kinds.ps μ-op t) op.Pre
 
-abbrev op-below : ℕ → In 2 op-kinds.ps
-op-below t = and 2 op-kinds.ps (falls 2 op-kinds.ps _<_ μ-op t) op.Pre
+abbrev op-below : ℕ → In 3 op-kinds.ps
+op-below t = and 3 op-kinds.ps (falls 3 op-kinds.ps _<_ μ-op t) op.Pre
 
 abbrev blocks-calls : ℕ → blocks-lts.Claims
 blocks-calls t = (
@@ -103,26 +102,26 @@ op-calls t = (
 
 -- pass 3: the blocks that are left, and in a block the operations
 abbrev Inv-blocks : blocks-lts.InvT-loop
-Inv-blocks store numbers₀ blocks ignore word shells fed₀ from₀ numbers fed from =
-    Passing (hashWalk (storeIn store) (ignoreOf ignore)) (concatMap (opsInFull (storeIn store))) (blockList (storeIn store) blocks) from (numbers₀, fed₀) (numbers, fed)
+Inv-blocks store types numbers₀ blocks ignore word shells fed₀ from₀ numbers fed from =
+    Passing (hashWalk (storeIn store) (optionsOf ignore types)) (concatMap (opsInFull (storeIn store))) (blockList (storeIn store) blocks) from (numbers₀, fed₀) (numbers, fed)
 
 abbrev left-blocks : blocks-lts.MeasureT-loop
-left-blocks store numbers₀ blocks ignore word shells fed₀ from₀ numbers fed from = 256 - from
+left-blocks store types numbers₀ blocks ignore word shells fed₀ from₀ numbers fed from = 256 - from
 
 abbrev Inv-ops : ops-lts.InvT-loop
-Inv-ops store numbers₀ b ignore word fed₀ from₀ numbers fed from = Passing (hashWalk (storeIn store) (ignoreOf ignore)) (concatMap (fullSteps (storeIn store))) (opsOf (storeIn store) b) from (numbers₀, word) (numbers, fed)
+Inv-ops store types numbers₀ b ignore word fed₀ from₀ numbers fed from = Passing (hashWalk (storeIn store) (optionsOf ignore types)) (concatMap (fullSteps (storeIn store))) (opsOf (storeIn store) b) from (numbers₀, word) (numbers, fed)
 
 abbrev left-ops : ops-lts.MeasureT-loop
-left-ops store numbers₀ b ignore word fed₀ from₀ numbers fed from = 512 - from
+left-ops store types numbers₀ b ignore word fed₀ from₀ numbers fed from = 512 - from
 
 -- an operation's regions: those that are left
 abbrev Inv-op : op-lts.InvT-loop
-Inv-op store numbers₀ n ignore word fed₀ end r₀ numbers fed r =
+Inv-op store types numbers₀ n ignore word fed₀ end r₀ numbers fed r =
     (r₀ ≤ r)
-    × Partly (hashWalk (storeIn store) (ignoreOf ignore)) (concatMap (inRegion (storeIn store)) (range r₀ end)) (concatMap (inRegion (storeIn store)) (range r end)) (numbers₀, fed₀) (numbers, fed)
+    × Partly (hashWalk (storeIn store) (optionsOf ignore types)) (concatMap (inRegion (storeIn store)) (range r₀ end)) (concatMap (inRegion (storeIn store)) (range r end)) (numbers₀, fed₀) (numbers, fed)
 
 abbrev left-op : op-lts.MeasureT-loop
-left-op store numbers₀ n ignore word fed₀ end r₀ numbers fed r = end - r
+left-op store types numbers₀ n ignore word fed₀ end r₀ numbers fed r = end - r
 
 module _ (t : ℕ) where
   -- ---- a list of blocks
@@ -132,7 +131,7 @@ module _ (t : ℕ) where
     store = storeIn (s .args .store .now)
 
     abbrev walk : StepRelation (List ℕ × ℕ)
-    walk = hashWalk store (ignoreOf (s .args .ignore))
+    walk = hashWalk store (optionsOf (s .args .ignore) (s .args .types .now))
 
     abbrev list : List ℕ
     list = blockList store (s .args .blocks)
@@ -143,7 +142,7 @@ module _ (t : ℕ) where
     shells-fed = c .before .before .before .before .before
 
     abbrev blocks-begun : blocks-lts.Start (blocks-calls t) (blocks-at t) blocks.Post Inv-blocks left-blocks
-    blocks-begun = shells-fed .before .before .before .before .before
+    blocks-begun = shells-fed .before .before .before .before .before .before
 
     abbrev b : ℕ
     b = c .before .b .given .0 .0
@@ -155,29 +154,29 @@ module _ (t : ℕ) where
     block-here = block-in (columns (blocks-begun .args .store .now)) (blocks-begun .args .blocks) b (blocks-begun .pre .1 .1 .0) (block-found .child)
 
     block-few : b < 256
-    block-few = omega (arith, block-here, laid-facts (columns (blocks-begun .args .store .now)) (blocks-begun .pre .1 .0 .laid) .counts .blocks)
+    block-few = omega (arith, block-here, laid-facts (columns (blocks-begun .args .store .now)) (blocks-begun .pre .1 .0 .sound .laid) .counts .blocks)
 
   blocks-hash-block-shells-requires : blocks-lts.Need-hash-block-shells-requires (blocks-calls t) (blocks-at t) blocks.Post Inv-blocks left-blocks
   blocks-hash-block-shells-requires c κs =
-      let s = c .before .before in
+      let s = c .before .before .before in
       let p = s .pre .1 in
       (p .0, (p .1 .0, first-room (walk s) (store s) (list s) {a = (s .args .numbers .now, s .args .word)} (p .1 .1)))
 
   blocks-hash-op-shells-requires : blocks-lts.Need-hash-op-shells-requires (blocks-calls t) (blocks-at t) blocks.Post Inv-blocks left-blocks
   blocks-hash-op-shells-requires c κs =
-      let s = c .before .before .before .before in
+      let s = c .before .before .before .before .before in
       let p = s .pre .1 in
       (p .0, (p .1 .0, second-room (walk s) (store s) (list s) (c .before .hash-block-shells .ensures) (p .1 .1)))
 
   blocks-loop-holds : blocks-lts.Need-loop-holds (blocks-calls t) (blocks-at t) blocks.Post Inv-blocks left-blocks
   blocks-loop-holds c =
-      let s = c .before .before .before .before .before in
+      let s = c .before .before .before .before .before .before in
       pass-begun (walk s) (each (opsInFull (store s))) (list s)
 
   blocks-next-in-requires : blocks-lts.Need-next-in-requires (blocks-calls t) (blocks-at t) blocks.Post Inv-blocks left-blocks
   blocks-next-in-requires c κs =
-      let p = c .before .before .before .before .before .before .pre .1 in
-      (p .0, p .1 .0)
+      let p = c .before .before .before .before .before .before .before .pre .1 in
+      (p .0 .sound, p .1 .0)
 
   blocks-enum-known-b : blocks-lts.Need-enum-known-b (blocks-calls t) (blocks-at t) blocks.Post Inv-blocks left-blocks
   blocks-enum-known-b c = search needs
@@ -188,7 +187,7 @@ module _ (t : ℕ) where
   blocks-returns : blocks-lts.Need-returns (blocks-calls t) (blocks-at t) blocks.Post Inv-blocks left-blocks
   blocks-returns c =
       let shells = c .before .before .before .before in
-      let s = shells .before .before .before .before .before in
+      let s = shells .before .before .before .before .before .before in
       let m = c .before .before .before .loop in
       passes-done (walk s) (store s) (list s) (shells .before .before .hash-block-shells .ensures) (shells .hash-op-shells .ensures)
       (pass-over (walk s) (each (opsInFull (store s))) (list s) (m .from) (m .inv) (none-next (m .from) (list s) _ (c .before .before .next-in .ensures) (c .enum-told .given .1)))
@@ -229,7 +228,7 @@ module _ (t : ℕ) where
     ops-store = storeIn (s .args .store .now)
 
     abbrev ops-walk : StepRelation (List ℕ × ℕ)
-    ops-walk = hashWalk ops-store (ignoreOf (s .args .ignore))
+    ops-walk = hashWalk ops-store (optionsOf (s .args .ignore) (s .args .types .now))
 
     abbrev ops-list : List ℕ
     ops-list = opsOf ops-store (s .args .b)
@@ -237,7 +236,7 @@ module _ (t : ℕ) where
   -- in the loop, with an operation found
   module _ (c : ops-lts.After-known-told (ops-calls t) (ops-at t) ops.Post Inv-ops left-ops) where
     abbrev ops-begun : ops-lts.Start (ops-calls t) (ops-at t) ops.Post Inv-ops left-ops
-    ops-begun = c .before .before .before .before .before .before
+    ops-begun = c .before .before .before .before .before .before .before
 
     abbrev n : ℕ
     n = c .before .n .given .0 .0
@@ -249,17 +248,17 @@ module _ (t : ℕ) where
     op-here = op-in (columns (ops-begun .args .store .now)) (ops-begun .args .b) n (op-found .child)
 
     op-few : n < 512
-    op-few = omega (arith, op-here, laid-facts (columns (ops-begun .args .store .now)) (ops-begun .pre .1 .0 .laid) .counts .ops)
+    op-few = omega (arith, op-here, laid-facts (columns (ops-begun .args .store .now)) (ops-begun .pre .1 .0 .sound .laid) .counts .ops)
 
   ops-loop-holds : ops-lts.Need-loop-holds (ops-calls t) (ops-at t) ops.Post Inv-ops left-ops
   ops-loop-holds c =
-      let s = c .before in
+      let s = c .before .before in
       pass-begun (ops-walk s) (each (fullSteps (ops-store s))) (ops-list s)
 
   ops-next-op-requires : ops-lts.Need-next-op-requires (ops-calls t) (ops-at t) ops.Post Inv-ops left-ops
   ops-next-op-requires c κs =
-      let p = c .before .before .pre .1 in
-      (record { sized = p .0 .sized; laid = p .0 .laid }, p .1 .0)
+      let p = c .before .before .before .pre .1 in
+      (record { sized = p .0 .sound .sized; laid = p .0 .sound .laid }, p .1 .0)
 
   ops-enum-known-n : ops-lts.Need-enum-known-n (ops-calls t) (ops-at t) ops.Post Inv-ops left-ops
   ops-enum-known-n c = search needs
@@ -270,7 +269,7 @@ module _ (t : ℕ) where
   ops-returns : ops-lts.Need-returns (ops-calls t) (ops-at t) ops.Post Inv-ops left-ops
   unfolding opsInFull
   ops-returns c =
-      let s = c .before .before .before .before .before in
+      let s = c .before .before .before .before .before .before in
       let m = c .before .before .before .loop in
       pass-over (ops-walk s) (each (fullSteps (ops-store s))) (ops-list s) (m .from) (m .inv) (none-next (m .from) (ops-list s) _ (c .before .before .next-op .ensures) (c .enum-told .given .1))
 
@@ -282,7 +281,7 @@ module _ (t : ℕ) where
       let S = ops-store s in
       let p = s .pre .1 in
       let m = f .before .before .before .before .loop in
-      let fewer : below S (n f) < below S (aroundList S (Alone (s .args .b))) = op-falls S (p .0 .ruled) (Alone (s .args .b)) (s .args .b) (n f) (List·Memᴰ·head refl) (op-found f .child) in
+      let fewer : below S (n f) < below S (aroundList S (Alone (s .args .b))) = op-falls S (p .0 .sound .ruled) (Alone (s .args .b)) (s .args .b) (n f) (List·Memᴰ·head refl) (op-found f .child) in
       let falls : 3 * below S (n f) + 2 < 3 * below S (aroundList S (Alone (s .args .b))) = omega arith in (
         subst (λ (j : ℕ). 3 * below S (n f) + 2 < j) (s .pre .0) falls,
         (p .0, (op-here f, pass-room (ops-walk s) (each (fullSteps S)) (ops-list s) (m .from) (m .inv) (op-found f) (p .1 .1))),
@@ -309,27 +308,30 @@ module _ (t : ℕ) where
     abbrev cols : Cols
     cols = columns (s .args .store .now)
 
-    abbrev rule : rules.Ignore
-    rule = ignoreOf (s .args .ignore)
+    abbrev options : Options
+    options = optionsOf (s .args .ignore) (s .args .types .now)
 
     abbrev op-walk : StepRelation (List ℕ × ℕ)
-    op-walk = hashWalk (storeIn (s .args .store .now)) rule
+    op-walk = hashWalk (storeIn (s .args .store .now)) options
 
     laid : Laid cols
-    laid = laid-facts cols (s .pre .1 .0 .laid)
+    laid = laid-facts cols (s .pre .1 .0 .sound .laid)
 
     small : s .args .n < 512
     small = omega (arith, laid .counts .ops, s .pre .1 .1 .0)
 
-  -- with its regions known: the range that the loop goes through
-  regions : (c : op-lts.After-number2 (op-calls t) (op-at t) op.Post Inv-op left-op) → let s = c .before .before .before .before .before in regionsOf (storeIn (s .args .store .now)) (s .args .n) ≡ range (c .number2 .result) (c .before .number .result)
+  -- with its regions known: how it began, and the range that the loop goes through
+  abbrev op-start : op-lts.After-number2 (op-calls t) (op-at t) op.Post Inv-op left-op → op-lts.Start (op-calls t) (op-at t) op.Post Inv-op left-op
+  op-start c = c .before .before .before .before .before .before
+
+  regions : (c : op-lts.After-number2 (op-calls t) (op-at t) op.Post Inv-op left-op) → let s = op-start c in regionsOf (storeIn (s .args .store .now)) (s .args .n) ≡ range (c .number2 .result) (c .before .number .result)
   regions c =
-      let s = c .before .before .before .before .before in
+      let s = op-start c in
       regions-range (cols s) (laid s) (s .args .n) (s .pre .1 .1 .0) ∙ ap₂ range (sym (c .number2 .ensures)) (sym (c .before .number .ensures))
 
   -- in the loop, with a region left
   abbrev op-begun : op-lts.In-loop (op-calls t) (op-at t) op.Post Inv-op left-op → op-lts.Start (op-calls t) (op-at t) op.Post Inv-op left-op
-  op-begun c = c .before .before .before .before .before .before .before
+  op-begun c = op-start (c .before .before)
 
   region-here : (c : op-lts.In-loop (op-calls t) (op-at t) op.Post Inv-op left-op) → c .before .loop .r < regionCount (cols (op-begun c))
   region-here c =
@@ -338,21 +340,21 @@ module _ (t : ℕ) where
 
   op-hash-names-requires : op-lts.Need-hash-names-requires (op-calls t) (op-at t) op.Post Inv-op left-op
   op-hash-names-requires c κs =
-      let p = c .before .before .pre .1 in
-      (p .0, p .1 .0)
+      let p = c .before .before .before .pre .1 in
+      (p .0 .sound, p .1 .0)
 
   op-number-requires : op-lts.Need-number-requires (op-calls t) (op-at t) op.Post Inv-op left-op
   op-number-requires c κs =
-      let s = c .before .before .before in
-      (s .pre .1 .0 .sized, (omega arith, small s))
+      let s = c .before .before .before .before in
+      (s .pre .1 .0 .sound .sized, (omega arith, small s))
 
   op-number-requires-2 : op-lts.Need-number-requires-2 (op-calls t) (op-at t) op.Post Inv-op left-op
   op-number-requires-2 c κs =
-      let s = c .before .before .before .before in
-      (s .pre .1 .0 .sized, (omega arith, small s))
+      let s = c .before .before .before .before .before in
+      (s .pre .1 .0 .sound .sized, (omega arith, small s))
 
   op-loop-holds : op-lts.Need-loop-holds (op-calls t) (op-at t) op.Post Inv-op left-op
-  op-loop-holds c = (omega arith, none-done (op-walk (c .before .before .before .before .before)) _ _)
+  op-loop-holds c = (omega arith, none-done (op-walk (op-start c)) _ _)
 
   op-hash-blocks-full-requires : op-lts.Need-hash-blocks-full-requires (op-calls t) (op-at t) op.Post Inv-op left-op
   unfolding BlocksExist
@@ -368,10 +370,10 @@ module _ (t : ℕ) where
       let inside = subst (List·Memᴰ (m .r)) (sym known) (in-range first end (m .r) (m .inv .0) (c .before .loop-test .taken)) in
       let around : aroundList S (InRegion (m .r)) ≡ n = around-region S n (m .r) inside in
       let falls : 3 * below S (aroundList S (InRegion (m .r))) + 1 < 3 * below S n + 2 = omega arith in
-      let all = regions-room (op-walk s) S n (c .before .before .before .before .before .hash-names .ensures (rule s)) (range first end) known (p .1 .1) in
+      let all = regions-room (op-walk s) S n (c .before .before .before .before .before .hash-names .ensures (options s)) (range first end) known (p .1 .1) in
       let room = part-room (op-walk s) (m .inv .1) (inRegion S (m .r)) (concatMap (inRegion S) (range (m .r + 1) end)) (range-left (inRegion S) (m .r) end (c .before .loop-test .taken)) all in (
         subst (λ (j : ℕ). 3 * below S (aroundList S (InRegion (m .r))) + 1 < j) (s .pre .0) falls,
-        (p .0, (region-here (c .before), subst (λ (xs : List Step). DefinitionsFit S xs (m .numbers)) (region-list S (p .0 .ruled) (m .r)) room)),
+        (p .0, (region-here (c .before), subst (λ (xs : List Step). DefinitionsFit S xs (m .numbers)) (region-list S (p .0 .sound .ruled) (m .r)) room)),
       )
 
   op-add-r : op-lts.Need-add-r (op-calls t) (op-at t) op.Post Inv-op left-op
@@ -389,16 +391,16 @@ module _ (t : ℕ) where
       let m = c .before .before .before .loop in
       let end = c .before .before .before .before .before .number .result in
       let blocks = c .hash-blocks-full in
-      let one = subst (λ (xs : List Step). Fed S (rule s) xs (m .numbers) (blocks .last .1 .0) (m .fed) (blocks .result)) (sym (region-list S (s .pre .1 .0 .ruled) (m .r))) (blocks .ensures) in
+      let one = subst (λ (xs : List Step). Fed S (options s) xs (m .numbers) (blocks .last .1 .1 .0) (m .fed) (blocks .result)) (sym (region-list S (s .pre .1 .0 .sound .ruled) (m .r))) (blocks .ensures) in
       (omega (arith, m .inv .0), part-done (op-walk s) (m .inv .1) (inRegion S (m .r)) (concatMap (inRegion S) (range (m .r + 1) end)) (range-left (inRegion S) (m .r) end (c .before .before .loop-test .taken)) one)
 
   op-returns : op-lts.Need-returns (op-calls t) (op-at t) op.Post Inv-op left-op
   op-returns c =
-      let s = c .before .before .before .before .before .before .before in
+      let s = op-start (c .before .before) in
       let S = storeIn (s .args .store .now) in
       let end = c .before .before .before .number .result in
       let m = c .before .loop in
-      full-done (op-walk s) S (s .args .n) (c .before .before .before .before .hash-names .ensures (rule s)) (range (c .before .before .number2 .result) end) (regions (c .before .before))
+      full-done (op-walk s) S (s .args .n) (c .before .before .before .before .hash-names .ensures (options s)) (range (c .before .before .number2 .result) end) (regions (c .before .before))
       (all-done (op-walk s) (m .inv .1) (range-over (inRegion S) (m .r) end (c .loop-test .left)))
 
 pub +hash-blocks-full+hash-op-full+hash-ops-full-spec : {M : Type 1} → statement M

@@ -4,8 +4,8 @@ use native.Mathlib.Omega.{arith}
 use mathlib.Core.List.{[]}
 use mathlib.Core.Path.{_≡_, sym, ap, subst, _∙_}
 use lib.ListN.{length}
-use Rattle.rules.specs.Store.{ofOp, opAt, valuesOf}
-use Rattle.rules.proofs.Soundness.Sound.{facts}
+use Rattle.rules.specs.Store.{Store, ofOp, opAt, valuesOf}
+use Rattle.rules.proofs.Soundness.Sound.{OpSound, facts}
 use Rattle.layout.specs.Columns.{columns}
 use Rattle.layout.specs.Reading.{tabulateFrom, consecutive, storeIn}
 use Rattle.layout.proofs.Tabulate.{ops-length}
@@ -16,9 +16,29 @@ use borrow.Author.Needs.{needs}
 use Rattle.keys.proofs.alone.put_own_uses.Statement.{statement}
 use Rattle.keys.proofs.alone.put_own_uses.Tie as tie
 
--- the operation is one of the rules' store
-inside : (s : tie.Start) → s .args .n < length (storeIn (s .args .store .now) .ops)
-inside s = subst (λ (k : ℕ). s .args .n < k) (sym (ops-length (columns (s .args .store .now)))) (s .pre .1)
+module _ (s : tie.Start) where
+  abbrev store : Store
+  store = storeIn (s .args .store .now)
+
+  -- the operation is one of the rules' store
+  inside : s .args .n < length (store .ops)
+  inside = subst (λ (k : ℕ). s .args .n < k) (sym (ops-length (columns (s .args .store .now)))) (s .pre .1)
+
+  known : OpSound store (s .args .n)
+  known = facts store (s .pre .0 .ruled) .op (s .args .n) inside
+
+-- behind the operands
+module _ (c : tie.After-slice-known2) where
+  abbrev row : tie.After-op-row
+  row = c .before .before .before .before .before .before
+
+  abbrev begun : tie.Start
+  begun = row .before .before .before
+
+-- with both put
+module _ (c : tie.After-slice-known3) where
+  abbrev operands : tie.After-slice-known2
+  operands = c .before .before .before .before .before .before
 
 op-row-requires : tie.Need-op-row-requires
 op-row-requires c κs = search needs
@@ -32,9 +52,7 @@ operands-of-requires c κs =
     (record { sized = q .0 .sized; laid = q .0 .laid }, q .1)
 
 put-own-names-requires : tie.Need-put-own-names-requires
-put-own-names-requires c κs =
-    let s = c .before .before .before .before .before .before in
-    omega (arith, ap length (c .operands-of .ensures), facts (storeIn (s .args .store .now)) (s .pre .0 .ruled) .op (s .args .n) (inside s) .operandsFit)
+put-own-names-requires c κs = omega (arith, ap length (c .operands-of .ensures), known (c .before .before .before .before .before .before) .operandsFit)
 
 least-requires : tie.Need-least-requires
 least-requires c κs = search needs
@@ -50,22 +68,20 @@ part-put-own-names-end c = search needs
 
 successors-of-requires : tie.Need-successors-of-requires
 successors-of-requires c κs =
-    let q = c .before .before .before .before .before .before .before .before .before .before .before .pre in
+    let q = begun (c .before .before) .pre in
     (record { sized = q .0 .sized; laid = q .0 .laid }, q .1)
 
 put-own-names-requires-2 : tie.Need-put-own-names-requires-2
-put-own-names-requires-2 c κs =
-    let s = c .before .before .before .before .before .before .before .before .before .before .before .before in
-    omega (arith, ap length (c .successors-of .ensures), facts (storeIn (s .args .store .now)) (s .pre .0 .ruled) .op (s .args .n) (inside s) .successorsFit)
+put-own-names-requires-2 c κs = omega (arith, ap length (c .successors-of .ensures), known (begun (c .before .before .before)) .successorsFit)
 
 add-result : tie.Need-add-result
 add-result c =
-    let operands-of = c .before .before .before .before .before .before .before .before .before .operands-of in
+    let f = operands c in
+    let operands-of = f .before .before .before .operands-of in
     let successors-of = c .before .before .before .successors-of in
-    let s = c .before .before .before .before .before .before .before .before .before .before .before .before .before .before .before in
-    let o = facts (storeIn (s .args .store .now)) (s .pre .0 .ruled) .op (s .args .n) (inside s) in
-    let row = c .before .before .before .before .before .before .before .before .before .before .before .before .op-row .result in
-    record { fits = omega (arith, c .before .before .before .before .before .before .before .before .put-own-names .ensures .many, c .before .before .put-own-names2 .ensures .many, names-few (consecutive (row .value) (row .value + row .values - row .value)) (operands-of .result .now), names-few (consecutive 0 (0 - 0)) (successors-of .result .now), ap length (operands-of .ensures), ap length (successors-of .ensures), o .operandsFit, o .successorsFit) }
+    let o = known (begun f) in
+    let r = row f .op-row .result in
+    record { fits = omega (arith, f .before .before .put-own-names .ensures .many, c .before .before .put-own-names2 .ensures .many, names-few (consecutive (r .value) (r .value + r .values - r .value)) (operands-of .result .now), names-few (consecutive 0 (0 - 0)) (successors-of .result .now), ap length (operands-of .ensures), ap length (successors-of .ensures), o .operandsFit, o .successorsFit) }
 
 same-length : tie.Need-same-length
 same-length c = search needs
@@ -73,14 +89,15 @@ same-length c = search needs
 returns : tie.Need-returns
 unfolding consecutive tabulateFrom
 returns c =
+    let f = operands c in
     let successors-of = c .before .before .before .successors-of in
-    let s = c .before .before .before .before .before .before .before .before .before .before .before .before .before .before .before in
-    let S = storeIn (s .args .store .now) in
+    let s = begun f in
+    let S = store s in
     let n = s .args .n in
-    let row = c .before .before .before .before .before .before .before .before .before .before .before .before .op-row in
-    let many : row .result .value + row .result .values - row .result .value ≡ row .result .values = omega arith in
-    let own : consecutive (row .result .value) (row .result .value + row .result .values - row .result .value) ≡ valuesOf S (ofOp n) = ap (consecutive (row .result .value)) many ∙ sym (row .ensures .values) in
-    put-then (namesBytes (valuesOf S (ofOp n)) (opAt S n .operands)) (namesBytes [] (opAt S n .successors)) (put-as (λ i. namesBytes (own i) (c .before .before .before .before .before .before .before .before .before .operands-of .ensures i)) (c .before .before .before .before .before .before .before .before .put-own-names .ensures))
+    let r = row f .op-row .result in
+    let many : r .value + r .values - r .value ≡ r .values = omega arith in
+    let own : consecutive (r .value) (r .value + r .values - r .value) ≡ valuesOf S (ofOp n) = ap (consecutive (r .value)) many ∙ sym (row f .op-row .ensures .values) in
+    put-then (namesBytes (valuesOf S (ofOp n)) (opAt S n .operands)) (namesBytes [] (opAt S n .successors)) (put-as (λ i. namesBytes (own i) (f .before .before .before .operands-of .ensures i)) (f .before .before .put-own-names .ensures))
     (put-as (ap (namesBytes []) (successors-of .ensures)) (put-rest (namesBytes [] (successors-of .result .now)) _ _ _ (c .before .before .before .before .before .least .ensures) (c .before .before .put-own-names2 .ensures)))
 
 pub put-own-uses-spec : {M : Type 1} → statement M

@@ -17,6 +17,16 @@ Inv-loop store key₀ ignore first end at₀ i₀ key at i = KeptPutting (column
 abbrev μ-loop : tie.MeasureT-loop
 μ-loop store key₀ ignore first end at₀ i₀ key at i = end - i
 
+-- in the loop, at a kept slot
+module _ (c : tie.In-loop Inv-loop μ-loop) where
+  abbrev begun : tie.Start Inv-loop μ-loop
+  begun = c .before .before .before .before .before
+
+-- with it put
+module _ (c : tie.After-slice-known2 Inv-loop μ-loop) where
+  abbrev round : tie.In-loop Inv-loop μ-loop
+  round = c .before .before .before .before .before
+
 next-kept-requires : tie.Need-next-kept-requires Inv-loop μ-loop
 next-kept-requires c κs = search needs
 
@@ -39,40 +49,43 @@ part-put-slot-end c = search needs
 
 put-slot-requires : tie.Need-put-slot-requires Inv-loop μ-loop
 put-slot-requires c κs =
-    let s = c .before .before .before .before .before .before .before in
-    (s .pre .0, omega (arith, c .before .before .loop-test .taken, s .pre .1 .0))
+    let f = c .before .before in
+    let p = begun f .pre in
+    (p .0, omega (arith, f .loop-test .taken, p .1 .0))
 
 add-at : tie.Need-add-at Inv-loop μ-loop
 unfolding bytes leaf attributeBytes
 add-at c =
-    let s = c .before .before .before .before .before .before .before .before .before .before in
-    let i = c .before .before .before .before .before .before .loop .inv in
-    record { fits = omega (arith, c .before .before .put-slot .ensures .many, i .few, i .stop .upTo, s .pre .1 .0) }
+    let f = round c in
+    let i = f .before .loop .inv in
+    record { fits = omega (arith, c .before .before .put-slot .ensures .many, i .few, i .stop .upTo, begun f .pre .1 .0) }
 
 add-next-kept : tie.Need-add-next-kept Inv-loop μ-loop
 add-next-kept c =
-    let s = c .before .before .before .before .before .before .before .before .before .before in
-    let i = c .before .before .before .before .before .before .loop .inv in
-    omega (arith, i .stop .upTo, s .pre .1 .0)
+    let f = round c in
+    omega (arith, f .before .loop .inv .stop .upTo, begun f .pre .1 .0)
 
 next-kept-requires-2 : tie.Need-next-kept-requires-2 Inv-loop μ-loop
 next-kept-requires-2 c κs =
-    let s = c .before .before .before .before .before .before .before .before .before .before in
-    let i = c .before .before .before .before .before .before .loop .inv in
-    (s .pre .0, (s .pre .1 .0, (omega (arith, c .before .before .before .before .before .loop-test .taken, s .pre .1 .0), λ k b e. s .pre .1 .1 .1 k (omega (arith, i .stop .from, b)) e)))
+    let f = round c in
+    let p = begun f .pre in
+    let i = f .before .loop .inv in
+    (p .0, (p .1 .0, (omega (arith, f .loop-test .taken, p .1 .0), λ k b e. p .1 .1 .1 k (omega (arith, i .stop .from, b)) e)))
 
 loop-less : tie.Need-loop-less Inv-loop μ-loop
-loop-less c = omega (arith, c .next-kept2 .ensures .from, c .before .before .before .before .before .before .loop-test .taken)
+loop-less c = omega (arith, c .next-kept2 .ensures .from, round (c .before) .loop-test .taken)
 
 loop-again : tie.Need-loop-again Inv-loop μ-loop
 unfolding bytes leaf attributeBytes
 loop-again c =
+    let f = round (c .before) in
     let least = c .before .before .before .before .before .least in
-    let a = c .before .before .before .before .before .before .before .before .before .before .before .args in
-    let m = c .before .before .before .before .before .before .before .loop in
+    let a = begun f .args in
+    let m = f .before .loop in
     let one = c .before .before .before .put-slot .ensures in
     let w = least .ensures in
-    kept-goes-on (columns (a .store .now)) (ignoreOf (a .ignore)) (a .first) (a .end) _ (m .i) (m .key) (m .at) (m .inv) _ (least .result) w (c .before .before .before .before .before .before .loop-test .taken) (omega (arith, one .many)) (put-rest (attributeBytes (attributeAt (columns (a .store .now)) (m .i))) _ _ _ w one .long) one (c .next-kept2 .ensures)
+    kept-goes-on (columns (a .store .now)) (ignoreOf (a .ignore)) (a .first) (a .end) _ (m .i) (m .key) (m .at) (m .inv) _ (least .result) w (f .loop-test .taken) (omega (arith, one .many))
+    (put-rest (attributeBytes (attributeAt (columns (a .store .now)) (m .i))) _ _ _ w one .long) one (c .next-kept2 .ensures)
 
 same-length : tie.Need-same-length Inv-loop μ-loop
 same-length c = search needs

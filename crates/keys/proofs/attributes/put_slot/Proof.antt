@@ -25,8 +25,9 @@ same-length c = search needs
 returns : tie.Need-returns
 unfolding attributeAt
 returns c =
-    let a = c .before .before .before .before .before .before .before .before .before .args in
-    put-as (attribute-bytes (attributeAt (columns (a .store .now)) (a .slot)) (c .before .before .before .before .before .before .at .ensures) (c .before .before .before .before .before .at2 .ensures) (c .before .before .before .before .at3 .ensures)) (c .before .before .put-attribute .ensures)
+    let read = c .before .before .before .before in
+    let a = read .before .before .before .before .before .args in
+    put-as (attribute-bytes (attributeAt (columns (a .store .now)) (a .slot)) (read .before .before .at .ensures) (read .before .at2 .ensures) (read .at3 .ensures)) (c .before .before .put-attribute .ensures)
 
 pub put-slot-spec : {M : Type 1} → statement M
 put-slot-spec =

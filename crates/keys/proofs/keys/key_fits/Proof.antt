@@ -7,7 +7,7 @@ use lib.Dec.{leb}
 use lib.ListN.{length}
 use Rattle.rules.specs.Keys.{key}
 use Rattle.layout.specs.Reading.{storeIn}
-use Rattle.fragments.specs.Ignoring.{ignoreOf}
+use Rattle.fragments.specs.Options.{optionsOf, under}
 use Rattle.fragments.specs.Sorts.{sortOf}
 use Rattle.keys.proofs.Answering.{longest}
 use borrow.Author.Needs.{needs}
@@ -16,18 +16,18 @@ use Rattle.keys.proofs.keys.key_fits.Tie as tie
 
 returns : tie.Need-returns
 returns c =
-    let s = c .before .before in
+    let s = c .before .before .before in
     let a = s .args in
     let S = storeIn (a .store .now) in
-    let ig = ignoreOf (a .ignore) in
+    let o = optionsOf (a .ignore) (a .types .now) in
     let f = sortOf (a .sort) in
-    sym (le-leb (length (key S ig f (a .n))) (a .room) (omega (arith, longest S (s .pre .0 .ruled) ig f (a .n) (s .pre .1), c .if1 .taken)))
+    sym (le-leb (length (key (under o S) (o .ignore) f (a .n))) (a .room) (omega (arith, longest S o f (a .n) (s .pre .0 .sound .ruled) (s .pre .1), c .if1 .taken)))
 
 key-length-requires : tie.Need-key-length-requires
 key-length-requires c κs = search needs
 
 returns-2 : tie.Need-returns-2
-returns-2 c = ap (λ (l : ℕ). leb l (c .before .before .before .args .room)) (c .key-length .ensures)
+returns-2 c = ap (λ (l : ℕ). leb l (c .before .before .before .before .args .room)) (c .key-length .ensures)
 
 pub key-fits-spec : {M : Type 1} → statement M
 key-fits-spec =

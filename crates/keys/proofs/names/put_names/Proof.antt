@@ -7,8 +7,8 @@ use mathlib.Core.Path.{_≡_, sym, ap, subst}
 use lib.Dec.{ltb}
 use lib.ListN.{length}
 use Rattle.rules.specs.Lists.{all}
-use Rattle.rules.specs.Store.{opAt}
-use Rattle.rules.proofs.Soundness.Sound.{facts}
+use Rattle.rules.specs.Store.{Store, opAt}
+use Rattle.rules.proofs.Soundness.Sound.{OpSound, facts}
 use Rattle.layout.specs.Reading.{valueCount, storeIn}
 use Rattle.layout.specs.Columns.{columns}
 use Rattle.layout.proofs.Tabulate.{ops-length, values-length}
@@ -20,9 +20,26 @@ use borrow.Author.Needs.{needs}
 use Rattle.keys.proofs.names.put_names.Statement.{statement}
 use Rattle.keys.proofs.names.put_names.Tie as tie
 
--- the operation is one of the rules' store
-inside : (s : tie.Start) → s .args .n < length (storeIn (s .args .store .now) .ops)
-inside s = subst (λ (k : ℕ). s .args .n < k) (sym (ops-length (columns (s .args .store .now)))) (s .pre .1)
+module _ (s : tie.Start) where
+  abbrev store : Store
+  store = storeIn (s .args .store .now)
+
+  -- the operation is one of the rules' store
+  inside : s .args .n < length (store .ops)
+  inside = subst (λ (k : ℕ). s .args .n < k) (sym (ops-length (columns (s .args .store .now)))) (s .pre .1)
+
+  known : OpSound store (s .args .n)
+  known = facts store (s .pre .0 .ruled) .op (s .args .n) inside
+
+-- behind the operands
+module _ (c : tie.After-slice-known2) where
+  abbrev begun : tie.Start
+  begun = c .before .before .before .before .before .before .before
+
+-- with both put
+module _ (c : tie.After-slice-known3) where
+  abbrev operands : tie.After-slice-known2
+  operands = c .before .before .before .before .before .before
 
 operands-of-requires : tie.Need-operands-of-requires
 operands-of-requires c κs =
@@ -33,11 +50,9 @@ put-operands-requires : tie.Need-put-operands-requires
 put-operands-requires c κs =
     let operands-of = c .operands-of in
     let s = c .before .before .before .before in
-    let S = storeIn (s .args .store .now) in
-    let n = s .args .n in
-    let few = facts S (s .pre .0 .ruled) .op n (inside s) .operandsFit in
-    let there = subst (λ (k : ℕ). all (λ (v : ℕ). ltb v k) (opAt S n .operands) ≡ true) (values-length (columns (s .args .store .now))) (operands-there S (s .pre .0 .ruled) n (inside s)) in
-    (s .pre .0, (omega (arith, ap length (operands-of .ensures), few), subst (λ (xs : List ℕ). all (λ (v : ℕ). ltb v (valueCount (columns (s .args .store .now)))) xs ≡ true) (sym (operands-of .ensures)) there))
+    let C = columns (s .args .store .now) in
+    let there = subst (λ (k : ℕ). all (λ (v : ℕ). ltb v k) (opAt (store s) (s .args .n) .operands) ≡ true) (values-length C) (operands-there (store s) (s .pre .0 .ruled) (s .args .n) (inside s)) in
+    (s .pre .0, (omega (arith, ap length (operands-of .ensures), known s .operandsFit), subst (λ (xs : List ℕ). all (λ (v : ℕ). ltb v (valueCount C)) xs ≡ true) (sym (operands-of .ensures)) there))
 
 least-requires : tie.Need-least-requires
 least-requires c κs = search needs
@@ -53,35 +68,32 @@ part-put-successors-end c = search needs
 
 successors-of-requires : tie.Need-successors-of-requires
 successors-of-requires c κs =
-    let q = c .before .before .before .before .before .before .before .before .before .pre in
+    let q = begun (c .before .before) .pre in
     (record { sized = q .0 .sized; laid = q .0 .laid }, q .1)
 
 put-successors-requires : tie.Need-put-successors-requires
 put-successors-requires c κs =
     let successors-of = c .successors-of in
-    let s = c .before .before .before .before .before .before .before .before .before .before in
-    let S = storeIn (s .args .store .now) in
-    let n = s .args .n in
-    let few = facts S (s .pre .0 .ruled) .op n (inside s) .successorsFit in
-    (omega (arith, ap length (successors-of .ensures), few), subst (λ (xs : List ℕ). all (λ (v : ℕ). ltb v 256) xs ≡ true) (sym (successors-of .ensures)) (successors-few S (s .pre .0 .ruled) n (inside s)))
+    let s = begun (c .before .before .before) in
+    let few = successors-few (store s) (s .pre .0 .ruled) (s .args .n) (inside s) in
+    (omega (arith, ap length (successors-of .ensures), known s .successorsFit), subst (λ (xs : List ℕ). all (λ (v : ℕ). ltb v 256) xs ≡ true) (sym (successors-of .ensures)) few)
 
 add-result : tie.Need-add-result
 add-result c =
-    let S = storeIn (c .before .before .before .before .before .before .before .before .before .before .before .before .before .args .store .now) in
-    record { fits = omega (arith, c .before .before .before .before .before .before .before .before .put-operands .ensures .few, c .before .before .put-successors .ensures S .few) }
+    let f = operands c in
+    record { fits = omega (arith, f .before .before .put-operands .ensures .few, c .before .before .put-successors .ensures (store (begun f)) .few) }
 
 same-length : tie.Need-same-length
 same-length c = search needs
 
 returns : tie.Need-returns
 returns c =
-    let s = c .before .before .before .before .before .before .before .before .before .before .before .before .before in
-    let S = storeIn (s .args .store .now) in
-    let f = c .before .before .before .before .before .before .before .before .put-operands .ensures in
+    let f = operands c in
+    let s = begun f in
     let g = c .before .before .put-successors .ensures in
-    λ ig. wrote-names S ig (s .args .n)
-    (λ N h. put-as (ap (namesBytes (N .values)) (c .before .before .before .before .before .before .before .before .before .operands-of .ensures)) (f .put N h))
-    (λ N h. put-as (ap (namesBytes (N .blocks)) (c .before .before .before .successors-of .ensures)) (put-rest (namesBytes (N .blocks) _) _ _ _ (c .before .before .before .before .before .least .ensures) (g S .put N h)))
+    λ o. wrote-names (store s) o (s .args .n)
+    (λ N h. put-as (ap (namesBytes (N .values)) (f .before .before .before .operands-of .ensures)) (f .before .before .put-operands .ensures .put N h))
+    (λ N h. put-as (ap (namesBytes (N .blocks)) (c .before .before .before .successors-of .ensures)) (put-rest (namesBytes (N .blocks) _) _ _ _ (c .before .before .before .before .before .least .ensures) (g (store s) .put N h)))
 
 pub put-names-spec : {M : Type 1} → statement M
 put-names-spec =

@@ -16,12 +16,6 @@ use borrow.Author.Needs.{needs}
 use Rattle.keys.proofs.names.put_operands.Statement.{statement}
 use Rattle.keys.proofs.names.put_operands.Tie as tie
 
-abbrev Inv-loop : tie.InvT-loop
-Inv-loop store numbers key₀ list at₀ i₀ key at i = Entries (λ (N : Numbering). Stands (storeIn store) N numbers) (λ (N : Numbering) (v : ℕ). nameBytes (nameOf (N .values) v)) list key₀ at₀ i key at
-
-abbrev μ-loop : tie.MeasureT-loop
-μ-loop store numbers key₀ list at₀ i₀ key at i = length list - i
-
 -- whatever the words stand for
 abbrev Known : List ℕ → List ℕ → Numbering → Type 0
 Known store numbers N = Stands (storeIn store) N numbers
@@ -29,12 +23,31 @@ Known store numbers N = Stands (storeIn store) N numbers
 abbrev named : Numbering → ℕ → List ℕ
 named N v = nameBytes (nameOf (N .values) v)
 
+abbrev Inv-loop : tie.InvT-loop
+Inv-loop store numbers key₀ list at₀ i₀ key at i = Entries (Known store numbers) named list key₀ at₀ i key at
+
+abbrev μ-loop : tie.MeasureT-loop
+μ-loop store numbers key₀ list at₀ i₀ key at i = length list - i
+
+-- behind the count
+module _ (c : tie.After-slice-known2 Inv-loop μ-loop) where
+  abbrev begun : tie.Start Inv-loop μ-loop
+  begun = c .before .before .before .before .before .before .before
+
+-- in the loop, with one more put
+module _ (c : tie.After-slice-known3 Inv-loop μ-loop) where
+  abbrev round : tie.In-loop Inv-loop μ-loop
+  round = c .before .before .before .before .before .before .before
+
+  abbrev counted : tie.After-slice-known2 Inv-loop μ-loop
+  counted = round .before .before
+
 put-count-requires : tie.Need-put-count-requires Inv-loop μ-loop
 put-count-requires c κs = search needs
 
 loop-holds : tie.Need-loop-holds Inv-loop μ-loop
 loop-holds c =
-    let a = c .before .before .before .before .before .before .before .args in
+    let a = begun c .args in
     entries-none (Known (a .store .now) (a .numbers .now)) named (a .list .now) _ (c .before .before .put-count .result)
 
 mul-value-name : tie.Need-mul-value-name Inv-loop μ-loop
@@ -45,7 +58,7 @@ shared-slice-read-value-name c = search needs
 
 value-name-requires : tie.Need-value-name-requires Inv-loop μ-loop
 value-name-requires c κs =
-    let s = c .before .before .before .before .before .before .before .before .before .before in
+    let s = begun (c .before .before .before) in
     (s .pre .0, below-at (valueCount (columns (s .args .store .now))) (s .args .list .now) (s .pre .1 .1) (c .before .before .loop .i) (c .before .loop-test .taken))
 
 least-requires : tie.Need-least-requires Inv-loop μ-loop
@@ -66,25 +79,25 @@ put-name-requires c κs = search needs
 add-at : tie.Need-add-at Inv-loop μ-loop
 unfolding bytes count
 add-at c =
-    let m = c .before .before .before .before .before .before .before .before .loop in
-    record { fits = omega (arith, c .before .before .put-name .ensures .many, name-few (ruleName (c .before .before .before .before .before .value-name .result)), m .inv .few, m .inv .inside, c .before .before .before .before .before .before .before .before .before .before .before .before .before .before .before .before .pre .1 .0, c .before .before .before .before .before .before .before .before .before .before .before .put-count .ensures .many) }
+    let m = round c .before .loop in
+    record { fits = omega (arith, c .before .before .put-name .ensures .many, name-few (ruleName (c .before .before .before .before .before .value-name .result)), m .inv .few, m .inv .inside, begun (counted c) .pre .1 .0, counted c .before .before .put-count .ensures .many) }
 
 add-i : tie.Need-add-i Inv-loop μ-loop
 add-i c = search needs
 
 loop-less : tie.Need-loop-less Inv-loop μ-loop
-loop-less c = omega (arith, c .before .before .before .before .before .before .before .loop-test .taken)
+loop-less c = omega (arith, round c .loop-test .taken)
 
 loop-again : tie.Need-loop-again Inv-loop μ-loop
 loop-again c =
     let least = c .before .before .before .before .least in
     let value-name = c .before .before .before .before .before .value-name in
-    let a = c .before .before .before .before .before .before .before .before .before .before .before .before .before .before .before .before .args in
-    let m = c .before .before .before .before .before .before .before .before .loop in
+    let a = begun (counted c) .args in
+    let m = round c .before .loop in
     let one = c .before .before .put-name .ensures in
     let w = least .ensures in
     let x = value-name .result in
-    entries-next (Known (a .store .now) (a .numbers .now)) named (a .list .now) _ (c .before .before .before .before .before .before .before .before .before .before .before .put-count .result) (m .i) (m .key) (m .at) (m .inv) (least .result) w (c .before .before .before .before .before .before .before .loop-test .taken)
+    entries-next (Known (a .store .now) (a .numbers .now)) named (a .list .now) _ (counted c .before .before .put-count .result) (m .i) (m .key) (m .at) (m .inv) (least .result) w (round c .loop-test .taken)
     (omega (arith, one .many, name-few (ruleName x))) (put-rest (nameBytes (ruleName x)) _ _ _ w one .long) (λ N h. name-put x (value-name .ensures N h) one)
 
 same-length : tie.Need-same-length Inv-loop μ-loop
@@ -94,7 +107,7 @@ returns : tie.Need-returns Inv-loop μ-loop
 unfolding bytes count namesBytes
 returns c =
     let put-count = c .before .before .before .before .put-count in
-    let s = c .before .before .before .before .before .before .before .before .before in
+    let s = begun (c .before .before) in
     let a = s .args in
     let m = c .before .loop in
     let all = entries-all (Known (a .store .now) (a .numbers .now)) named (a .list .now) _ (put-count .result) (m .i) (m .key) (m .at) (m .inv) (c .loop-test .left) in

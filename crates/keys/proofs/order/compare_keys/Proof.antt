@@ -16,6 +16,11 @@ Inv-loop lhs rhs i₀ i = (i ≤ length lhs) × (compareBytes (drop i lhs) (drop
 abbrev μ-loop : tie.MeasureT-loop
 μ-loop lhs rhs i₀ i = length lhs - i
 
+-- in the loop, told whether the right key ends
+module _ (c : tie.Else1 Inv-loop μ-loop) where
+  abbrev begun : tie.Start Inv-loop μ-loop
+  begun = c .before .before .before .before .before
+
 loop-holds : tie.Need-loop-holds Inv-loop μ-loop
 loop-holds c = (omega arith, refl)
 
@@ -43,9 +48,10 @@ byte-order-requires c κs = search needs
 
 returns-2 : tie.Need-returns-2 Inv-loop μ-loop
 returns-2 c =
-    let a = c .before .before .before .before .before .before .before .before .before .before .before .args in
-    let m = c .before .before .before .before .before .before .before .before .loop in
-    c .byte-order .ensures ∙ sym (other-byte (a .lhs .now) (a .rhs .now) (m .i) (c .before .before .before .before .before .before .before .loop-test .taken) (c .before .before .before .before .before .before .if1 .left) (c .before .before .before .if2 .taken)) ∙ m .inv .1
+    let f = c .before .before .before .before .before .before in
+    let a = begun f .args in
+    let m = f .before .before .loop in
+    c .byte-order .ensures ∙ sym (other-byte (a .lhs .now) (a .rhs .now) (m .i) (f .before .loop-test .taken) (f .if1 .left) (c .before .before .before .if2 .taken)) ∙ m .inv .1
 
 add-i : tie.Need-add-i Inv-loop μ-loop
 add-i c = search needs
@@ -55,10 +61,11 @@ loop-less c = omega (arith, c .before .before .before .before .loop-test .taken)
 
 loop-again : tie.Need-loop-again Inv-loop μ-loop
 loop-again c =
-    let loop-test = c .before .before .before .before .loop-test in
-    let a = c .before .before .before .before .before .before .before .before .args in
-    let m = c .before .before .before .before .before .loop in
-    (omega (arith, loop-test .taken), sym (same-byte (a .lhs .now) (a .rhs .now) (m .i) (loop-test .taken) (c .before .before .before .if1 .left) (c .if2 .left)) ∙ m .inv .1)
+    let f = c .before .before .before in
+    let loop-test = f .before .loop-test in
+    let a = begun f .args in
+    let m = f .before .before .loop in
+    (omega (arith, loop-test .taken), sym (same-byte (a .lhs .now) (a .rhs .now) (m .i) (loop-test .taken) (f .if1 .left) (c .if2 .left)) ∙ m .inv .1)
 
 returns-3 : tie.Need-returns-3 Inv-loop μ-loop
 unfolding orderingOf

@@ -1,31 +1,50 @@
--- `put_row` meets its contract: location and attributes, then the types into the rest. Assumes nothing.
-use Prim.Native.Nat.{_+_}
+-- `put_row` meets its contract: location and attributes, then the present types into the rest. Assumes nothing.
+use Prim.Native.Nat.{ℕ}
 use native.Mathlib.Omega.{arith}
+use mathlib.Core.List.{List, map}
 use mathlib.Core.Path.{ap}
-use lib.ListN.{length}
+use lib.ListN.{length, length-map}
 use Rattle.rules.specs.Hash.{leaf, count, listBytes}
+use Rattle.rules.specs.Types.{present}
 use Rattle.layout.specs.Columns.{columns}
+use Rattle.renaming.specs.Index.{listIn}
 use Rattle.fragments.specs.Ignoring.{ignoreOf}
+use Rattle.fragments.specs.Options.{optionsOf}
 use Rattle.fragments.specs.Rows.{rowShell}
 use Rattle.keys.specs.Written.{marksBytes}
-use Rattle.keys.proofs.Lengths.{leaves, marks-few, kept-few, types-few}
+use Rattle.keys.proofs.Lengths.{leaves, marks-few, types-few}
 use Rattle.keys.proofs.Shelling.{shell-bytes}
 use Rattle.keys.proofs.Putting.{put-then, put-rest, put-as}
 use borrow.Author.Needs.{needs}
 use Rattle.keys.proofs.shells.put_row.Statement.{statement}
 use Rattle.keys.proofs.shells.put_row.Tie as tie
 
+-- behind location and attributes
+module _ (c : tie.After-struct-known) where
+  abbrev begun : tie.Start
+  begun = c .before .before .before .before .before .before .before .before
+
+-- with all put
+module _ (c : tie.After-slice-known3) where
+  abbrev marked : tie.After-struct-known
+  marked = c .before .before .before .before .before .before
+
+-- words, by their present types
+abbrev nowOf : List ℕ → List ℕ → List ℕ
+nowOf index own = map (present (listIn index)) own
+
 put-marks-requires : tie.Need-put-marks-requires
-put-marks-requires c κs = search needs
+put-marks-requires c κs =
+    let p = c .before .before .before .before .pre in
+    (p .0, p .1 .1)
 
 add-words : tie.Need-add-words
-add-words c = omega (arith, c .before .before .before .before .before .before .before .pre .1 .values)
+add-words c = omega (arith, begun c .pre .1 .1 .values)
 
 words-requires : tie.Need-words-requires
 words-requires c κs =
-    let s = c .before .before .before .before .before .before .before in
-    let f = s .pre .1 in
-    (s .pre .0, (omega arith, (omega arith, omega (arith, f .values))))
+    let p = begun c .pre in
+    (p .0, (omega arith, (omega arith, omega (arith, p .1 .1 .values))))
 
 least-requires : tie.Need-least-requires
 least-requires c κs = search needs
@@ -41,19 +60,17 @@ part-put-types-end c = search needs
 
 put-types-requires : tie.Need-put-types-requires
 put-types-requires c κs =
-    let s = c .before .before .before .before .before .before .before .before .before .before in
-    omega (arith, ap length (c .before .before .words .ensures), types-few (columns (s .args .store .now)) (s .args .row) (s .pre .1))
+    let s = begun (c .before .before .before) in
+    (s .pre .1 .0, omega (arith, ap length (c .before .before .words .ensures), types-few (columns (s .args .store .now)) (s .args .row) (s .pre .1 .1)))
 
 add-result : tie.Need-add-result
-unfolding rowShell
 add-result c =
     let words = c .before .before .before .before .before .words in
-    let s = c .before .before .before .before .before .before .before .before .before .before .before .before .before in
+    let s = begun (marked c) in
     let a = s .args in
     let C = columns (a .store .now) in
-    let ig = ignoreOf (a .ignore) in
-    let end = a .row .slot + a .row .attributes in
-    record { fits = omega (arith, c .before .before .before .before .before .before .before .before .before .put-marks .ensures .many, c .before .before .put-types .ensures .many, leaves (words .result .now), ap length (words .ensures), types-few C (a .row) (s .pre .1), marks-few (rowShell C ig (a .row)) (omega (arith, kept-few C ig (a .row .slot) end, s .pre .1 .slots))) }
+    let own = words .result .now in
+    record { fits = omega (arith, marked c .before .before .before .put-marks .ensures .many, c .before .before .put-types .ensures .many, leaves (nowOf (a .types .now) own), length-map own (present (listIn (a .types .now))), ap length (words .ensures), types-few C (a .row) (s .pre .1 .1), marks-few C (ignoreOf (a .ignore)) (a .row) (s .pre .1 .1)) }
 
 same-length : tie.Need-same-length
 same-length c = search needs
@@ -62,13 +79,13 @@ returns : tie.Need-returns
 unfolding rowShell
 returns c =
     let words = c .before .before .before .before .before .words in
-    let a = c .before .before .before .before .before .before .before .before .before .before .before .before .before .args in
+    let a = begun (marked c) .args in
     let C = columns (a .store .now) in
-    let ig = ignoreOf (a .ignore) in
-    let sh = rowShell C ig (a .row) in
-    put-as (shell-bytes sh)
-    (put-then (marksBytes sh) (listBytes count leaf (sh .types)) (c .before .before .before .before .before .before .before .before .before .put-marks .ensures)
-    (put-as (ap (listBytes count leaf) (words .ensures)) (put-rest (listBytes count leaf (words .result .now)) _ _ _ (c .before .before .before .before .least .ensures) (c .before .before .put-types .ensures))))
+    let o = optionsOf (a .ignore) (a .types .now) in
+    let bytes = listBytes count leaf (nowOf (a .types .now) (words .result .now)) in
+    put-as (shell-bytes C o (a .row))
+    (put-then (marksBytes C (ignoreOf (a .ignore)) (a .row)) (listBytes count leaf (rowShell C o (a .row) .types)) (marked c .before .before .before .put-marks .ensures)
+    (put-as (ap (λ (own : List ℕ). listBytes count leaf (nowOf (a .types .now) own)) (words .ensures)) (put-rest bytes _ _ _ (c .before .before .before .before .least .ensures) (c .before .before .put-types .ensures))))
 
 pub put-row-spec : {M : Type 1} → statement M
 put-row-spec =

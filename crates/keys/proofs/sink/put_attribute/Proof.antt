@@ -7,6 +7,11 @@ use borrow.Author.Needs.{needs}
 use Rattle.keys.proofs.sink.put_attribute.Statement.{statement}
 use Rattle.keys.proofs.sink.put_attribute.Tie as tie
 
+-- with both put
+module _ (c : tie.After-slice-known3) where
+  abbrev first : tie.After-put-pair
+  first = c .before .before .before .before .before .before .before
+
 put-pair-requires : tie.Need-put-pair-requires
 put-pair-requires c κs = search needs
 
@@ -27,15 +32,15 @@ put-leaf-requires c κs = search needs
 
 add-result : tie.Need-add-result
 unfolding bytes leaf
-add-result c = record { fits = omega (arith, c .before .before .put-leaf .ensures .many, c .before .before .before .before .before .before .before .put-pair .ensures .many) }
+add-result c = record { fits = omega (arith, c .before .before .put-leaf .ensures .many, first c .put-pair .ensures .many) }
 
 same-length : tie.Need-same-length
 same-length c = search needs
 
 returns : tie.Need-returns
 returns c =
-    let a = c .before .before .before .before .before .before .before .before .before .before .args in
-    put-then (leaf (a .name) ++ leaf (a .kind)) (leaf (a .content)) (c .before .before .before .before .before .before .before .put-pair .ensures) (put-rest (leaf (a .content)) _ _ _ (c .before .before .before .before .least .ensures) (c .before .before .put-leaf .ensures))
+    let a = first c .before .before .before .args in
+    put-then (leaf (a .name) ++ leaf (a .kind)) (leaf (a .content)) (first c .put-pair .ensures) (put-rest (leaf (a .content)) _ _ _ (c .before .before .before .before .least .ensures) (c .before .before .put-leaf .ensures))
 
 pub put-attribute-spec : {M : Type 1} → statement M
 put-attribute-spec =

@@ -6,6 +6,11 @@ use borrow.Author.Needs.{needs}
 use Rattle.keys.proofs.sink.put_head.Statement.{statement}
 use Rattle.keys.proofs.sink.put_head.Tie as tie
 
+-- with both put
+module _ (c : tie.After-slice-known3) where
+  abbrev first : tie.After-put-leaf
+  first = c .before .before .before .before .before .before .before
+
 put-leaf-requires : tie.Need-put-leaf-requires
 put-leaf-requires c κs = search needs
 
@@ -26,15 +31,15 @@ put-count-requires c κs = search needs
 
 add-result : tie.Need-add-result
 unfolding bytes leaf count
-add-result c = record { fits = omega (arith, c .before .before .put-count .ensures .many, c .before .before .before .before .before .before .before .put-leaf .ensures .many) }
+add-result c = record { fits = omega (arith, c .before .before .put-count .ensures .many, first c .put-leaf .ensures .many) }
 
 same-length : tie.Need-same-length
 same-length c = search needs
 
 returns : tie.Need-returns
 returns c =
-    let a = c .before .before .before .before .before .before .before .before .before .before .args in
-    put-then (leaf (a .kind)) (count (a .regions)) (c .before .before .before .before .before .before .before .put-leaf .ensures) (put-rest (count (a .regions)) _ _ _ (c .before .before .before .before .least .ensures) (c .before .before .put-count .ensures))
+    let a = first c .before .before .before .args in
+    put-then (leaf (a .kind)) (count (a .regions)) (first c .put-leaf .ensures) (put-rest (count (a .regions)) _ _ _ (c .before .before .before .before .least .ensures) (c .before .before .put-count .ensures))
 
 pub put-head-spec : {M : Type 1} → statement M
 put-head-spec =

@@ -6,6 +6,11 @@ use borrow.Author.Needs.{needs}
 use Rattle.keys.proofs.sink.put_pair.Statement.{statement}
 use Rattle.keys.proofs.sink.put_pair.Tie as tie
 
+-- with both put
+module _ (c : tie.After-slice-known3) where
+  abbrev first : tie.After-put-leaf
+  first = c .before .before .before .before .before .before .before
+
 put-leaf-requires : tie.Need-put-leaf-requires
 put-leaf-requires c κs = search needs
 
@@ -26,15 +31,15 @@ put-leaf-requires-2 c κs = search needs
 
 add-result : tie.Need-add-result
 unfolding bytes leaf
-add-result c = record { fits = omega (arith, c .before .before .put-leaf2 .ensures .many, c .before .before .before .before .before .before .before .put-leaf .ensures .many) }
+add-result c = record { fits = omega (arith, c .before .before .put-leaf2 .ensures .many, first c .put-leaf .ensures .many) }
 
 same-length : tie.Need-same-length
 same-length c = search needs
 
 returns : tie.Need-returns
 returns c =
-    let a = c .before .before .before .before .before .before .before .before .before .before .args in
-    put-then (leaf (a .a)) (leaf (a .b)) (c .before .before .before .before .before .before .before .put-leaf .ensures) (put-rest (leaf (a .b)) _ _ _ (c .before .before .before .before .least .ensures) (c .before .before .put-leaf2 .ensures))
+    let a = first c .before .before .before .args in
+    put-then (leaf (a .a)) (leaf (a .b)) (first c .put-leaf .ensures) (put-rest (leaf (a .b)) _ _ _ (c .before .before .before .before .least .ensures) (c .before .before .put-leaf2 .ensures))
 
 pub put-pair-spec : {M : Type 1} → statement M
 put-pair-spec =

@@ -6,6 +6,11 @@ use borrow.Author.Needs.{needs}
 use Rattle.keys.proofs.sink.put_store_number.Statement.{statement}
 use Rattle.keys.proofs.sink.put_store_number.Tie as tie
 
+-- with both put
+module _ (c : tie.After-slice-known3) where
+  abbrev first : tie.After-put-tag
+  first = c .before .before .before .before .before .before .before
+
 put-tag-requires : tie.Need-put-tag-requires
 put-tag-requires c κs = search needs
 
@@ -26,7 +31,7 @@ put-leaf-requires c κs = search needs
 
 add-result : tie.Need-add-result
 unfolding bytes tag leaf nameBytes
-add-result c = record { fits = omega (arith, c .before .before .put-leaf .ensures .many, c .before .before .before .before .before .before .before .put-tag .ensures .many) }
+add-result c = record { fits = omega (arith, c .before .before .put-leaf .ensures .many, first c .put-tag .ensures .many) }
 
 same-length : tie.Need-same-length
 same-length c = search needs
@@ -34,8 +39,8 @@ same-length c = search needs
 returns : tie.Need-returns
 unfolding nameBytes
 returns c =
-    let a = c .before .before .before .before .before .before .before .before .before .before .args in
-    put-then (tag 1) (leaf (a .n)) (c .before .before .before .before .before .before .before .put-tag .ensures) (put-rest (leaf (a .n)) _ _ _ (c .before .before .before .before .least .ensures) (c .before .before .put-leaf .ensures))
+    let a = first c .before .before .before .args in
+    put-then (tag 1) (leaf (a .n)) (first c .put-tag .ensures) (put-rest (leaf (a .n)) _ _ _ (c .before .before .before .before .least .ensures) (c .before .before .put-leaf .ensures))
 
 pub put-store-number-spec : {M : Type 1} → statement M
 put-store-number-spec =

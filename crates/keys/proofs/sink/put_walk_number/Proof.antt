@@ -6,6 +6,11 @@ use borrow.Author.Needs.{needs}
 use Rattle.keys.proofs.sink.put_walk_number.Statement.{statement}
 use Rattle.keys.proofs.sink.put_walk_number.Tie as tie
 
+-- with both put
+module _ (c : tie.After-slice-known3) where
+  abbrev first : tie.After-put-tag
+  first = c .before .before .before .before .before .before .before
+
 put-tag-requires : tie.Need-put-tag-requires
 put-tag-requires c κs = search needs
 
@@ -26,7 +31,7 @@ put-count-requires c κs = search needs
 
 add-result : tie.Need-add-result
 unfolding bytes tag count nameBytes
-add-result c = record { fits = omega (arith, c .before .before .put-count .ensures .many, c .before .before .before .before .before .before .before .put-tag .ensures .many) }
+add-result c = record { fits = omega (arith, c .before .before .put-count .ensures .many, first c .put-tag .ensures .many) }
 
 same-length : tie.Need-same-length
 same-length c = search needs
@@ -34,8 +39,8 @@ same-length c = search needs
 returns : tie.Need-returns
 unfolding nameBytes
 returns c =
-    let a = c .before .before .before .before .before .before .before .before .before .before .args in
-    put-then (tag 0) (count (a .n)) (c .before .before .before .before .before .before .before .put-tag .ensures) (put-rest (count (a .n)) _ _ _ (c .before .before .before .before .least .ensures) (c .before .before .put-count .ensures))
+    let a = first c .before .before .before .args in
+    put-then (tag 0) (count (a .n)) (first c .put-tag .ensures) (put-rest (count (a .n)) _ _ _ (c .before .before .before .before .least .ensures) (c .before .before .put-count .ensures))
 
 pub put-walk-number-spec : {M : Type 1} → statement M
 put-walk-number-spec =

@@ -7,7 +7,6 @@ use mathlib.Core.Path.{_≡_, refl, sym, ap₂, subst, _∙_}
 use Rattle.rules.specs.Lists.{concatMap}
 use Rattle.rules.specs.Store.{Store, opsOf, regionsOf}
 use Rattle.rules.specs.Fragments.{Step}
-use Rattle.rules.specs.Shells as rules
 use Rattle.layout.specs.Columns.{Cols, columns}
 use Rattle.layout.specs.Reading.{opCount, blockCount, regionCount, storeIn}
 use Rattle.layout.proofs.Laid.{Laid, laid-facts}
@@ -15,7 +14,7 @@ use Rattle.layout.proofs.Ranges.{range, regions-range, in-range}
 use Rattle.layout.proofs.Seeking.{NextChild, none-next, next-op}
 use Rattle.layout.proofs.children.next_op.Reads as next-op-reads
 use Rattle.layout.proofs.columns.number.Reads as number-reads
-use Rattle.fragments.specs.Ignoring.{ignoreOf}
+use Rattle.fragments.specs.Options.{Options, optionsOf}
 use Rattle.fragments.specs.Order.{blockList, BlocksExist}
 use Rattle.fragments.specs.declared.types.Blocks.the-variants.{InRegion, Alone}
 use Rattle.fragments.proofs.Ordered.{next-in-list, block-in, op-in}
@@ -47,32 +46,32 @@ use Rattle.keys.proofs.walk.+put_blocks_full+put_op_full+put_ops_full.T
 
 -- ---- what falls, and what the three ask of one another where it has fallen to t
 
-abbrev μ-blocks : Measures 3 blocks-kinds.ps ℕ
-μ-blocks κs a = 3 * below (storeIn (a .0 .now)) (aroundList (storeIn (a .0 .now)) (a .1 .1 .1 .0)) + 1
+abbrev μ-blocks : Measures 4 blocks-kinds.ps ℕ
+μ-blocks κs a = 3 * below (storeIn (a .0 .now)) (aroundList (storeIn (a .0 .now)) (a .1 .1 .1 .1 .0)) + 1
 
-abbrev μ-ops : Measures 3 ops-kinds.ps ℕ
-μ-ops κs a = 3 * below (storeIn (a .0 .now)) (aroundList (storeIn (a .0 .now)) (Alone (a .1 .1 .1 .0)))
+abbrev μ-ops : Measures 4 ops-kinds.ps ℕ
+μ-ops κs a = 3 * below (storeIn (a .0 .now)) (aroundList (storeIn (a .0 .now)) (Alone (a .1 .1 .1 .1 .0)))
 
-abbrev μ-op : Measures 3 op-kinds.ps ℕ
-μ-op κs a = 3 * below (storeIn (a .0 .now)) (a .1 .1 .1 .0) + 2
+abbrev μ-op : Measures 4 op-kinds.ps ℕ
+μ-op κs a = 3 * below (storeIn (a .0 .now)) (a .1 .1 .1 .1 .0) + 2
 
-abbrev blocks-at : ℕ → In 3 blocks-kinds.ps
-blocks-at t = and 3 blocks-kinds.ps (is 3 blocks-kinds.ps μ-blocks t) blocks.Pre
+abbrev blocks-at : ℕ → In 4 blocks-kinds.ps
+blocks-at t = and 4 blocks-kinds.ps (is 4 blocks-kinds.ps μ-blocks t) blocks.Pre
 
-abbrev blocks-below : ℕ → In 3 blocks-kinds.ps
-blocks-below t = and 3 blocks-kinds.ps (falls 3 blocks-kinds.ps _<_ μ-blocks t) blocks.Pre
+abbrev blocks-below : ℕ → In 4 blocks-kinds.ps
+blocks-below t = and 4 blocks-kinds.ps (falls 4 blocks-kinds.ps _<_ μ-blocks t) blocks.Pre
 
-abbrev ops-at : ℕ → In 3 ops-kinds.ps
-ops-at t = and 3 ops-kinds.ps (is 3 ops-kinds.ps μ-ops t) ops.Pre
+abbrev ops-at : ℕ → In 4 ops-kinds.ps
+ops-at t = and 4 ops-kinds.ps (is 4 ops-kinds.ps μ-ops t) ops.Pre
 
-abbrev ops-below : ℕ → In 3 ops-kinds.ps
-ops-below t = and 3 ops-kinds.ps (falls 3 ops-kinds.ps _<_ μ-ops t) ops.Pre
+abbrev ops-below : ℕ → In 4 ops-kinds.ps
+ops-below t = and 4 ops-kinds.ps (falls 4 ops-kinds.ps _<_ μ-ops t) ops.Pre
 
-abbrev op-at : ℕ → In 3 op-kinds.ps
-op-at t = and 3 op-kinds.ps (is 3 op-kinds.ps μ-op t) op.Pre
+abbrev op-at : ℕ → In 4 op-kinds.ps
+op-at t = and 4 op-kinds.ps (is 4 op-kinds.ps μ-op t) op.Pre
 
-abbrev op-below : ℕ → In 3 op-kinds.ps
-op-below t = and 3 op-kinds.ps (falls 3 op-kinds.ps _<_ μ-op t) op.Pre
+abbrev op-below : ℕ → In 4 op-kinds.ps
+op-below t = and 4 op-kinds.ps (falls 4 op-kinds.ps _<_ μ-op t) op.Pre
 
 abbrev blocks-calls : ℕ → blocks-lts.Claims
 blocks-calls t = (
@@ -114,27 +113,27 @@ op-calls t = (
 
 -- pass 3: the blocks that are left, and in a block the operations
 abbrev Inv-blocks : blocks-lts.InvT-loop
-Inv-blocks store numbers₀ key₀ blocks ignore first second at₀ from₀ numbers key at from =
-    Passing (keyWalk (storeIn store) (ignoreOf ignore)) (concatMap (opsInFull (storeIn store))) (blockList (storeIn store) blocks) from (upTo numbers₀ key₀ at₀) (upTo numbers key at)
+Inv-blocks store types numbers₀ key₀ blocks ignore first second at₀ from₀ numbers key at from =
+    Passing (keyWalk (storeIn store) (optionsOf ignore types)) (concatMap (opsInFull (storeIn store))) (blockList (storeIn store) blocks) from (upTo numbers₀ key₀ at₀) (upTo numbers key at)
 
 abbrev left-blocks : blocks-lts.MeasureT-loop
-left-blocks store numbers₀ key₀ blocks ignore first second at₀ from₀ numbers key at from = 256 - from
+left-blocks store types numbers₀ key₀ blocks ignore first second at₀ from₀ numbers key at from = 256 - from
 
 abbrev Inv-ops : ops-lts.InvT-loop
-Inv-ops store numbers₀ key₀ b ignore at₀ from₀ numbers key at from =
-    Passing (keyWalk (storeIn store) (ignoreOf ignore)) (concatMap (fullSteps (storeIn store))) (opsOf (storeIn store) b) from (upTo numbers₀ key₀ at₀) (upTo numbers key at)
+Inv-ops store types numbers₀ key₀ b ignore at₀ from₀ numbers key at from =
+    Passing (keyWalk (storeIn store) (optionsOf ignore types)) (concatMap (fullSteps (storeIn store))) (opsOf (storeIn store) b) from (upTo numbers₀ key₀ at₀) (upTo numbers key at)
 
 abbrev left-ops : ops-lts.MeasureT-loop
-left-ops store numbers₀ key₀ b ignore at₀ from₀ numbers key at from = 512 - from
+left-ops store types numbers₀ key₀ b ignore at₀ from₀ numbers key at from = 512 - from
 
 -- an operation's regions: those that are left
 abbrev Inv-op : op-lts.InvT-loop
-Inv-op store numbers₀ key₀ n ignore at₀ end r₀ numbers key at r =
+Inv-op store types numbers₀ key₀ n ignore at₀ end r₀ numbers key at r =
     (r₀ ≤ r)
-    × Partly (keyWalk (storeIn store) (ignoreOf ignore)) (concatMap (inRegion (storeIn store)) (range r₀ end)) (concatMap (inRegion (storeIn store)) (range r end)) (upTo numbers₀ key₀ at₀) (upTo numbers key at)
+    × Partly (keyWalk (storeIn store) (optionsOf ignore types)) (concatMap (inRegion (storeIn store)) (range r₀ end)) (concatMap (inRegion (storeIn store)) (range r end)) (upTo numbers₀ key₀ at₀) (upTo numbers key at)
 
 abbrev left-op : op-lts.MeasureT-loop
-left-op store numbers₀ key₀ n ignore at₀ end r₀ numbers key at r = end - r
+left-op store types numbers₀ key₀ n ignore at₀ end r₀ numbers key at r = end - r
 
 module _ (t : ℕ) where
   -- ---- a list of blocks
@@ -143,19 +142,31 @@ module _ (t : ℕ) where
     abbrev store : Store
     store = storeIn (s .args .store .now)
 
-    abbrev rule : rules.Ignore
-    rule = ignoreOf (s .args .ignore)
+    abbrev options : Options
+    options = optionsOf (s .args .ignore) (s .args .types .now)
 
     abbrev walk : StepRelation Place
-    walk = keyWalk store rule
+    walk = keyWalk store options
 
     abbrev list : List ℕ
     list = blockList store (s .args .blocks)
 
+  -- behind the first pass, and behind the second
+  module _ (c : blocks-lts.After-slice-known2 (blocks-calls t) (blocks-at t) blocks.Post Inv-blocks left-blocks) where
+    abbrev first-begun : blocks-lts.Start (blocks-calls t) (blocks-at t) blocks.Post Inv-blocks left-blocks
+    first-begun = c .before .before .before .before .before .before .before .before
+
+  module _ (c : blocks-lts.After-slice-known3 (blocks-calls t) (blocks-at t) blocks.Post Inv-blocks left-blocks) where
+    abbrev shelled : blocks-lts.After-slice-known2 (blocks-calls t) (blocks-at t) blocks.Post Inv-blocks left-blocks
+    shelled = c .before .before .before .before .before .before
+
   -- in the loop, with a block found
   module _ (c : blocks-lts.After-known-told (blocks-calls t) (blocks-at t) blocks.Post Inv-blocks left-blocks) where
+    abbrev second : blocks-lts.After-slice-known3 (blocks-calls t) (blocks-at t) blocks.Post Inv-blocks left-blocks
+    second = c .before .before .before .before .before
+
     abbrev blocks-begun : blocks-lts.Start (blocks-calls t) (blocks-at t) blocks.Post Inv-blocks left-blocks
-    blocks-begun = c .before .before .before .before .before .before .before .before .before .before .before .before .before .before .before .before .before .before
+    blocks-begun = first-begun (shelled second)
 
     abbrev b : ℕ
     b = c .before .b .given .0 .0
@@ -167,28 +178,29 @@ module _ (t : ℕ) where
     block-here = block-in (columns (blocks-begun .args .store .now)) (blocks-begun .args .blocks) b (blocks-begun .pre .1 .1 .0) (block-found .child)
 
     block-few : b < 256
-    block-few = omega (arith, block-here, laid-facts (columns (blocks-begun .args .store .now)) (blocks-begun .pre .1 .0 .laid) .counts .blocks)
+    block-few = omega (arith, block-here, laid-facts (columns (blocks-begun .args .store .now)) (blocks-begun .pre .1 .0 .sound .laid) .counts .blocks)
 
-    block-room : let m = c .before .before .before .before .loop in KeyFits (store blocks-begun) (rule blocks-begun) (opsInFull (store blocks-begun) b) (upTo (m .numbers) (m .key) (m .at))
+    block-room : let m = c .before .before .before .before .loop in KeyFits (store blocks-begun) (options blocks-begun) (opsInFull (store blocks-begun) b) (upTo (m .numbers) (m .key) (m .at))
     block-room =
         let s = blocks-begun in
         let S = store s in
         let m = c .before .before .before .before .loop in
         pass-room (walk s) (each (opsInFull S)) (list s) (m .from) (m .inv) block-found
-        (third-room (walk s) S (list s) (c .before .before .before .before .before .before .before .before .before .before .before .before .before .put-block-shells .ensures) (wrote-lent S (rule s) (secondPass S (list s)) _ _ _ (c .before .before .before .before .before .before .before .before .before .before .least .ensures) (c .before .before .before .before .before .before .before .put-op-shells .ensures)) (s .pre .1 .1 .1))
+        (third-room (walk s) S (list s) (shelled second .before .before .put-block-shells .ensures) (wrote-lent S (options s) (secondPass S (list s)) _ _ _ (second .before .before .before .before .before .least .ensures) (second .before .before .put-op-shells .ensures)) (s .pre .1 .1 .1))
 
   -- with none left
-  blocks-done : (c : blocks-lts.After-enum-told (blocks-calls t) (blocks-at t) blocks.Post Inv-blocks left-blocks) → let s = c .before .before .before .before .before .before .before .before .before .before .before .before .before .before .before .before .before in let m = c .before .before .before .loop in Wrote (store s) (rule s) (listedSteps (store s) (list s)) (from (s .args .numbers .now) (s .args .key .now)) (upTo (m .numbers) (m .key) (m .at))
+  blocks-done : (c : blocks-lts.After-enum-told (blocks-calls t) (blocks-at t) blocks.Post Inv-blocks left-blocks) → let s = first-begun (shelled (c .before .before .before .before)) in let m = c .before .before .before .loop in Wrote (store s) (options s) (listedSteps (store s) (list s)) (from (s .args .numbers .now) (s .args .key .now)) (upTo (m .numbers) (m .key) (m .at))
   blocks-done c =
-      let s = c .before .before .before .before .before .before .before .before .before .before .before .before .before .before .before .before .before in
+      let p = c .before .before .before .before in
+      let s = first-begun (shelled p) in
       let S = store s in
       let m = c .before .before .before .loop in
-      passes-done (walk s) S (list s) (c .before .before .before .before .before .before .before .before .before .before .before .before .put-block-shells .ensures) (wrote-lent S (rule s) (secondPass S (list s)) _ _ _ (c .before .before .before .before .before .before .before .before .before .least .ensures) (c .before .before .before .before .before .before .put-op-shells .ensures))
+      passes-done (walk s) S (list s) (shelled p .before .before .put-block-shells .ensures) (wrote-lent S (options s) (secondPass S (list s)) _ _ _ (p .before .before .before .before .before .least .ensures) (p .before .before .put-op-shells .ensures))
       (pass-over (walk s) (each (opsInFull S)) (list s) (m .from) (m .inv) (none-next (m .from) (list s) _ (c .before .before .next-in .ensures) (c .enum-told .given .1)))
 
   blocks-put-block-shells-requires : blocks-lts.Need-put-block-shells-requires (blocks-calls t) (blocks-at t) blocks.Post Inv-blocks left-blocks
   blocks-put-block-shells-requires c κs =
-      let s = c .before .before .before .before in
+      let s = c .before .before .before .before .before in
       let p = s .pre .1 in
       (p .0, (p .1 .0, first-room (walk s) (store s) (list s) (p .1 .1)))
 
@@ -206,24 +218,26 @@ module _ (t : ℕ) where
 
   blocks-put-op-shells-requires : blocks-lts.Need-put-op-shells-requires (blocks-calls t) (blocks-at t) blocks.Post Inv-blocks left-blocks
   blocks-put-op-shells-requires c κs =
-      let s = c .before .before .before .before .before .before .before .before .before .before in
-      let p = s .pre .1 in
-      (p .0, (p .1 .0, fits-lent (store s) (rule s) (secondPass (store s) (list s)) (second-room (walk s) (store s) (list s) (c .before .before .before .before .before .put-block-shells .ensures) (p .1 .1))))
+      let p = c .before .before .before in
+      let s = first-begun p in
+      let h = s .pre .1 in
+      (h .0, (h .1 .0, fits-lent (store s) (options s) (secondPass (store s) (list s)) (second-room (walk s) (store s) (list s) (p .before .before .put-block-shells .ensures) (h .1 .1))))
 
   blocks-add-at : blocks-lts.Need-add-at (blocks-calls t) (blocks-at t) blocks.Post Inv-blocks left-blocks
   blocks-add-at c =
-      let s = c .before .before .before .before .before .before .before .before .before .before .before .before .before in
-      record { fits = omega (arith, lent-short (store s) (rule s) (secondPass (store s) (list s)) (second-room (walk s) (store s) (list s) (c .before .before .before .before .before .before .before .before .put-block-shells .ensures) (s .pre .1 .1 .1)) (c .before .before .put-op-shells .ensures)) }
+      let p = shelled c in
+      let s = first-begun p in
+      record { fits = omega (arith, lent-short (store s) (options s) (secondPass (store s) (list s)) (second-room (walk s) (store s) (list s) (p .before .before .put-block-shells .ensures) (s .pre .1 .1 .1)) (c .before .before .put-op-shells .ensures)) }
 
   blocks-loop-holds : blocks-lts.Need-loop-holds (blocks-calls t) (blocks-at t) blocks.Post Inv-blocks left-blocks
   blocks-loop-holds c =
-      let s = c .before .before .before .before .before .before .before .before .before .before .before .before .before in
+      let s = first-begun (shelled c) in
       pass-begun (walk s) (each (opsInFull (store s))) (list s)
 
   blocks-next-in-requires : blocks-lts.Need-next-in-requires (blocks-calls t) (blocks-at t) blocks.Post Inv-blocks left-blocks
   blocks-next-in-requires c κs =
-      let p = c .before .before .before .before .before .before .before .before .before .before .before .before .before .before .pre .1 in
-      (p .0, p .1 .0)
+      let p = first-begun (shelled (c .before)) .pre .1 in
+      (p .0 .sound, p .1 .0)
 
   blocks-enum-known-b : blocks-lts.Need-enum-known-b (blocks-calls t) (blocks-at t) blocks.Post Inv-blocks left-blocks
   blocks-enum-known-b c = search needs
@@ -233,8 +247,8 @@ module _ (t : ℕ) where
 
   blocks-same-length : blocks-lts.Need-same-length (blocks-calls t) (blocks-at t) blocks.Post Inv-blocks left-blocks
   blocks-same-length c =
-      let s = c .before .before .before .before .before .before .before .before .before .before .before .before .before .before .before .before .before in
-      wrote-long (store s) (rule s) _ _ (s .pre .1 .1 .1) (blocks-done c)
+      let s = first-begun (shelled (c .before .before .before .before)) in
+      wrote-long (store s) (options s) _ _ (s .pre .1 .1 .1) (blocks-done c)
 
   blocks-returns : blocks-lts.Need-returns (blocks-calls t) (blocks-at t) blocks.Post Inv-blocks left-blocks
   blocks-returns c = blocks-done c
@@ -260,14 +274,14 @@ module _ (t : ℕ) where
       let same : aroundList S (Alone (b f)) ≡ aroundList S (s .args .blocks) = around-block S (s .args .blocks) (b f) (block-found f .child) in
       let falls : 3 * below S (aroundList S (Alone (b f))) < 3 * below S (aroundList S (s .args .blocks)) + 1 = omega arith in (
         subst (λ (j : ℕ). 3 * below S (aroundList S (Alone (b f))) < j) (s .pre .0) falls,
-        (p .0, (block-here f, fits-lent S (rule s) (opsInFull S (b f)) (block-room f))),
+        (p .0, (block-here f, fits-lent S (options s) (opsInFull S (b f)) (block-room f))),
       )
 
   blocks-add-at-2 : blocks-lts.Need-add-at-2 (blocks-calls t) (blocks-at t) blocks.Post Inv-blocks left-blocks
   blocks-add-at-2 c =
       let f = c .before .before .before .before .before .before in
       let s = blocks-begun f in
-      record { fits = omega (arith, lent-short (store s) (rule s) (opsInFull (store s) (b f)) (block-room f) (c .before .before .put-ops-full .ensures)) }
+      record { fits = omega (arith, lent-short (store s) (options s) (opsInFull (store s) (b f)) (block-room f) (c .before .before .put-ops-full .ensures)) }
 
   blocks-add-from : blocks-lts.Need-add-from (blocks-calls t) (blocks-at t) blocks.Post Inv-blocks left-blocks
   blocks-add-from c = record { fits = omega (arith, block-few (c .before .before .before .before .before .before)) }
@@ -282,8 +296,8 @@ module _ (t : ℕ) where
       let least2 = c .before .before .before .before .before .least2 in
       let f = c .before .before .before .before .before .before in
       let s = blocks-begun f in
-      let m = c .before .before .before .before .before .before .before .before .before .before .loop in
-      pass-again (walk s) (each (opsInFull (store s))) (list s) (m .from) (m .inv) (block-found f) (wrote-lent (store s) (rule s) (opsInFull (store s) (b f)) (m .key) (m .at) (least2 .result) (least2 .ensures) (c .before .before .put-ops-full .ensures))
+      let m = f .before .before .before .before .loop in
+      pass-again (walk s) (each (opsInFull (store s))) (list s) (m .from) (m .inv) (block-found f) (wrote-lent (store s) (options s) (opsInFull (store s) (b f)) (m .key) (m .at) (least2 .result) (least2 .ensures) (c .before .before .put-ops-full .ensures))
 
   -- ---- the operations of a block
 
@@ -291,11 +305,11 @@ module _ (t : ℕ) where
     abbrev ops-store : Store
     ops-store = storeIn (s .args .store .now)
 
-    abbrev ops-rule : rules.Ignore
-    ops-rule = ignoreOf (s .args .ignore)
+    abbrev ops-options : Options
+    ops-options = optionsOf (s .args .ignore) (s .args .types .now)
 
     abbrev ops-walk : StepRelation Place
-    ops-walk = keyWalk ops-store ops-rule
+    ops-walk = keyWalk ops-store ops-options
 
     abbrev ops-list : List ℕ
     ops-list = opsOf ops-store (s .args .b)
@@ -303,7 +317,7 @@ module _ (t : ℕ) where
   -- in the loop, with an operation found
   module _ (c : ops-lts.After-known-told (ops-calls t) (ops-at t) ops.Post Inv-ops left-ops) where
     abbrev ops-begun : ops-lts.Start (ops-calls t) (ops-at t) ops.Post Inv-ops left-ops
-    ops-begun = c .before .before .before .before .before .before .before
+    ops-begun = c .before .before .before .before .before .before .before .before
 
     abbrev n : ℕ
     n = c .before .n .given .0 .0
@@ -315,31 +329,31 @@ module _ (t : ℕ) where
     op-here = op-in (columns (ops-begun .args .store .now)) (ops-begun .args .b) n (op-found .child)
 
     op-few : n < 512
-    op-few = omega (arith, op-here, laid-facts (columns (ops-begun .args .store .now)) (ops-begun .pre .1 .0 .laid) .counts .ops)
+    op-few = omega (arith, op-here, laid-facts (columns (ops-begun .args .store .now)) (ops-begun .pre .1 .0 .sound .laid) .counts .ops)
 
-    op-room : let m = c .before .before .before .before .loop in KeyFits (ops-store ops-begun) (ops-rule ops-begun) (fullSteps (ops-store ops-begun) n) (upTo (m .numbers) (m .key) (m .at))
+    op-room : let m = c .before .before .before .before .loop in KeyFits (ops-store ops-begun) (ops-options ops-begun) (fullSteps (ops-store ops-begun) n) (upTo (m .numbers) (m .key) (m .at))
     unfolding opsInFull
     op-room =
         let m = c .before .before .before .before .loop in
         pass-room (ops-walk ops-begun) (each (fullSteps (ops-store ops-begun))) (ops-list ops-begun) (m .from) (m .inv) op-found (ops-begun .pre .1 .1 .1)
 
   -- with none left
-  ops-done : (c : ops-lts.After-enum-told (ops-calls t) (ops-at t) ops.Post Inv-ops left-ops) → let s = c .before .before .before .before .before .before in let m = c .before .before .before .loop in Wrote (ops-store s) (ops-rule s) (opsInFull (ops-store s) (s .args .b)) (from (s .args .numbers .now) (s .args .key .now)) (upTo (m .numbers) (m .key) (m .at))
+  ops-done : (c : ops-lts.After-enum-told (ops-calls t) (ops-at t) ops.Post Inv-ops left-ops) → let s = c .before .before .before .before .before .before .before in let m = c .before .before .before .loop in Wrote (ops-store s) (ops-options s) (opsInFull (ops-store s) (s .args .b)) (from (s .args .numbers .now) (s .args .key .now)) (upTo (m .numbers) (m .key) (m .at))
   unfolding opsInFull
   ops-done c =
-      let s = c .before .before .before .before .before .before in
+      let s = c .before .before .before .before .before .before .before in
       let m = c .before .before .before .loop in
       pass-over (ops-walk s) (each (fullSteps (ops-store s))) (ops-list s) (m .from) (m .inv) (none-next (m .from) (ops-list s) _ (c .before .before .next-op .ensures) (c .enum-told .given .1))
 
   ops-loop-holds : ops-lts.Need-loop-holds (ops-calls t) (ops-at t) ops.Post Inv-ops left-ops
   ops-loop-holds c =
-      let s = c .before .before in
+      let s = c .before .before .before in
       pass-begun (ops-walk s) (each (fullSteps (ops-store s))) (ops-list s)
 
   ops-next-op-requires : ops-lts.Need-next-op-requires (ops-calls t) (ops-at t) ops.Post Inv-ops left-ops
   ops-next-op-requires c κs =
-      let p = c .before .before .before .pre .1 in
-      (record { sized = p .0 .sized; laid = p .0 .laid }, p .1 .0)
+      let p = c .before .before .before .before .pre .1 in
+      (record { sized = p .0 .sound .sized; laid = p .0 .sound .laid }, p .1 .0)
 
   ops-enum-known-n : ops-lts.Need-enum-known-n (ops-calls t) (ops-at t) ops.Post Inv-ops left-ops
   ops-enum-known-n c = search needs
@@ -349,8 +363,8 @@ module _ (t : ℕ) where
 
   ops-same-length : ops-lts.Need-same-length (ops-calls t) (ops-at t) ops.Post Inv-ops left-ops
   ops-same-length c =
-      let s = c .before .before .before .before .before .before in
-      wrote-long (ops-store s) (ops-rule s) _ _ (s .pre .1 .1 .1) (ops-done c)
+      let s = c .before .before .before .before .before .before .before in
+      wrote-long (ops-store s) (ops-options s) _ _ (s .pre .1 .1 .1) (ops-done c)
 
   ops-returns : ops-lts.Need-returns (ops-calls t) (ops-at t) ops.Post Inv-ops left-ops
   ops-returns c = ops-done c
@@ -374,17 +388,17 @@ module _ (t : ℕ) where
       let s = ops-begun f in
       let S = ops-store s in
       let p = s .pre .1 in
-      let fewer : below S (n f) < below S (aroundList S (Alone (s .args .b))) = op-falls S (p .0 .ruled) (Alone (s .args .b)) (s .args .b) (n f) (List·Memᴰ·head refl) (op-found f .child) in
+      let fewer : below S (n f) < below S (aroundList S (Alone (s .args .b))) = op-falls S (p .0 .sound .ruled) (Alone (s .args .b)) (s .args .b) (n f) (List·Memᴰ·head refl) (op-found f .child) in
       let falls : 3 * below S (n f) + 2 < 3 * below S (aroundList S (Alone (s .args .b))) = omega arith in (
         subst (λ (j : ℕ). 3 * below S (n f) + 2 < j) (s .pre .0) falls,
-        (p .0, (op-here f, fits-lent S (ops-rule s) (fullSteps S (n f)) (op-room f))),
+        (p .0, (op-here f, fits-lent S (ops-options s) (fullSteps S (n f)) (op-room f))),
       )
 
   ops-add-at : ops-lts.Need-add-at (ops-calls t) (ops-at t) ops.Post Inv-ops left-ops
   ops-add-at c =
       let f = c .before .before .before .before .before .before in
       let s = ops-begun f in
-      record { fits = omega (arith, lent-short (ops-store s) (ops-rule s) (fullSteps (ops-store s) (n f)) (op-room f) (c .before .before .put-op-full .ensures)) }
+      record { fits = omega (arith, lent-short (ops-store s) (ops-options s) (fullSteps (ops-store s) (n f)) (op-room f) (c .before .before .put-op-full .ensures)) }
 
   ops-add-from : ops-lts.Need-add-from (ops-calls t) (ops-at t) ops.Post Inv-ops left-ops
   ops-add-from c = record { fits = omega (arith, op-few (c .before .before .before .before .before .before)) }
@@ -399,8 +413,8 @@ module _ (t : ℕ) where
       let least = c .before .before .before .before .before .least in
       let f = c .before .before .before .before .before .before in
       let s = ops-begun f in
-      let m = c .before .before .before .before .before .before .before .before .before .before .loop in
-      pass-again (ops-walk s) (each (fullSteps (ops-store s))) (ops-list s) (m .from) (m .inv) (op-found f) (wrote-lent (ops-store s) (ops-rule s) (fullSteps (ops-store s) (n f)) (m .key) (m .at) (least .result) (least .ensures) (c .before .before .put-op-full .ensures))
+      let m = f .before .before .before .before .loop in
+      pass-again (ops-walk s) (each (fullSteps (ops-store s))) (ops-list s) (m .from) (m .inv) (op-found f) (wrote-lent (ops-store s) (ops-options s) (fullSteps (ops-store s) (n f)) (m .key) (m .at) (least .result) (least .ensures) (c .before .before .put-op-full .ensures))
 
   -- ---- an operation
 
@@ -411,28 +425,38 @@ module _ (t : ℕ) where
     abbrev op-store : Store
     op-store = storeIn (s .args .store .now)
 
-    abbrev op-rule : rules.Ignore
-    op-rule = ignoreOf (s .args .ignore)
+    abbrev op-options : Options
+    op-options = optionsOf (s .args .ignore) (s .args .types .now)
 
     abbrev op-walk : StepRelation Place
-    op-walk = keyWalk op-store op-rule
+    op-walk = keyWalk op-store op-options
 
     laid : Laid cols
-    laid = laid-facts cols (s .pre .1 .0 .laid)
+    laid = laid-facts cols (s .pre .1 .0 .sound .laid)
 
     small : s .args .n < 512
     small = omega (arith, laid .counts .ops, s .pre .1 .1 .0)
 
-  -- with its regions known: the range that the loop goes through
-  regions : (c : op-lts.After-number2 (op-calls t) (op-at t) op.Post Inv-op left-op) → let s = c .before .before .before .before .before .before .before .before .before in regionsOf (op-store s) (s .args .n) ≡ range (c .number2 .result) (c .before .number .result)
+  -- behind its names
+  module _ (c : op-lts.After-slice-known2 (op-calls t) (op-at t) op.Post Inv-op left-op) where
+    abbrev op-first : op-lts.Start (op-calls t) (op-at t) op.Post Inv-op left-op
+    op-first = c .before .before .before .before .before .before .before .before
+
+  -- with its regions known
+  module _ (c : op-lts.After-number2 (op-calls t) (op-at t) op.Post Inv-op left-op) where
+    abbrev op-start : op-lts.Start (op-calls t) (op-at t) op.Post Inv-op left-op
+    op-start = op-first (c .before .before)
+
+  -- the range that the loop goes through
+  regions : (c : op-lts.After-number2 (op-calls t) (op-at t) op.Post Inv-op left-op) → let s = op-start c in regionsOf (op-store s) (s .args .n) ≡ range (c .number2 .result) (c .before .number .result)
   regions c =
-      let s = c .before .before .before .before .before .before .before .before .before in
+      let s = op-start c in
       regions-range (cols s) (laid s) (s .args .n) (s .pre .1 .1 .0) ∙ ap₂ range (sym (c .number2 .ensures)) (sym (c .before .number .ensures))
 
   -- in the loop, with a region left
   module _ (c : op-lts.In-loop (op-calls t) (op-at t) op.Post Inv-op left-op) where
     abbrev op-begun : op-lts.Start (op-calls t) (op-at t) op.Post Inv-op left-op
-    op-begun = c .before .before .before .before .before .before .before .before .before .before .before
+    op-begun = op-start (c .before .before)
 
     region-here : c .before .loop .r < regionCount (cols op-begun)
     region-here = omega (arith, c .loop-test .taken, c .before .before .before .number .ensures, laid op-begun .op (op-begun .args .n) (op-begun .pre .1 .1 .0) .regions .range .fits)
@@ -441,43 +465,43 @@ module _ (t : ℕ) where
     abbrev region-steps : List Step
     region-steps = listedSteps (op-store op-begun) (blockList (op-store op-begun) (InRegion (c .before .loop .r)))
 
-    region-room : let m = c .before .loop in KeyFits (op-store op-begun) (op-rule op-begun) region-steps (upTo (m .numbers) (m .key) (m .at))
+    region-room : let m = c .before .loop in KeyFits (op-store op-begun) (op-options op-begun) region-steps (upTo (m .numbers) (m .key) (m .at))
     region-room =
         let s = op-begun in
         let S = op-store s in
         let m = c .before .loop in
         let end = c .before .before .before .number .result in
-        let all = regions-room (op-walk s) S (s .args .n) (c .before .before .before .before .before .before .put-names .ensures (op-rule s)) (range (c .before .before .number2 .result) end) (regions (c .before .before)) (s .pre .1 .1 .1) in
+        let all = regions-room (op-walk s) S (s .args .n) (c .before .before .before .before .before .before .put-names .ensures (op-options s)) (range (c .before .before .number2 .result) end) (regions (c .before .before)) (s .pre .1 .1 .1) in
         let room = part-room (op-walk s) (m .inv .1) (inRegion S (m .r)) (concatMap (inRegion S) (range (m .r + 1) end)) (range-left (inRegion S) (m .r) end (c .loop-test .taken)) all in
-        subst (λ (xs : List Step). KeyFits S (op-rule s) xs (upTo (m .numbers) (m .key) (m .at))) (region-list S (s .pre .1 .0 .ruled) (m .r)) room
+        subst (λ (xs : List Step). KeyFits S (op-options s) xs (upTo (m .numbers) (m .key) (m .at))) (region-list S (s .pre .1 .0 .sound .ruled) (m .r)) room
 
   -- with none left
-  op-done : (c : op-lts.After-loop (op-calls t) (op-at t) op.Post Inv-op left-op) → let s = c .before .before .before .before .before .before .before .before .before .before .before in let m = c .before .loop in Wrote (op-store s) (op-rule s) (fullSteps (op-store s) (s .args .n)) (from (s .args .numbers .now) (s .args .key .now)) (upTo (m .numbers) (m .key) (m .at))
+  op-done : (c : op-lts.After-loop (op-calls t) (op-at t) op.Post Inv-op left-op) → let s = op-start (c .before .before) in let m = c .before .loop in Wrote (op-store s) (op-options s) (fullSteps (op-store s) (s .args .n)) (from (s .args .numbers .now) (s .args .key .now)) (upTo (m .numbers) (m .key) (m .at))
   op-done c =
-      let s = c .before .before .before .before .before .before .before .before .before .before .before in
+      let s = op-start (c .before .before) in
       let S = op-store s in
       let end = c .before .before .before .number .result in
       let m = c .before .loop in
-      full-done (op-walk s) S (s .args .n) (c .before .before .before .before .before .before .put-names .ensures (op-rule s)) (range (c .before .before .number2 .result) end) (regions (c .before .before))
+      full-done (op-walk s) S (s .args .n) (c .before .before .before .before .before .before .put-names .ensures (op-options s)) (range (c .before .before .number2 .result) end) (regions (c .before .before))
       (all-done (op-walk s) (m .inv .1) (range-over (inRegion S) (m .r) end (c .loop-test .left)))
 
   op-put-names-requires : op-lts.Need-put-names-requires (op-calls t) (op-at t) op.Post Inv-op left-op
   op-put-names-requires c κs =
-      let p = c .before .before .before .before .pre .1 in
-      (p .0, p .1 .0)
+      let p = c .before .before .before .before .before .pre .1 in
+      (p .0 .sound, p .1 .0)
 
   op-number-requires : op-lts.Need-number-requires (op-calls t) (op-at t) op.Post Inv-op left-op
   op-number-requires c κs =
-      let s = c .before .before .before .before .before .before .before in
-      (s .pre .1 .0 .sized, (omega arith, small s))
+      let s = op-first c in
+      (s .pre .1 .0 .sound .sized, (omega arith, small s))
 
   op-number-requires-2 : op-lts.Need-number-requires-2 (op-calls t) (op-at t) op.Post Inv-op left-op
   op-number-requires-2 c κs =
-      let s = c .before .before .before .before .before .before .before .before in
-      (s .pre .1 .0 .sized, (omega arith, small s))
+      let s = op-first (c .before) in
+      (s .pre .1 .0 .sound .sized, (omega arith, small s))
 
   op-loop-holds : op-lts.Need-loop-holds (op-calls t) (op-at t) op.Post Inv-op left-op
-  op-loop-holds c = (omega arith, none-done (op-walk (c .before .before .before .before .before .before .before .before .before)) _ _)
+  op-loop-holds c = (omega arith, none-done (op-walk (op-start c)) _ _)
 
   op-least-requires : op-lts.Need-least-requires (op-calls t) (op-at t) op.Post Inv-op left-op
   op-least-requires c κs = search needs
@@ -499,21 +523,21 @@ module _ (t : ℕ) where
       let p = s .pre .1 in
       let S = op-store s in
       let n = s .args .n in
-      let m = c .before .before .before .before .loop in
-      let first = c .before .before .before .before .before .number2 .result in
-      let end = c .before .before .before .before .before .before .number .result in
-      let inside = subst (List·Memᴰ (m .r)) (sym (regions (c .before .before .before .before .before))) (in-range first end (m .r) (m .inv .0) (c .before .before .before .loop-test .taken)) in
+      let m = f .before .loop in
+      let first = f .before .before .number2 .result in
+      let end = f .before .before .before .number .result in
+      let inside = subst (List·Memᴰ (m .r)) (sym (regions (f .before .before))) (in-range first end (m .r) (m .inv .0) (f .loop-test .taken)) in
       let around : aroundList S (InRegion (m .r)) ≡ n = around-region S n (m .r) inside in
       let falls : 3 * below S (aroundList S (InRegion (m .r))) + 1 < 3 * below S n + 2 = omega arith in (
         subst (λ (j : ℕ). 3 * below S (aroundList S (InRegion (m .r))) + 1 < j) (s .pre .0) falls,
-        (p .0, (region-here f, fits-lent S (op-rule s) (region-steps f) (region-room f))),
+        (p .0, (region-here f, fits-lent S (op-options s) (region-steps f) (region-room f))),
       )
 
   op-add-at : op-lts.Need-add-at (op-calls t) (op-at t) op.Post Inv-op left-op
   op-add-at c =
       let f = c .before .before .before .before .before .before in
       let s = op-begun f in
-      record { fits = omega (arith, lent-short (op-store s) (op-rule s) (region-steps f) (region-room f) (c .before .before .put-blocks-full .ensures)) }
+      record { fits = omega (arith, lent-short (op-store s) (op-options s) (region-steps f) (region-room f) (c .before .before .put-blocks-full .ensures)) }
 
   op-add-r : op-lts.Need-add-r (op-calls t) (op-at t) op.Post Inv-op left-op
   op-add-r c =
@@ -529,16 +553,16 @@ module _ (t : ℕ) where
       let f = c .before .before .before .before .before .before in
       let s = op-begun f in
       let S = op-store s in
-      let m = c .before .before .before .before .before .before .before .loop in
-      let end = c .before .before .before .before .before .before .before .before .before .number .result in
-      let lent = wrote-lent S (op-rule s) (region-steps f) (m .key) (m .at) (least .result) (least .ensures) (c .before .before .put-blocks-full .ensures) in
-      let one = wrote-as S (op-rule s) (sym (region-list S (s .pre .1 .0 .ruled) (m .r))) lent in
-      (omega (arith, m .inv .0), part-done (op-walk s) (m .inv .1) (inRegion S (m .r)) (concatMap (inRegion S) (range (m .r + 1) end)) (range-left (inRegion S) (m .r) end (c .before .before .before .before .before .before .loop-test .taken)) one)
+      let m = f .before .loop in
+      let end = f .before .before .before .number .result in
+      let lent = wrote-lent S (op-options s) (region-steps f) (m .key) (m .at) (least .result) (least .ensures) (c .before .before .put-blocks-full .ensures) in
+      let one = wrote-as S (op-options s) (sym (region-list S (s .pre .1 .0 .sound .ruled) (m .r))) lent in
+      (omega (arith, m .inv .0), part-done (op-walk s) (m .inv .1) (inRegion S (m .r)) (concatMap (inRegion S) (range (m .r + 1) end)) (range-left (inRegion S) (m .r) end (f .loop-test .taken)) one)
 
   op-same-length : op-lts.Need-same-length (op-calls t) (op-at t) op.Post Inv-op left-op
   op-same-length c =
-      let s = c .before .before .before .before .before .before .before .before .before .before .before in
-      wrote-long (op-store s) (op-rule s) _ _ (s .pre .1 .1 .1) (op-done c)
+      let s = op-start (c .before .before) in
+      wrote-long (op-store s) (op-options s) _ _ (s .pre .1 .1 .1) (op-done c)
 
   op-returns : op-lts.Need-returns (op-calls t) (op-at t) op.Post Inv-op left-op
   op-returns c = op-done c

@@ -42,6 +42,15 @@ impl<'a> Fields<'a> {
         (0..count).map(|_| self.number()).collect()
     }
 
+    /// All numbers that are left.
+    pub fn rest(&mut self) -> Option<Vec<u32>> {
+        let mut numbers = Vec::new();
+        while self.0.clone().next().is_some() {
+            numbers.push(self.number()?);
+        }
+        Some(numbers)
+    }
+
     /// Bytes in hexadecimal, two digits to a byte; none for an empty field.
     pub fn bytes(&mut self) -> Option<Vec<u8>> {
         let digits = self.word()?;

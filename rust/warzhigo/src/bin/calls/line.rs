@@ -75,6 +75,7 @@ pub enum Line {
         ignore: Ignore,
     },
     CompareBytes(Vec<u8>, Vec<u8>),
+    Types(Vec<u32>),
 }
 
 impl Line {
@@ -96,6 +97,7 @@ impl Line {
             "K" => Line::Key { sort: sort(f)?, number: f.number()?, ignore: f.ignore()?, room: f.number()? },
             "C" => Line::CompareKeys { sort: sort(f)?, lhs: f.number()?, rhs: f.number()?, ignore: f.ignore()? },
             "B" => Line::CompareBytes(f.bytes()?, f.bytes()?),
+            "T" => Line::Types(f.rest()?),
             _ => return None,
         };
         fields.end().map(|()| line)

@@ -17,6 +17,8 @@ pub const ENTRIES: [usize; 4] = [0, 2048, 2304, 2816];
 
 pub struct Replay {
     store: Vec<u32>,
+    /// The list of renamed types that every call is lent.
+    types: Vec<u32>,
     /// What the next comparison is lent.
     mapping: Vec<u32>,
     /// What the last accepted one left.
@@ -25,7 +27,7 @@ pub struct Replay {
 
 impl Default for Replay {
     fn default() -> Replay {
-        Replay { store: vec![0; lent::store_words()], mapping: empty(), left: empty() }
+        Replay { store: vec![0; lent::store_words()], types: Vec::new(), mapping: empty(), left: empty() }
     }
 }
 
@@ -68,6 +70,10 @@ impl Replay {
             }
             Line::CompareKeys { sort, lhs, rhs, ignore } => answered(self.compare_keys(*sort, (*lhs, *rhs), ignore)),
             Line::CompareBytes(lhs, rhs) => Some((compare_keys(lhs, rhs) as i8).to_string()),
+            Line::Types(words) => {
+                self.types.clone_from(words);
+                None
+            }
             Line::Sound => Some(if lent::is_sound(store) { "sound" } else { "unsound" }.to_string()),
         }
     }
@@ -80,7 +86,7 @@ impl Replay {
             Sort::Region => lent::region_eq,
         };
         let mut mapping = std::mem::replace(&mut self.mapping, empty());
-        let answer = call(&self.store, &mut mapping, lhs, rhs, ignore)?;
+        let answer = call(&self.store, &self.types, &mut mapping, lhs, rhs, ignore)?;
         self.left = mapping;
         Ok(answer)
     }
@@ -91,7 +97,7 @@ impl Replay {
             Sort::Block => lent::basic_block_hash,
             Sort::Region => lent::region_hash,
         };
-        call(&self.store, number, ignore)
+        call(&self.store, &self.types, number, ignore)
     }
 
     fn key(&self, sort: Sort, number: u32, ignore: &Ignore, key: &mut [u8]) -> Result<usize, Refused> {
@@ -100,7 +106,7 @@ impl Replay {
             Sort::Block => lent::basic_block_key,
             Sort::Region => lent::region_key,
         };
-        call(&self.store, number, ignore, key)
+        call(&self.store, &self.types, number, ignore, key)
     }
 
     fn compare_keys(&self, sort: Sort, (lhs, rhs): (u32, u32), ignore: &Ignore) -> Result<i8, Refused> {
