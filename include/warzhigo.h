@@ -50,6 +50,14 @@ typedef struct {
     uint32_t cause;
 } wz_key_answer;
 
+/* What the search for repeated runs answers. 0: the runs from `left` and from `right` on, counted from 0 in the block, are equal; 1: there are
+ * none; 2: refused, and `left` is the cause. */
+typedef struct {
+    uint32_t code;
+    uint32_t left;
+    uint32_t right;
+} wz_run_answer;
+
 /* What a building call answers. 0: `number` is the new one's; 1: accepted; 2: refused, and `number` is the cause. */
 typedef struct {
     uint32_t code;
@@ -219,6 +227,15 @@ wz_key_answer wz_known_region_key(const uint32_t *store, size_t words, const uin
 /* The length of that key, on a store known to be sound. There must be a region n; anything else is undefined behaviour. */
 size_t wz_known_region_key_length(const uint32_t *store, size_t words, const uint32_t *types, size_t type_words, uint32_t n,
                                   bool locations, uint64_t bits);
+
+/* Two runs of `length` operations of a block that are equal and don't overlap, the earlier one on the left: of all such pairs the one with the
+ * smallest right start, and then with the smallest left. Refused by 15 for a length of 0 or over 256. */
+wz_run_answer wz_repeated_run(const uint32_t *store, size_t words, const uint32_t *types, size_t type_words, uint32_t block,
+                              uint32_t length, bool locations, uint64_t bits);
+
+/* The same, on a store known to be sound. */
+wz_run_answer wz_known_repeated_run(const uint32_t *store, size_t words, const uint32_t *types, size_t type_words, uint32_t block,
+                                    uint32_t length, bool locations, uint64_t bits);
 
 /* Compares two keys byte by byte, a proper beginning first: -1, 0 or 1. Any bytes may be lent. */
 int32_t wz_compare_keys(const uint8_t *lhs, size_t lhs_length, const uint8_t *rhs, size_t rhs_length);

@@ -12,6 +12,8 @@ use Rattle.hashing.specs.declared.types.Hashed.{Hashed}
 use Rattle.hashing.specs.declared.types.Hashed.the-variants as Hashes
 use Rattle.keys.specs.declared.types.Keyed.{Keyed}
 use Rattle.keys.specs.declared.types.Keyed.the-variants as Keyeds
+use Rattle.runs.specs.declared.types.Repeated.{Repeated}
+use Rattle.runs.specs.declared.types.Repeated.the-variants as Repeateds
 use Rattle.calling.specs.declared.types.Built.{Built}
 use Rattle.calling.specs.declared.types.Built.the-variants as Builts
 use Rattle.listing.specs.declared.types.Listed.{Listed}
@@ -19,6 +21,7 @@ use Rattle.listing.specs.declared.types.Listed.the-variants as Listeds
 use Rattle.link.specs.declared.answers.Verdict.{Verdict}
 use Rattle.link.specs.declared.answers.Sum.{Sum}
 use Rattle.link.specs.declared.answers.KeyAnswer.{KeyAnswer}
+use Rattle.link.specs.declared.answers.RunAnswer.{RunAnswer}
 use Rattle.link.specs.declared.answers.Outcome.{Outcome}
 use Rattle.link.specs.declared.answers.Output.{Output}
 use Rattle.link.specs.declared.answers.Entries.{Entries}
@@ -41,6 +44,13 @@ sumMeans s = cond (eqb (s .code) 0) (Hashes.Hash (s .word)) (Hashes.Refused (s .
 -- code 0 is a key's length, any other a refusal
 unfoldable pub keyAnswerMeans : KeyAnswer → Keyed
 keyAnswerMeans k = cond (eqb (k .code) 0) (Keyeds.Length (k .length)) (Keyeds.Refused (k .cause))
+
+-- code 0 is two starts, 1 none, any other a refusal
+unfoldable pub runMeans : RunAnswer → Repeated
+runMeans r =
+    cond (eqb (r .code) 0) (Repeateds.Found (r .left) (r .right))
+    (cond (eqb (r .code) 1) Repeateds.None
+    (Repeateds.Refused (r .left)))
 
 -- code 0 is a new number, 1 accepted, any other a refusal
 unfoldable pub outcomeMeans : Outcome → Built

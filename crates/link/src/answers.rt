@@ -6,10 +6,11 @@ use hashing::types::Hashed;
 use keys::types::Keyed;
 use layout::owners::Owner;
 use listing::types::Listed;
+use runs::types::Repeated;
 ghost use mathlib.Core.Path.{_≡_};
 ghost use Rattle.layout.specs.Owners.{ownerOf};
 ghost use Rattle.calling.specs.Types.{parentOf};
-ghost use Rattle.link.specs.Codes.{entriesMean, verdictMeans, sumMeans, keyAnswerMeans, outcomeMeans, outputMeans, parentFrom, ownerFrom};
+ghost use Rattle.link.specs.Codes.{entriesMean, verdictMeans, sumMeans, keyAnswerMeans, runMeans, outcomeMeans, outputMeans, parentFrom, ownerFrom};
 
 // The codes of a verdict: equal, the first unequal operations, blocks or regions, and a refusal.
 const EQ: u32 = 0;
@@ -45,6 +46,14 @@ pub struct KeyAnswer {
     pub length: u32,
     pub code: u32,
     pub cause: u32,
+}
+
+// Code 0 is two equal runs, from `left` and from `right` on. 1 is none. 2 is a refusal, and its cause is `left`.
+#[repr(C)]
+pub struct RunAnswer {
+    pub code: u32,
+    pub left: u32,
+    pub right: u32,
 }
 
 // Code 0 is a new number, `number`. 1 is accepted. 2 is a refusal, and its cause is `number`.
@@ -150,6 +159,28 @@ pub fn of_key(k: Keyed) -> KeyAnswer
             length: 0,
             code: 1,
             cause: n,
+        },
+    }
+}
+
+pub fn of_run(r: Repeated) -> RunAnswer
+    ensures { λ q. ⌜ runMeans q ≡ r ⌝ }
+{
+    match r {
+        Repeated::Found(left, right) => RunAnswer {
+            code: 0,
+            left,
+            right,
+        },
+        Repeated::None => RunAnswer {
+            code: 1,
+            left: 0,
+            right: 0,
+        },
+        Repeated::Refused(n) => RunAnswer {
+            code: 2,
+            left: n,
+            right: 0,
         },
     }
 }

@@ -3,12 +3,14 @@
 use crate::answers::Entries;
 use crate::answers::KeyAnswer;
 use crate::answers::Outcome;
+use crate::answers::RunAnswer;
 use crate::answers::Sum;
 use crate::answers::Verdict;
 use crate::answers::of_built;
 use crate::answers::of_entries;
 use crate::answers::of_hash;
 use crate::answers::of_key;
+use crate::answers::of_run;
 use crate::answers::of_verdict;
 use crate::answers::owner;
 use crate::answers::parent;
@@ -24,6 +26,7 @@ use hashing::hashes::fragment_hash;
 use keys::keys::fragment_key;
 use keys::keys::key_length;
 use renaming::indexing::index_types;
+use runs::finding::block_runs;
 ghost use mathlib.Core.Bool.{true};
 ghost use mathlib.Core.Path.{_≡_};
 ghost use lib.ListN.{length};
@@ -43,7 +46,8 @@ ghost use Rattle.calling.specs.Doing.{Did};
 ghost use Rattle.equivalence.specs.Calls as comparing;
 ghost use Rattle.hashing.specs.Calls as hashing;
 ghost use Rattle.keys.specs.Calls as keys;
-ghost use Rattle.link.specs.Codes.{entriesMean, verdictMeans, sumMeans, keyAnswerMeans, outcomeMeans, ignoring, parentFrom, ownerFrom, attributeFrom};
+ghost use Rattle.runs.specs.Calls as finding;
+ghost use Rattle.link.specs.Codes.{entriesMean, verdictMeans, sumMeans, keyAnswerMeans, runMeans, outcomeMeans, ignoring, parentFrom, ownerFrom, attributeFrom};
 
 // The test of a mapping that is to be lent beside this store.
 #[no_mangle]
@@ -405,4 +409,20 @@ pub extern "C" fn wz_known_region_key_length(
         n as usize,
         Ignore { locations, bits },
     )
+}
+
+// Two equal runs of operations in a block.
+#[no_mangle]
+pub extern "C" fn wz_known_repeated_run(
+    store: &[u32],
+    types: &[u32],
+    block: u32,
+    length: u32,
+    locations: bool,
+    bits: u64,
+) -> RunAnswer
+    requires { ⌜ Readable (now store) (now types) ⌝ }
+    ensures { λ r. ⌜ finding.Answered (now (store .entry)) (listIn (now (types .entry))) (ignoring locations bits) block length (runMeans r) ⌝ }
+{
+    of_run(block_runs(store, types, block, length, Ignore { locations, bits }))
 }

@@ -1,11 +1,13 @@
 // The offered calls, on any words.
 use crate::answers::KeyAnswer;
 use crate::answers::Outcome;
+use crate::answers::RunAnswer;
 use crate::answers::Sum;
 use crate::answers::Verdict;
 use crate::answers::of_built;
 use crate::answers::of_hash;
 use crate::answers::of_key;
+use crate::answers::of_run;
 use crate::answers::of_verdict;
 use crate::answers::owner;
 use crate::answers::parent;
@@ -22,7 +24,8 @@ ghost use Rattle.building.specs.Calls as building;
 ghost use Rattle.equivalence.specs.Calls as comparing;
 ghost use Rattle.hashing.specs.Calls as hashing;
 ghost use Rattle.keys.specs.Calls as keys;
-ghost use Rattle.link.specs.Codes.{verdictMeans, sumMeans, keyAnswerMeans, outcomeMeans, ignoring, parentFrom, ownerFrom, attributeFrom};
+ghost use Rattle.runs.specs.Calls as finding;
+ghost use Rattle.link.specs.Codes.{verdictMeans, sumMeans, keyAnswerMeans, runMeans, outcomeMeans, ignoring, parentFrom, ownerFrom, attributeFrom};
 
 #[no_mangle]
 pub extern "C" fn wz_is_sound(store: &[u32]) -> bool
@@ -253,6 +256,21 @@ pub extern "C" fn wz_region_key(
     ensures { λ r. ⌜ keys.Answered (now (store .entry)) (now (types .entry)) (ignoring locations bits) Rattle.rules.specs.Fragments.region n (now (key .entry)) (now (key .exit)) (keyAnswerMeans r) ⌝ }
 {
     of_key(keys::calls::region_key(store, types, key, n, Ignore { locations, bits }))
+}
+
+// Two equal runs of operations in a block.
+#[no_mangle]
+pub extern "C" fn wz_repeated_run(
+    store: &[u32],
+    types: &[u32],
+    block: u32,
+    length: u32,
+    locations: bool,
+    bits: u64,
+) -> RunAnswer
+    ensures { λ r. ⌜ finding.Answered (now (store .entry)) (now (types .entry)) (ignoring locations bits) block length (runMeans r) ⌝ }
+{
+    of_run(runs::calls::repeated_run(store, types, block, length, Ignore { locations, bits }))
 }
 
 // Any bytes compare; nothing is refused.

@@ -6,6 +6,7 @@ pub mod Walking
 pub mod Form
 pub mod Laws
 pub mod Keys
+pub mod Runs
 pub mod Attributes
 pub mod Rust
 pub mod Starred

@@ -17,6 +17,7 @@ pub mod Listings
 pub mod Rust
 pub mod Agreement
 pub mod Laws
+pub mod Runs
 pub mod Form
 pub mod Entered
 pub mod Statements
@@ -24,3 +25,4 @@ pub mod Cases
 pub mod ListingCases
 pub mod KeyCases
 pub mod TypeCases
+pub mod RunCases

@@ -10,8 +10,8 @@ use lib.Dec.{eqb}
 use lib.IntN.{pos}
 use lib.ListN.{length, replicate}
 use Rattle.rules.specs.Lists.{every, all, any, filter, sameList}
-use Rattle.rules.specs.Store.{Store, Attribute, emptyStore, sound, keysRise, maxOps}
-use Rattle.rules.specs.Fragments.{Sort, op, NamesNothingOf, Premise, fragmentSize}
+use Rattle.rules.specs.Store.{Store, Attribute, emptyStore, opsOf, sound, keysRise, maxOps}
+use Rattle.rules.specs.Fragments.{Sort, op, block, NamesNothingOf, Premise, fragmentSize}
 use Rattle.rules.specs.Building.{Call, tests, firstFailed, applied, built, after}
 use Rattle.rules.specs.Shells.{Ignore, unignored, sameAttribute}
 use Rattle.rules.specs.Mapping.{Mapping, emptyMapping, allowed}
@@ -21,7 +21,8 @@ use Rattle.rules.specs.Hash.{hash}
 use Rattle.rules.specs.Answers.{eq, refused, comparisonOf, comparison, hashIs, hashed}
 use Rattle.rules.specs.Keys.{key, keyed, keyLength, written, longestKey, same, less, compareBytes, orderingNumber, reversed, fits, fieldsFit, callFits}
 use Rattle.rules.specs.Listings.{perCent, twins, sums, maxOutput}
-use Rattle.rules.specs.Laws.{In, Equal, equal, Laws}
+use Rattle.rules.specs.Laws.{In, Equal, equal, succeeds, Laws}
+use Rattle.rules.specs.Runs.{Run, compareRuns, sameRuns, repeated, windowSum, maxRun, repeatedOf, repeatedRun}
 use Rattle.rules.specs.Form.{canonical}
 use Rattle.rules.specs.Entered.{EnteredBy}
 use Rattle.rules.specs.Cases.{ignoring, operation, firstOperand}
@@ -127,6 +128,49 @@ unfoldable pub FilersLawRenamed : Type 0
 FilersLawRenamed =
     (calls : List Call) → all callFits calls ≡ true → (types : List ℕ) → all fits types ≡ true
     → (ig : Ignore) (f : Sort) → FiledAsEqual (renamed types (after emptyStore calls)) ig f
+
+-- ---- repeated runs
+
+-- two starts of runs in a block that don't overlap, the left one first
+unfoldable pub Apart : Store → ℕ → ℕ → Run → Type 0
+Apart s b n r = (r .left + n ≤ r .right) × (r .right + n ≤ length (opsOf s b))
+
+unfoldable pub Same : Store → Ignore → ℕ → ℕ → Run → Type 0
+Same s ig b n r = sameRuns s ig b n (r .left) (r .right) ≡ true
+
+-- a smaller right start, or the same and no larger left one
+unfoldable pub Before : Run → Run → Type 0
+Before r q = (r .right < q .right) ⊎ ((r .right ≡ q .right) × (r .left ≤ q .left))
+
+-- what is found lies in the block, doesn't overlap and is equal, and of several "the smallest right start wins, then the smallest left":
+-- `repeated-found`
+unfoldable pub RepeatedFound : Type 0
+RepeatedFound =
+    (s : Store) (ig : Ignore) (b n : ℕ) (r : Run) → repeated s ig b n ≡ some r
+    → Apart s b n r × Same s ig b n r × ((q : Run) → Apart s b n q → Same s ig b n q → Before r q)
+
+-- "None is reported exactly when no such two runs exist": `repeated-none`
+unfoldable pub RepeatedNone : Type 0
+RepeatedNone =
+    (s : Store) (ig : Ignore) (b n : ℕ)
+    → (repeated s ig b n ≡ none) ↔ ((r : Run) → Apart s b n r → Same s ig b n r → ⊥)
+
+-- equal runs have equal window sums, whatever they name: candidates by sums miss none: `same-window`
+unfoldable pub SameWindow : Type 0
+SameWindow =
+    (s : Store) (ig : Ignore) (b : ℕ) (ls rs : List ℕ) → succeeds (compareRuns s ig b ls rs) ≡ true
+    → windowSum s ig ls ≡ windowSum s ig rs
+
+-- a block of a sound store has fewer than 512 operations, since the one around it is none of them: so runs of 256 are never found:
+-- `longest-run`
+unfoldable pub LongestRun : Type 0
+LongestRun = (s : Store) → sound s ≡ true → (ig : Ignore) (b : ℕ) → In s block b → repeated s ig b maxRun ≡ none
+
+-- a call for a block that exists and a length from 1 to 256 answers, in a sound store: `repeated-is`
+unfoldable pub RepeatedIs : Type 0
+RepeatedIs =
+    (s : Store) → sound s ≡ true → (types : List ℕ) → typesHold types ≡ true → (ig : Ignore) (b n : ℕ) → In s block b → 1 ≤ n → n ≤ maxRun
+    → repeatedRun true s types ig b n ≡ repeatedOf (repeated (renamed types s) ig b n)
 
 -- ---- 01's premise is needed
 

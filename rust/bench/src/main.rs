@@ -16,6 +16,7 @@ mod race;
 mod reader;
 mod renaming;
 mod report;
+mod runs;
 mod shapes;
 mod sides;
 mod table;
@@ -67,16 +68,17 @@ fn main() -> ExitCode {
 fn measure(efforts: Efforts) -> Results {
     let Efforts { passes, short, middle, long } = efforts;
     let (mut shapes, mut around) = (fragments::shapes(short), fragments::around(short));
-    let (mut keys, mut lists) = (keys::shapes(short), renaming::lists(short));
+    let (mut keys, mut lists, mut runs) = (keys::shapes(short), renaming::lists(short), runs::runs(middle));
     let (mut calls, mut stores) = (building::each_call(middle), building::whole_stores(middle));
     let (mut soundness, mut allowed, mut emptying) = (checks::soundness(short), checks::allowed(short), checks::emptying(middle));
     let mut programs = programs::all(long);
     for number in 1..=passes {
-        let parts: [&mut dyn Pass; 10] = [
+        let parts: [&mut dyn Pass; 11] = [
             &mut shapes,
             &mut around,
             &mut keys,
             &mut lists,
+            &mut runs,
             &mut calls,
             &mut stores,
             &mut soundness,
@@ -92,6 +94,7 @@ fn measure(efforts: Efforts) -> Results {
         around: fragments::measured(around),
         keys: keys::by_shape(keys),
         lists: renaming::rows(lists),
+        runs: runs::rows(runs),
         calls: building::built(calls),
         stores: building::built(stores),
         soundness: checks::sound_rows(soundness),

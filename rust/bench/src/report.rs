@@ -11,6 +11,7 @@ use crate::keys;
 use crate::programs;
 use crate::race::Effort;
 use crate::renaming;
+use crate::runs;
 use crate::table::{Table, milliseconds, number, thousands};
 
 /// All that was measured.
@@ -20,6 +21,7 @@ pub struct Results {
     pub around: Vec<Measured>,
     pub keys: Vec<keys::Row>,
     pub lists: Vec<renaming::Times>,
+    pub runs: Vec<runs::Row>,
     pub calls: Vec<Built>,
     pub stores: Vec<Built>,
     pub soundness: Vec<Soundness>,
@@ -35,7 +37,7 @@ pub struct Efforts {
     pub passes: u32,
     /// Comparisons, hashes, keys and tests.
     pub short: Effort,
-    /// Stores that are built, and mappings that are filled to be emptied.
+    /// Stores that are built, mappings that are filled to be emptied, and blocks that are searched for runs.
     pub middle: Effort,
     /// Whole listings.
     pub long: Effort,
@@ -46,7 +48,7 @@ pub fn page(results: &Results) -> String {
     let Efforts { passes, short, middle, long } = results.efforts;
     let rounds = |effort: Effort| (passes * effort.rounds).to_string();
     let (shapes, hashed) = (&results.shapes, |shape| shape != Shape::Unequal);
-    let places: [(&str, String); 24] = [
+    let places: [(&str, String); 25] = [
         ("processor", processor()),
         ("compiler", compiler()),
         ("short rounds", rounds(short)),
@@ -65,6 +67,7 @@ pub fn page(results: &Results) -> String {
         ("roomy keys", key_ratios(&results.keys, keys::Times::roomy_ratio).to_string()),
         ("flat keys", flat_keys(&results.keys[0]).to_string()),
         ("lists", lists(&results.lists).to_string()),
+        ("runs", repeated(&results.runs).to_string()),
         ("calls", building("One sort", &results.calls).to_string()),
         ("stores", building("Whole store", &results.stores).to_string()),
         ("soundness", soundness(&results.soundness).to_string()),
@@ -203,6 +206,16 @@ fn lists(sizes: &[renaming::Times]) -> Table {
     ];
     for (name, nanos) in rows {
         table.row(name, sizes.iter().map(|times| number(nanos(times))));
+    }
+    table
+}
+
+fn repeated(rows: &[runs::Row]) -> Table {
+    let lengths = runs::LENGTHS.map(|length| format!("length {length}, µs"));
+    let mut table = Table::new(["Block".to_string()].into_iter().chain(lengths));
+    for row in rows {
+        let micros = row.nanos.iter().map(|nanos| number(nanos / 1000.0));
+        table.row(format!("{} operations, {}", row.size, row.filling.name()), micros);
     }
     table
 }

@@ -35,6 +35,15 @@ pub(crate) struct KeyAnswer {
     pub(crate) cause: u32,
 }
 
+/// What the search for repeated runs answers. Code 0 is two starts; 1 is none; 2 is a refusal, and its cause is `left`.
+#[repr(C)]
+#[derive(Clone, Copy)]
+pub(crate) struct RunAnswer {
+    pub(crate) code: u32,
+    pub(crate) left: u32,
+    pub(crate) right: u32,
+}
+
 /// What a building call answers. Code 0 is a new number, `number`; 1 is accepted; 2 is a refusal, and its cause is `number`.
 #[repr(C)]
 #[derive(Clone, Copy)]
@@ -112,6 +121,8 @@ unsafe extern "C" {
     fn wz_region_key(store: *const u32, words: usize, types: *const u32, type_words: usize, key: *mut u8, room: usize, n: u32, locations: bool, bits: u64) -> KeyAnswer;
     fn wz_known_region_key(store: *const u32, words: usize, types: *const u32, type_words: usize, key: *mut u8, room: usize, n: u32, locations: bool, bits: u64) -> KeyAnswer;
     fn wz_known_region_key_length(store: *const u32, words: usize, types: *const u32, type_words: usize, n: u32, locations: bool, bits: u64) -> usize;
+    fn wz_repeated_run(store: *const u32, words: usize, types: *const u32, type_words: usize, block: u32, length: u32, locations: bool, bits: u64) -> RunAnswer;
+    fn wz_known_repeated_run(store: *const u32, words: usize, types: *const u32, type_words: usize, block: u32, length: u32, locations: bool, bits: u64) -> RunAnswer;
     fn wz_compare_keys(lhs: *const u8, lhs_length: usize, rhs: *const u8, rhs_length: usize) -> i32;
 
     fn wz_twins(listing: *const u8, length: usize, store: *mut u32, words: usize, mapping: *mut u32, entries: usize, out: *mut u8, room: usize) -> Output;

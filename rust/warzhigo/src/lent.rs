@@ -17,6 +17,7 @@
 use crate::equivalence::{Ignore, Sort};
 use crate::ffi::{Output, lent};
 use crate::refused::Refused;
+use crate::runs::Run;
 use crate::store::Attribute;
 
 /// What a new operation has, by numbers.
@@ -138,6 +139,11 @@ pub fn basic_block_key(store: &[u32], types: &[u32], block: u32, ignore: &Ignore
 /// Writes the key of a region. Refused by 1, 14, 2, 12 or 13.
 pub fn region_key(store: &[u32], types: &[u32], region: u32, ignore: &Ignore, key: &mut [u8]) -> Result<usize, Refused> {
     lent::key(Sort::Region, store, types, region, ignore, key).result()
+}
+
+/// Two equal runs of operations in a block; as [`Store::repeated_run`](crate::Store::repeated_run). Refused by 1, 14, 2, 15 or 12.
+pub fn repeated_run(store: &[u32], types: &[u32], block: u32, length: u32, ignore: &Ignore) -> Result<Option<Run>, Refused> {
+    lent::repeated_run(store, types, block, length, ignore).result()
 }
 
 /// The program [`twins`](crate::twins) in lent buffers: store and mapping may hold anything, and are emptied first. Afterwards the store is

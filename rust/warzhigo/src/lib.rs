@@ -22,6 +22,7 @@
 //!   and parameters are those of pliron's `irbuild::equivalence`. [`Ignore`] says what doesn't count, [`Mapping`] what corresponds.
 //! - [`Renamed`] is a list of types that have been renamed: calls that are asked under one compare, hash and file by present types.
 //! - [`operation_key`], [`basic_block_key`] and [`region_key`] give the bytes by which a fragment is filed, and [`compare_keys`] their order.
+//! - [`Store::repeated_run`] finds two equal runs of operations in one block.
 //! - A call outside the rules is [`Refused`] by number, and has changed nothing.
 //! - [`twins`] and [`sums`] answer the questions of a whole listing. [`lent`] has every call on words of any origin.
 //!
@@ -47,6 +48,7 @@ mod mapping;
 mod reading;
 mod refused;
 mod renamed;
+mod runs;
 mod store;
 mod touched;
 
@@ -60,6 +62,7 @@ pub use mapping::Mapping;
 pub use reading::{Block, Operation, Region, Totals, Value};
 pub use refused::Refused;
 pub use renamed::{Options, Renamed};
+pub use runs::Run;
 pub use store::{Attribute, NewOperation, Owner, Store};
 
 /// The code in README.md.

@@ -46,6 +46,7 @@ impl Refused {
             12 => "an operation inside is nested deeper than 32",
             13 => "the lent key is too short",
             14 => "the list of renamed types has a half row, over 64 rows, an old type twice, or a present type that has a row itself",
+            15 => "the run's length is 0 or over 256",
             _ => "a cause that this version doesn't know",
         }
     }
@@ -66,7 +67,7 @@ mod tests {
 
     #[test]
     fn every_cause_has_words_of_its_own() {
-        for cause in 1..=14 {
+        for cause in 1..=15 {
             let (refused, unknown) = (Refused::by(cause), Refused::by(0));
             assert_eq!(refused.number(), cause);
             assert_ne!(refused.meaning(), unknown.meaning());

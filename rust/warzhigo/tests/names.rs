@@ -87,6 +87,7 @@ fn from_c(declaration: &str) -> (String, String) {
         "wz_verdict" => "Verdict",
         "wz_sum" => "Sum",
         "wz_key_answer" => "KeyAnswer",
+        "wz_run_answer" => "RunAnswer",
         "wz_outcome" => "Outcome",
         "wz_output" => "Output",
         "wz_entries" => "Entries",
@@ -155,7 +156,7 @@ fn functions_are_the_same() {
 #[test]
 fn structs_are_the_same() {
     let rattle = structs(&RATTLE.concat());
-    assert_eq!(rattle.len(), 6);
+    assert_eq!(rattle.len(), 7);
     assert_eq!(rattle, structs(RUST));
     assert_eq!(rattle, header_structs());
 }

@@ -12,13 +12,14 @@ use lib.Dec.{eqb}
 use lib.ListN.{length, getD, set, replicate, length-set, length-replicate}
 use lib.Seq.{getD-set-same, getD-set-other}
 use Rattle.rules.specs.Store.{Store, Owner, ofOp, ofBlock, valueAt, valuesOf, sound, maxBlocks, maxOps}
-use Rattle.rules.specs.Fragments.{Sort, exists}
+use Rattle.rules.specs.Fragments.{Sort, exists, block}
 use Rattle.rules.specs.Building.{firstFailed}
 use Rattle.rules.specs.Shells.{Ignore}
 use Rattle.rules.specs.Mapping.{Mapping, noImage, emptyMapping, enterAll}
-use Rattle.rules.specs.Comparison.{State, unequal, oneLonger, tooDeep, Walk, on, ended, standing, enterOps, enterBlocks, start, compare}
+use Rattle.rules.specs.Comparison.{State, unequal, oneLonger, tooDeep, Walk, on, ended, standing, enterOps, enterBlocks, start, compare, pairOf}
 use Rattle.rules.specs.Types.{renamed}
 use Rattle.rules.specs.Answers.{compareTests, comparisonOf, comparisonBy, comparison}
+use Rattle.rules.specs.Runs.{compareRuns}
 use Rattle.rules.specs.Entered.{countBelow, mapped, ownerEntry, EnteredBy, pairedIn}
 use Rattle.rules.proofs.Types.Renamed.{exists-renamed, entered-renamed, renamed-sound}
 use Rattle.rules.proofs.Basics.Counts.{count-more, count-zero}
@@ -26,7 +27,7 @@ use Rattle.rules.proofs.Basics.Tests.{and-left, and-right}
 use Rattle.rules.proofs.Soundness.Accepted.{firstFailed-none}
 use Rattle.rules.proofs.Soundness.Children.{values-in}
 use Rattle.rules.proofs.Soundness.Sound.{Sound, facts}
-use Rattle.rules.proofs.Walking.Keeping.{keeps-fragments}
+use Rattle.rules.proofs.Walking.Keeping.{keeps-fragments, keeps-runs}
 
 -- ---- entries made
 
@@ -171,6 +172,17 @@ entered-by s sd ig f l r el er =
     (λ a b ha hb st h. ops-entered s (facts s sd) a b st ha hb h)
     (λ a b ha hb st h. blocks-entered s (facts s sd) a b st ha hb h)
     f l r el er (start emptyMapping) (at-start s) .by
+
+-- the same of two runs of operations
+pub runs-entered : (s : Store) → sound s ≡ true → (ig : Ignore) (b : ℕ) (ls rs : List ℕ)
+    → ((l : ℕ) → List·Memᴰ l ls → l < length (s .ops)) → ((r : ℕ) → List·Memᴰ r rs → r < length (s .ops))
+    → EnteredBy s (standing (compareRuns s ig b ls rs) .mapping) (standing (compareRuns s ig b ls rs) .paired)
+unfolding compareRuns
+runs-entered s sd ig b ls rs el er =
+    keeps-runs (Entering s) s ig
+    (λ a c ha hb st h. ops-entered s (facts s sd) a c st ha hb h)
+    (λ a c ha hb st h. blocks-entered s (facts s sd) a c st ha hb h)
+    (pairOf block b b) ls rs el er (start emptyMapping) (at-start s) .by
 
 -- answered or refused
 module _ (s : Store) (sd : sound s ≡ true) (lent : Bool) (types : List ℕ) (ig : Ignore) (f : Sort) (l r : ℕ) where

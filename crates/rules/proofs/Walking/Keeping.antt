@@ -101,3 +101,12 @@ module _ (I : State → Type 0) where
         (λ b m. rw (List·Memᴰ·eq-of-singleton m) (ltb-true _ _ er))
         st h
     keeps-fragments region l r el er st h = keeps-regions levels l r st h
+
+    -- two runs of operations, which exist
+    pub keeps-runs : (p : Pair) (ls rs : List ℕ)
+        → ((l : ℕ) → List·Memᴰ l ls → l < length (s .ops)) → ((r : ℕ) → List·Memᴰ r rs → r < length (s .ops))
+        → Keeps I (λ st. pairwise (pairOps s ig) p ls rs st >>= eachPair (checkOps s (compareRegions levels s ig)) ls rs)
+    keeps-runs p ls rs el er st h =
+        keeps-bind _ (eachPair (checkOps s (compareRegions levels s ig)) ls rs)
+        (keeps-pairwise (pairOps s ig) p ls rs (λ l r i j. keeps-ops l r (el l i) (er r j)) st h)
+        (keeps-each (checkOps s (compareRegions levels s ig)) ls rs (λ l r i j. keeps-check (compareRegions levels s ig) (keeps-regions levels) l r))

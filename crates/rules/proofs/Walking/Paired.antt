@@ -4,12 +4,12 @@ use Prim.Native.Nat.{ℕ, zero, suc, _+_, _≤_}
 use native.Mathlib.Nat.{le-refl, le-trans}
 use native.Mathlib.Omega.{arith}
 use mathlib.Core.Bool.{true}
-use mathlib.Core.List.{List, [], _∷_, _++_}
-use mathlib.Core.Path.{_≡_, ap, _∙_}
-use lib.ListN.{length, length-append}
+use mathlib.Core.List.{List, [], _∷_, _++_, map, append-nil}
+use mathlib.Core.Path.{_≡_, refl, ap, _∙_}
+use lib.ListN.{length, take, drop, length-append}
 use Rattle.rules.specs.Lists.{concatMap}
-use Rattle.rules.specs.Store.{Store, ofOp, ofBlock, blocksOf, sound}
-use Rattle.rules.specs.Fragments.{Sort, op, block, region, exists, levels, Step, shell, fullOp, regionSteps, steps, stepDefines, definesOwners}
+use Rattle.rules.specs.Store.{Store, ofOp, ofBlock, opsOf, blocksOf, sound}
+use Rattle.rules.specs.Fragments.{Sort, op, block, region, exists, levels, Step, shell, counted, fullOp, shells, listSteps, regionSteps, steps, stepDefines, definesOwners}
 use Rattle.rules.specs.Shells.{Ignore}
 use Rattle.rules.specs.Comparison.{State, Pair, Walk, on, ended, standing, _>>=_, pairwise, eachPair, pairOf, enterOps, enterBlocks, pairOps, pairBlocks, checkOps, pass2, pass3, compareRegions, compareBy}
 use Rattle.rules.proofs.Basics.Distinct.{concatMap-append}
@@ -129,3 +129,65 @@ unfolding definesOwners defined
 paired-most s sd ig f l r e st =
     let most : standing (compareBy s ig f l r st) .paired ≤ st .paired + length (definesOwners s f l) = fragments-most s ig f l r st in
     omega (arith, owners-most s sd f l e)
+
+-- ---- two runs of a block's operations
+
+-- a part of a list defines no more than the list
+module _ (f : ℕ → List Step) where
+  abbrev many : List ℕ → ℕ
+  many ns = length (defined (concatMap f ns))
+
+  taken-most : (n : ℕ) (ns : List ℕ) → many (take n ns) ≤ many ns
+  unfolding concatMap defined
+  taken-most zero ns = omega arith
+  taken-most (suc n) [] = omega arith
+  taken-most (suc n) (m ∷ ns) =
+      omega (arith, taken-most n ns, defined-append (f m) (concatMap f (take n ns)), defined-append (f m) (concatMap f ns))
+
+  dropped-most : (i : ℕ) (ns : List ℕ) → many (drop i ns) ≤ many ns
+  unfolding concatMap
+  dropped-most zero ns = omega arith
+  dropped-most (suc i) [] = omega arith
+  dropped-most (suc i) (m ∷ ns) = omega (arith, dropped-most i ns, defined-append (f m) (concatMap f ns))
+
+  part-most : (n i : ℕ) (ns : List ℕ) → many (take n (drop i ns)) ≤ many ns
+  part-most n i ns = omega (arith, taken-most n (drop i ns), dropped-most i ns)
+
+-- a list of operations by their shells alone
+shells-each : (ns : List ℕ) → map (λ (n : ℕ). shell (ofOp n)) ns ≡ concatMap (λ (n : ℕ). shell (ofOp n) ∷ []) ns
+unfolding concatMap
+shells-each [] = refl
+shells-each (n ∷ ns) = ap (λ (xs : List Step). shell (ofOp n) ∷ xs) (shells-each ns)
+
+module _ (s : Store) (ig : Ignore) where
+  abbrev full : ℕ → List Step
+  full = fullOp s (regionSteps levels s)
+
+  abbrev own : ℕ → List Step
+  own n = shell (ofOp n) ∷ []
+
+  runs-most : (p : Pair) (ls rs : List ℕ)
+      → Always AtMost (map (λ (n : ℕ). shell (ofOp n)) ls ++ concatMap full ls) (λ st. pairwise (pairOps s ig) p ls rs st >>= eachPair (checkOps s (compareRegions levels s ig)) ls rs)
+  runs-most p ls rs =
+      always-then AtMost at-most _ (concatMap full ls) (pairwise (pairOps s ig) p ls rs) (eachPair (checkOps s (compareRegions levels s ig)) ls rs)
+      (always-pairwise AtMost at-most (pairOps s ig) ofOp (ops-most s ig) p ls rs)
+      (always-each AtMost at-most _ full ls rs (λ l m. full-most s ig l))
+
+  block-defines : (b : ℕ) → many own (opsOf s b) + many full (opsOf s b) ≤ length (definesOwners s block b)
+  unfolding definesOwners steps listSteps shells concatMap defined stepDefines
+  block-defines b =
+      let ns = opsOf s b in
+      let spread : concatMap stepDefines (map (λ (n : ℕ). shell (ofOp n)) ns ++ [] ++ (concatMap full ns ++ [])) ≡ defined (concatMap own ns) ++ defined (concatMap full ns) =
+      (λ i. concatMap stepDefines ((append-nil (map (λ (n : ℕ). shell (ofOp n)) ns) ∙ shells-each ns) i ++ append-nil (concatMap full ns) i)) ∙ concatMap-append stepDefines (concatMap own ns) (concatMap full ns) in
+      omega (arith, ap length spread, length-append (defined (concatMap own ns)) (defined (concatMap full ns)))
+
+-- two runs of a block of a sound store, whatever the starts
+pub runs-paired : (s : Store) → sound s ≡ true → (ig : Ignore) (p : Pair) (b n i : ℕ) (rs : List ℕ) → exists s block b ≡ true → (st : State)
+    → standing (pairwise (pairOps s ig) p (take n (drop i (opsOf s b))) rs st >>= eachPair (checkOps s (compareRegions levels s ig)) (take n (drop i (opsOf s b))) rs) .paired ≤ st .paired + 768
+unfolding definesOwners
+runs-paired s sd ig p b n i rs e st =
+    let ls = take n (drop i (opsOf s b)) in
+    let most = runs-most s ig p ls rs st in
+    let parts : length (defined (map (λ (m : ℕ). shell (ofOp m)) ls ++ concatMap (full s ig) ls)) ≡ many (own s ig) ls + many (full s ig) ls =
+    defined-append (map (λ (m : ℕ). shell (ofOp m)) ls) (concatMap (full s ig) ls) ∙ ap (λ (xs : List Step). length (defined xs) + many (full s ig) ls) (shells-each ls) in
+    omega (arith, most, parts, part-most (own s ig) n i (opsOf s b), part-most (full s ig) n i (opsOf s b), block-defines s ig b, owners-most s sd block b e)

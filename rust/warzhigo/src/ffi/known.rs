@@ -155,6 +155,13 @@ impl SoundWords {
         unsafe { call(store, words, index, rows, bytes, room, n, options.ignore.locations, options.ignore.bits) }
     }
 
+    pub(crate) fn repeated_run(&self, block: u32, length: u32, options: Options) -> RunAnswer {
+        let (store, words) = (self.words.as_ptr(), self.words.len());
+        let (index, rows) = options.types.index.lent();
+        // SAFETY: as above.
+        unsafe { wz_known_repeated_run(store, words, index, rows, block, length, options.ignore.locations, options.ignore.bits) }
+    }
+
     /// How long a key will be. Refused by 2 where the fragment is of another store.
     #[inline]
     pub(crate) fn key_length<I: Fragment>(&self, fragment: I, options: Options) -> Result<usize, Refused> {

@@ -128,6 +128,13 @@ pub(crate) fn key(sort: Sort, store: &[u32], types: &[u32], n: u32, ignore: &Ign
 }
 
 #[inline]
+pub(crate) fn repeated_run(store: &[u32], types: &[u32], block: u32, length: u32, ignore: &Ignore) -> RunAnswer {
+    let (list, rows) = (types.as_ptr(), types.len());
+    // SAFETY: as above.
+    unsafe { wz_repeated_run(store.as_ptr(), store.len(), list, rows, block, length, ignore.locations, ignore.bits) }
+}
+
+#[inline]
 pub(crate) fn compare_keys(lhs: &[u8], rhs: &[u8]) -> i32 {
     // SAFETY: as above.
     unsafe { wz_compare_keys(lhs.as_ptr(), lhs.len(), rhs.as_ptr(), rhs.len()) }

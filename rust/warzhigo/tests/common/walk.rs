@@ -60,6 +60,14 @@ pub fn compared(picture: &Picture, entries: &mut Entries, question: &Question, l
     (Found { verdict, paired: walk.paired }, walk.met)
 }
 
+/// Are two runs of operations equal, by passes 2 and 3 from no entries?
+pub fn same_runs(picture: &Picture, left: &[u32], right: &[u32], ignore: Ignore) -> bool {
+    let mut entries = Entries::default();
+    let mut walk = Walk { picture, ignore, longer: Longer::Rules, entries: &mut entries, paired: 0, met: false };
+    let pairs = || left.iter().copied().zip(right.iter().copied());
+    pairs().all(|(l, r)| walk.pair_operations(l, r).is_ok()) && pairs().all(|(l, r)| walk.check_operations(l, r).is_ok())
+}
+
 fn held(condition: bool, failure: Verdict) -> Result<(), Verdict> {
     if condition { Ok(()) } else { Err(failure) }
 }

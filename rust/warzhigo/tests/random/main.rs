@@ -1,4 +1,4 @@
-//! Stores, comparisons, hashes, keys and lists of renamed types at random: ours, pliron's own text, and the models beside them.
+//! Stores, comparisons, hashes, keys, lists of renamed types and repeated runs at random: ours, pliron's own text, and the models beside them.
 //!
 //! Seeds are numbers from 0 on, one for each store. `WARZHIGO_STORES` makes more stores than usual, and `WARZHIGO_FIRST` begins with
 //! another seed than 0.
@@ -10,6 +10,7 @@ mod comparing;
 mod counts;
 mod laws;
 mod renaming;
+mod running;
 mod trial;
 
 use std::env;
@@ -39,6 +40,7 @@ fn stores_comparisons_hashes_and_keys() {
             trial.renamed(&mut mapping, &mut counts);
         }
         trial.shelf(&mut counts);
+        running::runs(seed, &mut counts);
     }
     println!("{counts:#?}");
     counts.often_enough();

@@ -5,8 +5,8 @@ use warzhigo::{Attribute, Ignore, Mapping, NewOperation, Refused, Renamed, Store
 use crate::common::call::{Call, New};
 use crate::stores::{deep, filled, small};
 
-/// One refusal by each cause from 1 to 8, by 13 and by 14.
-fn refusals() -> [Option<Refused>; 10] {
+/// One refusal by each cause from 1 to 8, and from 13 to 15.
+fn refusals() -> [Option<Refused>; 11] {
     let (mut store, deepest) = deep();
     let (op, parent, foreign) = (store.op_id(0).unwrap(), store.block_id(deepest), small().op_id(0).unwrap());
     let typed = store.new_operation(&NewOperation { result_types: &[1], ..Default::default() }).unwrap();
@@ -26,12 +26,13 @@ fn refusals() -> [Option<Refused>; 10] {
         operation_eq(&store, &mut mapping, op, op, &Ignore::NOTHING).err(),
         operation_key_into(&store, op, &Ignore::NOTHING, &mut []).err(),
         Renamed::new(&[(3, 3)]).err(),
+        store.repeated_run(parent.unwrap(), 0, &Ignore::NOTHING).err(),
     ]
 }
 
 #[test]
 fn refusals_have_a_number_and_a_meaning() {
-    for (refused, number) in refusals().into_iter().zip((1..=8).chain([13, 14])) {
+    for (refused, number) in refusals().into_iter().zip((1..=8).chain(13..=15)) {
         let refused = refused.expect("a refused call");
         assert_eq!(refused.number(), number);
         assert!(!refused.meaning().is_empty(), "{number}");
@@ -45,5 +46,5 @@ fn meanings_differ() {
     let mut meanings: Vec<&str> = refusals().into_iter().flatten().map(Refused::meaning).collect();
     meanings.sort();
     meanings.dedup();
-    assert_eq!(meanings.len(), 10);
+    assert_eq!(meanings.len(), 11);
 }

@@ -76,6 +76,11 @@ pub enum Line {
     },
     CompareBytes(Vec<u8>, Vec<u8>),
     Types(Vec<u32>),
+    Repeated {
+        block: u32,
+        length: u32,
+        ignore: Ignore,
+    },
 }
 
 impl Line {
@@ -98,6 +103,7 @@ impl Line {
             "C" => Line::CompareKeys { sort: sort(f)?, lhs: f.number()?, rhs: f.number()?, ignore: f.ignore()? },
             "B" => Line::CompareBytes(f.bytes()?, f.bytes()?),
             "T" => Line::Types(f.rest()?),
+            "R" => Line::Repeated { block: f.number()?, length: f.number()?, ignore: f.ignore()? },
             _ => return None,
         };
         fields.end().map(|()| line)

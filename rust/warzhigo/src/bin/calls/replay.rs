@@ -70,6 +70,9 @@ impl Replay {
             }
             Line::CompareKeys { sort, lhs, rhs, ignore } => answered(self.compare_keys(*sort, (*lhs, *rhs), ignore)),
             Line::CompareBytes(lhs, rhs) => Some((compare_keys(lhs, rhs) as i8).to_string()),
+            Line::Repeated { block, length, ignore } => {
+                answered(lent::repeated_run(store, &self.types, *block, *length, ignore).map(text::run))
+            }
             Line::Types(words) => {
                 self.types.clone_from(words);
                 None

@@ -2,7 +2,7 @@
 
 use std::fmt::{Display, Write};
 
-use warzhigo::{Attribute, Owner, Store};
+use warzhigo::{Attribute, Owner, Run, Store};
 
 use crate::replay::ENTRIES;
 
@@ -13,6 +13,11 @@ pub fn entries(mapping: &[u32]) -> String {
         joined(images.filter(|(_, image)| **image != u32::MAX).map(|(n, image)| format!("{letter}{n}>{image}")), " ")
     };
     [part(0, 'v'), part(1, 'b'), part(2, 'o')].join("/")
+}
+
+/// `run,0,3`, or `run,none`.
+pub fn run(found: Option<Run>) -> String {
+    found.map_or("run,none".to_string(), |Run { left, right }| format!("run,{left},{right}"))
 }
 
 /// Bytes in hexadecimal, two digits to a byte.

@@ -1,0 +1,62 @@
+-- `repeated_run` meets its contract: cause 1 comes first, and where no list of types is lent, its words are their own index. Assumes nothing.
+use Prim.Native.Nat.{ℕ}
+use mathlib.Core.List.{List, []}
+use mathlib.Core.Path.{_≡_, sym, ap, subst, _∙_}
+use Rattle.layout.specs.Soundness.{IsSound}
+use Rattle.layout.proofs.Empty.{sound-facts}
+use Rattle.layout.proofs.Scans.{failed, held}
+use Rattle.renaming.specs.Index.{listIn, IsIndex}
+use Rattle.renaming.proofs.Indexed.{no-words, no-list}
+use Rattle.fragments.specs.Ignoring.{ignoreOf}
+use Rattle.numbering.proofs.Lone.{no-children}
+use Rattle.runs.specs.Calls.{Answered}
+use Rattle.runs.proofs.Answering.{unsound}
+use borrow.Author.Needs.{needs}
+use Rattle.runs.proofs.calls.repeated_run.Statement.{statement}
+use Rattle.runs.proofs.calls.repeated_run.Tie as tie
+
+is-sound-requires : tie.Need-is-sound-requires
+is-sound-requires c κs = search needs
+
+returns : tie.Need-returns
+returns c =
+    let a = c .before .before .before .before .args in
+    unsound (a .store .now) (a .types .now) (ignoreOf (a .ignore)) (a .block) (a .length) (failed (c .before .is-sound .ensures) (c .if1 .taken))
+
+-- with a sound store
+module _ (c : tie.Else1) where
+  abbrev begun : tie.Start
+  begun = c .before .before .before .before
+
+  sound : IsSound (begun .args .store .now)
+  sound = sound-facts (begun .args .store .now) (held (c .before .is-sound .ensures) (c .if1 .left))
+
+block-runs-requires : tie.Need-block-runs-requires
+block-runs-requires c κs =
+    let a = begun (c .before) .args in
+    record { sound = sound (c .before); indexed = subst IsIndex (sym (no-children (a .types .now) (c .if2 .taken))) no-words }
+
+returns-2 : tie.Need-returns-2
+returns-2 c =
+    let tested = c .before in
+    let a = begun (tested .before) .args in
+    let none : a .types .now ≡ [] = no-children (a .types .now) (tested .if2 .taken) in
+    subst (λ (types : List ℕ). Answered (a .store .now) types (ignoreOf (a .ignore)) (a .block) (a .length) (c .block-runs .result))
+    (ap listIn none ∙ no-list ∙ sym none) (c .block-runs .ensures)
+
+indexed-runs-requires : tie.Need-indexed-runs-requires
+indexed-runs-requires c κs = sound (c .before)
+
+returns-3 : tie.Need-returns-3
+returns-3 c = c .indexed-runs .ensures
+
+pub repeated-run-spec : {M : Type 1} → statement M
+repeated-run-spec =
+    tie.close
+    (tie.spec
+    is-sound-requires
+    returns
+    block-runs-requires
+    returns-2
+    indexed-runs-requires
+    returns-3)

@@ -1,0 +1,5 @@
+-- Why a block is listed child by child, why an operation's shell hash may be put together from its head and its row, and why a window's sum is
+-- taken from hashes that were made once.
+mod Listed
+mod Fed
+mod Summed

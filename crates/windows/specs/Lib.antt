@@ -1,0 +1,2 @@
+-- What the search for repeated runs knows of a block before it compares.
+pub mod Windows
