@@ -29,6 +29,7 @@ fn found_among(store: &[u32], types: &[u32], ops: &[u32], runs: Runs) -> Repeate
     requires { ⌜ Readable (now store) (now types) ⌝ }
     requires { ⌜ OpsOf (now store) (now ops) (runs .block) ⌝ }
     requires { ⌜ 1 ≤ runs .n ⌝ }
+    requires { ⌜ runs .n ≤ maxRun ⌝ }
     requires { ⌜ runs .n ≤ length (now ops) ⌝ }
     ensures { λ q. ⌜ FirstTwo (now (store .entry)) (now (types .entry)) runs q ⌝ }
 {

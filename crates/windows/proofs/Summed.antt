@@ -1,8 +1,6 @@
--- Hashes made one by one are those of the whole list; Horner's rule sums a window; and a window of hashes is the hashes of a run. Assumes
--- nothing.
-use Prim.Native.Nat.{ℕ, zero, suc, _+_, _-_, _*_, _%_, _^_, _<_, _≤_}
+-- Hashes made one by one are those of the whole list, and a window of hashes is the hashes of a run. Assumes nothing.
+use Prim.Native.Nat.{ℕ, zero, suc, _+_, _-_, _<_, _≤_}
 use native.Mathlib.Decide.{ℕ-discrete}
-use native.Mathlib.Nat.{mod-add-mod}
 use native.Mathlib.Numerals.{add-one}
 use native.Mathlib.Omega.{arith}
 use mathlib.Core.Bool.{true}
@@ -14,11 +12,9 @@ use lib.ListN.{length, getD, take, drop, set, length-set, length-map}
 use lib.Seq.{take-suc, take-suc-set, getD-set-same, getD-set-other, take-length}
 use Rattle.rules.specs.Lists.{all}
 use Rattle.rules.specs.Store.{Store}
-use Rattle.rules.specs.Hash.{fnvPrime}
 use Rattle.rules.specs.Runs.{runOf, shellHash, weighted, windowSum}
 use Rattle.rules.proofs.Basics.Tests.{all-at}
 use Rattle.rules.proofs.Basics.Appended.{mem-getD}
-use Rattle.rules.proofs.Runs.Sums.{weighted-snoc}
 use Rattle.fragments.specs.Options.{Options, under}
 use Rattle.windows.specs.Windows.{HashesOf, WeightsOf, SumsOf}
 
@@ -72,30 +68,6 @@ module _ (f : ℕ → ℕ) where
         let low = h .low in
         let same : k ≡ length xs = omega arith in
         ap (λ (n : ℕ). take n words) (sym same) ∙ h .first ∙ ap (λ (n : ℕ). map f (take n xs)) same ∙ ap (map f) (take-length xs)
-
--- ---- one window
-
-pub no-words : 0 ≡ weighted []
-unfolding weighted
-no-words = refl
-
--- by Horner's rule
-pub word-summed : (ws : List ℕ) (i sum : ℕ) {p r : ℕ} → i < length ws → sum ≡ weighted (take i ws) → p ≡ (sum * fnvPrime) % 2 ^ 64
-    → r ≡ (p + getD ws i 0) % 2 ^ 64 → r ≡ weighted (take (i + 1) ws)
-word-summed ws i sum l e ep er =
-    let w = getD ws i 0 in
-    er
-    ∙ ap (λ (n : ℕ). (n + w) % 2 ^ 64) ep
-    ∙ mod-add-mod (sum * fnvPrime) (2 ^ 64) w
-    ∙ ap (λ (n : ℕ). (n * fnvPrime + w) % 2 ^ 64) e
-    ∙ sym (weighted-snoc (take i ws) w)
-    ∙ ap weighted (sym (take-suc ws i 0 l))
-    ∙ ap (λ (n : ℕ). weighted (take n ws)) (sym (add-one i))
-
-pub words-summed : (ws : List ℕ) (i sum : ℕ) → i ≤ length ws → length ws ≤ i → sum ≡ weighted (take i ws) → sum ≡ weighted ws
-words-summed ws i sum low l e =
-    let same : i ≡ length ws = omega arith in
-    e ∙ ap (λ (n : ℕ). weighted (take n ws)) same ∙ ap weighted (take-length ws)
 
 -- ---- all windows
 

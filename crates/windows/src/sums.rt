@@ -1,5 +1,6 @@
 // The sums of the windows of a block. Each operation is hashed once, and each window is summed from the hashes.
 use crate::listing::BLOCK_OPS;
+use crate::powers::POWERS;
 use crate::shells::shell_hash;
 use fragments::ignoring::Ignore;
 use hashing::product::wrapping_mul;
@@ -10,14 +11,12 @@ ghost use Prim.Native.Nat.{_≤_};
 ghost use lib.Dec.{ltb};
 ghost use lib.ListN.{length};
 ghost use Rattle.rules.specs.Lists.{all};
-ghost use Rattle.rules.specs.Runs.{weighted};
+ghost use Rattle.rules.specs.Runs.{maxRun, weighted};
 ghost use Rattle.layout.specs.Columns.{columns};
 ghost use Rattle.layout.specs.Reading.{opCount, storeIn};
 ghost use Rattle.fragments.specs.Options.{optionsOf, Readable};
+ghost use Rattle.windows.specs.Powers.{IsPowers};
 ghost use Rattle.windows.specs.Windows.{blockOps, HashesOf, WeightsOf, SumsOf};
-
-// What a hash is multiplied by for each place that it stands from its window's end: FNV's prime.
-const PRIME: u64 = 1099511628211;
 
 // Writes the shell hash of each operation to the begin of `hashes`.
 fn shell_hashes(store: &[u32], types: &[u32], ops: &[u32], ignore: Ignore, hashes: &mut [u64])
@@ -34,23 +33,27 @@ fn shell_hashes(store: &[u32], types: &[u32], ops: &[u32], ignore: Ignore, hashe
     }
 }
 
-// The sum of one window, by Horner's rule.
-fn window_sum(hashes: &[u64]) -> u64
+// The sum of one window: each hash times the power that belongs to its distance from the window's end.
+fn window_sum(hashes: &[u64], powers: &[u64]) -> u64
+    requires { ⌜ length (now hashes) ≤ maxRun ⌝ }
+    requires { ⌜ IsPowers (now powers) ⌝ }
     ensures { λ r. ⌜ r ≡ weighted (now (hashes .entry)) ⌝ }
 {
     let mut sum = 0;
     let mut i = 0;
     while i < hashes.len() {
-        let hash = hashes[i];
-        sum = wrapping_add_u64(wrapping_mul(sum, PRIME), hash);
+        let distance = hashes.len() - i - 1;
+        sum = wrapping_add_u64(sum, wrapping_mul(hashes[i], powers[distance]));
         i += 1;
     }
     sum
 }
 
 // The sum of each window of n of these hashes, by its start.
-fn sum_windows(hashes: &[u64], n: usize, sums: &mut [u64])
+fn sum_windows(hashes: &[u64], powers: &[u64], n: usize, sums: &mut [u64])
+    requires { ⌜ IsPowers (now powers) ⌝ }
     requires { ⌜ 1 ≤ n ⌝ }
+    requires { ⌜ n ≤ maxRun ⌝ }
     requires { ⌜ n ≤ length (now hashes) ⌝ }
     requires { ⌜ length (now hashes) ≤ length (now sums) ⌝ }
     ensures { λ _. ⌜ WeightsOf (now (hashes .entry)) (now (sums .exit)) n ⌝ }
@@ -59,7 +62,7 @@ fn sum_windows(hashes: &[u64], n: usize, sums: &mut [u64])
     let mut i = 0;
     while i <= last {
         let end = i + n;
-        sums[i] = window_sum(&hashes[i..end]);
+        sums[i] = window_sum(&hashes[i..end], powers);
         i += 1;
     }
 }
@@ -76,13 +79,15 @@ pub fn window_sums(
     requires { ⌜ Readable (now store) (now types) ⌝ }
     requires { ⌜ all (λ k. ltb k (opCount (columns (now store)))) (now ops) ≡ true ⌝ }
     requires { ⌜ 1 ≤ n ⌝ }
+    requires { ⌜ n ≤ maxRun ⌝ }
     requires { ⌜ n ≤ length (now ops) ⌝ }
     requires { ⌜ length (now ops) ≤ blockOps ⌝ }
     requires { ⌜ length (now sums) ≡ blockOps ⌝ }
     ensures { λ _. ⌜ SumsOf (storeIn (now (store .entry))) (optionsOf ignore (now (types .entry))) (now (ops .entry)) (now (sums .exit)) n ⌝ }
     ensures { λ _. ⌜ length (now (sums .exit)) ≡ blockOps ⌝ }
 {
+    let powers = POWERS;
     let mut hashes = [0; BLOCK_OPS];
     shell_hashes(store, types, ops, ignore, &mut hashes);
-    sum_windows(&hashes[..ops.len()], n, sums);
+    sum_windows(&hashes[..ops.len()], &powers, n, sums);
 }

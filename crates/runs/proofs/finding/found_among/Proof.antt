@@ -30,7 +30,7 @@ slice-aggregate-window-sums c = search needs
 window-sums-requires : tie.Need-window-sums-requires
 window-sums-requires c κs =
     let s = c .before .before .before .before .before in
-    (s .pre .0, (exist s, (s .pre .1 .1 .0, (s .pre .1 .1 .1, (omega (arith, few (s .pre .0 .sound) (s .pre .1 .0)), refl)))))
+    (s .pre .0, (exist s, (s .pre .1 .1 .0, (s .pre .1 .1 .1 .0, (s .pre .1 .1 .1 .1, (omega (arith, few (s .pre .0 .sound) (s .pre .1 .0)), refl))))))
 
 slice-aggregate-first-run : tie.Need-slice-aggregate-first-run
 slice-aggregate-first-run c = search needs
@@ -43,7 +43,7 @@ unfolding emptyWords
 first-run-requires c κs =
     let w = c .before .before .before in
     let s = w .before .before .before .before .before .before in
-    (s .pre .0, (refl, (s .pre .1 .0, (s .pre .1 .1 .0, (omega (arith, few (s .pre .0 .sound) (s .pre .1 .0), s .pre .1 .1 .1), w .window-sums .ensures)))))
+    (s .pre .0, (refl, (s .pre .1 .0, (s .pre .1 .1 .0, (omega (arith, few (s .pre .0 .sound) (s .pre .1 .0), s .pre .1 .1 .1 .1), w .window-sums .ensures)))))
 
 returns : tie.Need-returns
 returns c = c .before .first-run .ensures

@@ -66,7 +66,7 @@ found-among-requires c κs =
     let l = t .before .before .before in
     let s = begun l in
     let long = length-take-le (l .ops-in .result) (l .ops-in .last .1 .1 .0) (low l) in
-    (s .pre .0, (record { here = s .pre .1 .0; all = l .ops-in .ensures .0 .first }, (s .pre .1 .1 .0, omega (arith, long, t .if1 .left))))
+    (s .pre .0, (record { here = s .pre .1 .0; all = l .ops-in .ensures .0 .first }, (s .pre .1 .1 .0, (s .pre .1 .1 .1, omega (arith, long, t .if1 .left)))))
 
 returns-2 : tie.Need-returns-2
 returns-2 c = c .found-among .ensures

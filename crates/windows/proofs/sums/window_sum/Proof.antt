@@ -1,28 +1,40 @@
--- `window_sum` meets its contract: after each turn the sum is that of one hash more. Assumes nothing.
+-- `window_sum` meets its contract: after each turn one hash more is added, times its power. Assumes nothing.
 use Prim.Native.Nat.{_-_, _≤_}
 use native.Mathlib.Omega.{arith}
 use mathlib.Core.Path.{_≡_}
-use lib.ListN.{length, take}
+use lib.ListN.{length, drop}
 use Rattle.rules.specs.Runs.{weighted}
-use Rattle.windows.proofs.Summed.{no-words, word-summed, words-summed}
+use Rattle.windows.proofs.Weights.{fromFront, weighted-front, word-added, words-added}
 use borrow.Author.Needs.{needs}
 use Rattle.windows.proofs.sums.window_sum.Statement.{statement}
 use Rattle.windows.proofs.sums.window_sum.Tie as tie
 
 abbrev Inv-loop : tie.InvT-loop
-Inv-loop hashes sum₀ i₀ sum i = (i ≤ length hashes) × (sum ≡ weighted (take i hashes))
+Inv-loop hashes powers sum₀ i₀ sum i = (i ≤ length hashes) × (fromFront sum (drop i hashes) ≡ weighted hashes)
 
 abbrev μ-loop : tie.MeasureT-loop
-μ-loop hashes sum₀ i₀ sum i = length hashes - i
+μ-loop hashes powers sum₀ i₀ sum i = length hashes - i
 
 loop-holds : tie.Need-loop-holds Inv-loop μ-loop
-loop-holds c = (omega arith, no-words)
+loop-holds c = (omega arith, weighted-front (c .before .before .args .hashes .now))
 
-mul-hash : tie.Need-mul-hash Inv-loop μ-loop
-mul-hash c = search needs
+sub-distance : tie.Need-sub-distance Inv-loop μ-loop
+sub-distance c = search needs
 
-shared-slice-read-hash : tie.Need-shared-slice-read-hash Inv-loop μ-loop
-shared-slice-read-hash c = search needs
+sub-distance-2 : tie.Need-sub-distance-2 Inv-loop μ-loop
+sub-distance-2 c = search needs
+
+mul-wrapping-mul : tie.Need-mul-wrapping-mul Inv-loop μ-loop
+mul-wrapping-mul c = search needs
+
+shared-slice-read-wrapping-mul : tie.Need-shared-slice-read-wrapping-mul Inv-loop μ-loop
+shared-slice-read-wrapping-mul c = search needs
+
+mul-wrapping-mul-2 : tie.Need-mul-wrapping-mul-2 Inv-loop μ-loop
+mul-wrapping-mul-2 c = search needs
+
+shared-slice-read-wrapping-mul-2 : tie.Need-shared-slice-read-wrapping-mul-2 Inv-loop μ-loop
+shared-slice-read-wrapping-mul-2 c = search needs
 
 wrapping-mul-requires : tie.Need-wrapping-mul-requires Inv-loop μ-loop
 wrapping-mul-requires c κs = search needs
@@ -38,16 +50,22 @@ loop-less c = search needs
 
 loop-again : tie.Need-loop-again Inv-loop μ-loop
 loop-again c =
-    let turn = c .before .before .before in
+    let turn = c .before .before .before .before in
     let loop = turn .before .loop in
-    let hashes = turn .before .before .before .args .hashes .now in
-    (omega arith, word-summed hashes (loop .i) (loop .sum) (turn .loop-test .taken) (loop .inv .1) (c .before .wrapping-mul .ensures) (c .wrapping-add-u64 .ensures))
+    let here = turn .loop-test .taken in
+    let s = turn .before .before .before .before in
+    let hashes = s .args .hashes .now in
+    let powers = s .args .powers .now in
+    let product = c .before .wrapping-mul .ensures in
+    let added = c .wrapping-add-u64 .ensures in
+    let next = word-added hashes powers (loop .i) (loop .sum) (s .pre .1) (s .pre .0) here (loop .inv .1) product added in
+    (omega arith, next)
 
 returns : tie.Need-returns Inv-loop μ-loop
 returns c =
     let loop = c .before .loop in
-    let hashes = c .before .before .before .args .hashes .now in
-    words-summed hashes (loop .i) (loop .sum) (loop .inv .0) (c .loop-test .left) (loop .inv .1)
+    let hashes = c .before .before .before .before .args .hashes .now in
+    words-added hashes (loop .i) (loop .sum) (c .loop-test .left) (loop .inv .1)
 
 pub window-sum-spec : {M : Type 1} → statement M
 window-sum-spec =
@@ -56,8 +74,12 @@ window-sum-spec =
     Inv-loop
     μ-loop
     loop-holds
-    mul-hash
-    shared-slice-read-hash
+    sub-distance
+    sub-distance-2
+    mul-wrapping-mul
+    shared-slice-read-wrapping-mul
+    mul-wrapping-mul-2
+    shared-slice-read-wrapping-mul-2
     wrapping-mul-requires
     wrapping-add-u64-requires
     add-i
