@@ -7,8 +7,8 @@
  * 0; a mapping has wz_mapping_words() words and is empty when all are 4294967295. What the words mean is in docs/STORE.md, what each cause
  * of a refusal is, in docs/CAUSES.md. A refused call has changed nothing.
  *
- * Comparisons, hashes and keys are lent a list of renamed types: words old type, present type, old type, present type; two types are the
- * same where their present types are. It may be empty (NULL and 0).
+ * Comparisons, hashes, keys and the search for repeated runs are lent a list of renamed types: words old type, present type, old type,
+ * present type; two types are the same where their present types are. It may be empty (NULL and 0).
  *
  * wz_...        anything may be lent: the call tests it, and refuses by 1, 8 or 14.
  * wz_known_...  the store must be sound and the mapping allowed beside it, as wz_is_sound and wz_known_is_allowed tell, and `types` an index

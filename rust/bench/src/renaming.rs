@@ -38,7 +38,7 @@ pub struct Times {
     /// The offered hash, lent the list as it is: it is tested and indexed.
     pub offered: f64,
     pub offered_listed: f64,
-    /// `Renamed::new`.
+    /// `Renamed::from_words`.
     pub made: f64,
 }
 
