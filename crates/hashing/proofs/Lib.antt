@@ -5,7 +5,7 @@ mod Halves
 mod Lent
 mod Feeding
 mod Parting
-mod Reading
+pub mod Reading
 mod Naming
 mod Lone
 mod Answering

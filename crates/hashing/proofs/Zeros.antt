@@ -1,21 +1,13 @@
 -- A byte that is 0 only multiplies the word. So to feed a number below 256 is to xor it in and to multiply once, by a power of the prime; and
 -- the power may be taken modulo 2^64. Assumes nothing.
 use Prim.Native.Nat.{ℕ, zero, suc, _+_, _*_, _/_, _%_, _^_, _<_}
-use native.Mathlib.Nat.{mul-assoc, mul-comm, mul-one, add-mul, pow-suc, div-add-mod', mul-add-mod-self-right}
+use native.Mathlib.Nat.{mul-assoc, mul-comm, mul-one, pow-suc}
 use native.Mathlib.Omega.{arith}
 use mathlib.Core.Path.{_≡_, sym, ap, _∙_}
 use lib.Bits.{bitXor, xor-zero-r}
 use Rattle.rules.specs.Hash.{fnvPrime, fnvFrom, fnvByte, bytes}
+use Rattle.rules.proofs.Basics.Modulo.{left-mod, right-mod}
 use Rattle.hashing.proofs.Halves.{fed-in-two}
-
-left-mod : (a b m : ℕ) → (a % m * b) % m ≡ (a * b) % m
-left-mod a b m =
-    let turned : a / m * b * m ≡ a / m * m * b = mul-assoc (a / m) b m ∙ ap (λ (n : ℕ). a / m * n) (mul-comm b m) ∙ sym (mul-assoc (a / m) m b) in
-    let whole : a / m * b * m + a % m * b ≡ a * b = ap (λ (n : ℕ). n + a % m * b) turned ∙ sym (add-mul (a / m * m) (a % m) b) ∙ ap (λ (n : ℕ). n * b) (div-add-mod' a m) in
-    sym (mul-add-mod-self-right (a / m * b) m (a % m * b)) ∙ ap (λ (n : ℕ). n % m) whole
-
-right-mod : (a b m : ℕ) → (a * (b % m)) % m ≡ (a * b) % m
-right-mod a b m = ap (λ (n : ℕ). n % m) (mul-comm a (b % m)) ∙ left-mod b a m ∙ ap (λ (n : ℕ). n % m) (mul-comm b a)
 
 -- k bytes that are 0
 zeros : (k x : ℕ) → fnvFrom (x % 2 ^ 64) (bytes k 0) ≡ (x * fnvPrime ^ k) % 2 ^ 64

@@ -4,3 +4,4 @@ pub mod Counts
 pub mod Distinct
 pub mod Pigeons
 pub mod Appended
+pub mod Modulo

@@ -11,6 +11,7 @@ use Rattle.rules.proofs.Listings.Nearest as nearest
 use Rattle.rules.proofs.Walking.Sizes as sizing
 use Rattle.rules.proofs.Form.Canonical as forms
 use Rattle.rules.proofs.Listings.Short as printing
+use Rattle.rules.proofs.Runs.FirstUses as uses
 
 pub canonical-equal : stated.CanonicalEqual
 unfolding stated.CanonicalEqual
@@ -71,3 +72,7 @@ output-fits bytes = (printing.twins-short bytes, printing.sums-short bytes)
 pub per-cent-nearest : stated.PerCentNearest
 unfolding stated.PerCentNearest
 per-cent-nearest part whole pos = nearest.per-cent-nearest part whole pos
+
+pub first-uses : stated.FirstUses
+unfolding stated.FirstUses
+first-uses s ig b l r ls rs h i k = uses.first-uses s ig b l r ls rs h i k

@@ -76,6 +76,16 @@ weighted (w ∷ ws) = (w * fnvPrime ^ length ws + weighted ws) % 2 ^ 64
 unfoldable pub windowSum : Store → Ignore → List ℕ → ℕ
 windowSum s ig ops = weighted (map (shellHash s ig) ops)
 
+-- ---- order 6: the sum of a window, kept from the window one start before
+
+-- a subtraction that wraps at 2^64
+unfoldable pub wrappingSub : ℕ → ℕ → ℕ
+wrappingSub a b = (a + (2 ^ 64 - b % 2 ^ 64)) % 2 ^ 64
+
+-- the term of the word that leaves is taken out, the k words that stay are one further from the end, and a word enters
+unfoldable pub keptSum : ℕ → ℕ → ℕ → ℕ → ℕ
+keptSum sum leaving k entering = (wrappingSub sum (leaving * fnvPrime ^ k) * fnvPrime + entering) % 2 ^ 64
+
 -- ---- answers: "15, after 2, for run length 0 or over 256"
 
 abbrev pub maxRun : ℕ

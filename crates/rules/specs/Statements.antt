@@ -2,15 +2,15 @@
 -- stands beside it. Demand 3 is in `Laws`, agreement with the Rust in `Agreement`, computed cases are in `Cases` and `ListingCases`.
 use Prim.Native.Nat.{ℕ, _+_, _*_, _-_, _%_, _<_, _≤_}
 use mathlib.Core.Bool.{Bool, true, false}
-use mathlib.Core.List.{List, [], _∷_, _++_, map}
+use mathlib.Core.List.{List, [], _∷_, _++_, map, List·Memᴰ}
 use mathlib.Core.Logic.{_↔_, _⊎_}
 use mathlib.Core.Option.{none, some}
 use mathlib.Core.Path.{_≡_}
 use lib.Dec.{eqb}
 use lib.IntN.{pos}
-use lib.ListN.{length, replicate}
-use Rattle.rules.specs.Lists.{every, all, any, filter, sameList}
-use Rattle.rules.specs.Store.{Store, Attribute, emptyStore, opsOf, sound, keysRise, maxOps}
+use lib.ListN.{length, getD, replicate}
+use Rattle.rules.specs.Lists.{every, all, any, filter, sameList, concatMap}
+use Rattle.rules.specs.Store.{Store, Attribute, emptyStore, opAt, opsOf, resultsOf, sound, keysRise, maxOps}
 use Rattle.rules.specs.Fragments.{Sort, op, block, NamesNothingOf, Premise, fragmentSize}
 use Rattle.rules.specs.Building.{Call, tests, firstFailed, applied, built, after}
 use Rattle.rules.specs.Shells.{Ignore, unignored, sameAttribute}
@@ -22,7 +22,7 @@ use Rattle.rules.specs.Answers.{eq, refused, comparisonOf, comparison, h
 use Rattle.rules.specs.Keys.{key, keyed, keyLength, written, longestKey, same, less, compareBytes, orderingNumber, reversed, fits, fieldsFit, callFits}
 use Rattle.rules.specs.Listings.{perCent, twins, sums, maxOutput}
 use Rattle.rules.specs.Laws.{In, Equal, equal, succeeds, Laws}
-use Rattle.rules.specs.Runs.{Run, compareRuns, sameRuns, repeated, windowSum, maxRun, repeatedOf, repeatedRun}
+use Rattle.rules.specs.Runs.{Run, compareRuns, sameRuns, repeated, windowSum, weighted, keptSum, maxRun, repeatedOf, repeatedRun}
 use Rattle.rules.specs.Form.{canonical}
 use Rattle.rules.specs.Entered.{EnteredBy}
 use Rattle.rules.specs.Cases.{ignoring, operation, firstOperand}
@@ -160,6 +160,19 @@ unfoldable pub SameWindow : Type 0
 SameWindow =
     (s : Store) (ig : Ignore) (b : ℕ) (ls rs : List ℕ) → succeeds (compareRuns s ig b ls rs) ≡ true
     → windowSum s ig ls ≡ windowSum s ig rs
+
+-- order 6: the sum kept from a window to the next is the next window's sum: `kept-sum`
+unfoldable pub KeptSum : Type 0
+KeptSum = (w : ℕ) (ws : List ℕ) (v : ℕ) → keptSum (weighted (w ∷ ws)) w (length ws) v ≡ weighted (ws ++ (v ∷ []))
+
+-- the first operations of equal runs have the same operands, but for results of the left run's own operations, which alone are mapped as
+-- the first operands are checked: `first-uses`
+unfoldable pub FirstUses : Type 0
+FirstUses =
+    (s : Store) (ig : Ignore) (b l r : ℕ) (ls rs : List ℕ) → succeeds (compareRuns s ig b (l ∷ ls) (r ∷ rs)) ≡ true
+    → (i : ℕ) → i < length (opAt s l .operands)
+    → (getD (opAt s l .operands) i 0 ≡ getD (opAt s r .operands) i 0)
+    ⊎ List·Memᴰ (getD (opAt s l .operands) i 0) (concatMap (resultsOf s) (l ∷ ls))
 
 -- a block of a sound store has fewer than 512 operations, since the one around it is none of them: so runs of 256 are never found:
 -- `longest-run`

@@ -32,7 +32,7 @@ use Rattle.equivalence.specs.declared.types.EqResult.the-variants.{Eq}
 use Rattle.equivalence.proofs.Telling.{NotEq, told-on, told-ended}
 use Rattle.equivalence.proofs.Unmapped.{empty-words}
 use Rattle.runs.specs.Walked.{RunsIn, runsWalk}
-use Rattle.runs.specs.declared.types.Window.{Window}
+use Rattle.runs.specs.declared.types.TwoRuns.{TwoRuns}
 use Rattle.runs.proofs.Deep.{runs-not-deep}
 
 -- ---- what is in a run is in the list
@@ -83,7 +83,7 @@ told-entered s w q b deep h t = subst (λ (c : Comparison). EnteredBy s (c .mapp
 
 -- ---- the walk through two runs
 
-module _ {store ops : List ℕ} {x : Window} (o : Options) (sd : IsSound store) (h : RunsIn store ops x) where
+module _ {store ops : List ℕ} {x : TwoRuns} (o : Options) (sd : IsSound store) (h : RunsIn store ops x) where
   abbrev s : Store
   s = under o (storeIn store)
 

@@ -1,6 +1,7 @@
 -- The search for a left start and for a right one: what is left to try, from a start on, is the whole. Runs whose window sums differ are not
 -- equal. Assumes nothing.
 use Prim.Native.Nat.{ℕ, zero, suc, _+_, _-_, _<_, _≤_}
+use native.Mathlib.Decide.{decLt}
 use native.Mathlib.Omega.{arith}
 use mathlib.Core.Bool.{Bool, true, false}
 use mathlib.Core.List.{List}
@@ -19,7 +20,7 @@ use Rattle.layout.specs.Reading.{storeIn}
 use Rattle.fragments.specs.Options.{Options, under}
 use Rattle.windows.specs.Windows.{SumsOf}
 use Rattle.runs.specs.Walked.{OpsOf, leftFrom}
-use Rattle.runs.specs.declared.types.Window.{Window}
+use Rattle.runs.specs.declared.types.TwoRuns.{TwoRuns}
 
 -- ---- runs whose sums differ
 
@@ -73,6 +74,24 @@ module _ (p : ℕ → Bool) (n j i : ℕ) where
   pub left-over : j < i + n → leftOn ≡ none
   unfolding firstOf
   left-over l = let k : suc j - n - i ≡ 0 = omega arith in ap (λ (m : ℕ). firstOf m i p) k
+
+-- starts that don't pass are passed over
+pub left-skips : (p : ℕ → Bool) (n j m i : ℕ) → ((k : ℕ) → i ≤ k → k < i + m → k + n ≤ j → p k ≡ false) → leftOn p n j i ≡ leftOn p n j (i + m)
+left-skips p n j zero i h = let e : i ≡ i + 0 = omega arith in ap (leftOn p n j) e
+left-skips p n j (suc m) i h = go (decLt j (i + n)) (λ e. left-skips p n j m (i + 1) (λ k a b c. h k (omega arith) (omega arith) c))
+  where
+    go : Dec (j < i + n) → (i + n ≤ j → leftOn p n j (i + 1) ≡ leftOn p n j (i + 1 + m)) → leftOn p n j i ≡ leftOn p n j (i + suc m)
+    go (yes g) later = left-over p n j i g ∙ sym (left-over p n j (i + suc m) (omega arith))
+    go (no g) later =
+        let l : i + n ≤ j = omega arith in
+        let e : i + 1 + m ≡ i + suc m = omega arith in
+        left-later p n j i l (h i (omega arith) (omega arith) l) ∙ later l ∙ ap (leftOn p n j) e
+
+-- from a start on to a later one
+pub left-on : (p : ℕ → Bool) (n j i e : ℕ) → i ≤ e → ((k : ℕ) → i ≤ k → k < e → k + n ≤ j → p k ≡ false) → leftOn p n j i ≡ leftOn p n j e
+left-on p n j i e l h =
+    let there : i + (e - i) ≡ e = omega arith in
+    left-skips p n j (e - i) i (λ k a b c. h k a (omega arith) c) ∙ ap (leftOn p n j) there
 
 -- ---- the first right start that has a left one
 
@@ -130,10 +149,12 @@ module _ (s : Store) (ig : Ignore) (b n : ℕ) where
     unfolding firstRun
     right-over l = let k : suc count - n - j ≡ 0 = omega arith in ap (λ (m : ℕ). firstRun m j lefts) k
 
--- from the first left start on
-pub left-whole : (S : Store) (o : Options) (x : Window) → x .left ≡ 0 → leftFrom S o x ≡ leftStart (under o S) (o .ignore) (x .block) (x .n) (x .right)
+-- from the first left start on, and from a later one where those before it are not equal
+pub left-whole : (S : Store) (o : Options) (x : TwoRuns)
+    → ((k : ℕ) → k < x .left → k + x .n ≤ x .right → sameRuns (under o S) (o .ignore) (x .block) (x .n) k (x .right) ≡ false)
+    → leftFrom S o x ≡ leftStart (under o S) (o .ignore) (x .block) (x .n) (x .right)
 unfolding leftFrom leftStart
-left-whole S o x e =
+left-whole S o x h =
     let p : ℕ → Bool = λ (i : ℕ). sameRuns (under o S) (o .ignore) (x .block) (x .n) i (x .right) in
-    let k : suc (x .right) - x .n - x .left ≡ suc (x .right) - x .n = omega arith in
-    ap₂ (λ (m i : ℕ). firstOf m i p) k e
+    let k : suc (x .right) - x .n - 0 ≡ suc (x .right) - x .n = omega arith in
+    sym (left-on p (x .n) (x .right) 0 (x .left) (omega arith) (λ i a l m. h i l m)) ∙ ap (λ (m : ℕ). firstOf m 0 p) k

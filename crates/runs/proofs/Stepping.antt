@@ -6,6 +6,7 @@ use mathlib.Core.List.{List, [], _∷_, List·Memᴰ}
 use mathlib.Core.Path.{_≡_, sym, ap, ap₂, subst, _∙_}
 use lib.ListN.{length, take, drop, getD}
 use lib.Seq.{drop-cons}
+use Rattle.rules.specs.Store.{maxOps}
 use Rattle.rules.specs.Comparison.{State, Pair, Walk, _>>=_, pairwise, eachPair}
 use Rattle.rules.specs.Runs.{runOf}
 use Rattle.rules.proofs.Basics.Appended.{mem-getD}
@@ -13,14 +14,15 @@ use Rattle.rules.proofs.Runs.Answered.{few-ops}
 use Rattle.layout.specs.Columns.{columns}
 use Rattle.layout.specs.Reading.{opCount, storeIn}
 use Rattle.layout.specs.Soundness.{IsSound}
+use Rattle.layout.proofs.Laid.{laid-facts}
 use Rattle.fragments.proofs.Ordered.{op-in}
-use Rattle.equivalence.specs.Walked.{stateOf, Told, maxPaired, PairedFits}
+use Rattle.equivalence.specs.Walked.{ReadyToCompare, stateOf, Told, maxPaired, PairedFits}
 use Rattle.equivalence.specs.declared.types.EqResult.{EqResult}
 use Rattle.equivalence.specs.declared.types.EqResult.the-variants.{Eq}
 use Rattle.equivalence.proofs.Telling.{NotEq, told-ended, told-bind, told-over, few-now, few-part}
 use Rattle.equivalence.proofs.Zipped.{Zips}
-use Rattle.runs.specs.Walked.{OpsOf}
-use Rattle.runs.specs.declared.types.Window.{Window}
+use Rattle.runs.specs.Walked.{OpsOf, RunsIn}
+use Rattle.runs.specs.declared.types.TwoRuns.{TwoRuns}
 
 -- ---- a block's operations
 
@@ -31,7 +33,35 @@ module _ {store ops : List ℕ} {b : ℕ} (sd : IsSound store) (h : OpsOf store 
   pub op-here : (i : ℕ) → i < length ops → getD ops i 0 < opCount (columns store)
   op-here i l = op-in (columns store) b (getD ops i 0) (subst (λ (o : List ℕ). List·Memᴰ (getD ops i 0) o) (h .all) (mem-getD ops i 0 l))
 
+-- ---- a pair of two runs
+
+-- both operations at place k exist, and there are few
+pub record PairHere (store ops : List ℕ) (x : TwoRuns) (k : ℕ) : Type 0 where
+  pub left : getD ops (x .left + k) 0 < opCount (columns store)
+  pub right : getD ops (x .right + k) 0 < opCount (columns store)
+  pub few : opCount (columns store) ≤ maxOps
+
+pub pair-here : {store ops : List ℕ} {x : TwoRuns} → IsSound store → RunsIn store ops x → (k : ℕ) → k < x .n → PairHere store ops x k
+pair-here {x = x} sd h k l =
+    record {
+      left = op-here sd (h .listed) (x .left + k) (omega (arith, h .left));
+      right = op-here sd (h .listed) (x .right + k) (omega (arith, h .right));
+      few = laid-facts _ (sd .laid) .counts .ops;
+    }
+
+-- a mapping of the length that it had is as fit for a comparison
+pub still-ready : {store types mapping₀ mapping : List ℕ} → ReadyToCompare store types mapping₀ → length mapping ≡ length mapping₀ → ReadyToCompare store types mapping
+still-ready r e = record { sound = r .sound; indexed = r .indexed; long = e ∙ r .long }
+
 -- ---- what is left of a run
+
+-- a run is its first operation and the rest
+pub run-first : (ops : List ℕ) (n i : ℕ) → 1 ≤ n → i + n ≤ length ops → runOf ops n i ≡ getD ops i 0 ∷ runOf ops (n - 1) (i + 1)
+unfolding runOf
+run-first ops n i l h =
+    let m : n ≡ suc (n - 1) = omega arith in
+    let j : suc i ≡ i + 1 = omega arith in
+    ap₂ take m (drop-cons ops i 0 (omega arith)) ∙ ap (λ (x : ℕ). getD ops i 0 ∷ take (n - 1) (drop x ops)) j
 
 module _ (ops : List ℕ) (n i : ℕ) where
   -- past its first k operations
@@ -46,11 +76,10 @@ module _ (ops : List ℕ) (n i : ℕ) where
       ap₂ (λ (m j : ℕ). take m (drop j ops)) a b
 
   run-next : (k : ℕ) → k < n → i + n ≤ length ops → past k ≡ getD ops (i + k) 0 ∷ past (k + 1)
-  unfolding runOf
   run-next k l h =
-      let m : n - k ≡ suc (n - (k + 1)) = omega arith in
-      let j : suc (i + k) ≡ i + (k + 1) = omega arith in
-      ap₂ take m (drop-cons ops (i + k) 0 (omega arith)) ∙ ap (λ (x : ℕ). getD ops (i + k) 0 ∷ take (n - (k + 1)) (drop x ops)) j
+      let m : n - k - 1 ≡ n - (k + 1) = omega arith in
+      let j : i + k + 1 ≡ i + (k + 1) = omega arith in
+      run-first ops (n - k) (i + k) (omega arith) (omega arith) ∙ ap₂ (λ (x y : ℕ). getD ops (i + k) 0 ∷ runOf ops x y) m j
 
   run-over : (k : ℕ) → n ≤ k → past k ≡ []
   unfolding runOf
@@ -59,35 +88,35 @@ module _ (ops : List ℕ) (n i : ℕ) where
 -- ---- the loop
 
 -- the whole, w, is what is left of both runs past their first k operations, begun with the words m and so many entered
-pub record Rest (walk : List ℕ → List ℕ → State → Walk) (ops : List ℕ) (x : Window) (w : Walk) (k : ℕ) (m : List ℕ) (c : ℕ) : Type 0 where
+pub record Rest (walk : List ℕ → List ℕ → State → Walk) (ops : List ℕ) (x : TwoRuns) (w : Walk) (k : ℕ) (m : List ℕ) (c : ℕ) : Type 0 where
   pub left : w ≡ walk (past ops (x .n) (x .left) k) (past ops (x .n) (x .right) k) (stateOf m c)
 
 -- a turn of the loop, in a state: the whole as the next pair's step and the rest
-pub record Turn (step : ℕ → ℕ → State → Walk) (walk : List ℕ → List ℕ → State → Walk) (ops : List ℕ) (x : Window) (w : Walk) (k : ℕ) (st : State) : Type 0 where
+pub record Turn (step : ℕ → ℕ → State → Walk) (walk : List ℕ → List ℕ → State → Walk) (ops : List ℕ) (x : TwoRuns) (w : Walk) (k : ℕ) (st : State) : Type 0 where
   pub onward : w
       ≡ step (getD ops (x .left + k) 0) (getD ops (x .right + k) 0) st
       >>= walk (past ops (x .n) (x .left) (k + 1)) (past ops (x .n) (x .right) (k + 1))
 
 module _ {step : ℕ → ℕ → State → Walk} {walk : List ℕ → List ℕ → State → Walk} (z : Zips step walk) where
-  pub rest-begins : (ops : List ℕ) (x : Window) (m : List ℕ) (c : ℕ)
+  pub rest-begins : (ops : List ℕ) (x : TwoRuns) (m : List ℕ) (c : ℕ)
       → Rest walk ops x (walk (runOf ops (x .n) (x .left)) (runOf ops (x .n) (x .right)) (stateOf m c)) 0 m c
   rest-begins ops x m c = record { left = ap₂ (λ (ls rs : List ℕ). walk ls rs (stateOf m c)) (run-begins ops (x .n) (x .left)) (run-begins ops (x .n) (x .right)) }
 
-  module _ {ops : List ℕ} {x : Window} {w : Walk} {k : ℕ} {m : List ℕ} {c : ℕ} (h : Rest walk ops x w k m c) where
+  module _ {ops : List ℕ} {x : TwoRuns} {w : Walk} {k : ℕ} {m : List ℕ} {c : ℕ} (h : Rest walk ops x w k m c) where
     pub rest-fits : PairedFits w → c ≤ maxPaired
     unfolding stateOf
     rest-fits f = few-now w (walk (past ops (x .n) (x .left) k) (past ops (x .n) (x .right) k)) (stateOf m c) (z .grows _ _) (h .left) f
 
-    pub turn : k < x .n → x .left + x .n ≤ length ops → x .right + x .n ≤ length ops → Turn step walk ops x w k (stateOf m c)
-    turn l a b =
+    pub turn : {store : List ℕ} → k < x .n → RunsIn store ops x → Turn step walk ops x w k (stateOf m c)
+    turn l r =
         record {
           onward =
               h .left
-              ∙ ap₂ (λ (ls rs : List ℕ). walk ls rs (stateOf m c)) (run-next ops (x .n) (x .left) k l a) (run-next ops (x .n) (x .right) k l b)
+              ∙ ap₂ (λ (ls rs : List ℕ). walk ls rs (stateOf m c)) (run-next ops (x .n) (x .left) k l (r .left)) (run-next ops (x .n) (x .right) k l (r .right))
               ∙ z .first _ _ _ _ (stateOf m c);
         }
 
-  module _ {ops : List ℕ} {x : Window} {w : Walk} {k : ℕ} {st : State} (t : Turn step walk ops x w k st) where
+  module _ {ops : List ℕ} {x : TwoRuns} {w : Walk} {k : ℕ} {st : State} (t : Turn step walk ops x w k st) where
     abbrev next : Walk
     next = step (getD ops (x .left + k) 0) (getD ops (x .right + k) 0) st
 
@@ -103,7 +132,7 @@ module _ {step : ℕ → ℕ → State → Walk} {walk : List ℕ → List ℕ �
 
 -- ---- the ends of both runs
 
-module _ (step : ℕ → ℕ → State → Walk) {ops : List ℕ} {x : Window} {w : Walk} {k : ℕ} {m : List ℕ} {c : ℕ} (over : x .n ≤ k) where
+module _ (step : ℕ → ℕ → State → Walk) {ops : List ℕ} {x : TwoRuns} {w : Walk} {k : ℕ} {m : List ℕ} {c : ℕ} (over : x .n ≤ k) where
   ends : (walk : List ℕ → List ℕ → State → Walk) → Rest walk ops x w k m c → w ≡ walk [] [] (stateOf m c)
   ends walk h = h .left ∙ ap₂ (λ (ls rs : List ℕ). walk ls rs (stateOf m c)) (run-over ops (x .n) (x .left) k over) (run-over ops (x .n) (x .right) k over)
 

@@ -1,5 +1,5 @@
 // Two runs of a block's operations are compared. `ops` are the numbers of all operations of the block.
-use crate::types::Window;
+use crate::types::TwoRuns;
 use equivalence::pairing::op_eq_map;
 use equivalence::regions::op_eq_mapped;
 use equivalence::types::EqResult;
@@ -22,19 +22,19 @@ fn pair_runs(
     types: &[u32],
     mapping: &mut [u32],
     ops: &[u32],
-    window: Window,
+    two: TwoRuns,
 ) -> EqResult
     requires { ⌜ ReadyToCompare (now store) (now types) (now mapping) ⌝ }
-    requires { ⌜ RunsIn (now store) (now ops) window ⌝ }
-    requires { ⌜ PairedFits (pairWalk (storeIn (now store)) (optionsOf (window .ignore) (now types)) (now ops) window (stateOf (now mapping) 0)) ⌝ }
-    ensures { λ q. ⌜ Told (pairWalk (storeIn (now (store .entry))) (optionsOf (window .ignore) (now (types .entry))) (now (ops .entry)) window (stateOf (now (mapping .entry)) 0)) q (now (mapping .exit)) ⌝ }
+    requires { ⌜ RunsIn (now store) (now ops) two ⌝ }
+    requires { ⌜ PairedFits (pairWalk (storeIn (now store)) (optionsOf (two .ignore) (now types)) (now ops) two (stateOf (now mapping) 0)) ⌝ }
+    ensures { λ q. ⌜ Told (pairWalk (storeIn (now (store .entry))) (optionsOf (two .ignore) (now (types .entry))) (now (ops .entry)) two (stateOf (now (mapping .entry)) 0)) q (now (mapping .exit)) ⌝ }
 {
-    let left = window.left;
-    let right = window.right;
-    let ignore = window.ignore;
+    let left = two.left;
+    let right = two.right;
+    let ignore = two.ignore;
     let mut count = 0;
     let mut k = 0;
-    while k < window.n {
+    while k < two.n {
         let pair = Pair {
             lhs: ops[left + k] as usize,
             rhs: ops[right + k] as usize,
@@ -55,20 +55,20 @@ fn check_runs(
     types: &[u32],
     mapping: &mut [u32],
     ops: &[u32],
-    window: Window,
+    two: TwoRuns,
     paired: u32,
 ) -> EqResult
     requires { ⌜ ReadyToCompare (now store) (now types) (now mapping) ⌝ }
-    requires { ⌜ RunsIn (now store) (now ops) window ⌝ }
-    requires { ⌜ PairedFits (checkWalk (storeIn (now store)) (optionsOf (window .ignore) (now types)) (now ops) window (stateOf (now mapping) paired)) ⌝ }
-    ensures { λ q. ⌜ Told (checkWalk (storeIn (now (store .entry))) (optionsOf (window .ignore) (now (types .entry))) (now (ops .entry)) window (stateOf (now (mapping .entry)) paired)) q (now (mapping .exit)) ⌝ }
+    requires { ⌜ RunsIn (now store) (now ops) two ⌝ }
+    requires { ⌜ PairedFits (checkWalk (storeIn (now store)) (optionsOf (two .ignore) (now types)) (now ops) two (stateOf (now mapping) paired)) ⌝ }
+    ensures { λ q. ⌜ Told (checkWalk (storeIn (now (store .entry))) (optionsOf (two .ignore) (now (types .entry))) (now (ops .entry)) two (stateOf (now (mapping .entry)) paired)) q (now (mapping .exit)) ⌝ }
 {
-    let left = window.left;
-    let right = window.right;
-    let ignore = window.ignore;
+    let left = two.left;
+    let right = two.right;
+    let ignore = two.ignore;
     let mut count = paired;
     let mut k = 0;
-    while k < window.n {
+    while k < two.n {
         let pair = Pair {
             lhs: ops[left + k] as usize,
             rhs: ops[right + k] as usize,
@@ -89,17 +89,17 @@ fn compare_runs(
     types: &[u32],
     mapping: &mut [u32],
     ops: &[u32],
-    window: Window,
+    two: TwoRuns,
 ) -> EqResult
     requires { ⌜ ReadyToCompare (now store) (now types) (now mapping) ⌝ }
-    requires { ⌜ RunsIn (now store) (now ops) window ⌝ }
-    ensures { λ q. ⌜ Told (runsWalk (storeIn (now (store .entry))) (optionsOf (window .ignore) (now (types .entry))) (now (ops .entry)) window (stateOf (now (mapping .entry)) 0)) q (now (mapping .exit)) ⌝ }
+    requires { ⌜ RunsIn (now store) (now ops) two ⌝ }
+    ensures { λ q. ⌜ Told (runsWalk (storeIn (now (store .entry))) (optionsOf (two .ignore) (now (types .entry))) (now (ops .entry)) two (stateOf (now (mapping .entry)) 0)) q (now (mapping .exit)) ⌝ }
 {
-    let mapped = pair_runs(store, types, mapping, ops, window);
+    let mapped = pair_runs(store, types, mapping, ops, two);
     let EqResult::Eq(paired) = mapped else {
         return mapped;
     };
-    check_runs(store, types, mapping, ops, window, paired)
+    check_runs(store, types, mapping, ops, two, paired)
 }
 
 // The two runs are equal. The mapping is empty before, and what was entered is taken out again.
@@ -108,16 +108,16 @@ pub fn same_runs(
     types: &[u32],
     mapping: &mut [u32],
     ops: &[u32],
-    window: Window,
+    two: TwoRuns,
 ) -> bool
     requires { ⌜ Readable (now store) (now types) ⌝ }
     requires { ⌜ now mapping ≡ emptyWords ⌝ }
-    requires { ⌜ RunsIn (now store) (now ops) window ⌝ }
-    ensures { λ q. ⌜ q ≡ sameRuns (under (optionsOf (window .ignore) (now (types .entry))) (storeIn (now (store .entry)))) (ignoreOf (window .ignore)) (window .block) (window .n) (window .left) (window .right) ⌝ }
+    requires { ⌜ RunsIn (now store) (now ops) two ⌝ }
+    ensures { λ q. ⌜ q ≡ sameRuns (under (optionsOf (two .ignore) (now (types .entry))) (storeIn (now (store .entry)))) (ignoreOf (two .ignore)) (two .block) (two .n) (two .left) (two .right) ⌝ }
     ensures { λ q. ⌜ now (mapping .exit) ≡ emptyWords ⌝ }
 {
-    let result = compare_runs(store, types, mapping, ops, window);
-    let left = window.left;
+    let result = compare_runs(store, types, mapping, ops, two);
+    let left = two.left;
     unmap_entered(store, mapping, Sort::Op, ops[left], paired_of(result));
     match result {
         EqResult::Eq(_) => true,

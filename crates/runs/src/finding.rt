@@ -7,6 +7,8 @@ use equivalence::mapping::NO_IMAGE;
 use fragments::ignoring::Ignore;
 use fragments::sorts::exists;
 use fragments::types::Sort;
+use windows::chains::TABLE;
+use windows::chains::chain_starts;
 use windows::listing::BLOCK_OPS;
 use windows::listing::ops_in;
 use windows::sums::window_sums;
@@ -34,8 +36,9 @@ fn found_among(store: &[u32], types: &[u32], ops: &[u32], runs: Runs) -> Repeate
     ensures { λ q. ⌜ FirstTwo (now (store .entry)) (now (types .entry)) runs q ⌝ }
 {
     let ignore = runs.ignore;
-    let mut sums = [0; BLOCK_OPS];
+    let mut sums = [0; TABLE];
     window_sums(store, types, ops, runs.n, ignore, &mut sums);
+    chain_starts(&mut sums, ops.len() + 1 - runs.n);
     let mut mapping = [NO_IMAGE; MAPPING_LENGTH];
     first_run(store, types, &mut mapping, ops, &sums, runs)
 }

@@ -1,55 +1,75 @@
 // The search: of all right starts the smallest that has a left one, and of its left ones the smallest. `sums[i]` is the sum of the window
-// from operation i on; runs whose sums differ are not compared.
+// from operation i on; runs whose sums differ are not compared. Behind the sums starts are chained by buckets of sums, and a start of another
+// bucket is not even looked at.
 use crate::comparing::same_runs;
 use crate::types::LeftStart;
 use crate::types::Repeated;
 use crate::types::Runs;
-use crate::types::Window;
+use crate::types::TwoRuns;
+use crate::uses::first_uses_may_agree;
+use windows::chains::first_start;
+use windows::chains::next_start;
 ghost use mathlib.Core.Path.{_≡_};
 ghost use Prim.Native.Nat.{_≤_};
-ghost use lib.ListN.{length};
+ghost use Rattle.rules.specs.Runs.{sameRuns};
 ghost use Rattle.layout.specs.Reading.{storeIn};
-ghost use Rattle.fragments.specs.Options.{Readable, optionsOf};
+ghost use Rattle.fragments.specs.Ignoring.{ignoreOf};
+ghost use Rattle.fragments.specs.Options.{Readable, optionsOf, under};
 ghost use Rattle.equivalence.specs.MappingWords.{emptyWords};
 ghost use Rattle.windows.specs.Windows.{SumsOf, blockOps};
-ghost use Rattle.runs.specs.Walked.{OpsOf, RunsIn, startOf, leftFrom};
+ghost use Rattle.runs.specs.Walked.{OpsOf, RunsIn, ChainedStarts, BucketOf, startOf, leftFrom};
 ghost use Rattle.runs.specs.Calls.{FirstTwo};
 
-// The first left start from the window's on: its run ends before the right one begins, and is equal to it.
+// The two runs are equal. Where the operands of their first operations tell that they are not, they are not compared.
+fn equal_runs(store: &[u32], types: &[u32], mapping: &mut [u32], ops: &[u32], two: TwoRuns) -> bool
+    requires { ⌜ Readable (now store) (now types) ⌝ }
+    requires { ⌜ now mapping ≡ emptyWords ⌝ }
+    requires { ⌜ RunsIn (now store) (now ops) two ⌝ }
+    ensures { λ q. ⌜ q ≡ sameRuns (under (optionsOf (two .ignore) (now (types .entry))) (storeIn (now (store .entry)))) (ignoreOf (two .ignore)) (two .block) (two .n) (two .left) (two .right) ⌝ }
+    ensures { λ q. ⌜ now (mapping .exit) ≡ emptyWords ⌝ }
+{
+    if !first_uses_may_agree(store, ops, two) {
+        return false;
+    }
+    same_runs(store, types, mapping, ops, two)
+}
+
+// The first left start from the given one on: its run ends before the right one begins, and is equal to it.
 fn left_start(
     store: &[u32],
     types: &[u32],
     mapping: &mut [u32],
     ops: &[u32],
     sums: &[u64],
-    window: Window,
+    two: TwoRuns,
 ) -> LeftStart
     requires { ⌜ Readable (now store) (now types) ⌝ }
     requires { ⌜ now mapping ≡ emptyWords ⌝ }
-    requires { ⌜ RunsIn (now store) (now ops) window ⌝ }
-    requires { ⌜ SumsOf (storeIn (now store)) (optionsOf (window .ignore) (now types)) (now ops) (now sums) (window .n) ⌝ }
-    requires { ⌜ length (now sums) ≡ blockOps ⌝ }
-    ensures { λ q. ⌜ startOf q ≡ leftFrom (storeIn (now (store .entry))) (optionsOf (window .ignore) (now (types .entry))) window ⌝ }
+    requires { ⌜ RunsIn (now store) (now ops) two ⌝ }
+    requires { ⌜ SumsOf (storeIn (now store)) (optionsOf (two .ignore) (now types)) (now ops) (now sums) (two .n) ⌝ }
+    requires { ⌜ ChainedStarts (now sums) (now ops) (two .n) ⌝ }
+    requires { ⌜ BucketOf (now sums) two ⌝ }
+    ensures { λ q. ⌜ startOf q ≡ leftFrom (storeIn (now (store .entry))) (optionsOf (two .ignore) (now (types .entry))) two ⌝ }
     ensures { λ q. ⌜ now (mapping .exit) ≡ emptyWords ⌝ }
 {
-    let right = window.right;
-    let ignore = window.ignore;
+    let right = two.right;
+    let ignore = two.ignore;
     let sum = sums[right];
-    let mut i = window.left;
-    while i + window.n <= right {
+    let mut i = two.left;
+    while i + two.n <= right {
         if sums[i] == sum {
-            let runs = Window {
-                block: window.block,
-                n: window.n,
+            let runs = TwoRuns {
+                block: two.block,
+                n: two.n,
                 left: i,
                 right,
                 ignore,
             };
-            if same_runs(store, types, mapping, ops, runs) {
+            if equal_runs(store, types, mapping, ops, runs) {
                 return LeftStart::At(i);
             }
         }
-        i += 1;
+        i = next_start(sums, i);
     }
     LeftStart::None
 }
@@ -69,20 +89,20 @@ pub fn first_run(
     requires { ⌜ 1 ≤ runs .n ⌝ }
     requires { ⌜ runs .n ≤ blockOps ⌝ }
     requires { ⌜ SumsOf (storeIn (now store)) (optionsOf (runs .ignore) (now types)) (now ops) (now sums) (runs .n) ⌝ }
-    requires { ⌜ length (now sums) ≡ blockOps ⌝ }
+    requires { ⌜ ChainedStarts (now sums) (now ops) (runs .n) ⌝ }
     ensures { λ q. ⌜ FirstTwo (now (store .entry)) (now (types .entry)) runs q ⌝ }
 {
     let ignore = runs.ignore;
     let mut j = runs.n;
     while j + runs.n <= ops.len() {
-        let window = Window {
+        let two = TwoRuns {
             block: runs.block,
             n: runs.n,
-            left: 0,
+            left: first_start(sums, sums[j]),
             right: j,
             ignore,
         };
-        let found = left_start(store, types, mapping, ops, sums, window);
+        let found = left_start(store, types, mapping, ops, sums, two);
         if let LeftStart::At(i) = found {
             return Repeated::Found(i as u32, j as u32);
         }

@@ -22,7 +22,7 @@ pub struct Runs {
 }
 
 // Two such runs, by their starts.
-pub struct Window {
+pub struct TwoRuns {
     pub block: usize,
     pub n: usize,
     pub left: usize,

@@ -4,3 +4,5 @@ mod Listed
 mod Fed
 mod Summed
 mod Weights
+mod Kept
+mod Linking

@@ -80,19 +80,15 @@ module _ (hashes sums : List ℕ) (n : ℕ) where
   pub summed-none : length hashes ≤ length sums → Summed hashes sums n 0
   summed-none r = record { room = r; first = λ j l. absurd (let z : ⊥ = omega arith in z) }
 
-  pub summed-next : (k : ℕ) {w : ℕ} → Summed hashes sums n k → k < length hashes → w ≡ weighted (take (k + n - k) (drop k hashes))
+  pub summed-next : (k : ℕ) {w : ℕ} → Summed hashes sums n k → k < length hashes → w ≡ weighted (runOf hashes n k)
       → Summed hashes (set sums k w) n (k + 1)
-  unfolding runOf
   summed-next k {w} h l e = record { room = omega (arith, h .room, length-set sums k w); first = λ j m. go j m (ℕ-discrete j k) }
     where
-      here : w ≡ weighted (runOf hashes n k)
-      here = let long : k + n - k ≡ n = omega arith in e ∙ ap (λ (m : ℕ). weighted (take m (drop k hashes))) long
-
       go : (j : ℕ) → j < k + 1 → Dec (j ≡ k) → getD (set sums k w) j 0 ≡ weighted (runOf hashes n j)
       go j m (yes same) =
           ap (λ (i : ℕ). getD (set sums k w) i 0) same
           ∙ getD-set-same sums k w 0 (omega (arith, h .room))
-          ∙ here
+          ∙ e
           ∙ ap (λ (i : ℕ). weighted (runOf hashes n i)) (sym same)
       go j m (no other) = getD-set-other sums k j w 0 other ∙ h .first j (omega arith)
 

@@ -1,8 +1,7 @@
 -- A table that keeps the rule from entry to entry has each power at its place, and with these powers a window is summed from the front.
 -- Assumes nothing.
-use Prim.Native.Nat.{ℕ, zero, suc, _+_, _*_, _-_, _/_, _%_, _^_, _<_, _≤_}
-use native.Mathlib.Nat.{mul-assoc, mul-comm, add-assoc, add-mul, add-suc, add-zero, zero-add, suc-add, pow-suc}
-use native.Mathlib.Nat.{div-add-mod', mul-add-mod-self-right, mod-add-mod, add-mod-mod, mod-eq-of-lt, mod-lt}
+use Prim.Native.Nat.{ℕ, zero, suc, _+_, _*_, _-_, _%_, _^_, _<_, _≤_}
+use native.Mathlib.Nat.{add-assoc, add-suc, add-zero, zero-add, suc-add, pow-suc, mod-add-mod, add-mod-mod, mod-eq-of-lt, mod-lt}
 use native.Mathlib.Numerals.{add-one}
 use native.Mathlib.Omega.{arith}
 use mathlib.Core.Bool.{true}
@@ -15,27 +14,17 @@ use lib.Seq.{drop-cons}
 use Rattle.rules.specs.Hash.{fnvPrime}
 use Rattle.rules.specs.Runs.{maxRun, weighted}
 use Rattle.rules.proofs.Basics.Tests.{and-left, and-right}
+use Rattle.rules.proofs.Basics.Modulo.{left-mod, right-mod}
 use Rattle.windows.specs.Powers.{chained, IsPowers}
 
-abbrev M : ℕ
+abbrev pub M : ℕ
 M = 2 ^ 64
-
-left-mod : (a b : ℕ) → (a % M * b) % M ≡ (a * b) % M
-left-mod a b =
-    let q = a / M in
-    let turned : q * b * M ≡ q * M * b = mul-assoc q b M ∙ ap (λ (n : ℕ). q * n) (mul-comm b M) ∙ sym (mul-assoc q M b) in
-    let whole : q * b * M + a % M * b ≡ a * b =
-    ap (λ (n : ℕ). n + a % M * b) turned ∙ sym (add-mul (q * M) (a % M) b) ∙ ap (λ (n : ℕ). n * b) (div-add-mod' a M) in
-    sym (mul-add-mod-self-right (q * b) M (a % M * b)) ∙ ap (λ (n : ℕ). n % M) whole
-
-right-mod : (a b : ℕ) → (a * (b % M)) % M ≡ (a * b) % M
-right-mod a b = ap (λ (n : ℕ). n % M) (mul-comm a (b % M)) ∙ left-mod b a ∙ ap (λ (n : ℕ). n % M) (mul-comm b a)
 
 -- ---- the table
 
 next-power : (i x : ℕ) → x ≡ fnvPrime ^ i % M → (x * fnvPrime) % M ≡ fnvPrime ^ suc i % M
 next-power i x e =
-    ap (λ (n : ℕ). (n * fnvPrime) % M) e ∙ left-mod (fnvPrime ^ i) fnvPrime ∙ ap (λ (n : ℕ). n % M) (sym (pow-suc fnvPrime i))
+    ap (λ (n : ℕ). (n * fnvPrime) % M) e ∙ left-mod (fnvPrime ^ i) fnvPrime M ∙ ap (λ (n : ℕ). n % M) (sym (pow-suc fnvPrime i))
 
 -- the entries of a table from its i-th on
 chained-from : (xs : List ℕ) (i p : ℕ) → p ≡ fnvPrime ^ i % M → chained p xs ≡ true → (k : ℕ) → k < length xs
@@ -69,7 +58,7 @@ front-added a [] l = sym (ap (λ (n : ℕ). n % M) (add-zero a) ∙ mod-eq-of-lt
 front-added a (w ∷ ws) l =
     let q = fnvPrime ^ length ws in
     let here = (a + (w * (q % M)) % M) % M in
-    let added : here ≡ (a + w * q) % M = ap (λ (n : ℕ). (a + n) % M) (right-mod w q) ∙ add-mod-mod a (w * q) M in
+    let added : here ≡ (a + w * q) % M = ap (λ (n : ℕ). (a + n) % M) (right-mod w q M) ∙ add-mod-mod a (w * q) M in
     front-added here ws (mod-lt (a + (w * (q % M)) % M) (omega arith))
     ∙ ap (λ (n : ℕ). (n + weighted ws) % M) added
     ∙ mod-add-mod (a + w * q) M (weighted ws)

@@ -211,10 +211,10 @@ fn lists(sizes: &[renaming::Times]) -> Table {
 }
 
 fn repeated(rows: &[runs::Row]) -> Table {
-    let lengths = runs::LENGTHS.map(|length| format!("length {length}, µs"));
+    let lengths = runs::LENGTHS.iter().flat_map(|length| [format!("{length}, µs"), "plain".to_string()]);
     let mut table = Table::new(["Block".to_string()].into_iter().chain(lengths));
     for row in rows {
-        let micros = row.nanos.iter().map(|nanos| number(nanos / 1000.0));
+        let micros = row.nanos.iter().flatten().map(|nanos| number(nanos / 1000.0));
         table.row(format!("{} operations, {}", row.size, row.filling.name()), micros);
     }
     table

@@ -168,3 +168,57 @@ fn lengths() {
     let other = Page::new();
     assert_eq!(number(full.store.repeated_run(other.block, 1, EVERYTHING)), Err(2), "a block of another store");
 }
+
+/// The first operands differ, and yet the runs are equal: the left one is defined in the left run, behind the operation that names it.
+#[test]
+fn a_run_may_begin_with_a_name_of_its_own() {
+    let mut page = Page::new();
+    let ops: Vec<(OpId, ValueId)> = [9, 8, 9, 8].map(|kind| page.add(kind, &[page.argument()])).into();
+    for (naming, named) in [(0, 1), (2, 3)] {
+        page.store.set_operand(ops[naming].0, 0, ops[named].1).unwrap();
+    }
+    assert_eq!(page.runs(2), run(0, 2));
+    assert_eq!(page.runs(1), run(1, 3));
+    page.store.set_operand(ops[2].0, 0, ops[1].1).unwrap();
+    assert_eq!(page.runs(2), None);
+    page.store.set_operand(ops[0].0, 0, page.argument()).unwrap();
+    assert_eq!(page.runs(2), None);
+}
+
+/// Blocks of 400 operations, in every length from 1 to 200.
+#[test]
+fn long_blocks() {
+    const SIZE: u32 = 400;
+    let alike = Page::alike(SIZE);
+    let (mut period, mut names) = (Page::new(), Page::new());
+    let mut named = names.argument();
+    for i in 0..SIZE {
+        period.add(i % 7, &[period.argument()]);
+        // each names the one before it
+        named = names.add(9, &[named]).1;
+    }
+    for length in 1..=SIZE / 2 {
+        assert_eq!(alike.runs(length), run(0, length), "{length}");
+        assert_eq!(names.runs(length), None, "{length}");
+        let right = length.next_multiple_of(7);
+        let expected = if right + length <= SIZE { run(0, right) } else { None };
+        assert_eq!(period.runs(length), expected, "{length}");
+    }
+}
+
+/// One operation of 400 is unlike the others: runs that have it are not repeated, wherever it stands.
+#[test]
+fn one_that_is_unlike() {
+    for place in [0, 1, 199, 200, 398, 399] {
+        let mut page = Page::new();
+        for i in 0..400 {
+            page.add(if i == place { 7 } else { 8 }, &[]);
+        }
+        for length in [1, 8, 64, 199, 200] {
+            let starts = || (0..=400 - length).filter(|start| !(*start..start + length).contains(&place));
+            let right = starts().find(|right| starts().any(|left| left + length <= *right));
+            let left = right.and_then(|right| starts().find(|left| left + length <= right));
+            assert_eq!(page.runs(length), left.zip(right).map(|(left, right)| Run { left, right }), "{place}, {length}");
+        }
+    }
+}

@@ -16,16 +16,16 @@ use Rattle.rules.proofs.Walking.Levels.{Leaves, leaves-most, op-leaves,
 use Rattle.rules.proofs.Walking.Walks.{Passes, Always, noSteps, always-then, always-expect, always-ops, always-lists}
 
 -- the walk has not ended for want of a region to enter
-unfoldable NotDeep : Walk → Type 0
+unfoldable pub NotDeep : Walk → Type 0
 NotDeep (on t) = Unit {0}
 NotDeep (ended (unequal p) t) = Unit {0}
 NotDeep (ended (oneLonger p) t) = Unit {0}
 NotDeep (ended tooDeep t) = ⊥
 
-abbrev Shallow : List Step → State → Walk → Type 0
+abbrev pub Shallow : List Step → State → Walk → Type 0
 Shallow xs st w = NotDeep w
 
-passes : Passes Shallow
+pub passes : Passes Shallow
 unfolding NotDeep
 passes = record { stays = λ xs st. tt; named = λ xs st p. tt; longer = λ xs st p. tt; behind = λ xs ys st. behind }
   where
@@ -34,7 +34,7 @@ passes = record { stays = λ xs st. tt; named = λ xs st p. tt; longer = λ xs s
     behind (ended why t) f a b = a
 
 module _ (s : Store) (sd : sound s ≡ true) (ig : Ignore) where
-  pair-ops : (l r : ℕ) → Always Shallow [] (pairOps s ig l r)
+  pub pair-ops : (l r : ℕ) → Always Shallow [] (pairOps s ig l r)
   unfolding NotDeep pairOps
   pair-ops l r st = always-expect Shallow passes [] _ (pairOf op l r) st _ tt
 
@@ -57,7 +57,7 @@ module _ (s : Store) (sd : sound s ≡ true) (ig : Ignore) where
       let e : j ≡ suc (w .0) = w .2 in
       ops-deep k (w .0) (omega arith) m (w .1)))
 
-  fragments-deep : (f : Sort) (l r : ℕ) → exists s f l ≡ true → Always Shallow [] (compareBy s ig f l r)
+  pub fragments-deep : (f : Sort) (l r : ℕ) → exists s f l ≡ true → Always Shallow [] (compareBy s ig f l r)
   unfolding compareBy compareRegions exists opExists
   fragments-deep op l r e =
       let w = op-leaves s sd l (ltb-true _ _ e) in

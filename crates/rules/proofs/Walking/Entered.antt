@@ -136,7 +136,7 @@ module _ (s : Store) (sd : Sound s) where
 
 -- ---- from the empty mapping
 
-none-at : (size v : ℕ) → getD (replicate size noImage) v noImage ≡ noImage
+pub none-at : (size v : ℕ) → getD (replicate size noImage) v noImage ≡ noImage
 none-at zero v = refl
 none-at (suc size) zero = refl
 none-at (suc size) (suc v) = none-at size v

@@ -1,39 +1,37 @@
 -- `check_runs` meets its contract: what is left to check, from the words as they are, is the whole from the words as they were. Assumes nothing.
-use Prim.Native.Nat.{ℕ, _+_, _-_, _<_}
+use Prim.Native.Nat.{ℕ, _-_}
 use native.Mathlib.Omega.{arith}
 use mathlib.Core.List.{List}
 use mathlib.Core.Path.{_≡_, refl, _∙_}
-use lib.ListN.{length, getD}
+use lib.ListN.{length}
 use Rattle.rules.specs.Store.{Store}
 use Rattle.rules.specs.Comparison.{State, Walk, eachPair}
-use Rattle.layout.specs.Columns.{columns}
-use Rattle.layout.specs.Reading.{opCount, storeIn}
-use Rattle.layout.proofs.Laid.{laid-facts}
+use Rattle.layout.specs.Reading.{storeIn}
 use Rattle.fragments.specs.Options.{Options, optionsOf}
-use Rattle.equivalence.specs.Walked.{ReadyToCompare, stateOf, opWalk}
+use Rattle.equivalence.specs.Walked.{stateOf, opWalk}
 use Rattle.equivalence.proofs.Rounds.{grows-op}
 use Rattle.equivalence.proofs.Zipped.{Zips, each-zips}
 use Rattle.runs.specs.Walked.{checkWalk}
-use Rattle.runs.specs.declared.types.Window.{Window}
-use Rattle.runs.proofs.Stepping.{Rest, Turn, op-here, rest-begins, turn, step-fits, turn-ends, turn-rest, each-ends}
+use Rattle.runs.specs.declared.types.TwoRuns.{TwoRuns}
+use Rattle.runs.proofs.Stepping.{Rest, Turn, PairHere, pair-here, still-ready, rest-begins, turn, step-fits, turn-ends, turn-rest, each-ends}
 use borrow.Author.Needs.{needs}
 use Rattle.runs.proofs.comparing.check_runs.Statement.{statement}
 use Rattle.runs.proofs.comparing.check_runs.Tie as tie
 
 abbrev Inv-loop : tie.InvT-loop
-Inv-loop store types mapping₀ ops window paired left right ignore count₀ k₀ mapping count k =
+Inv-loop store types mapping₀ ops two paired left right ignore count₀ k₀ mapping count k =
     (length mapping ≡ length mapping₀)
-    × Rest (eachPair (opWalk (storeIn store) (optionsOf (window .ignore) types))) ops window
-    (checkWalk (storeIn store) (optionsOf (window .ignore) types) ops window (stateOf mapping₀ paired))
+    × Rest (eachPair (opWalk (storeIn store) (optionsOf (two .ignore) types))) ops two
+    (checkWalk (storeIn store) (optionsOf (two .ignore) types) ops two (stateOf mapping₀ paired))
     k mapping count
 
 abbrev μ-loop : tie.MeasureT-loop
-μ-loop store types mapping₀ ops window paired left right ignore count₀ k₀ mapping count k = window .n - k
+μ-loop store types mapping₀ ops two paired left right ignore count₀ k₀ mapping count k = two .n - k
 
 -- the walk
 module _ (s : tie.Start Inv-loop μ-loop) where
   abbrev rule : Options
-  rule = optionsOf (s .args .window .ignore) (s .args .types .now)
+  rule = optionsOf (s .args .two .ignore) (s .args .types .now)
 
   abbrev store : Store
   store = storeIn (s .args .store .now)
@@ -41,8 +39,8 @@ module _ (s : tie.Start Inv-loop μ-loop) where
   abbrev ops : List ℕ
   ops = s .args .ops .now
 
-  abbrev x : Window
-  x = s .args .window
+  abbrev x : TwoRuns
+  x = s .args .two
 
   abbrev whole : Walk
   whole = checkWalk store rule ops x (stateOf (s .args .mapping .now) (s .args .paired))
@@ -69,13 +67,10 @@ module _ (c : tie.Then1 Inv-loop μ-loop) where
   k = looped .loop .k
 
   here : Turn (step begun) (eachPair (step begun)) (ops begun) (x begun) (whole begun) k (stateOf (looped .loop .mapping) (looped .loop .count))
-  here = let r = begun .pre .1 .0 in turn (zips begun) (looped .loop .inv .1) (c .if1 .taken) (r .left) (r .right)
+  here = turn (zips begun) (looped .loop .inv .1) (c .if1 .taken) (begun .pre .1 .0)
 
-  left-here : getD (ops begun) (x begun .left + k) 0 < opCount (columns (begun .args .store .now))
-  left-here = let r = begun .pre .1 .0 in op-here (begun .pre .0 .sound) (r .listed) (x begun .left + k) (omega (arith, c .if1 .taken, r .left))
-
-  right-here : getD (ops begun) (x begun .right + k) 0 < opCount (columns (begun .args .store .now))
-  right-here = let r = begun .pre .1 .0 in op-here (begun .pre .0 .sound) (r .listed) (x begun .right + k) (omega (arith, c .if1 .taken, r .right))
+  pair : PairHere (begun .args .store .now) (ops begun) (x begun) k
+  pair = pair-here (begun .pre .0 .sound) (begun .pre .1 .0) k (c .if1 .taken)
 
 loop-holds : tie.Need-loop-holds Inv-loop μ-loop
 loop-holds c =
@@ -92,7 +87,7 @@ shared-slice-read-t19 : tie.Need-shared-slice-read-t19 Inv-loop μ-loop
 shared-slice-read-t19 c = search needs
 
 cast-t20 : tie.Need-cast-t20 Inv-loop μ-loop
-cast-t20 c = let f = c .before in record { fits = omega (arith, left-here f, laid-facts _ (begun f .pre .0 .sound .laid) .counts .ops) }
+cast-t20 c = let f = c .before in record { fits = omega (arith, pair f .left, pair f .few) }
 
 add-t21 : tie.Need-add-t21 Inv-loop μ-loop
 add-t21 c = search needs
@@ -104,15 +99,14 @@ shared-slice-read-t24 : tie.Need-shared-slice-read-t24 Inv-loop μ-loop
 shared-slice-read-t24 c = search needs
 
 cast-t25 : tie.Need-cast-t25 Inv-loop μ-loop
-cast-t25 c = let f = c .before .before in record { fits = omega (arith, right-here f, laid-facts _ (begun f .pre .0 .sound .laid) .counts .ops) }
+cast-t25 c = let f = c .before .before in record { fits = omega (arith, pair f .right, pair f .few) }
 
 op-eq-mapped-requires : tie.Need-op-eq-mapped-requires Inv-loop μ-loop
 op-eq-mapped-requires c κs =
     let f = c .before .before .before in
     let s = begun f in
     let m = looped f .loop in
-    let ready : ReadyToCompare (s .args .store .now) (s .args .types .now) (m .mapping) = record { sound = s .pre .0 .sound; indexed = s .pre .0 .indexed; long = m .inv .0 ∙ s .pre .0 .long } in
-    (ready, (left-here f, (right-here f, step-fits (zips s) (here f) (s .pre .1 .1))))
+    (still-ready (s .pre .0) (m .inv .0), (pair f .left, (pair f .right, step-fits (zips s) (here f) (s .pre .1 .1))))
 
 enum-known-compared : tie.Need-enum-known-compared Inv-loop μ-loop
 enum-known-compared c = search needs

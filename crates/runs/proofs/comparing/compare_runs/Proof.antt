@@ -10,6 +10,7 @@ use Rattle.equivalence.proofs.Rounds.{grows-op}
 use Rattle.equivalence.proofs.Telling.{told-ended, told-bind, few-part}
 use Rattle.equivalence.proofs.Zipped.{each-zips}
 use Rattle.runs.specs.Walked.{pairWalk, checkWalk, runsWalk}
+use Rattle.runs.proofs.Stepping.{still-ready}
 use Rattle.runs.proofs.Compared.{walk-fits}
 use borrow.Author.Needs.{needs}
 use Rattle.runs.proofs.comparing.compare_runs.Statement.{statement}
@@ -18,19 +19,19 @@ use Rattle.runs.proofs.comparing.compare_runs.Tie as tie
 -- the walk and its two parts
 module _ (s : tie.Start) where
   abbrev rule : Options
-  rule = optionsOf (s .args .window .ignore) (s .args .types .now)
+  rule = optionsOf (s .args .two .ignore) (s .args .types .now)
 
   abbrev store : Store
   store = storeIn (s .args .store .now)
 
   abbrev whole : Walk
-  whole = runsWalk store rule (s .args .ops .now) (s .args .window) (stateOf (s .args .mapping .now) 0)
+  whole = runsWalk store rule (s .args .ops .now) (s .args .two) (stateOf (s .args .mapping .now) 0)
 
   abbrev first : Walk
-  first = pairWalk store rule (s .args .ops .now) (s .args .window) (stateOf (s .args .mapping .now) 0)
+  first = pairWalk store rule (s .args .ops .now) (s .args .two) (stateOf (s .args .mapping .now) 0)
 
   abbrev second : State → Walk
-  second = checkWalk store rule (s .args .ops .now) (s .args .window)
+  second = checkWalk store rule (s .args .ops .now) (s .args .two)
 
   parts : whole ≡ first >>= second
   unfolding runsWalk
@@ -77,7 +78,7 @@ check-runs-requires c κs =
     let f = c .before .before in
     let s = begun (paired f) in
     let long : length (paired f .pair-runs .last .1 .1 .0) ≡ length (s .args .mapping .now) = paired f .pair-runs .kept .1 .1 .0 in
-    (record { sound = s .pre .0 .sound; indexed = s .pre .0 .indexed; long = long ∙ s .pre .0 .long }, (s .pre .1, subst (λ (w : Walk). PairedFits w) (next f) (fits s)))
+    (still-ready (s .pre .0) long, (s .pre .1, subst (λ (w : Walk). PairedFits w) (next f) (fits s)))
 
 same-length-2 : tie.Need-same-length-2
 same-length-2 c = search needs

@@ -1,43 +1,41 @@
 -- `pair_runs` meets its contract: what is left to pair, from the words as they are, is the whole from the words as they were. Assumes nothing.
-use Prim.Native.Nat.{ℕ, _+_, _-_, _<_}
+use Prim.Native.Nat.{ℕ, _-_}
 use native.Mathlib.Omega.{arith}
 use mathlib.Core.List.{List}
 use mathlib.Core.Path.{_≡_, refl, _∙_}
-use lib.ListN.{length, getD}
+use lib.ListN.{length}
 use Rattle.rules.specs.Store.{Store}
 use Rattle.rules.specs.Fragments.{block}
 use Rattle.rules.specs.Comparison.{State, Pair, Walk, pairOf, pairwise, pairOps}
 use Rattle.rules.proofs.Walking.Paired.{grows-pair-ops}
-use Rattle.layout.specs.Columns.{columns}
-use Rattle.layout.specs.Reading.{opCount, storeIn}
-use Rattle.layout.proofs.Laid.{laid-facts}
+use Rattle.layout.specs.Reading.{storeIn}
 use Rattle.fragments.specs.Options.{Options, optionsOf, under}
-use Rattle.equivalence.specs.Walked.{ReadyToCompare, stateOf}
+use Rattle.equivalence.specs.Walked.{stateOf}
 use Rattle.equivalence.proofs.Zipped.{Zips, pairwise-zips}
 use Rattle.runs.specs.Walked.{pairWalk}
-use Rattle.runs.specs.declared.types.Window.{Window}
-use Rattle.runs.proofs.Stepping.{Rest, Turn, op-here, rest-begins, rest-fits, turn, turn-ends, turn-rest, pairwise-ends}
+use Rattle.runs.specs.declared.types.TwoRuns.{TwoRuns}
+use Rattle.runs.proofs.Stepping.{Rest, Turn, PairHere, pair-here, still-ready, rest-begins, rest-fits, turn, turn-ends, turn-rest, pairwise-ends}
 use borrow.Author.Needs.{needs}
 use Rattle.runs.proofs.comparing.pair_runs.Statement.{statement}
 use Rattle.runs.proofs.comparing.pair_runs.Tie as tie
 
 -- the first k pairs are behind
-abbrev Paired : Store → Options → List ℕ → Window → List ℕ → ℕ → List ℕ → ℕ → Type 0
+abbrev Paired : Store → Options → List ℕ → TwoRuns → List ℕ → ℕ → List ℕ → ℕ → Type 0
 Paired s o ops x mapping₀ k mapping count =
     Rest (pairwise (pairOps (under o s) (o .ignore)) (pairOf block (x .block) (x .block))) ops x (pairWalk s o ops x (stateOf mapping₀ 0)) k mapping count
 
 abbrev Inv-loop : tie.InvT-loop
-Inv-loop store types mapping₀ ops window left right ignore count₀ k₀ mapping count k =
+Inv-loop store types mapping₀ ops two left right ignore count₀ k₀ mapping count k =
     (length mapping ≡ length mapping₀)
-    × Paired (storeIn store) (optionsOf (window .ignore) types) ops window mapping₀ k mapping count
+    × Paired (storeIn store) (optionsOf (two .ignore) types) ops two mapping₀ k mapping count
 
 abbrev μ-loop : tie.MeasureT-loop
-μ-loop store types mapping₀ ops window left right ignore count₀ k₀ mapping count k = window .n - k
+μ-loop store types mapping₀ ops two left right ignore count₀ k₀ mapping count k = two .n - k
 
 -- the walk
 module _ (s : tie.Start Inv-loop μ-loop) where
   abbrev rule : Options
-  rule = optionsOf (s .args .window .ignore) (s .args .types .now)
+  rule = optionsOf (s .args .two .ignore) (s .args .types .now)
 
   abbrev store : Store
   store = storeIn (s .args .store .now)
@@ -45,14 +43,14 @@ module _ (s : tie.Start Inv-loop μ-loop) where
   abbrev ops : List ℕ
   ops = s .args .ops .now
 
-  abbrev x : Window
-  x = s .args .window
+  abbrev x : TwoRuns
+  x = s .args .two
 
   abbrev whole : Walk
   whole = pairWalk store rule ops x (stateOf (s .args .mapping .now) 0)
 
   abbrev blocks : Pair
-  blocks = pairOf block (s .args .window .block) (s .args .window .block)
+  blocks = pairOf block (s .args .two .block) (s .args .two .block)
 
   abbrev step : ℕ → ℕ → State → Walk
   step = pairOps (under rule store) (rule .ignore)
@@ -76,13 +74,10 @@ module _ (c : tie.Then1 Inv-loop μ-loop) where
   k = looped .loop .k
 
   here : Turn (step begun) (pairwise (step begun) (blocks begun)) (ops begun) (x begun) (whole begun) k (stateOf (looped .loop .mapping) (looped .loop .count))
-  here = let r = begun .pre .1 .0 in turn (zips begun) (looped .loop .inv .1) (c .if1 .taken) (r .left) (r .right)
+  here = turn (zips begun) (looped .loop .inv .1) (c .if1 .taken) (begun .pre .1 .0)
 
-  left-here : getD (ops begun) (x begun .left + k) 0 < opCount (columns (begun .args .store .now))
-  left-here = let r = begun .pre .1 .0 in op-here (begun .pre .0 .sound) (r .listed) (x begun .left + k) (omega (arith, c .if1 .taken, r .left))
-
-  right-here : getD (ops begun) (x begun .right + k) 0 < opCount (columns (begun .args .store .now))
-  right-here = let r = begun .pre .1 .0 in op-here (begun .pre .0 .sound) (r .listed) (x begun .right + k) (omega (arith, c .if1 .taken, r .right))
+  pair : PairHere (begun .args .store .now) (ops begun) (x begun) k
+  pair = pair-here (begun .pre .0 .sound) (begun .pre .1 .0) k (c .if1 .taken)
 
 loop-holds : tie.Need-loop-holds Inv-loop μ-loop
 loop-holds c =
@@ -99,7 +94,7 @@ shared-slice-read-t18 : tie.Need-shared-slice-read-t18 Inv-loop μ-loop
 shared-slice-read-t18 c = search needs
 
 cast-t19 : tie.Need-cast-t19 Inv-loop μ-loop
-cast-t19 c = let f = c .before in record { fits = omega (arith, left-here f, laid-facts _ (begun f .pre .0 .sound .laid) .counts .ops) }
+cast-t19 c = let f = c .before in record { fits = omega (arith, pair f .left, pair f .few) }
 
 add-t20 : tie.Need-add-t20 Inv-loop μ-loop
 add-t20 c = search needs
@@ -111,15 +106,14 @@ shared-slice-read-t23 : tie.Need-shared-slice-read-t23 Inv-loop μ-loop
 shared-slice-read-t23 c = search needs
 
 cast-t24 : tie.Need-cast-t24 Inv-loop μ-loop
-cast-t24 c = let f = c .before .before in record { fits = omega (arith, right-here f, laid-facts _ (begun f .pre .0 .sound .laid) .counts .ops) }
+cast-t24 c = let f = c .before .before in record { fits = omega (arith, pair f .right, pair f .few) }
 
 op-eq-map-requires : tie.Need-op-eq-map-requires Inv-loop μ-loop
 op-eq-map-requires c κs =
     let f = c .before .before .before in
     let s = begun f in
     let m = looped f .loop in
-    let ready : ReadyToCompare (s .args .store .now) (s .args .types .now) (m .mapping) = record { sound = s .pre .0 .sound; indexed = s .pre .0 .indexed; long = m .inv .0 ∙ s .pre .0 .long } in
-    (ready, (left-here f, (right-here f, rest-fits (zips s) (m .inv .1) (s .pre .1 .1))))
+    (still-ready (s .pre .0) (m .inv .0), (pair f .left, (pair f .right, rest-fits (zips s) (m .inv .1) (s .pre .1 .1))))
 
 enum-known-mapped : tie.Need-enum-known-mapped Inv-loop μ-loop
 enum-known-mapped c = search needs

@@ -13,7 +13,7 @@ use Rattle.runs.proofs.comparing.same_runs.Statement.{statement}
 use Rattle.runs.proofs.comparing.same_runs.Tie as tie
 
 abbrev rule : tie.Start → Options
-rule s = optionsOf (s .args .window .ignore) (s .args .types .now)
+rule s = optionsOf (s .args .two .ignore) (s .args .types .now)
 
 -- an empty mapping is of the right length
 empty-long : (s : tie.Start) → length (s .args .mapping .now) ≡ mappingLength

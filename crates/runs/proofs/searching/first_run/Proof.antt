@@ -1,23 +1,27 @@
 -- `first_run` meets its contract: what is left to try from a right start on is the whole, and one with no left start is passed over. Assumes
 -- nothing.
-use Prim.Native.Nat.{ℕ, _+_, _-_, _<_, _≤_}
+use Prim.Native.Nat.{ℕ, suc, _+_, _-_, _<_, _≤_}
+use native.Mathlib.Decide.{decLt}
 use native.Mathlib.Omega.{arith}
+use mathlib.Core.Bool.{false}
+use mathlib.Core.List.{List}
 use mathlib.Core.Option.{some}
-use mathlib.Core.Path.{_≡_, refl, sym, ap, _∙_}
-use lib.ListN.{length}
+use mathlib.Core.Path.{_≡_, refl, sym, ap, subst, _∙_}
+use lib.ListN.{length, getD}
 use Rattle.rules.specs.Store.{Store, opsOf}
-use Rattle.rules.specs.Runs.{Run, leftStart, repeated, repeatedOf}
+use Rattle.rules.specs.Runs.{Run, sameRuns, leftStart, repeated, repeatedOf}
 use Rattle.rules.specs.Statements.{Apart, RepeatedFound}
 use Rattle.rules.specs.Types.{renamed}
 use Rattle.rules.proofs.Runs.Searched.{repeated-found}
 use Rattle.layout.specs.Reading.{storeIn}
 use Rattle.fragments.specs.Options.{Options, optionsOf, under}
 use Rattle.equivalence.specs.MappingWords.{emptyWords}
+use Rattle.windows.specs.Chains.{bucketOf, Follows}
 use Rattle.runs.specs.Walked.{startOf}
 use Rattle.runs.specs.Calls.{foundOf}
 use Rattle.runs.specs.declared.types.Runs.{Runs}
 use Rattle.runs.proofs.Stepping.{few}
-use Rattle.runs.proofs.Searched.{rightOn, right-begins, right-here, right-later, right-over, left-whole}
+use Rattle.runs.proofs.Searched.{sums-differ, rightOn, right-begins, right-here, right-later, right-over, left-whole}
 use borrow.Author.Needs.{needs}
 use Rattle.runs.proofs.searching.first_run.Statement.{statement}
 use Rattle.runs.proofs.searching.first_run.Tie as tie
@@ -76,13 +80,55 @@ module _ (c : tie.Then1 Inv-loop μ-loop) where
   j-in : j + n begun ≤ length (opsOf (store begun) (b begun))
   j-in = omega (arith, j-fits, many begun)
 
+  abbrev sums : List ℕ
+  sums = begun .args .sums .now
+
+  abbrev starts : ℕ
+  starts = suc (length (begun .args .ops .now)) - n begun
+
+  j-start : j < starts
+  j-start = omega (arith, j-fits)
+
+  j-read : j < length sums
+  j-read = omega (arith, j-fits, short begun, begun .pre .1 .1 .1 .1 .1 .1 .long)
+
+-- with the first start of its bucket
+module _ (c : tie.After-first-start Inv-loop μ-loop) where
+  abbrev aimed : tie.Then1 Inv-loop μ-loop
+  aimed = c .before .before
+
+  abbrev first : ℕ
+  first = c .first-start .result
+
+  abbrev bucket : ℕ
+  bucket = bucketOf (getD (sums aimed) (j aimed) 0)
+
+  begins : Follows (sums aimed) (starts aimed) bucket 0 first
+  begins =
+      subst (Follows (sums aimed) (starts aimed) bucket 0) (sym (c .first-start .ensures .0))
+      (begun aimed .pre .1 .1 .1 .1 .1 .1 .chained .begins bucket (c .first-start .ensures .1))
+
+  first-low : first ≤ j aimed
+  first-low = go (decLt (j aimed) first)
+    where
+      go : Dec (j aimed < first) → first ≤ j aimed
+      go (yes l) = absurd (begins .none (j aimed) (omega arith) l (j-start aimed) refl)
+      go (no g) = omega arith
+
+  -- the starts before it have other sums, and so other runs
+  others : (k : ℕ) → k < first → k + n (begun aimed) ≤ j aimed → sameRuns (store (begun aimed)) (rule (begun aimed) .ignore) (b (begun aimed)) (n (begun aimed)) k (j aimed) ≡ false
+  others k l m =
+      let s = begun aimed in
+      sums-differ (sums aimed) (rule s) (n s) (s .pre .1 .1 .0) (s .pre .1 .1 .1 .1 .1 .0) k (j aimed) (omega (arith, j-fits aimed)) (j-fits aimed)
+      (λ e. begins .none k (omega arith) l (omega (arith, first-low, j-start aimed)) (ap bucketOf e))
+
 -- behind the search for its left start
 module _ (c : tie.After-left-start Inv-loop μ-loop) where
   abbrev tested : tie.Then1 Inv-loop μ-loop
-  tested = c .before .before
+  tested = aimed (c .before .before)
 
   left-is : startOf (c .left-start .result) ≡ leftStart (store (begun tested)) (rule (begun tested) .ignore) (b (begun tested)) (n (begun tested)) (j tested)
-  left-is = c .left-start .ensures .0 ∙ left-whole (storeIn (begun tested .args .store .now)) (rule (begun tested)) _ refl
+  left-is = c .left-start .ensures .0 ∙ left-whole (storeIn (begun tested .args .store .now)) (rule (begun tested)) _ (others (c .before .before))
 
 -- with a left start
 module _ (c : tie.After-found Inv-loop μ-loop) where
@@ -121,21 +167,34 @@ add-if1 c =
     let s = from l in
     record { fits = omega (arith, l .loop .inv .1, s .pre .1 .1 .1 .1 .0) }
 
+mul-first-start : tie.Need-mul-first-start Inv-loop μ-loop
+mul-first-start c = search needs
+
+shared-slice-read-first-start : tie.Need-shared-slice-read-first-start Inv-loop μ-loop
+shared-slice-read-first-start c = j-read (c .before)
+
+first-start-requires : tie.Need-first-start-requires Inv-loop μ-loop
+first-start-requires c κs = begun (c .before) .pre .1 .1 .1 .1 .1 .1 .long
+
 left-start-requires : tie.Need-left-start-requires Inv-loop μ-loop
 left-start-requires c κs =
-    let f = c .before in
+    let a = c .before in
+    let f = aimed a in
     let s = begun f in
     let p = s .pre .1 .1 in
-    (s .pre .0, (looped f .loop .inv .0, (record { listed = p .0; some = p .1 .0; left = omega (arith, j-fits f); right = j-fits f }, (p .1 .1 .1 .0, p .1 .1 .1 .1))))
+    let in-bucket = begins a .own (omega (arith, first-low a, j-start f)) in (
+      s .pre .0,
+      (looped f .loop .inv .0, (record { listed = p .0; some = p .1 .0; left = omega (arith, first-low a, j-fits f); right = j-fits f }, (p .1 .1 .1 .0, (p .1 .1 .1 .1, in-bucket)))),
+    )
 
 enum-known-found : tie.Need-enum-known-found Inv-loop μ-loop
 enum-known-found c = search needs
 
-cast-t17 : tie.Need-cast-t17 Inv-loop μ-loop
-cast-t17 c = record { fits = omega (arith, i-small (c .before)) }
+cast-t19 : tie.Need-cast-t19 Inv-loop μ-loop
+cast-t19 c = record { fits = omega (arith, i-small (c .before)) }
 
-cast-t18 : tie.Need-cast-t18 Inv-loop μ-loop
-cast-t18 c = let f = tested (sought (c .before)) in record { fits = omega (arith, j-fits f, short (begun f)) }
+cast-t20 : tie.Need-cast-t20 Inv-loop μ-loop
+cast-t20 c = let f = tested (sought (c .before)) in record { fits = omega (arith, j-fits f, short (begun f)) }
 
 same-length : tie.Need-same-length Inv-loop μ-loop
 same-length c = let r = sought (c .before) in ap length (r .left-start .ensures .1 ∙ sym (begun (tested r) .pre .1 .0))
@@ -183,10 +242,13 @@ first-run-spec =
     μ-loop
     loop-holds
     add-if1
+    mul-first-start
+    shared-slice-read-first-start
+    first-start-requires
     left-start-requires
     enum-known-found
-    cast-t17
-    cast-t18
+    cast-t19
+    cast-t20
     same-length
     returns
     enum-told

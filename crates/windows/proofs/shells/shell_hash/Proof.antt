@@ -1,11 +1,14 @@
 -- `shell_hash` meets its contract: kind, number of regions and row are read off the operation, and fed in this order. Assumes nothing.
 use native.Mathlib.Omega.{arith}
+use mathlib.Core.Path.{_∙_}
 use Rattle.rules.specs.Hash.{fnvStart}
 use Rattle.layout.specs.Columns.{columns}
+use Rattle.layout.specs.Reading.{storeOf}
 use Rattle.layout.proofs.Laid.{laid-facts}
 use Rattle.fragments.specs.Options.{optionsOf}
 use Rattle.numbering.proofs.Rounds.{regions-few}
-use Rattle.windows.proofs.Fed.{head-fed, row-fed}
+use Rattle.hashing.proofs.Reading.{head-fed, row-fed}
+use Rattle.windows.proofs.Fed.{shell-fed}
 use borrow.Author.Needs.{needs}
 use Rattle.windows.proofs.shells.shell_hash.Statement.{statement}
 use Rattle.windows.proofs.shells.shell_hash.Tie as tie
@@ -46,7 +49,8 @@ returns c =
     let C = columns (s .args .store .now) in
     let n = s .args .n in
     let fed = head-fed C n (s .pre .1) fnvStart (regions .before .at .ensures) (regions .op-regions .ensures) (head .with-head .ensures) in
-    row-fed n (c .before .op-row .ensures) (optionsOf (s .args .ignore) (s .args .types .now)) fed (c .hash-row .ensures)
+    let o = optionsOf (s .args .ignore) (s .args .types .now) in
+    row-fed (c .before .op-row .ensures) o fnvStart fed (c .hash-row .ensures) ∙ shell-fed (storeOf C) o n
 
 pub shell-hash-spec : {M : Type 1} → statement M
 shell-hash-spec =
