@@ -18,7 +18,7 @@ use Rattle.fragments.specs.Ignoring.{keptFrom}
 use Rattle.fragments.specs.Options.{Options}
 use Rattle.fragments.specs.Rows.{RowFits, rowTypes, rowShell}
 use Rattle.fragments.specs.declared.types.Row.{Row}
-use Rattle.keys.specs.Written.{rowKept, marksBytes}
+use Rattle.keys.specs.Written.{rowKept, placeBytes}
 use Rattle.keys.proofs.Shelling.{shell-bytes}
 
 -- each of a list has as many bytes
@@ -67,9 +67,9 @@ kept-few C ig a e =
 
 -- ---- a row
 
-pub marks-few : (C : Cols) (ig : Ignore) (r : Row) → RowFits C r → length (marksBytes C ig r) ≤ 12 + 12 * slotCount
-unfolding marksBytes
-marks-few C ig r f =
+pub place-few : (C : Cols) (ig : Ignore) (r : Row) → RowFits C r → length (placeBytes C ig r) ≤ 12 + 12 * slotCount
+unfolding placeBytes
+place-few C ig r f =
     let place : List ℕ = locationBytes (unignoredLocation ig (r .location)) in
     let kept : List Attribute = rowKept C ig r in
     omega (
@@ -92,8 +92,8 @@ row-few C o r f =
     omega (
       arith,
       ap length (shell-bytes C o r),
-      length-append (marksBytes C (o .ignore) r) (listBytes count leaf types),
-      marks-few C (o .ignore) r f,
+      length-append (placeBytes C (o .ignore) r) (listBytes count leaf types),
+      place-few C (o .ignore) r f,
       leaves types,
       length-map (rowTypes C r) (present (o .types)),
       types-few C r f,

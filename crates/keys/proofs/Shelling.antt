@@ -16,7 +16,7 @@ use Rattle.layout.proofs.Tabulate.{op-read}
 use Rattle.fragments.specs.Options.{Options, under}
 use Rattle.fragments.specs.Rows.{RowOf, rowShell}
 use Rattle.fragments.specs.declared.types.Row.{Row}
-use Rattle.keys.specs.Written.{rowKept, marksBytes, ownerBytes}
+use Rattle.keys.specs.Written.{rowKept, placeBytes, ownerBytes}
 
 -- ---- a location
 
@@ -38,8 +38,8 @@ pub attribute-bytes : (a : Attribute) {key kind content : ℕ} → key ≡ a .ke
 unfolding attributeBytes
 attribute-bytes a k m c = (λ i. leaf (k i) ++ leaf (m i) ++ leaf (c i))
 
-pub shell-bytes : (C : Cols) (o : Options) (r : Row) → marksBytes C (o .ignore) r ++ listBytes count leaf (rowShell C o r .types) ≡ shellBytes count (rowShell C o r)
-unfolding marksBytes rowShell shellBytes
+pub shell-bytes : (C : Cols) (o : Options) (r : Row) → placeBytes C (o .ignore) r ++ listBytes count leaf (rowShell C o r .types) ≡ shellBytes count (rowShell C o r)
+unfolding placeBytes rowShell shellBytes
 shell-bytes C o r =
     let kept : List Attribute = rowKept C (o .ignore) r in
     ap (λ (bs : List ℕ). bs ++ listBytes count leaf (rowShell C o r .types))

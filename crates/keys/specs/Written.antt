@@ -38,8 +38,8 @@ abbrev pub rowKept : Cols → Ignore → Row → List Attribute
 rowKept C ig r = keptFrom C ig (r .slot) (r .slot + r .attributes)
 
 -- the location and the attributes of a row: what it puts but for types
-unfoldable pub marksBytes : Cols → Ignore → Row → List ℕ
-marksBytes C ig r = locationBytes (unignoredLocation ig (r .location)) ++ (count (length (rowKept C ig r)) ++ concatMap attributeBytes (rowKept C ig r))
+unfoldable pub placeBytes : Cols → Ignore → Row → List ℕ
+placeBytes C ig r = locationBytes (unignoredLocation ig (r .location)) ++ (count (length (rowKept C ig r)) ++ concatMap attributeBytes (rowKept C ig r))
 
 -- what an operation or a block puts of itself
 unfoldable pub ownerBytes : Store → Options → Owner → List ℕ

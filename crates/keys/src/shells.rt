@@ -33,7 +33,7 @@ ghost use Rattle.fragments.specs.Ignoring.{ignoreOf};
 ghost use Rattle.fragments.specs.Options.{optionsOf, Readable};
 ghost use Rattle.fragments.specs.Rows.{RowFits, rowShell};
 ghost use Rattle.numbering.specs.Numbered.{DefinitionsFit};
-ghost use Rattle.keys.specs.Written.{Put, marksBytes, ownerBytes, from, upTo, Wrote};
+ghost use Rattle.keys.specs.Written.{Put, placeBytes, ownerBytes, from, upTo, Wrote};
 
 // A location, unless locations are ignored.
 fn put_location(key: &mut [u8], ignore: Ignore, location: u32) -> usize
@@ -74,10 +74,10 @@ fn put_types(index: &[u32], key: &mut [u8], types: &[u32]) -> usize
 }
 
 // Location and attributes.
-fn put_marks(store: &[u32], key: &mut [u8], ignore: Ignore, row: Row) -> usize
+fn put_place(store: &[u32], key: &mut [u8], ignore: Ignore, row: Row) -> usize
     requires { ⌜ length (now store) ≡ bufferLength ⌝ }
     requires { ⌜ RowFits (columns (now store)) row ⌝ }
-    ensures { λ r. ⌜ Put (marksBytes (columns (now (store .entry))) (ignoreOf ignore) row) (now (key .entry)) 0 (now (key .exit)) r ⌝ }
+    ensures { λ r. ⌜ Put (placeBytes (columns (now (store .entry))) (ignoreOf ignore) row) (now (key .entry)) 0 (now (key .exit)) r ⌝ }
 {
     let at = put_location(key, ignore, row.location);
     let end = row.slot + row.attributes;
@@ -92,7 +92,7 @@ pub fn put_row(store: &[u32], types: &[u32], key: &mut [u8], ignore: Ignore, row
     requires { ⌜ RowFits (columns (now store)) row ⌝ }
     ensures { λ r. ⌜ Put (shellBytes count (rowShell (columns (now (store .entry))) (optionsOf ignore (now (types .entry))) row)) (now (key .entry)) 0 (now (key .exit)) r ⌝ }
 {
-    let at = put_marks(store, key, ignore, row);
+    let at = put_place(store, key, ignore, row);
     let own = words(store, VALUE_TYPE, row.value, row.value + row.values);
     let rest = least(at, key.len());
     at + put_types(types, &mut key[rest..], own)

@@ -4,4 +4,6 @@ pub mod Counts
 pub mod Distinct
 pub mod Pigeons
 pub mod Appended
+pub mod Filtered
+pub mod Cut
 pub mod Modulo

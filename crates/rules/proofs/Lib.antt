@@ -13,4 +13,5 @@ pub mod Starred
 pub mod Listings
 pub mod Listed
 pub mod Needed
+pub mod Marks
 pub mod Stated

@@ -11,6 +11,10 @@ use Rattle.rules.proofs.Listings.Nearest as nearest
 use Rattle.rules.proofs.Walking.Sizes as sizing
 use Rattle.rules.proofs.Form.Canonical as forms
 use Rattle.rules.proofs.Listings.Short as printing
+use Rattle.rules.proofs.Marks.Accepted as accepting
+use Rattle.rules.proofs.Marks.Kept as marking
+use Rattle.rules.proofs.Marks.Laws as lawful
+use Rattle.rules.proofs.Marks.WentBack as returning
 use Rattle.rules.proofs.Runs.FirstUses as uses
 
 pub canonical-equal : stated.CanonicalEqual
@@ -72,6 +76,33 @@ output-fits bytes = (printing.twins-short bytes, printing.sums-short bytes)
 pub per-cent-nearest : stated.PerCentNearest
 unfolding stated.PerCentNearest
 per-cent-nearest part whole pos = nearest.per-cent-nearest part whole pos
+
+pub unmarked-after : stated.UnmarkedAfter
+unmarked-after = accepting.unmarked-after
+
+pub marked-sound : stated.MarkedSound
+marked-sound = marking.marked-sound
+
+pub after-marked-sound : stated.AfterMarkedSound
+after-marked-sound = marking.after-marked-sound
+
+pub sound-by-going-back : stated.SoundByGoingBack
+sound-by-going-back = marking.sound-by-going-back
+
+pub demand3-marked : stated.Demand3Marked
+demand3-marked = lawful.demand3-marked
+
+pub laws-marked : stated.LawsMarked
+laws-marked = lawful.laws-marked
+
+pub filers-law-marked : stated.FilersLawMarked
+filers-law-marked = lawful.filers-law-marked
+
+pub went-back : stated.WentBack
+went-back = returning.went-back
+
+pub went-back-whole : stated.WentBackWhole
+went-back-whole = returning.went-back-whole
 
 pub first-uses : stated.FirstUses
 unfolding stated.FirstUses

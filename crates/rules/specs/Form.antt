@@ -8,7 +8,7 @@ use Rattle.rules.specs.Fragments.{Sort, op, block, region, levels, Step,
 use Rattle.rules.specs.Shells.{Ignore, Shell, shellOf, countsOf}
 use Rattle.rules.specs.Hash.{Numbering, noNumbers, numbered, Name, nameOf}
 
--- ---- events: the steps of the walk, with a mark ahead of each list item and at each list's end
+-- ---- events: the steps of the walk, with a sign ahead of each list item and at each list's end
 
 pub data Event : Type 0 where
   step : Step → Event
@@ -49,7 +49,7 @@ module _ (s : Store) where
 -- ---- tokens
 
 -- an operation's or a block's counts and shell; of the names of an operation its counts, each operand with its type, each successor; that
--- a list begins, whose length its marks tell
+-- a list begins, whose length its signs tell
 pub data Token : Type 0 where
   shellToken : List ℕ → Shell → Token
   namesToken : List ℕ → List (Name × ℕ) → List Name → Token

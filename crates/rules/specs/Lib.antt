@@ -18,6 +18,7 @@ pub mod Rust
 pub mod Agreement
 pub mod Laws
 pub mod Runs
+pub mod Marks
 pub mod Form
 pub mod Entered
 pub mod Statements
@@ -26,3 +27,4 @@ pub mod ListingCases
 pub mod KeyCases
 pub mod TypeCases
 pub mod RunCases
+pub mod MarkCases

@@ -1,7 +1,7 @@
 -- What is proved of the rules, statement by statement, as the documents cite it; `proofs/Stated` has a proof of each, of the name that
 -- stands beside it. Demand 3 is in `Laws`, agreement with the Rust in `Agreement`, computed cases are in `Cases` and `ListingCases`.
 use Prim.Native.Nat.{ℕ, _+_, _*_, _-_, _%_, _<_, _≤_}
-use mathlib.Core.Bool.{Bool, true, false}
+use mathlib.Core.Bool.{Bool, true, false, not}
 use mathlib.Core.List.{List, [], _∷_, _++_, map, List·Memᴰ}
 use mathlib.Core.Logic.{_↔_, _⊎_}
 use mathlib.Core.Option.{none, some}
@@ -23,6 +23,7 @@ use Rattle.rules.specs.Keys.{key, keyed, keyLength, written, longestKey,
 use Rattle.rules.specs.Listings.{perCent, twins, sums, maxOutput}
 use Rattle.rules.specs.Laws.{In, Equal, equal, succeeds, Laws}
 use Rattle.rules.specs.Runs.{Run, compareRuns, sameRuns, repeated, windowSum, weighted, keptSum, maxRun, repeatedOf, repeatedRun}
+use Rattle.rules.specs.Marks.{Mark, MarkedStore, unmarked, MarkedCall, build, setMark, goBack, isMark, isSet, maxRemembered, marked, afterMarked, marksHold, soundMarked, sets, markedCallFits}
 use Rattle.rules.specs.Form.{canonical}
 use Rattle.rules.specs.Entered.{EnteredBy}
 use Rattle.rules.specs.Cases.{ignoring, operation, firstOperand}
@@ -184,6 +185,63 @@ unfoldable pub RepeatedIs : Type 0
 RepeatedIs =
     (s : Store) → sound s ≡ true → (types : List ℕ) → typesHold types ≡ true → (ig : Ignore) (b n : ℕ) → In s block b → 1 ≤ n → n ≤ maxRun
     → repeatedRun true s types ig b n ≡ repeatedOf (repeated (renamed types s) ig b n)
+
+-- ---- marks
+
+-- while no mark is set, building calls do what they did: `unmarked-after`
+unfoldable pub UnmarkedAfter : Type 0
+UnmarkedAfter = (s : Store) (calls : List Call) → afterMarked (unmarked s) (map build calls) ≡ unmarked (after s calls)
+
+-- a call, accepted or refused, keeps a sound store sound, going back included, and so does a list of calls: `marked-sound`,
+-- `after-marked-sound`
+unfoldable pub MarkedSound : Type 0
+MarkedSound = (t : MarkedStore) (c : MarkedCall) → soundMarked t ≡ true → soundMarked (marked t c) ≡ true
+
+unfoldable pub AfterMarkedSound : Type 0
+AfterMarkedSound = (calls : List MarkedCall) → soundMarked (afterMarked (unmarked emptyStore) calls) ≡ true
+
+-- order 7: "A store is sound only if going back to any set mark, then to any still set, and so on, would each time give tables that are
+-- sound by document 01's rules": where its marks are in order, exactly then: `sound-by-going-back`
+unfoldable pub SoundByGoingBack : Type 0
+SoundByGoingBack =
+    (t : MarkedStore) → marksHold maxRemembered (t .marks) ≡ true
+    → (soundMarked t ≡ true) ↔ ((ks : List ℕ) → sound (afterMarked t (map goBack ks) .store) ≡ true)
+
+-- "A list of calls that sets and returns to marks must still never break the four laws": `demand3-marked`; under every list of renamed
+-- types too: `laws-marked`
+unfoldable pub Demand3Marked : Type 0
+Demand3Marked = (calls : List MarkedCall) (ig : Ignore) (f : Sort) → Laws (afterMarked (unmarked emptyStore) calls .store) ig f
+
+unfoldable pub LawsMarked : Type 0
+LawsMarked =
+    (calls : List MarkedCall) (types : List ℕ) (ig : Ignore) (f : Sort)
+    → Laws (renamed types (afterMarked (unmarked emptyStore) calls .store)) ig f
+
+-- nor does it break order 2's law on keys, where the arguments and the types in the list are below 2^32: `filers-law-marked`
+unfoldable pub FilersLawMarked : Type 0
+FilersLawMarked =
+    (calls : List MarkedCall) → all markedCallFits calls ≡ true → (types : List ℕ) → all fits types ≡ true
+    → (ig : Ignore) (f : Sort) → FiledAsEqual (renamed types (afterMarked (unmarked emptyStore) calls .store)) ig f
+
+-- going back to a mark gives the state of its setting, but for the older marks that were set again since: `went-back`
+unfoldable pub WentBack : Type 0
+WentBack =
+    (t : MarkedStore) → marksHold maxRemembered (t .marks) ≡ true → (k : ℕ) → isMark k ≡ true
+    → (calls : List MarkedCall) → any (sets k) calls ≡ false → isSet k (afterMarked (marked t (setMark k)) calls .marks) ≡ true
+    → marked (afterMarked (marked t (setMark k)) calls) (goBack k)
+    ≡ record {
+      store = t .store;
+      marks = filter (λ (m : Mark). not (any (sets (m .number)) calls)) (marked t (setMark k) .marks);
+    }
+
+-- so, where none of the marks set then was set again, "numbers given since are given again": every call is answered as it was then:
+-- `went-back-whole`
+unfoldable pub WentBackWhole : Type 0
+WentBackWhole =
+    (t : MarkedStore) → marksHold maxRemembered (t .marks) ≡ true → (k : ℕ) → isMark k ≡ true
+    → (calls : List MarkedCall) → all (λ (m : Mark). not (any (sets (m .number)) calls)) (marked t (setMark k) .marks) ≡ true
+    → isSet k (afterMarked (marked t (setMark k)) calls .marks) ≡ true
+    → marked (afterMarked (marked t (setMark k)) calls) (goBack k) ≡ marked t (setMark k)
 
 -- ---- 01's premise is needed
 

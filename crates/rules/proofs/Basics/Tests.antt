@@ -3,7 +3,7 @@ use Prim.Native.Nat.{ℕ, zero, suc, _<_}
 use native.Mathlib.Nat.{not-suc-le-zero}
 use native.Mathlib.Decide.{ℕ-discrete}
 use native.Mathlib.Omega.{arith}
-use mathlib.Core.Bool.{Bool, true, false, _&&_, _||_, true≢false, false≢true}
+use mathlib.Core.Bool.{Bool, true, false, not, _&&_, _||_, true≢false, false≢true}
 use mathlib.Core.List.{List, [], _∷_, List·Memᴰ, List·Memᴰ·head, List·Memᴰ·tail}
 use mathlib.Core.Logic.{_↔_, _⊎_, inl, inr}
 use mathlib.Core.Path.{_≡_, refl, sym, subst, _∙_}
@@ -35,6 +35,22 @@ pub or-right : (a b : Bool) → b ≡ true → (a || b) ≡ true
 or-right true b h = refl
 or-right false b h = h
 
+pub or-false-left : (a b : Bool) → (a || b) ≡ false → a ≡ false
+or-false-left true b h = h
+or-false-left false b h = refl
+
+pub or-false-right : (a b : Bool) → (a || b) ≡ false → b ≡ false
+or-false-right true b h = absurd (true≢false h)
+or-false-right false b h = h
+
+pub or-neither : (a b : Bool) → a ≡ false → b ≡ false → (a || b) ≡ false
+or-neither true b p q = p
+or-neither false b p q = q
+
+pub not-or : (a b : Bool) → (not a && not b) ≡ not (a || b)
+not-or true b = refl
+not-or false b = refl
+
 -- a test passes or fails
 pub decided : (b : Bool) → (b ≡ true) ⊎ (b ≡ false)
 decided true = inl refl
@@ -46,6 +62,14 @@ clash p q = absurd (true≢false (sym p ∙ q))
 -- what `cc` shows of constructors that differ
 pub impossible {ℓ} : {A : Type ℓ} → _≡_ {A = ℕ} 0 1 → A
 impossible h = absurd (omega arith)
+
+-- numbers that differ do so the other way round
+pub differ-back : (a b : ℕ) → eqb a b ≡ false → eqb b a ≡ false
+differ-back a b h = go (decided (eqb b a))
+  where
+    go : (eqb b a ≡ true) ⊎ (eqb b a ≡ false) → eqb b a ≡ false
+    go (inl e) = clash (eq-eqb a b (sym (eqb-true b a e))) h
+    go (inr e) = e
 
 -- all of a list of tests pass, one by one
 abbrev pub Passed : List Bool → Type 0

@@ -24,7 +24,7 @@ use Rattle.rules.proofs.Soundness.Sound.{facts}
 use Rattle.rules.proofs.Basics.Tests.{clash}
 use Rattle.rules.proofs.Basics.Distinct.{concatMap-concatMap}
 use Rattle.rules.proofs.Form.Images.{Empty}
-use Rattle.rules.proofs.Form.Events.{unmarked, unmarked-events, lock}
+use Rattle.rules.proofs.Form.Events.{bareSteps, bare-events, lock}
 use Rattle.rules.proofs.Form.LockStep.{going, lock-step}
 use Rattle.rules.proofs.Form.Tokens.{eventValues, eventBlocks, eventOperands, eventSuccessors, Rest, Whole, Related, Apart, tokens-equal, lock-goes-on}
 use Rattle.rules.proofs.Form.Hashes.{tokenBytes, tokens-bytes}
@@ -48,15 +48,15 @@ empty-table n l =
 -- ---- what the events define and name is what the fragment does
 
 module _ (f : Event → List ℕ) (g : Step → List ℕ) (atStep : (x : Step) → f (step x) ≡ g x) (atMore : f more ≡ []) (atDone : f done ≡ []) where
-  by-steps : (es : List Event) → concatMap f es ≡ concatMap g (unmarked es)
-  unfolding concatMap unmarked
+  by-steps : (es : List Event) → concatMap f es ≡ concatMap g (bareSteps es)
+  unfolding concatMap bareSteps
   by-steps [] = refl
   by-steps (step x ∷ es) = ap₂ _++_ (atStep x) (by-steps es)
   by-steps (more ∷ es) = ap (λ (l : List ℕ). l ++ concatMap f es) atMore ∙ by-steps es
   by-steps (done ∷ es) = ap (λ (l : List ℕ). l ++ concatMap f es) atDone ∙ by-steps es
 
   in-fragment : (s : Store) (k : Sort) (n : ℕ) → concatMap f (events s k n) ≡ concatMap g (steps s k n)
-  in-fragment s k n = by-steps (events s k n) ∙ ap (concatMap g) (unmarked-events s k n)
+  in-fragment s k n = by-steps (events s k n) ∙ ap (concatMap g) (bare-events s k n)
 
 module _ (s : Store) (f : Sort) (n : ℕ) where
   -- all that a fragment defines
@@ -187,4 +187,4 @@ unfolding canonical hash
 canonical→hash s ig f a b e = ap fnv (bytes a ∙ ap (concatMap tokenBytes) e ∙ sym (bytes b))
   where
     bytes : (n : ℕ) → allBytes uncounted s ig (steps s f n) noNumbers ≡ concatMap tokenBytes (tokens s ig (events s f n) noNumbers)
-    bytes n = sym (tokens-bytes s ig (events s f n) noNumbers ∙ ap (λ (xs : List Step). allBytes uncounted s ig xs noNumbers) (unmarked-events s f n))
+    bytes n = sym (tokens-bytes s ig (events s f n) noNumbers ∙ ap (λ (xs : List Step). allBytes uncounted s ig xs noNumbers) (bare-events s f n))

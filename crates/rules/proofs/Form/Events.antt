@@ -1,5 +1,5 @@
--- A comparison is one lock-step pass over two lists of events: the steps of the walk, with a mark ahead of each list item and at each
--- list's end, so that lists of unequal lengths meet at unequal marks. Assumes nothing.
+-- A comparison is one lock-step pass over two lists of events: the steps of the walk, with a sign ahead of each list item and at each
+-- list's end, so that lists of unequal lengths meet at unequal signs. Assumes nothing.
 use Prim.Native.Nat.{ℕ, zero, suc, _+_}
 use mathlib.Core.Bool.{cond}
 use mathlib.Core.List.{List, [], _∷_, _++_, map}
@@ -15,49 +15,49 @@ use Rattle.rules.specs.Comparison.{State}
 use Rattle.rules.specs.Form.{Event, step, more, done, listEvents, one, shellEvents, opEvents, blocksEvents, regionEvents, events}
 use Rattle.rules.proofs.Form.Tested.{namesAgree}
 
--- ---- without their marks they are the steps of the walk
+-- ---- without their signs they are the steps of the walk
 
-unfoldable pub unmarked : List Event → List Step
-unmarked [] = []
-unmarked (step x ∷ es) = x ∷ unmarked es
-unmarked (more ∷ es) = unmarked es
-unmarked (done ∷ es) = unmarked es
+unfoldable pub bareSteps : List Event → List Step
+bareSteps [] = []
+bareSteps (step x ∷ es) = x ∷ bareSteps es
+bareSteps (more ∷ es) = bareSteps es
+bareSteps (done ∷ es) = bareSteps es
 
-unmarked-append : (a b : List Event) → unmarked (a ++ b) ≡ unmarked a ++ unmarked b
-unfolding unmarked
-unmarked-append [] b = refl
-unmarked-append (step x ∷ a) b = ap (λ (l : List Step). x ∷ l) (unmarked-append a b)
-unmarked-append (more ∷ a) b = unmarked-append a b
-unmarked-append (done ∷ a) b = unmarked-append a b
+bareSteps-append : (a b : List Event) → bareSteps (a ++ b) ≡ bareSteps a ++ bareSteps b
+unfolding bareSteps
+bareSteps-append [] b = refl
+bareSteps-append (step x ∷ a) b = ap (λ (l : List Step). x ∷ l) (bareSteps-append a b)
+bareSteps-append (more ∷ a) b = bareSteps-append a b
+bareSteps-append (done ∷ a) b = bareSteps-append a b
 
-unmarked-list : (f : ℕ → List Event) (g : ℕ → List Step) → ((n : ℕ) → unmarked (f n) ≡ g n) → (xs : List ℕ) → unmarked (listEvents f xs) ≡ concatMap g xs
-unfolding unmarked listEvents concatMap
-unmarked-list f g same [] = refl
-unmarked-list f g same (x ∷ xs) = unmarked-append (f x) (listEvents f xs) ∙ ap₂ _++_ (same x) (unmarked-list f g same xs)
+bareSteps-list : (f : ℕ → List Event) (g : ℕ → List Step) → ((n : ℕ) → bareSteps (f n) ≡ g n) → (xs : List ℕ) → bareSteps (listEvents f xs) ≡ concatMap g xs
+unfolding bareSteps listEvents concatMap
+bareSteps-list f g same [] = refl
+bareSteps-list f g same (x ∷ xs) = bareSteps-append (f x) (listEvents f xs) ∙ ap₂ _++_ (same x) (bareSteps-list f g same xs)
 
-unmarked-one : (f : ℕ → Step) (xs : List ℕ) → unmarked (listEvents (one f) xs) ≡ map f xs
-unfolding unmarked listEvents
-unmarked-one f [] = refl
-unmarked-one f (x ∷ xs) = ap (λ (l : List Step). f x ∷ l) (unmarked-one f xs)
+bareSteps-one : (f : ℕ → Step) (xs : List ℕ) → bareSteps (listEvents (one f) xs) ≡ map f xs
+unfolding bareSteps listEvents
+bareSteps-one f [] = refl
+bareSteps-one f (x ∷ xs) = ap (λ (l : List Step). f x ∷ l) (bareSteps-one f xs)
 
-unmarked-shells : (w : ℕ → Owner) (ns : List ℕ) → unmarked (shellEvents w ns) ≡ shells w ns
-unfolding unmarked shellEvents shells
-unmarked-shells w ns = ap (λ (l : List Step). counted (length ns) ∷ l) (unmarked-one (λ (n : ℕ). shell (w n)) ns)
+bareSteps-shells : (w : ℕ → Owner) (ns : List ℕ) → bareSteps (shellEvents w ns) ≡ shells w ns
+unfolding bareSteps shellEvents shells
+bareSteps-shells w ns = ap (λ (l : List Step). counted (length ns) ∷ l) (bareSteps-one (λ (n : ℕ). shell (w n)) ns)
 
 module _ (s : Store) where
-  unmarked-op : (f : ℕ → List Event) (g : ℕ → List Step) → ((n : ℕ) → unmarked (f n) ≡ g n) → (n : ℕ) → unmarked (opEvents s f n) ≡ fullOp s g n
-  unfolding unmarked opEvents fullOp
-  unmarked-op f g same n = ap (λ (l : List Step). names n ∷ l) (unmarked-list f g same (regionsOf s n))
+  bareSteps-op : (f : ℕ → List Event) (g : ℕ → List Step) → ((n : ℕ) → bareSteps (f n) ≡ g n) → (n : ℕ) → bareSteps (opEvents s f n) ≡ fullOp s g n
+  unfolding bareSteps opEvents fullOp
+  bareSteps-op f g same n = ap (λ (l : List Step). names n ∷ l) (bareSteps-list f g same (regionsOf s n))
 
-  unmarked-blocks : (f : ℕ → List Event) (g : ℕ → List Step) → ((n : ℕ) → unmarked (f n) ≡ g n) → (bs : List ℕ)
-      → unmarked (blocksEvents s f bs) ≡ listSteps s g bs
+  bareSteps-blocks : (f : ℕ → List Event) (g : ℕ → List Step) → ((n : ℕ) → bareSteps (f n) ≡ g n) → (bs : List ℕ)
+      → bareSteps (blocksEvents s f bs) ≡ listSteps s g bs
   unfolding blocksEvents listSteps
-  unmarked-blocks f g same bs =
-      unmarked-append (shellEvents ofBlock bs ++ listEvents ops bs) (listEvents fulls bs)
+  bareSteps-blocks f g same bs =
+      bareSteps-append (shellEvents ofBlock bs ++ listEvents ops bs) (listEvents fulls bs)
       ∙ ap₂ _++_
-      (unmarked-append (shellEvents ofBlock bs) (listEvents ops bs)
-      ∙ ap₂ _++_ (unmarked-shells ofBlock bs) (unmarked-list ops (λ (b : ℕ). shells ofOp (opsOf s b)) (λ b. unmarked-shells ofOp (opsOf s b)) bs))
-      (unmarked-list fulls (λ (b : ℕ). concatMap g (opsOf s b)) (λ b. unmarked-list f g same (opsOf s b)) bs)
+      (bareSteps-append (shellEvents ofBlock bs) (listEvents ops bs)
+      ∙ ap₂ _++_ (bareSteps-shells ofBlock bs) (bareSteps-list ops (λ (b : ℕ). shells ofOp (opsOf s b)) (λ b. bareSteps-shells ofOp (opsOf s b)) bs))
+      (bareSteps-list fulls (λ (b : ℕ). concatMap g (opsOf s b)) (λ b. bareSteps-list f g same (opsOf s b)) bs)
     where
       ops : ℕ → List Event
       ops b = shellEvents ofOp (opsOf s b)
@@ -65,20 +65,20 @@ module _ (s : Store) where
       fulls : ℕ → List Event
       fulls b = listEvents f (opsOf s b)
 
-  unmarked-region : (k r : ℕ) → unmarked (regionEvents s k r) ≡ regionSteps k s r
-  unfolding regionEvents regionSteps unmarked
-  unmarked-region zero r = refl
-  unmarked-region (suc k) r =
-      unmarked-blocks (opEvents s (regionEvents s k)) (fullOp s (regionSteps k s)) (unmarked-op (regionEvents s k) (regionSteps k s) (unmarked-region k)) (blocksOf s r)
+  bareSteps-region : (k r : ℕ) → bareSteps (regionEvents s k r) ≡ regionSteps k s r
+  unfolding regionEvents regionSteps bareSteps
+  bareSteps-region zero r = refl
+  bareSteps-region (suc k) r =
+      bareSteps-blocks (opEvents s (regionEvents s k)) (fullOp s (regionSteps k s)) (bareSteps-op (regionEvents s k) (regionSteps k s) (bareSteps-region k)) (blocksOf s r)
 
-  unmarked-full : (n : ℕ) → unmarked (opEvents s (regionEvents s levels) n) ≡ fullOp s (regionSteps levels s) n
-  unmarked-full = unmarked-op (regionEvents s levels) (regionSteps levels s) (unmarked-region levels)
+  bareSteps-full : (n : ℕ) → bareSteps (opEvents s (regionEvents s levels) n) ≡ fullOp s (regionSteps levels s) n
+  bareSteps-full = bareSteps-op (regionEvents s levels) (regionSteps levels s) (bareSteps-region levels)
 
-  pub unmarked-events : (f : Sort) (n : ℕ) → unmarked (events s f n) ≡ steps s f n
-  unfolding events steps unmarked
-  unmarked-events op n = ap (λ (l : List Step). shell (ofOp n) ∷ l) (unmarked-full n)
-  unmarked-events block n = unmarked-blocks (opEvents s (regionEvents s levels)) (fullOp s (regionSteps levels s)) unmarked-full (n ∷ [])
-  unmarked-events region n = unmarked-region levels n
+  pub bare-events : (f : Sort) (n : ℕ) → bareSteps (events s f n) ≡ steps s f n
+  unfolding events steps bareSteps
+  bare-events op n = ap (λ (l : List Step). shell (ofOp n) ∷ l) (bareSteps-full n)
+  bare-events block n = bareSteps-blocks (opEvents s (regionEvents s levels)) (fullOp s (regionSteps levels s)) bareSteps-full (n ∷ [])
+  bare-events region n = bareSteps-region levels n
 
 -- ---- the lock-step pass
 

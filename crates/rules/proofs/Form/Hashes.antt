@@ -8,7 +8,7 @@ use Rattle.rules.specs.Fragments.{Step, shell, names, counted}
 use Rattle.rules.specs.Shells.{Ignore, countsOf, shellOf}
 use Rattle.rules.specs.Hash.{fnvByte, fnvFrom, Numbering, numbered, Name, nameOf, nameBytes, leaf, count, headBytes, uncounted, listBytes, shellBytes, feeds, allBytes}
 use Rattle.rules.specs.Form.{Event, step, more, done, Token, shellToken, namesToken, countedToken, moreToken, doneToken, numberedBy, token, tokens}
-use Rattle.rules.proofs.Form.Events.{unmarked}
+use Rattle.rules.proofs.Form.Events.{bareSteps}
 
 -- what is fed in two parts goes into the word one after the other
 pub fnv-append : (w : ℕ) (xs ys : List ℕ) → fnvFrom w (xs ++ ys) ≡ fnvFrom (fnvFrom w xs) ys
@@ -49,8 +49,8 @@ module _ (s : Store) (ig : Ignore) where
       (concatMap-map nameBytes (nameOf (N .blocks)) (opAt s n .successors))
   step-bytes (counted k) N = refl
 
-  pub tokens-bytes : (es : List Event) (N : Numbering) → concatMap tokenBytes (tokens s ig es N) ≡ allBytes uncounted s ig (unmarked es) N
-  unfolding concatMap tokens allBytes unmarked numberedBy tokenBytes token
+  pub tokens-bytes : (es : List Event) (N : Numbering) → concatMap tokenBytes (tokens s ig es N) ≡ allBytes uncounted s ig (bareSteps es) N
+  unfolding concatMap tokens allBytes bareSteps numberedBy tokenBytes token
   tokens-bytes [] N = refl
   tokens-bytes (step x ∷ es) N = ap₂ _++_ (step-bytes x N) (tokens-bytes es (numbered s x N))
   tokens-bytes (more ∷ es) N = tokens-bytes es N

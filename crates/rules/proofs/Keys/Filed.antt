@@ -18,7 +18,7 @@ use Rattle.rules.specs.Form.{events, canonical}
 use Rattle.rules.specs.Statements.{KeyEqual, EqualKey, FiledAsEqual, FilersLaw}
 use Rattle.rules.proofs.Basics.Tests.{impossible}
 use Rattle.rules.proofs.Form.Counted.{values-most, blocks-most}
-use Rattle.rules.proofs.Form.Events.{unmarked-events}
+use Rattle.rules.proofs.Form.Events.{bare-events}
 use Rattle.rules.proofs.Form.Tokens.{eventValues, eventBlocks}
 use Rattle.rules.proofs.Form.Canonical.{all-defined, events-rest, canonical→equal, equal→canonical}
 use Rattle.rules.proofs.Laws.{one-way}
@@ -38,7 +38,7 @@ room s sd f n h =
 
 bytes-of : (s : Store) (ig : Ignore) (f : Sort) (n : ℕ) → eventsBytes s ig (events s f n) noNumbers ≡ key s ig f n
 unfolding key
-bytes-of s ig f n = events-bytes s ig (events s f n) noNumbers ∙ ap (λ (xs : List Step). allBytes count s ig xs noNumbers) (unmarked-events s f n)
+bytes-of s ig f n = events-bytes s ig (events s f n) noNumbers ∙ ap (λ (xs : List Step). allBytes count s ig xs noNumbers) (bare-events s f n)
 
 key→canonical : (s : Store) → sound s ≡ true → fieldsFit s ≡ true → (ig : Ignore) (f : Sort) (a b : ℕ) → In s f a → In s f b
     → key s ig f a ≡ key s ig f b → canonical s ig f a ≡ canonical s ig f b

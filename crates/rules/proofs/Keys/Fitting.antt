@@ -18,6 +18,7 @@ use Rattle.rules.specs.Hash.{nameAt, nameOf}
 use Rattle.rules.specs.Keys.{fits, attributeFits, opFits, blockFits, valueFits, fieldsFit}
 use Rattle.rules.proofs.Basics.Tests.{and-left, and-right, and-both, passed, all-at}
 use Rattle.rules.proofs.Basics.Appended.{mem-getD}
+use Rattle.rules.proofs.Basics.Filtered.{all-filter}
 use Rattle.rules.proofs.Basics.Pigeons.{pigeons}
 use Rattle.rules.proofs.Soundness.Sound.{Sound, facts}
 use Rattle.rules.proofs.Soundness.Children.{ops-in, blocks-in, regions-in, values-in, ops-distinct, blocks-distinct, regions-distinct, values-distinct}
@@ -34,15 +35,6 @@ module _ {A : Type 0} where
       go : Dec (n < length xs) → p (getD xs n d) ≡ true
       go (yes l) = all-at p xs h (mem-getD xs n d l)
       go (no l) = subst (λ (x : A). p x ≡ true) (sym (List·getD-eq-default xs d (omega arith))) k
-
-  all-filter : (p q : A → Bool) (xs : List A) → all p xs ≡ true → all p (filter q xs) ≡ true
-  unfolding all filter
-  all-filter p q [] h = refl
-  all-filter p q (x ∷ xs) h = go (q x) (and-left (p x) (all p xs) h) (all-filter p q xs (and-right (p x) (all p xs) h))
-    where
-      go : (b : Bool) → p x ≡ true → all p (filter q xs) ≡ true → all p (cond b (x ∷ filter q xs) (filter q xs)) ≡ true
-      go true a r = and-both (p x) (all p (filter q xs)) a r
-      go false a r = r
 
   pub filter-most : (q : A → Bool) (xs : List A) → length (filter q xs) ≤ length xs
   unfolding filter

@@ -13,7 +13,7 @@ use Rattle.rules.specs.Shells.{Ignore}
 use Rattle.rules.specs.Hash.{Numbering, numbered, count, feeds, allBytes}
 use Rattle.rules.specs.Form.{Event, step, more, done, listEvents, numberedBy, Token, token, tokens}
 use Rattle.rules.proofs.Basics.Distinct.{concatMap-append}
-use Rattle.rules.proofs.Form.Events.{unmarked}
+use Rattle.rules.proofs.Form.Events.{bareSteps}
 use Rattle.rules.proofs.Form.Tokens.{eventValues, eventBlocks}
 use Rattle.rules.proofs.Keys.Paired.{Pairs}
 
@@ -84,9 +84,9 @@ module _ (s : Store) (ig : Ignore) where
   eventsBytes [] N = []
   eventsBytes (e ∷ es) N = eventBytes e N ++ eventsBytes es (numberedBy s e N)
 
-  -- marks write nothing
-  pub events-bytes : (es : List Event) (N : Numbering) → eventsBytes es N ≡ allBytes count s ig (unmarked es) N
-  unfolding eventsBytes eventBytes allBytes unmarked numberedBy
+  -- signs write nothing
+  pub events-bytes : (es : List Event) (N : Numbering) → eventsBytes es N ≡ allBytes count s ig (bareSteps es) N
+  unfolding eventsBytes eventBytes allBytes bareSteps numberedBy
   events-bytes [] N = refl
   events-bytes (step x ∷ es) N = ap (λ (l : List ℕ). feeds count s ig x N ++ l) (events-bytes es (numberedBy s (step x) N))
   events-bytes (more ∷ es) N = events-bytes es N
@@ -144,7 +144,7 @@ module _ (s : Store) (ig : Ignore) where
 
   -- ---- lists, pair by pair: what is told of each pair, and of their events what passes from part to part
 
-  -- it passes from part to part of two lists of events, and over marks and counts
+  -- it passes from part to part of two lists of events, and over signs and counts
   pub record Carried (K : List Event → List Event → Numbering → Numbering → Type 0) : Type 0 where
     pub atEnd : (N N′ : Numbering) → K (done ∷ []) (done ∷ []) N N′
     pub behind : (es es′ : List Event) (N N′ : Numbering) → K es es′ N N′ → K (more ∷ es) (more ∷ es′) N N′
@@ -153,10 +153,10 @@ module _ (s : Store) (ig : Ignore) where
         (es es′ fs fs′ : List Event) (N N′ : Numbering) → K es es′ N N′ → K fs fs′ (numberedAfter s es N) (numberedAfter s es′ N′) → K (es ++ fs) (es′ ++ fs′) N N′
 
   module _ (K : List Event → List Event → Numbering → Numbering → Type 0) (carried : Carried K) where
-    marked : (es es′ : List Event) (P : Numbering → Numbering → Type 0) → Reads es es′ (λ N N′. K es es′ N N′ × P N N′)
+    signed : (es es′ : List Event) (P : Numbering → Numbering → Type 0) → Reads es es′ (λ N N′. K es es′ N N′ × P N N′)
         → Reads (more ∷ es) (more ∷ es′) (λ N N′. K (more ∷ es) (more ∷ es′) N N′ × P N N′)
     unfolding eventsBytes eventBytes numberedBy numberedAfter concatMap eventValues eventBlocks
-    marked es es′ P r N N′ X Y alike room room′ e =
+    signed es es′ P r N N′ X Y alike room room′ e =
         let a = r N N′ X Y alike (record { values = room .values; blocks = room .blocks }) (record { values = room′ .values; blocks = room′ .blocks }) e in
         record { alike = a .alike; rest = a .rest; told = (carried .behind es es′ N N′ (a .told .0), a .told .1) }
 
@@ -173,7 +173,7 @@ module _ (s : Store) (ig : Ignore) where
     reads-list f Q R h (l ∷ ls) (r ∷ rs) p =
         let first : Reads (f l) (f r) (λ N N′. K (f l) (f r) N N′ × R l r) = h l r (p .0) in
         let others : Reads (listEvents f ls) (listEvents f rs) (λ N N′. K (listEvents f ls) (listEvents f rs) N N′ × Pairs R ls rs) = reads-list f Q R h ls rs (p .1) in
-        marked (f l ++ listEvents f ls) (f r ++ listEvents f rs) (λ N N′. R l r × Pairs R ls rs)
+        signed (f l ++ listEvents f ls) (f r ++ listEvents f rs) (λ N N′. R l r × Pairs R ls rs)
         (reads-as (f l ++ listEvents f ls) (f r ++ listEvents f rs)
         (λ N N′. (K (f l) (f r) N N′ × R l r) × (K (listEvents f ls) (listEvents f rs) (numberedAfter s (f l) N) (numberedAfter s (f r) N′) × Pairs R ls rs))
         (λ N N′. K (f l ++ listEvents f ls) (f r ++ listEvents f rs) N N′ × (R l r × Pairs R ls rs))

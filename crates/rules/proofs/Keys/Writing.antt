@@ -1,4 +1,4 @@
--- The key is one of the canonical form: what a list's count is, the marks of its items tell, up to its end. Assumes nothing.
+-- The key is one of the canonical form: what a list's count is, the signs of its items tell, up to its end. Assumes nothing.
 use Prim.Native.Nat.{ℕ, zero, suc}
 use mathlib.Core.List.{List, [], _∷_, _++_, map, append-assoc, append-nil}
 use mathlib.Core.Path.{_≡_, refl, sym, ap, ap₂, subst, _∙_}
@@ -9,18 +9,18 @@ use Rattle.rules.specs.Shells.{Ignore, shellOf}
 use Rattle.rules.specs.Hash.{count, listBytes, shellBytes, Numbering, noNumbers, numbered, Name, nameOf, nameBytes, feeds, allBytes}
 use Rattle.rules.specs.Keys.{key}
 use Rattle.rules.specs.Form.{Event, step, more, done, listEvents, one, shellEvents, opEvents, blocksEvents, regionEvents, events, Token, shellToken, namesToken, countedToken, moreToken, doneToken, numberedBy, token, tokens, canonical}
-use Rattle.rules.proofs.Form.Events.{unmarked, unmarked-events}
+use Rattle.rules.proofs.Form.Events.{bareSteps, bare-events}
 use Rattle.rules.proofs.Form.Hashes.{countsBytes, concatMap-map, head-bytes}
 
 -- ---- how many items a list has, from where it begins
 
-unfoldable marksAhead : List Token → ℕ
-marksAhead [] = 0
-marksAhead (moreToken ∷ ts) = suc (marksAhead ts)
-marksAhead (doneToken ∷ ts) = 0
-marksAhead (shellToken counts sh ∷ ts) = marksAhead ts
-marksAhead (namesToken counts operands successors ∷ ts) = marksAhead ts
-marksAhead (countedToken ∷ ts) = marksAhead ts
+unfoldable signsAhead : List Token → ℕ
+signsAhead [] = 0
+signsAhead (moreToken ∷ ts) = suc (signsAhead ts)
+signsAhead (doneToken ∷ ts) = 0
+signsAhead (shellToken counts sh ∷ ts) = signsAhead ts
+signsAhead (namesToken counts operands successors ∷ ts) = signsAhead ts
+signsAhead (countedToken ∷ ts) = signsAhead ts
 
 unfoldable itemsAhead : List Event → ℕ
 itemsAhead [] = 0
@@ -97,26 +97,26 @@ unfoldable keyOf : List Token → List ℕ
 keyOf [] = []
 keyOf (shellToken counts sh ∷ ts) = (countsBytes counts ++ shellBytes count sh) ++ keyOf ts
 keyOf (namesToken counts operands successors ∷ ts) = (listBytes count (λ (x : Name × ℕ). nameBytes (x .0)) operands ++ listBytes count nameBytes successors) ++ keyOf ts
-keyOf (countedToken ∷ ts) = count (marksAhead ts) ++ keyOf ts
+keyOf (countedToken ∷ ts) = count (signsAhead ts) ++ keyOf ts
 keyOf (moreToken ∷ ts) = keyOf ts
 keyOf (doneToken ∷ ts) = keyOf ts
 
 module _ (s : Store) (ig : Ignore) where
-  marks-ahead : (es : List Event) (N : Numbering) → marksAhead (tokens s ig es N) ≡ itemsAhead es
-  unfolding marksAhead itemsAhead tokens token
-  marks-ahead [] N = refl
-  marks-ahead (more ∷ es) N = ap suc (marks-ahead es (numberedBy s more N))
-  marks-ahead (done ∷ es) N = refl
-  marks-ahead (step (shell w) ∷ es) N = marks-ahead es (numberedBy s (step (shell w)) N)
-  marks-ahead (step (names n) ∷ es) N = marks-ahead es (numberedBy s (step (names n)) N)
-  marks-ahead (step (counted k) ∷ es) N = marks-ahead es (numberedBy s (step (counted k)) N)
+  signs-ahead : (es : List Event) (N : Numbering) → signsAhead (tokens s ig es N) ≡ itemsAhead es
+  unfolding signsAhead itemsAhead tokens token
+  signs-ahead [] N = refl
+  signs-ahead (more ∷ es) N = ap suc (signs-ahead es (numberedBy s more N))
+  signs-ahead (done ∷ es) N = refl
+  signs-ahead (step (shell w) ∷ es) N = signs-ahead es (numberedBy s (step (shell w)) N)
+  signs-ahead (step (names n) ∷ es) N = signs-ahead es (numberedBy s (step (names n)) N)
+  signs-ahead (step (counted k) ∷ es) N = signs-ahead es (numberedBy s (step (counted k)) N)
 
   by-names : {A : Type 0} (g : A → List ℕ) (f : ℕ → A) (ns : List ℕ) → listBytes count g (map f ns) ≡ listBytes count (λ (n : ℕ). g (f n)) ns
   unfolding listBytes
   by-names g f ns = ap₂ (λ (k : ℕ) (l : List ℕ). count k ++ l) (length-map ns f) (concatMap-map g f ns)
 
-  key-of : (es : List Event) (N : Numbering) → Counts es → keyOf (tokens s ig es N) ≡ allBytes count s ig (unmarked es) N
-  unfolding keyOf tokens token allBytes feeds unmarked numberedBy numbered Counts
+  key-of : (es : List Event) (N : Numbering) → Counts es → keyOf (tokens s ig es N) ≡ allBytes count s ig (bareSteps es) N
+  unfolding keyOf tokens token allBytes feeds bareSteps numberedBy numbered Counts
   key-of [] N c = refl
   key-of (more ∷ es) N c = key-of es N c
   key-of (done ∷ es) N c = key-of es N c
@@ -126,12 +126,12 @@ module _ (s : Store) (ig : Ignore) where
       ap₂ _++_
       (ap₂ _++_ (by-names {A = Name × ℕ} (λ (x : Name × ℕ). nameBytes (x .0)) (λ (v : ℕ). (nameOf (N .values) v, typeOf s v)) (opAt s n .operands)) (by-names nameBytes (nameOf (N .blocks)) (opAt s n .successors)))
       (key-of es N c)
-  key-of (step (counted k) ∷ es) N c = ap₂ (λ (j : ℕ) (l : List ℕ). count j ++ l) (marks-ahead es N ∙ c .0) (key-of es N (c .1))
+  key-of (step (counted k) ∷ es) N c = ap₂ (λ (j : ℕ) (l : List ℕ). count j ++ l) (signs-ahead es N ∙ c .0) (key-of es N (c .1))
 
   canonical-key : (f : Sort) (n : ℕ) → key s ig f n ≡ keyOf (canonical s ig f n)
   unfolding key canonical
   canonical-key f n =
-      ap (λ (xs : List Step). allBytes count s ig xs noNumbers) (sym (unmarked-events s f n)) ∙ sym (key-of (events s f n) noNumbers (counts-events s f n))
+      ap (λ (xs : List Step). allBytes count s ig xs noNumbers) (sym (bare-events s f n)) ∙ sym (key-of (events s f n) noNumbers (counts-events s f n))
 
   pub canonical→key : (f : Sort) (a b : ℕ) → canonical s ig f a ≡ canonical s ig f b → key s ig f a ≡ key s ig f b
   canonical→key f a b e = canonical-key f a ∙ ap keyOf e ∙ sym (canonical-key f b)

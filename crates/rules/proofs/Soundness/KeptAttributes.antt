@@ -48,7 +48,7 @@ put-after a k (b ∷ bs) l h =
     (λ e. and-both _ _ (lt-ltb k (a .key) l) (rw e rest))
     (λ u. and-both _ _ first (put-after a (b .key) bs u rest))
 
-put-rises : (a : Attribute) (bs : List Attribute) → keysRise bs ≡ true → keysRise (putAttribute a bs) ≡ true
+pub put-rises : (a : Attribute) (bs : List Attribute) → keysRise bs ≡ true → keysRise (putAttribute a bs) ≡ true
 unfolding keysRise keysRiseAfter putAttribute
 put-rises a [] h = refl
 put-rises a (b ∷ bs) h =
@@ -80,7 +80,7 @@ put-longer a [] = omega arith
 put-longer a (b ∷ bs) = put-cases (λ (xs : List Attribute). length xs ≤ suc (length bs) + 1) a b bs (λ u. omega arith) (λ u. omega arith) (λ u. omega (arith, put-longer a bs))
 
 -- no key at or below k where all are above it
-not-below : (j k : ℕ) (bs : List Attribute) → j ≤ k → keysRiseAfter k bs ≡ true → hasKey j bs ≡ false
+pub not-below : (j k : ℕ) (bs : List Attribute) → j ≤ k → keysRiseAfter k bs ≡ true → hasKey j bs ≡ false
 unfolding keysRiseAfter hasKey any
 not-below j k [] l h = refl
 not-below j k (b ∷ bs) l h =

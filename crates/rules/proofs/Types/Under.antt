@@ -1,10 +1,10 @@
 -- The laws under a list of renamed types. A renamed store is sound, and so every law of sound stores is one of it. Assumes nothing.
 use Prim.Native.Nat.{ℕ}
-use mathlib.Core.Bool.{Bool, true, false, cond, not, _||_}
+use mathlib.Core.Bool.{Bool, true, false, cond, not}
 use mathlib.Core.List.{List, [], _∷_, map}
 use mathlib.Core.Logic.{_↔_, _⊎_, inl, inr}
 use mathlib.Core.Path.{_≡_, refl, sym, ap, ap₂, subst, transport, transport⁻¹, _∙_}
-use borrow.Author.Tests.{eqb-true, eq-eqb}
+use borrow.Author.Tests.{eqb-true, eq-eqb, not-true}
 use lib.Dec.{eqb}
 use Rattle.rules.specs.Lists.{every, all, any, concatMap}
 use Rattle.rules.specs.Store.{Store, Value, Owner, emptyStore, valuesOf, opAt}
@@ -14,7 +14,7 @@ use Rattle.rules.specs.Types.{wholeRows, oldTypes, presentTypes, standsI
 use Rattle.rules.specs.Keys.{fits, valueFits, fieldsFit}
 use Rattle.rules.specs.Laws.{LawsOfSound}
 use Rattle.rules.specs.Statements.{RenamedSound, RenamedIn, RenamedPremise, RenamedNone, PresentOnce, LawsRenamed, FilersLaw, FilersLawRenamed}
-use Rattle.rules.proofs.Basics.Tests.{and-left, and-right, and-both, or-left, or-right, or-cases, decided, clash, passed, every-of}
+use Rattle.rules.proofs.Basics.Tests.{and-left, and-right, and-both, or-left, or-right, or-cases, or-false-right, decided, clash, passed, every-of}
 use Rattle.rules.proofs.Soundness.Kept.{empty-sound, after-sound}
 use Rattle.rules.proofs.Types.Renamed as renaming
 use Rattle.rules.proofs.Types.Renamed.{values-renamed, exists-renamed, steps-renamed}
@@ -132,20 +132,12 @@ filers-law-renamed calls fit types h ig f =
 
 -- ---- a type is looked up once
 
-or-false : (a b : Bool) → (a || b) ≡ false → b ≡ false
-or-false true b h = clash refl h
-or-false false b h = h
-
-not-true : (b : Bool) → not b ≡ true → b ≡ false
-not-true true h = clash h refl
-not-true false h = refl
-
 -- a type without a row is its own
 no-row : (rows : List ℕ) (t : ℕ) → standsIn (oldTypes rows) t ≡ false → present rows t ≡ t
 unfolding standsIn oldTypes present any
 no-row [] t h = refl
 no-row (old ∷ []) t h = refl
-no-row (old ∷ now ∷ rows) t h = go (decided (eqb old t)) (no-row rows t (or-false (eqb t old) _ h))
+no-row (old ∷ now ∷ rows) t h = go (decided (eqb old t)) (no-row rows t (or-false-right (eqb t old) _ h))
   where
     go : (eqb old t ≡ true) ⊎ (eqb old t ≡ false) → present rows t ≡ t → cond (eqb old t) now (present rows t) ≡ t
     go (inl e) k = clash (or-left (eqb t old) (any (eqb t) (oldTypes rows)) (eq-eqb t old (sym (eqb-true old t e)))) h

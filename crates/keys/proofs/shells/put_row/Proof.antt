@@ -11,8 +11,8 @@ use Rattle.renaming.specs.Index.{listIn}
 use Rattle.fragments.specs.Ignoring.{ignoreOf}
 use Rattle.fragments.specs.Options.{optionsOf}
 use Rattle.fragments.specs.Rows.{rowShell}
-use Rattle.keys.specs.Written.{marksBytes}
-use Rattle.keys.proofs.Lengths.{leaves, marks-few, types-few}
+use Rattle.keys.specs.Written.{placeBytes}
+use Rattle.keys.proofs.Lengths.{leaves, place-few, types-few}
 use Rattle.keys.proofs.Shelling.{shell-bytes}
 use Rattle.keys.proofs.Putting.{put-then, put-rest, put-as}
 use borrow.Author.Needs.{needs}
@@ -26,15 +26,15 @@ module _ (c : tie.After-struct-known) where
 
 -- with all put
 module _ (c : tie.After-slice-known3) where
-  abbrev marked : tie.After-struct-known
-  marked = c .before .before .before .before .before .before
+  abbrev placed : tie.After-struct-known
+  placed = c .before .before .before .before .before .before
 
 -- words, by their present types
 abbrev nowOf : List ℕ → List ℕ → List ℕ
 nowOf index own = map (present (listIn index)) own
 
-put-marks-requires : tie.Need-put-marks-requires
-put-marks-requires c κs =
+put-place-requires : tie.Need-put-place-requires
+put-place-requires c κs =
     let p = c .before .before .before .before .pre in
     (p .0, p .1 .1)
 
@@ -66,11 +66,11 @@ put-types-requires c κs =
 add-result : tie.Need-add-result
 add-result c =
     let words = c .before .before .before .before .before .words in
-    let s = begun (marked c) in
+    let s = begun (placed c) in
     let a = s .args in
     let C = columns (a .store .now) in
     let own = words .result .now in
-    record { fits = omega (arith, marked c .before .before .before .put-marks .ensures .many, c .before .before .put-types .ensures .many, leaves (nowOf (a .types .now) own), length-map own (present (listIn (a .types .now))), ap length (words .ensures), types-few C (a .row) (s .pre .1 .1), marks-few C (ignoreOf (a .ignore)) (a .row) (s .pre .1 .1)) }
+    record { fits = omega (arith, placed c .before .before .before .put-place .ensures .many, c .before .before .put-types .ensures .many, leaves (nowOf (a .types .now) own), length-map own (present (listIn (a .types .now))), ap length (words .ensures), types-few C (a .row) (s .pre .1 .1), place-few C (ignoreOf (a .ignore)) (a .row) (s .pre .1 .1)) }
 
 same-length : tie.Need-same-length
 same-length c = search needs
@@ -79,19 +79,19 @@ returns : tie.Need-returns
 unfolding rowShell
 returns c =
     let words = c .before .before .before .before .before .words in
-    let a = begun (marked c) .args in
+    let a = begun (placed c) .args in
     let C = columns (a .store .now) in
     let o = optionsOf (a .ignore) (a .types .now) in
     let bytes = listBytes count leaf (nowOf (a .types .now) (words .result .now)) in
     put-as (shell-bytes C o (a .row))
-    (put-then (marksBytes C (ignoreOf (a .ignore)) (a .row)) (listBytes count leaf (rowShell C o (a .row) .types)) (marked c .before .before .before .put-marks .ensures)
+    (put-then (placeBytes C (ignoreOf (a .ignore)) (a .row)) (listBytes count leaf (rowShell C o (a .row) .types)) (placed c .before .before .before .put-place .ensures)
     (put-as (ap (λ (own : List ℕ). listBytes count leaf (nowOf (a .types .now) own)) (words .ensures)) (put-rest bytes _ _ _ (c .before .before .before .before .least .ensures) (c .before .before .put-types .ensures))))
 
 pub put-row-spec : {M : Type 1} → statement M
 put-row-spec =
     tie.close
     (tie.spec
-    put-marks-requires
+    put-place-requires
     add-words
     words-requires
     least-requires

@@ -1,4 +1,4 @@
--- `put_marks` meets its contract: the location, then the attributes into the rest. Assumes nothing.
+-- `put_place` meets its contract: the location, then the attributes into the rest. Assumes nothing.
 use Prim.Native.Nat.{_+_}
 use native.Mathlib.Omega.{arith}
 use mathlib.Core.List.{_++_}
@@ -8,12 +8,12 @@ use Rattle.rules.specs.Shells.{unignoredLocation}
 use Rattle.rules.specs.Hash.{count, locationBytes, attributeBytes}
 use Rattle.layout.specs.Columns.{columns}
 use Rattle.fragments.specs.Ignoring.{ignoreOf}
-use Rattle.keys.specs.Written.{rowKept, marksBytes}
+use Rattle.keys.specs.Written.{rowKept, placeBytes}
 use Rattle.keys.proofs.Lengths.{location-few, attributes-long, kept-few}
 use Rattle.keys.proofs.Putting.{put-then, put-rest}
 use borrow.Author.Needs.{needs}
-use Rattle.keys.proofs.shells.put_marks.Statement.{statement}
-use Rattle.keys.proofs.shells.put_marks.Tie as tie
+use Rattle.keys.proofs.shells.put_place.Statement.{statement}
+use Rattle.keys.proofs.shells.put_place.Tie as tie
 
 -- behind the location
 module _ (c : tie.After-struct-known) where
@@ -61,7 +61,7 @@ same-length : tie.Need-same-length
 same-length c = search needs
 
 returns : tie.Need-returns
-unfolding marksBytes
+unfolding placeBytes
 returns c =
     let a = begun (located c) .args in
     let ig = ignoreOf (a .ignore) in
@@ -69,8 +69,8 @@ returns c =
     put-then (locationBytes (unignoredLocation ig (a .row .location))) (count (length kept) ++ concatMap attributeBytes kept) (located c .before .before .before .put-location .ensures)
     (put-rest (count (length kept) ++ concatMap attributeBytes kept) _ _ _ (c .before .before .before .before .least .ensures) (c .before .before .put-attributes .ensures))
 
-pub put-marks-spec : {M : Type 1} → statement M
-put-marks-spec =
+pub put-place-spec : {M : Type 1} → statement M
+put-place-spec =
     tie.close
     (tie.spec
     put-location-requires
