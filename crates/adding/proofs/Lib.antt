@@ -2,6 +2,7 @@
 pub mod Entries
 pub mod RowWritten
 pub mod Grew
+pub mod Behind
 pub mod Rows
 pub mod NextChild
 pub mod OperationAdded
@@ -17,3 +18,4 @@ pub mod OperationColumns
 pub mod NewOperation
 pub mod Operating
 pub mod BlockCauses
+pub mod Done

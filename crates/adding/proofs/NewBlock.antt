@@ -12,10 +12,13 @@ use Rattle.layout.specs.Columns.{Cols, at, pasted, write, writeRange, counts, o
 use Rattle.layout.specs.Reading.{slice, opCount, blockCount, regionCount, valueCount, operandCount, successorCount, attributeCount, ownerCode, storeOf}
 use Rattle.layout.proofs.Buffer.{write-shaped}
 use Rattle.layout.proofs.Laid.{Shaped, InRange, Laid}
+use Rattle.calling.specs.Doing.{Behind}
+use Rattle.calling.proofs.Behind.{apart}
 use Rattle.adding.specs.Raw.{withValues, withRow, blockWritten, blockPlaced, withBlock}
 use Rattle.adding.proofs.Entries.{Put, put, Run, run, same}
 use Rattle.adding.proofs.RowWritten.{row-shaped}
 use Rattle.adding.proofs.Grew.{Grew}
+use Rattle.adding.proofs.Behind.{row-behind, count-behind, values-behind, grew-behind}
 use Rattle.adding.proofs.Rows.{ValuesAdded}
 use Rattle.adding.proofs.BlockAdded.{BlockAdded, BlockRoom, added-reads, added-laid}
 use Rattle.adding.proofs.Extended.{Wider}
@@ -241,6 +244,19 @@ module _ (C : Cols) (new : NewBlock) where
             end = placed-end row blockRegion blockNext regionBlockFirst regionBlockEnd (new .region) (new .region) (blockCount C) blocks-apart (omega arith);
             ends = λ r ne. placed-end-else row blockRegion blockNext regionBlockFirst regionBlockEnd (new .region) (new .region) (blockCount C) blocks-apart r ne;
           }
+
+      -- ---- what marks rest on
+
+      words-behind : (k : ℕ) → blockNext < k → made k ≡ C k
+      unfolding withBlock blockWritten
+      words-behind k l =
+          count-behind (withValues placed (ofBlock (blockCount C)) (new .types)) k l 1 (blockCount C + 1)
+          ∙ values-behind placed k l (ofBlock (blockCount C)) (new .types)
+          ∙ placed-other k (apart k l regionBlockFirst refl) (apart k l regionBlockEnd refl) (apart k l blockNext refl)
+          ∙ row-behind C blockRegion (blockCount C) _ k (omega arith)
+
+      pub block-behind : Behind C (withBlock C new)
+      block-behind = grew-behind C made block-grew words-behind (counts-else 7 (λ e. omega arith) (λ e. omega arith))
 
       -- ---- the call
 

@@ -6,19 +6,23 @@ use mathlib.Core.Option.{Option, none, some}
 use mathlib.Core.Path.{_≡_, refl, sym, ap, subst, _∙_}
 use lib.Dec.{eqb}
 use lib.ListN.{length, replicate, length-replicate, getD-replicate}
+use Rattle.rules.specs.Store.{ofOp}
 use Rattle.rules.specs.Building.{NewOperation, newOperation, applied}
-use Rattle.layout.specs.Columns.{Cols, at, write, writeRange, counts, opParent, opNext, regionBlockEnd, blockRegion, blockLabel, blockLocation, blockArgumentFirst, blockArgumentEnd, blockOpFirst, blockOpEnd, blockAttributes, slotKey, slotKind, slotContent, blockNext}
+use Rattle.layout.specs.Columns.{Cols, at, write, writeRange, counts, opKind, opParent, opNext, regionBlockEnd, blockRegion, blockLabel, blockLocation, blockArgumentFirst, blockArgumentEnd, blockOpFirst, blockOpEnd, blockAttributes, operandWords, successorWords, slotKey, slotKind, slotContent, blockNext}
 use Rattle.layout.specs.Reading.{opCount, blockCount, regionCount, valueCount, operandCount, successorCount, attributeCount, storeOf}
 use Rattle.layout.proofs.Laid.{Shaped, InRange, Laid}
+use Rattle.calling.specs.Doing.{Behind}
+use Rattle.calling.proofs.Behind.{apart}
 use Rattle.adding.specs.Raw.{withRow, withValues, parentCode, parentBelow, opPlaced, withRegions, withSlice, opRow, opWritten, withOperation}
 use Rattle.adding.proofs.Entries.{Run, same}
 use Rattle.adding.proofs.Grew.{Grew}
+use Rattle.adding.proofs.Behind.{row-behind, count-behind, regions-behind, values-behind, slice-behind, grew-behind}
 use Rattle.adding.proofs.OperationAdded.{OperationAdded, added-reads}
 use Rattle.adding.proofs.OperationLaid.{RoomFor, added-laid}
 use Rattle.adding.proofs.Extended.{Wider, wider-same}
 use Rattle.adding.proofs.ChildPlaced.{placed-wider, placed-place, placed-end, placed-end-else, placed-new, placed-last, placed-else}
 use Rattle.adding.proofs.OperationColumns.{OpRowPut, row-puts, around-run, first-run, end-run, type-run, owner-run, operand-run, successor-run, values-added}
-use Rattle.adding.proofs.OperationWritten.{ops-apart, row, placed, made, placed-other, counts-else, ops-count, regions-counted, values-counted, operands-counted, successors-counted}
+use Rattle.adding.proofs.OperationWritten.{ops-apart, row, placed, c₁, c₂, c₃, c₄, made, placed-other, counts-else, ops-count, regions-counted, values-counted, operands-counted, successors-counted}
 use Rattle.adding.proofs.ChildrenLinked.{endUnder, OpPut}
 
 -- ---- the parent's range
@@ -214,6 +218,22 @@ module _ (C : Cols) (new : NewOperation) (sh : Shaped C) (room : RoomFor C new) 
           end = λ b q. let lb : b < blockCount C = subst (parentBelow (blockCount C)) q below in end-new R (new .parent) (opCount C) b q (omega arith);
           ends = λ b l ne. end-under R (new .parent) (opCount C) b ne;
         }
+
+    -- ---- what marks rest on
+
+    words-behind : (k : ℕ) → blockNext < k → D k ≡ C k
+    unfolding withOperation opWritten opRow
+    words-behind k l =
+        count-behind (c₄ C new) k l 0 (opCount C + 1)
+        ∙ slice-behind (c₃ C new) k l successorWords 5 (new .successors) refl
+        ∙ slice-behind (c₂ C new) k l operandWords 4 (new .operands) refl
+        ∙ values-behind (c₁ C new) k l (ofOp (opCount C)) (new .types)
+        ∙ regions-behind (placed C new) k l (opCount C) (new .regions)
+        ∙ unwritten k (apart k l blockOpFirst refl) (apart k l blockOpEnd refl) (apart k l opNext refl)
+        ∙ row-behind C opKind (opCount C) _ k (omega arith)
+
+    pub operation-behind : Behind C (withOperation C new)
+    operation-behind = grew-behind C D operation-grew words-behind (counts-kept 7 (λ q. omega arith) (λ q. omega arith) (λ q. omega arith) (λ q. omega arith) (λ q. omega arith))
 
     -- ---- the call
 

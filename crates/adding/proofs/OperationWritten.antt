@@ -51,7 +51,7 @@ module _ (C : Cols) (new : NewOperation) where
   abbrev pub c₃ : Cols
   c₃ = withSlice c₂ operandWords 4 (new .operands)
 
-  abbrev c₄ : Cols
+  abbrev pub c₄ : Cols
   c₄ = withSlice c₃ successorWords 5 (new .successors)
 
   abbrev pub made : Cols

@@ -5,39 +5,37 @@ use native.Mathlib.Omega.{arith}
 use mathlib.Core.Bool.{Bool, true, false, cond}
 use mathlib.Core.List.{List, [], _∷_}
 use mathlib.Core.Option.{Option, none, some}
-use mathlib.Core.Path.{_≡_, refl, sym, ap, subst, _∙_}
+use mathlib.Core.Path.{_≡_, refl, sym, _∙_}
 use lib.ListN.{length, take, drop}
 use Rattle.rules.specs.Store.{Attribute, Owner}
-use Rattle.rules.specs.Building.{Call, newOperation, newBlock, setAttribute, setOperand, made, tests, firstFailed, acceptance}
+use Rattle.rules.specs.Building.{Call, newOperation, newBlock, setAttribute, setOperand, tests, firstFailed}
 use Rattle.layout.specs.Columns.{Cols, columns, columnSize, counts, slotKey, slotKind, slotContent, operandWords, slotCount}
-use Rattle.layout.specs.Reading.{slice, opCount, blockCount, slotsOf, storeOf, storeIn}
+use Rattle.layout.specs.Reading.{slice, opCount, blockCount, slotsOf, storeIn}
 use Rattle.layout.specs.Soundness.{soundBuffer, IsSound}
 use Rattle.layout.specs.Owners.{keyCount, countColumn, ownerNumber}
-use Rattle.layout.proofs.Laid.{Shaped, Laid}
+use Rattle.layout.proofs.Laid.{Shaped}
 use Rattle.layout.proofs.Buffer.{write-shaped, writeRange-shaped}
 use Rattle.layout.proofs.Filled.{filled}
 use Rattle.layout.proofs.Empty.{sound-facts}
-use Rattle.layout.proofs.Tabulate.{ops-length, blocks-length}
 use Rattle.calling.specs.declared.types.Built.{Built}
 use Rattle.calling.specs.declared.types.Built.the-variants as Builts
 use Rattle.calling.specs.Types.{builtOf}
 use Rattle.calling.specs.Doing.{Did}
-use Rattle.calling.proofs.Facts.{shaped, laid}
-use Rattle.calling.proofs.Doing.{did-refuse, did-work}
+use Rattle.calling.proofs.Facts.{shaped}
+use Rattle.calling.proofs.Doing.{did-refuse}
 use Rattle.adding.specs.Raw.{withOperation, withBlock}
 use Rattle.setting.specs.Raw.{withAttribute, withOperand, inserted, replaced, added, slotFor, keyThere}
 use Rattle.building.specs.Calls.{Answered, Made, AlwaysMade}
-use Rattle.adding.proofs.Operating.{parent-in, allowed}
+use Rattle.adding.proofs.Operating.{allowed}
 use Rattle.adding.proofs.BlockCauses.{fits-block}
 use Rattle.adding.proofs.OperationWritten.{made-shaped}
-use Rattle.adding.proofs.NewOperation.{operation-reads, operation-laid}
-use Rattle.adding.proofs.NewBlock.{block-shaped, block-reads, block-laid}
-use Rattle.setting.proofs.OperandCauses.{there-operand}
+use Rattle.adding.proofs.NewBlock.{block-shaped}
+use Rattle.adding.proofs.Done.{operation-done, block-done}
 use Rattle.setting.proofs.Owners.{reachable}
 use Rattle.setting.proofs.KeySlot.{slot-low}
 use Rattle.setting.proofs.AttributeCauses.{owner-there, room-there}
 use Rattle.setting.proofs.Placed.{attribute-done}
-use Rattle.setting.proofs.SetOperand.{operand-reads, operand-laid}
+use Rattle.setting.proofs.OperandDone.{operand-done}
 use Rattle.building.proofs.Answering.{turned-down, taken-up}
 
 -- ---- what is set keeps the columns' lengths
@@ -93,43 +91,21 @@ module _ (b : List ℕ) (h : IsSound b) where
   refuse c cause e = (b, Builts.Refused cause, did-refuse b h c (Builts.Refused cause) cause e refl)
 
   work : (c : Call) → firstFailed (tests (storeIn b) c) ≡ none → Doing c
-  unfolding acceptance builtOf opCount blockCount
+  unfolding builtOf
   work (newOperation new) e =
       let C = columns b in
-      let ok = allowed b h new e in
-      let x = filled (withOperation C new) (made-shaped C new (shaped b h) (ok .room)) in (
-        x .0,
-        Builts.Made (opCount C),
-        did-work b h _ _ (x .0) e (x .1 ∙ sym (h .sized)) (ap storeOf (x .2) ∙ operation-reads C new (shaped b h) (ok .room) (laid b h))
-            (subst Laid (sym (x .2)) (operation-laid C new (shaped b h) (ok .room) (laid b h) (parent-in b h (new .parent) (ok .parent))))
-            (ap made (sym (ops-length C))),
-      )
+      let x = filled (withOperation C new) (made-shaped C new (shaped b h) (allowed b h new e .room)) in
+      (x .0, Builts.Made (opCount C), operation-done b h (x .0) (x .1 ∙ sym (h .sized)) (Builts.Made (opCount C)) new e (x .2) refl)
   work (newBlock new) e =
       let C = columns b in
-      let f = fits-block b h new e in
-      let x = filled (withBlock C new) (block-shaped C new (shaped b h) (f .room)) in (
-        x .0,
-        Builts.Made (blockCount C),
-        did-work b h _ _ (x .0) e (x .1 ∙ sym (h .sized)) (ap storeOf (x .2) ∙ block-reads C new (shaped b h) (f .room) (laid b h))
-            (subst Laid (sym (x .2)) (block-laid C new (shaped b h) (f .room) (laid b h) (f .named)))
-            (ap made (sym (blocks-length C))),
-      )
+      let x = filled (withBlock C new) (block-shaped C new (shaped b h) (fits-block b h new e .room)) in
+      (x .0, Builts.Made (blockCount C), block-done b h (x .0) (x .1 ∙ sym (h .sized)) (Builts.Made (blockCount C)) new e (x .2) refl)
   work (setAttribute w a) e =
       let x = filled (withAttribute (columns b) w a) (attribute-shaped b h w a e) in
       (x .0, Builts.Accepted, attribute-done b h w a (x .0) e (x .1 ∙ sym (h .sized)) (x .2))
   work (setOperand u) e =
-      let C = columns b in
-      let n = u .operation in
-      let i = u .index in
-      let v = u .value in
-      let t = there-operand b h n i v e in
-      let x = filled (withOperand C n i v) (operand-shaped C n i v (shaped b h)) in (
-        x .0,
-        Builts.Accepted,
-        did-work b h _ _ (x .0) e (x .1 ∙ sym (h .sized))
-            (ap storeOf (x .2) ∙ operand-reads C n i v (laid b h) (t .op) (t .operand))
-            (subst Laid (sym (x .2)) (operand-laid C n i v (laid b h) (t .op) (t .operand) (shaped b h))) refl,
-      )
+      let x = filled (withOperand (columns b) (u .operation) (u .index) (u .value)) (operand-shaped (columns b) (u .operation) (u .index) (u .value) (shaped b h)) in
+      (x .0, Builts.Accepted, operand-done b h (u .operation) (u .index) (u .value) e (x .0) (x .1 ∙ sym (h .sized)) (x .2))
 
   doing : (c : Call) → Doing c
   doing c = go (firstFailed (tests (storeIn b) c)) refl

@@ -16,7 +16,7 @@ use Rattle.layout.specs.Soundness.{IsSound}
 use Rattle.layout.proofs.Laid.{Laid, laid-of}
 use Rattle.calling.specs.declared.types.Built.{Built}
 use Rattle.calling.specs.Types.{builtOf}
-use Rattle.calling.specs.Doing.{Did}
+use Rattle.calling.specs.Doing.{Behind, Did}
 
 -- an accepted call is not refused
 never : (s : Store) (c : Call) (cause : ℕ) → acceptance s c ≡ refused cause → ⊥
@@ -35,12 +35,13 @@ module _ (b : List ℕ) (h : IsSound b) (c : Call) (r : Built) where
         reads = sym (ap (λ (o : Option ℕ). storeBy o (storeIn b) c) e);
         sound = h;
         unchanged = λ k z. refl;
+        behind = record { words = λ k l. refl; marks = refl; regions = λ n l. refl; results = λ n l. refl; arguments = λ m l. refl };
       }
 
   pub did-work : (exit : List ℕ) → firstFailed (tests (storeIn b) c) ≡ none → length exit ≡ length b
-      → storeOf (columns exit) ≡ applied (storeOf (columns b)) c → Laid (columns exit) → builtOf r ≡ acceptance (storeIn b) c → Did b exit c r
+      → storeOf (columns exit) ≡ applied (storeOf (columns b)) c → Laid (columns exit) → Behind (columns b) (columns exit) → builtOf r ≡ acceptance (storeIn b) c → Did b exit c r
   unfolding answer built answerBy storeBy
-  did-work exit e len reads laid q =
+  did-work exit e len reads laid after q =
       let made : built (storeOf (columns b)) c ≡ applied (storeOf (columns b)) c = ap (λ (o : Option ℕ). storeBy o (storeOf (columns b)) c) e in
       record {
         answered = q ∙ sym (ap (λ (o : Option ℕ). answerBy o (storeOf (columns b)) c) e);
@@ -52,4 +53,5 @@ module _ (b : List ℕ) (h : IsSound b) (c : Call) (r : Built) where
               ruled = subst (λ (s : Store). sound s ≡ true) (made ∙ sym reads) (built-sound (storeOf (columns b)) c (h .ruled));
             };
         unchanged = λ k z. absurd (never (storeOf (columns b)) c k (sym q ∙ z));
+        behind = after;
       }

@@ -3,3 +3,4 @@ pub mod Facts
 pub mod Causes
 pub mod Doing
 pub mod LinksKept
+pub mod Behind

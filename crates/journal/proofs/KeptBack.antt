@@ -86,7 +86,7 @@ module _ (s : Store) (journal : List Entry) (k : ℕ) (r : MarkRow) where
           (back-upTo q qs h′ later (g .0), ap sound (seen′ q (List·Memᴰ·head refl) .1) ∙ g .1, rest h′ e′ later)
 
 -- what is sound at each mark
-sound-at : (s : Store) (journal : List Entry) (rs : List MarkRow) → Steps s journal rs → {r : MarkRow} → List·Memᴰ r rs → sound (snapshotOf s journal r) ≡ true
+pub sound-at : (s : Store) (journal : List Entry) (rs : List MarkRow) → Steps s journal rs → {r : MarkRow} → List·Memᴰ r rs → sound (snapshotOf s journal r) ≡ true
 sound-at s journal rs g (List·Memᴰ·head {x = q} {xs = qs} e) = ap (λ (z : MarkRow). sound (snapshotOf s journal z)) e ∙ g .1
 sound-at s journal rs g (List·Memᴰ·tail {x = q} {xs = qs} m) = sound-at s journal qs (g .2) m
 

@@ -1,1 +1,1 @@
-// No code: specs/ says how marks are remembered by a journal, proofs/ that the journal is the rules' marks.
+// No code: specs/ says how marks are remembered by a journal and how words are read as it, proofs/ that it is the rules' marks.

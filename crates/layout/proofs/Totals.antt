@@ -17,15 +17,15 @@ use Rattle.layout.proofs.Tabulate.{length-tabulate, tabulate-cong, map-
 -- ---- sums over a tabulated list
 
 module _ {A : Type 0} (g : A → ℕ) (f : ℕ → A) where
-  sum-same : (n : ℕ) (w : ℕ → ℕ) → ((k : ℕ) → k < n → g (f k) ≡ w k) → sum (map g (tabulate n f)) ≡ sum (tabulate n w)
+  pub sum-same : (n : ℕ) (w : ℕ → ℕ) → ((k : ℕ) → k < n → g (f k) ≡ w k) → sum (map g (tabulate n f)) ≡ sum (tabulate n w)
   unfolding tabulate
   sum-same n w same = ap sum (map-from g f 0 n ∙ tabulate-cong n (λ (k : ℕ). g (f k)) w same)
 
 -- the lengths of the slices
-abbrev slice-lengths : Cols → ℕ → ℕ → ℕ → ℕ
+abbrev pub slice-lengths : Cols → ℕ → ℕ → ℕ → ℕ
 slice-lengths C first end k = at C end k - at C first k
 
-sum-tiled : (C : Cols) (first end n total : ℕ) → ((k : ℕ) → k < n → Tiled C first end k total) → sum (tabulate n (slice-lengths C first end)) ≡ endBefore C end n
+pub sum-tiled : (C : Cols) (first end n total : ℕ) → ((k : ℕ) → k < n → Tiled C first end k total) → sum (tabulate n (slice-lengths C first end)) ≡ endBefore C end n
 unfolding endBefore sum tabulate tabulateFrom
 sum-tiled C first end zero total tiles = refl
 sum-tiled C first end (suc n) total tiles =

@@ -13,7 +13,7 @@ Cols = ℕ → List ℕ
 
 -- ---- the columns, by number
 
--- how many there are of: operations, blocks, regions, values, operands, successors, attributes; one word is spare
+-- how many there are of: operations, blocks, regions, values, operands, successors, attributes, set marks
 abbrev pub counts : ℕ
 counts = 0
 
@@ -128,8 +128,39 @@ opNext = 32
 abbrev pub blockNext : ℕ
 blockNext = 33
 
+-- of a set mark, the oldest first: its number, its place in the journal, and 8 words of the counts at its setting, the last of which is spare
+abbrev pub markNumber : ℕ
+markNumber = 34
+
+abbrev pub markPlace : ℕ
+markPlace = 35
+
+abbrev pub markCounts : ℕ
+markCounts = 36
+
+-- how many entries the journal has, and how many of them are replacements; the other words are spare
+abbrev pub journalCounts : ℕ
+journalCounts = 37
+
+-- of an entry of the journal: 0 for an operand, 1 for an attribute, 2 for a new key; the operation or the owner's code; the operand's index or
+-- the key; the value or the kind, and the content, as it was
+abbrev pub journalSort : ℕ
+journalSort = 38
+
+abbrev pub journalOwner : ℕ
+journalOwner = 39
+
+abbrev pub journalKey : ℕ
+journalKey = 40
+
+abbrev pub journalKind : ℕ
+journalKind = 41
+
+abbrev pub journalContent : ℕ
+journalContent = 42
+
 abbrev pub columnCount : ℕ
-columnCount = 34
+columnCount = 43
 
 -- ---- where they stand, one behind the other
 
@@ -150,6 +181,8 @@ columnSizes =
     ∷ 2048 ∷ 512
     ∷ slotCount ∷ slotCount ∷ slotCount
     ∷ 512 ∷ 256
+    ∷ 8 ∷ 8 ∷ 64
+    ∷ 8 ∷ 2048 ∷ 2048 ∷ 2048 ∷ 2048 ∷ 2048
     ∷ []
 
 abbrev pub columnSize : ℕ → ℕ
@@ -160,7 +193,7 @@ base k = sum (take k columnSizes)
 
 -- the buffer's length in words
 abbrev pub bufferLength : ℕ
-bufferLength = 35336
+bufferLength = 45664
 
 -- an empty store's words
 unfoldable pub emptyBuffer : List ℕ

@@ -10,7 +10,7 @@ ghost use Rattle.layout.specs.Columns.{bufferLength, columnSize, columns
 ghost use Rattle.layout.specs.Reading.{slice};
 
 // The buffer's length in words.
-pub const STORE_LENGTH: usize = 35336;
+pub const STORE_LENGTH: usize = 45664;
 
 // How many there are of each thing: the words of the first column.
 pub const COUNTS: usize = 0;
@@ -28,6 +28,8 @@ pub const OPERANDS: usize = 4;
 pub const SUCCESSORS: usize = 5;
 
 pub const ATTRIBUTES: usize = 6;
+
+pub const MARKS: usize = 7;
 
 // Of an operation.
 pub const OP_KIND: usize = 1;
@@ -105,6 +107,31 @@ pub const OP_NEXT: usize = 32;
 
 pub const BLOCK_NEXT: usize = 33;
 
+// Of a set mark: its number, its place in the journal, and 8 words each of the counts at its setting.
+pub const MARK_NUMBER: usize = 34;
+
+pub const MARK_PLACE: usize = 35;
+
+pub const MARK_COUNTS: usize = 36;
+
+// How many entries the journal has, and how many of them are replacements.
+pub const JOURNAL_COUNTS: usize = 37;
+
+pub const ENTRIES: usize = 0;
+
+pub const REPLACED: usize = 1;
+
+// Of an entry of the journal: what it tells, of whom, and how it was.
+pub const JOURNAL_SORT: usize = 38;
+
+pub const JOURNAL_OWNER: usize = 39;
+
+pub const JOURNAL_KEY: usize = 40;
+
+pub const JOURNAL_KIND: usize = 41;
+
+pub const JOURNAL_CONTENT: usize = 42;
+
 // Where a column begins. A match and no table: a table would be built on the stack wherever the column isn't a constant.
 fn base(column: usize) -> usize
     requires { ⌜ column < columnCount ⌝ }
@@ -144,7 +171,16 @@ fn base(column: usize) -> usize
         SLOT_KIND => 22280,
         SLOT_CONTENT => 28424,
         OP_NEXT => 34568,
-        _ => 35080,
+        BLOCK_NEXT => 35080,
+        MARK_NUMBER => 35336,
+        MARK_PLACE => 35344,
+        MARK_COUNTS => 35352,
+        JOURNAL_COUNTS => 35416,
+        JOURNAL_SORT => 35424,
+        JOURNAL_OWNER => 37472,
+        JOURNAL_KEY => 39520,
+        JOURNAL_KIND => 41568,
+        _ => 43616,
     }
 }
 

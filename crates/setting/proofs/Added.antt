@@ -132,7 +132,7 @@ module _ (C : Cols) (w : Owner) (a : Attribute) (sh : Shaped C) (h : Laid C) (l 
       record {
         same = added-same C s a w;
         words = ap length (added-counts C s a w) ∙ length-set (C counts) 6 _ ∙ sh counts;
-        countsSame = λ i m. ap (λ (xs : List ℕ). getD xs i 0) (added-counts C s a w) ∙ getD-set-other (C counts) 6 i _ 0 (omega arith);
+        countsSame = λ i ne. ap (λ (xs : List ℕ). getD xs i 0) (added-counts C s a w) ∙ getD-set-other (C counts) 6 i _ 0 ne;
       }
 
   total-grown : attributeCount D ≡ attributeCount C + 1

@@ -1,6 +1,7 @@
 -- The calls that set an attribute or an operand, column by column.
 pub mod Changed
 pub mod Patched
+pub mod Behind
 pub mod SetOperand
 pub mod KeySlot
 pub mod Inserted
@@ -13,3 +14,4 @@ pub mod Seeking
 pub mod AttributeCauses
 pub mod Placed
 pub mod OperandCauses
+pub mod OperandDone

@@ -25,7 +25,7 @@ module _ (b : List ℕ) (h : IsSound b) where
 
   -- ---- its attributes
 
-  attributes-read : (w : Owner) → ownerExists (storeIn b) w ≡ true → attributesOf (storeIn b) w ≡ own (columns b) w
+  pub attributes-read : (w : Owner) → ownerExists (storeIn b) w ≡ true → attributesOf (storeIn b) w ≡ own (columns b) w
   unfolding attributesOf keyCount countColumn ownerNumber opOf blockOf
   attributes-read (ofOp n) e = ap (λ (o : Op). o .attributes) (op-read (columns b) n (reachable (ofOp n) e .within))
   attributes-read (ofBlock m) e = ap (λ (o : Block). o .attributes) (block-read (columns b) m (reachable (ofBlock m) e .within))
@@ -36,7 +36,7 @@ module _ (b : List ℕ) (h : IsSound b) where
   attributes-hold (ofBlock m) e = facts _ (h .ruled) .block m (ltb-true _ _ e) .attributesFit
 
   module _ (w : Owner) (e : ownerExists (storeIn b) w ≡ true) where
-    rising : keysRise (own (columns b) w) ≡ true
+    pub rising : keysRise (own (columns b) w) ≡ true
     unfolding attributesHold
     rising = subst (λ (xs : List Attribute). keysRise xs ≡ true) (attributes-read w e) (passed _ (attributes-hold w e) .0)
 

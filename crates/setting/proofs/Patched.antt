@@ -1,5 +1,6 @@
 -- Columns that differ from laid out ones only in the operands, the attributes and their counts are laid out if the counts are right: every other fact of the layout is about words that stayed. Assumes nothing.
 use Prim.Native.Nat.{ℕ, zero, suc, _<_, _≤_}
+use native.Mathlib.Omega.{arith}
 use mathlib.Core.Bool.{Bool, true, false, cond}
 use mathlib.Core.List.{List, [], _∷_, _++_}
 use mathlib.Core.Option.{Option, none, some}
@@ -34,7 +35,7 @@ patched C D j = cond (eqb j counts) (patchedCounts C D) (cond (touched j) (D j) 
 pub record OnlyTouched (C D : Cols) : Type 0 where
   pub same : (j : ℕ) → eqb j counts ≡ false → touched j ≡ false → D j ≡ C j
   pub words : length (D counts) ≡ 8
-  pub countsSame : (i : ℕ) → i < 6 → at D counts i ≡ at C counts i
+  pub countsSame : (i : ℕ) → (i ≡ 6 → ⊥) → at D counts i ≡ at C counts i
 
 pub untouched : (j k : ℕ) → touched k ≡ true → touched j ≡ false → eqb j k ≡ false
 untouched j k t u = go (eqb j k) refl
@@ -54,7 +55,7 @@ unfolding patched patchedCounts tabulate tabulateFrom opCount blockCount regionC
 kept-path C D h = λ i j. go j (eqb j counts) (touched j) refl refl i
   where
     eight : D counts ≡ patchedCounts C D
-    eight = spelled (D counts) 8 (h .words) ∙ ap (λ (xs : List ℕ). xs ++ (attributeCount D ∷ at D counts 7 ∷ [])) (tabulate-cong 6 (at D counts) (at C counts) (h .countsSame))
+    eight = spelled (D counts) 8 (h .words) ∙ ap (λ (xs : List ℕ). xs ++ (attributeCount D ∷ at D counts 7 ∷ [])) (tabulate-cong 6 (at D counts) (at C counts) (λ i l. h .countsSame i (λ q. omega arith)))
 
     go : (j : ℕ) (b t : Bool) → eqb j counts ≡ b → touched j ≡ t → D j ≡ cond b (patchedCounts C D) (cond t (D j) (C j))
     go j true t e u = ap D (eqb-true j counts e) ∙ eight

@@ -19,12 +19,12 @@ use Rattle.setting.specs.declared.attributes.AttributePlace.the-variants
 use Rattle.calling.specs.declared.types.Built.the-variants as Builts
 use Rattle.calling.specs.Types.{builtOf}
 use Rattle.setting.specs.Raw.{slotFor, keyThere, placeFor, replaced, added, withAttribute}
-use Rattle.calling.specs.Doing.{Did}
+use Rattle.calling.specs.Doing.{Behind, Did}
 use Rattle.calling.proofs.Facts.{shaped, laid}
 use Rattle.calling.proofs.Doing.{did-work}
 use Rattle.setting.proofs.Owners.{reachable}
 use Rattle.setting.proofs.KeySlot.{slot-low, slot-among}
-use Rattle.setting.proofs.SetAttribute.{attribute-reads, attribute-laid}
+use Rattle.setting.proofs.SetAttribute.{attribute-reads, attribute-behind, attribute-laid}
 use Rattle.setting.proofs.AttributeCauses.{owner-there, room-there}
 
 abbrev failing : List ℕ → Owner → Attribute → Option ℕ
@@ -89,4 +89,5 @@ module _ (b : List ℕ) (h : IsSound b) (w : Owner) (a : Attribute) where
       did-work b h (setAttribute w a) _ exit e len
       (ap storeOf q ∙ attribute-reads C w a (shaped b h) (laid b h) l room)
       (subst Laid (sym q) (attribute-laid C w a (shaped b h) (laid b h) l room))
+      (subst (Behind C) (sym q) (attribute-behind C w a (shaped b h) (laid b h) l room))
       refl

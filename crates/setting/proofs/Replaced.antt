@@ -71,7 +71,7 @@ module _ (C : Cols) (w : Owner) (a : Attribute) (sh : Shaped C) (h : Laid C) (l 
       record {
         same = λ j e u. write-other (write C slotKind s (a .kind)) slotContent s (a .content) j (untouched j slotContent refl u) ∙ write-other C slotKind s (a .kind) j (untouched j slotKind refl u);
         words = sh counts;
-        countsSame = λ i m. refl;
+        countsSame = λ i ne. refl;
       }
 
   pub replaced-written : Written C D w a

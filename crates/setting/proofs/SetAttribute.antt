@@ -16,6 +16,8 @@ use Rattle.layout.proofs.Laid.{Shaped, Laid}
 use Rattle.layout.proofs.Tabulate.{tabulate-cong}
 use Rattle.layout.proofs.OwnerKeys.{ownerIn, owner-keys}
 use Rattle.setting.specs.Raw.{slotFor, keyThere, replaced, added, withAttribute}
+use Rattle.calling.specs.Doing.{Behind}
+use Rattle.setting.proofs.Behind.{kept-behind}
 use Rattle.setting.proofs.Changed.{update-tabulate, opWith, blockWith, sum-changed}
 use Rattle.setting.proofs.Patched.{touched, patched, patchedCounts, kept-path, laid-patched}
 use Rattle.setting.proofs.Written.{Written, op-block, owner-same, slots-apart}
@@ -119,6 +121,9 @@ module _ (C : Cols) (w : Owner) (a : Attribute) (sh : Shaped C) (h : Laid C) (l 
 
   pub attribute-reads : storeOf (withAttribute C w a) ≡ applied (storeOf C) (setAttribute w a)
   attribute-reads = written-reads C (withAttribute C w a) w a h l attribute-written
+
+  pub attribute-behind : Behind C (withAttribute C w a)
+  attribute-behind = kept-behind C (withAttribute C w a) (attribute-written .kept)
 
   pub attribute-laid : Laid (withAttribute C w a)
   attribute-laid = written-laid C (withAttribute C w a) w a h l attribute-written

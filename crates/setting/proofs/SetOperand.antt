@@ -14,6 +14,8 @@ use Rattle.layout.specs.Soundness.{endBefore, attributeSum}
 use Rattle.layout.proofs.Laid.{Shaped, Laid}
 use Rattle.setting.specs.Raw.{withOperand}
 use Rattle.layout.proofs.Buffer.{write-other}
+use Rattle.calling.specs.Doing.{Behind}
+use Rattle.setting.proofs.Behind.{kept-behind}
 use Rattle.setting.proofs.Changed.{update-tabulate, opWith, slice-other, slice-same}
 use Rattle.setting.proofs.Patched.{OnlyTouched, touched, patched, patchedCounts, untouched, kept-path, laid-patched}
 
@@ -49,9 +51,15 @@ module _ (C : Cols) (n i v : ℕ) (h : Laid C) (l : n < opCount C) (u : i < at C
   unfolding storeOf applied opCount blockCount regionCount valueCount blockOf valueOf withOperand write at attributeAt attributesFrom
   operand-reads = λ j. record { ops = ops-changed j; blocks = storeOf C .blocks; regions = storeOf C .regions; values = storeOf C .values }
 
+  operand-kept : Shaped C → OnlyTouched C (withOperand C n i v)
+  unfolding withOperand write touched any at
+  operand-kept sh = record { same = λ j e t. write-other C operandWords _ v j (untouched j operandWords refl t); words = sh counts; countsSame = λ k ne. refl }
+
+  pub operand-behind : Shaped C → Behind C (withOperand C n i v)
+  operand-behind sh = kept-behind C (withOperand C n i v) (operand-kept sh)
+
   pub operand-laid : Shaped C → Laid (withOperand C n i v)
   unfolding withOperand write patched patchedCounts touched any opCount blockCount attributeCount attributeSum at
   operand-laid sh =
       let D : Cols = withOperand C n i v in
-      let kept : OnlyTouched C D = record { same = λ j e t. write-other C operandWords _ v j (untouched j operandWords refl t); words = sh counts; countsSame = λ k m. refl } in
-      subst Laid (sym (kept-path C D kept)) (laid-patched C D h (λ k m. h .op k m .keys) (λ m b. h .block m b .keys) (h .counts .attributes) (h .attributes))
+      subst Laid (sym (kept-path C D (operand-kept sh))) (laid-patched C D h (λ k m. h .op k m .keys) (λ m b. h .block m b .keys) (h .counts .attributes) (h .attributes))

@@ -31,7 +31,7 @@ ghost use Rattle.setting.specs.Raw.{seek, slotFor, keyThere, placeFor, r
 ghost use Rattle.calling.specs.Doing.{Did};
 
 // What becomes of an attribute that is to be set: it is refused for a cause, it replaces the one at a slot, or it is inserted at a slot.
-enum AttributePlace {
+pub enum AttributePlace {
     Refused(u32),
     Replaces(usize),
     Adds(usize),
@@ -55,7 +55,7 @@ fn slot_from(store: &[u32], first: usize, count: usize, key: u32) -> usize
 }
 
 // The owner's slot where the key belongs.
-fn slot_for(store: &[u32], owner: Owner, key: u32) -> usize
+pub fn slot_for(store: &[u32], owner: Owner, key: u32) -> usize
     requires { ⌜ IsSound (now store) ⌝ }
     requires { ⌜ ownerExists (storeIn (now store)) (ownerOf owner) ≡ true ⌝ }
     ensures { λ r. ⌜ r ≡ slotFor (columns (now (store .entry))) (ownerOf owner) key ⌝ }
@@ -64,7 +64,7 @@ fn slot_for(store: &[u32], owner: Owner, key: u32) -> usize
 }
 
 // The owner has the key already: it stands at `slot`, where it belongs.
-fn key_there(store: &[u32], owner: Owner, slot: usize, key: u32) -> bool
+pub fn key_there(store: &[u32], owner: Owner, slot: usize, key: u32) -> bool
     requires { ⌜ IsSound (now store) ⌝ }
     requires { ⌜ ownerExists (storeIn (now store)) (ownerOf owner) ≡ true ⌝ }
     requires { ⌜ slot ≡ slotFor (columns (now store)) (ownerOf owner) key ⌝ }
@@ -77,7 +77,7 @@ fn key_there(store: &[u32], owner: Owner, slot: usize, key: u32) -> bool
 }
 
 // What becomes of the attribute, by the tests of document 01 in their order.
-fn place_for(store: &[u32], owner: Owner, attribute: Attribute) -> AttributePlace
+pub fn place_for(store: &[u32], owner: Owner, attribute: Attribute) -> AttributePlace
     requires { ⌜ IsSound (now store) ⌝ }
     ensures { λ r. ⌜ r ≡ placeFor (columns (now (store .entry))) (ownerOf owner) (attributeOf attribute) (firstFailed (tests (storeIn (now (store .entry))) (setAttribute (ownerOf owner) (attributeOf attribute)))) ⌝ }
 {
@@ -101,7 +101,7 @@ fn place_for(store: &[u32], owner: Owner, attribute: Attribute) -> AttributePlac
 }
 
 // Replaces the kind and the content at a slot.
-fn put_replaced(store: &mut [u32], slot: usize, attribute: Attribute)
+pub fn put_replaced(store: &mut [u32], slot: usize, attribute: Attribute)
     requires { ⌜ length (now store) ≡ bufferLength ⌝ }
     requires { ⌜ slot < slotCount ⌝ }
     ensures { λ _. ⌜ columns (now (store .exit)) ≡ replaced (columns (now (store .entry))) slot (attributeOf attribute) ⌝ }
@@ -111,7 +111,7 @@ fn put_replaced(store: &mut [u32], slot: usize, attribute: Attribute)
 }
 
 // Inserts an attribute at a slot: the owner's attributes from there on move one slot on, and both counts that it adds to are written.
-fn put_added(store: &mut [u32], owner: Owner, slot: usize, attribute: Attribute)
+pub fn put_added(store: &mut [u32], owner: Owner, slot: usize, attribute: Attribute)
     requires { ⌜ IsSound (now store) ⌝ }
     requires { ⌜ ownerExists (storeIn (now store)) (ownerOf owner) ≡ true ⌝ }
     requires { ⌜ slot ≤ slotsOf (ownerOf owner) + keyCount (columns (now store)) (ownerOf owner) ⌝ }

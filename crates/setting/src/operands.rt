@@ -21,7 +21,7 @@ ghost use Rattle.setting.specs.Raw.{withOperand};
 ghost use Rattle.calling.specs.Doing.{Did};
 
 // The cause for which the call is refused, if there is one.
-fn operand_cause(store: &[u32], n: u32, i: u32, v: u32) -> Cause
+pub fn operand_cause(store: &[u32], n: u32, i: u32, v: u32) -> Cause
     requires { ⌜ IsSound (now store) ⌝ }
     ensures { λ r. ⌜ causeOf r ≡ firstFailed (tests (storeIn (now (store .entry))) (setOperand (record { operation = n; index = i; value = v }))) ⌝ }
 {
@@ -39,7 +39,7 @@ fn operand_cause(store: &[u32], n: u32, i: u32, v: u32) -> Cause
 }
 
 // Operand i of operation n becomes value v.
-fn put_operand(store: &mut [u32], n: u32, i: u32, v: u32)
+pub fn put_operand(store: &mut [u32], n: u32, i: u32, v: u32)
     requires { ⌜ length (now store) ≡ bufferLength ⌝ }
     requires { ⌜ n < 512 ⌝ }
     requires { ⌜ Rattle.layout.specs.Columns.at (columns (now store)) opOperandFirst n + i < 2048 ⌝ }

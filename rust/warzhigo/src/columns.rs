@@ -15,6 +15,9 @@ pub(crate) enum Column {
     #[allow(dead_code)] // links of operations are followed in the library alone
     OpNext,
     BlockNext,
+    #[allow(dead_code)] // marks and their journal are read in the library alone
+    MarkNumber, MarkPlace, MarkCounts,
+    JournalCounts, JournalSort, JournalOwner, JournalKey, JournalKind, JournalContent,
 }
 
 /// How many there are of each thing: the words of the first column.
@@ -33,7 +36,7 @@ pub(crate) enum Count {
 pub(crate) const SLOTS: usize = 8;
 pub(crate) const BLOCK_SLOTS: usize = 512 * SLOTS;
 
-const COLUMNS: usize = 34;
+const COLUMNS: usize = 43;
 
 #[rustfmt::skip] // as the enum above
 const SIZES: [usize; COLUMNS] = [
@@ -46,6 +49,8 @@ const SIZES: [usize; COLUMNS] = [
     2048, 512,
     6144, 6144, 6144,
     512, 256,
+    8, 8, 64,
+    8, 2048, 2048, 2048, 2048, 2048,
 ];
 
 /// Where each column begins.

@@ -1,18 +1,15 @@
 -- `new_block` meets its contract: it refuses by the first test that fails, and else writes the block. Assumes nothing.
 use native.Mathlib.Omega.{arith}
 use mathlib.Core.Option.{none}
-use mathlib.Core.Path.{_≡_, refl, sym, ap, subst, _∙_}
-use Rattle.rules.specs.Building.{NewBlock, newBlock, made, tests, firstFailed, acceptance}
-use Rattle.layout.specs.Columns.{columns}
-use Rattle.layout.specs.Reading.{blockCount, storeOf, storeIn}
-use Rattle.layout.proofs.Laid.{Laid}
+use mathlib.Core.Path.{_≡_, refl, sym, ap, _∙_}
+use Rattle.rules.specs.Building.{NewBlock, newBlock, made, tests, firstFailed}
+use Rattle.layout.specs.Reading.{blockCount, storeIn}
 use Rattle.calling.specs.Types.{builtOf}
 use Rattle.layout.specs.Causes.{causeOf}
-use Rattle.layout.proofs.Tabulate.{blocks-length}
-use Rattle.calling.proofs.Facts.{shaped, laid}
+use Rattle.calling.proofs.Facts.{laid}
 use Rattle.adding.proofs.BlockCauses.{fits-block}
-use Rattle.calling.proofs.Doing.{did-refuse, did-work}
-use Rattle.adding.proofs.NewBlock.{block-reads, block-laid}
+use Rattle.calling.proofs.Doing.{did-refuse}
+use Rattle.adding.proofs.Done.{block-done}
 use borrow.Author.Needs.{needs}
 use Rattle.adding.proofs.blocks.new_block.Statement.{statement}
 use Rattle.adding.proofs.blocks.new_block.Tie as tie
@@ -61,7 +58,7 @@ same-length-2 : tie.Need-same-length-2
 same-length-2 c = search needs
 
 returns-2 : tie.Need-returns-2
-unfolding causeOf builtOf acceptance blockCount
+unfolding causeOf builtOf blockCount
 returns-2 c =
     let after-put-block = c .before .before in
     let after-at = after-put-block .before .before in
@@ -74,12 +71,8 @@ returns-2 c =
     let new : NewBlock = record { region = a .region; label = a .label; location = a .location; types = a .types .now } in
     let clear : firstFailed (tests (storeIn b) (newBlock new)) ≡ none
     = sym (after-block-cause .block-cause .ensures (a .label) (a .location)) ∙ ap causeOf (after-enum-told .enum-told .given .1) in
-    let f = fits-block b h new clear in
-    let e = after-put-block .put-block .ensures in
-    did-work b h (newBlock new) _ (after-put-block .put-block .last .0) clear (after-put-block .put-block .kept .0)
-    (ap storeOf e ∙ block-reads (columns b) new (shaped b h) (f .room) (laid b h))
-    (subst Laid (sym e) (block-laid (columns b) new (shaped b h) (f .room) (laid b h) (f .named)))
-    (ap made (after-at .at .ensures ∙ sym (blocks-length (columns b))))
+    block-done b h (after-put-block .put-block .last .0) (after-put-block .put-block .kept .0) _ new
+    clear (after-put-block .put-block .ensures) (ap made (after-at .at .ensures))
 
 pub new-block-spec : {M : Type 1} → statement M
 new-block-spec =

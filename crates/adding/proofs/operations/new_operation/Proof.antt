@@ -1,17 +1,12 @@
 -- `new_operation` meets its contract: it refuses by the first test that fails, or writes what the rules say. Assumes nothing.
-use mathlib.Core.Path.{_≡_, refl, sym, ap, subst, _∙_}
-use Rattle.rules.specs.Building.{newOperation, made, acceptance}
-use Rattle.layout.specs.Columns.{columns, at}
-use Rattle.layout.specs.Reading.{opCount, storeOf}
-use Rattle.layout.proofs.Laid.{Laid}
+use mathlib.Core.Path.{refl, sym, ap, _∙_}
+use Rattle.rules.specs.Building.{newOperation, made}
+use Rattle.layout.specs.Reading.{opCount}
 use Rattle.calling.specs.Types.{operationOf, builtOf}
 use Rattle.layout.specs.Causes.{causeOf}
-use Rattle.adding.specs.Raw.{withOperation}
-use Rattle.layout.proofs.Tabulate.{ops-length}
-use Rattle.calling.proofs.Facts.{shaped, laid}
-use Rattle.calling.proofs.Doing.{did-refuse, did-work}
-use Rattle.adding.proofs.Operating.{parent-in, allowed}
-use Rattle.adding.proofs.NewOperation.{operation-reads, operation-laid}
+use Rattle.calling.proofs.Doing.{did-refuse}
+use Rattle.adding.proofs.Operating.{allowed}
+use Rattle.adding.proofs.Done.{operation-done}
 use borrow.Author.Needs.{needs}
 use Rattle.adding.proofs.operations.new_operation.Statement.{statement}
 use Rattle.adding.proofs.operations.new_operation.Tie as tie
@@ -60,7 +55,7 @@ same-length-2 : tie.Need-same-length-2
 same-length-2 c = search needs
 
 returns-2 : tie.Need-returns-2
-unfolding causeOf builtOf acceptance opCount
+unfolding causeOf builtOf opCount
 returns-2 c =
     let after-put-operation = c .before .before in
     let after-at = after-put-operation .before .before in
@@ -71,15 +66,8 @@ returns-2 c =
     let b = a .store .now in
     let new = operationOf (a .fields) (a .types .now) (a .operands .now) (a .successors .now) in
     let e = sym (after-operation-cause .operation-cause .ensures) ∙ ap causeOf (after-enum-told .enum-told .given .1) in
-    let ok = allowed b (s .pre) new e in
-    let C = columns b in
-    let x = after-put-operation .put-operation .last .0 in
-    let w : columns x ≡ withOperation C new = after-put-operation .put-operation .ensures in
-    did-work b (s .pre) (newOperation new) _ x
-    e (after-put-operation .put-operation .kept .0)
-    (ap storeOf w ∙ operation-reads C new (shaped b (s .pre)) (ok .room) (laid b (s .pre)))
-    (subst Laid (sym w) (operation-laid C new (shaped b (s .pre)) (ok .room) (laid b (s .pre)) (parent-in b (s .pre) (new .parent) (ok .parent))))
-    (ap made (after-at .at .ensures ∙ sym (ops-length (columns b))))
+    operation-done b (s .pre) (after-put-operation .put-operation .last .0) (after-put-operation .put-operation .kept .0) _ new
+    e (after-put-operation .put-operation .ensures) (ap made (after-at .at .ensures))
 
 pub new-operation-spec : {M : Type 1} → statement M
 new-operation-spec =

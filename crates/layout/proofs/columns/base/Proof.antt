@@ -159,8 +159,44 @@ unfolding base sum
 returns-33 c = begins (c .before .args .column) 32 34568 (c .match .keys33) refl
 
 returns-34 : tie.Need-returns-34
+unfolding base sum
+returns-34 c = begins (c .before .args .column) 33 35080 (c .match .keys34) refl
+
+returns-35 : tie.Need-returns-35
+unfolding base sum
+returns-35 c = begins (c .before .args .column) 34 35336 (c .match .keys35) refl
+
+returns-36 : tie.Need-returns-36
+unfolding base sum
+returns-36 c = begins (c .before .args .column) 35 35344 (c .match .keys36) refl
+
+returns-37 : tie.Need-returns-37
+unfolding base sum
+returns-37 c = begins (c .before .args .column) 36 35352 (c .match .keys37) refl
+
+returns-38 : tie.Need-returns-38
+unfolding base sum
+returns-38 c = begins (c .before .args .column) 37 35416 (c .match .keys38) refl
+
+returns-39 : tie.Need-returns-39
+unfolding base sum
+returns-39 c = begins (c .before .args .column) 38 35424 (c .match .keys39) refl
+
+returns-40 : tie.Need-returns-40
+unfolding base sum
+returns-40 c = begins (c .before .args .column) 39 37472 (c .match .keys40) refl
+
+returns-41 : tie.Need-returns-41
+unfolding base sum
+returns-41 c = begins (c .before .args .column) 40 39520 (c .match .keys41) refl
+
+returns-42 : tie.Need-returns-42
+unfolding base sum
+returns-42 c = begins (c .before .args .column) 41 41568 (c .match .keys42) refl
+
+returns-43 : tie.Need-returns-43
 unfolding base sum Rest
-returns-34 c = begins (c .before .args .column) 33 35080 (only-left (c .before .args .column) 33 (c .match .rest) (c .before .pre)) refl
+returns-43 c = begins (c .before .args .column) 42 43616 (only-left (c .before .args .column) 42 (c .match .rest) (c .before .pre)) refl
 
 pub base-spec : {M : Type 1} → statement M
 base-spec =
@@ -199,4 +235,13 @@ base-spec =
     returns-31
     returns-32
     returns-33
-    returns-34)
+    returns-34
+    returns-35
+    returns-36
+    returns-37
+    returns-38
+    returns-39
+    returns-40
+    returns-41
+    returns-42
+    returns-43)

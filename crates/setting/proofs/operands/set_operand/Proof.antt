@@ -1,17 +1,12 @@
 -- `set_operand` meets its contract: it refuses by the first test that fails, and else writes the operand. Assumes nothing.
-use native.Mathlib.Omega.{arith}
-use mathlib.Core.Path.{_≡_, refl, sym, ap, subst, _∙_}
+use mathlib.Core.Path.{_≡_, refl, sym, ap, _∙_}
 use mathlib.Core.Option.{none}
-use Rattle.rules.specs.Building.{setOperand, acceptance, tests, firstFailed}
-use Rattle.layout.specs.Columns.{columns}
-use Rattle.layout.specs.Reading.{storeOf, storeIn}
-use Rattle.layout.proofs.Laid.{Laid}
+use Rattle.rules.specs.Building.{setOperand, tests, firstFailed}
+use Rattle.layout.specs.Reading.{storeIn}
 use Rattle.calling.specs.Types.{builtOf}
 use Rattle.layout.specs.Causes.{causeOf}
-use Rattle.calling.proofs.Facts.{shaped, laid}
-use Rattle.setting.proofs.OperandCauses.{there-operand}
-use Rattle.calling.proofs.Doing.{did-refuse, did-work}
-use Rattle.setting.proofs.SetOperand.{operand-reads, operand-laid}
+use Rattle.calling.proofs.Doing.{did-refuse}
+use Rattle.setting.proofs.OperandDone.{operand-reached, operand-done}
 use borrow.Author.Needs.{needs}
 use Rattle.setting.proofs.operands.set_operand.Statement.{statement}
 use Rattle.setting.proofs.operands.set_operand.Tie as tie
@@ -33,9 +28,7 @@ put-operand-requires c κs =
     let b = a .store .now in
     let h = s .pre in
     let clear : firstFailed (tests (storeIn b) (setOperand (record { operation = a .n; index = a .i; value = a .v }))) ≡ none = sym (c .before .before .before .operand-cause .ensures) ∙ ap causeOf (c .before .enum-told .given .1) in
-    let t = there-operand b h (a .n) (a .i) (a .v) clear in
-    let k = laid b h .op (a .n) (t .op) .operands .range .fits in
-    (h .sized, (omega (arith, t .op, laid b h .counts .ops), omega (arith, t .operand, laid b h .counts .operands)))
+    (h .sized, operand-reached b h (a .n) (a .i) (a .v) clear)
 
 same-length : tie.Need-same-length
 same-length c = search needs
@@ -53,7 +46,7 @@ same-length-2 : tie.Need-same-length-2
 same-length-2 c = search needs
 
 returns-2 : tie.Need-returns-2
-unfolding causeOf builtOf acceptance
+unfolding causeOf
 returns-2 c =
     let after-put-operand = c .before .before in
     let after-enum-told = after-put-operand .before .before in
@@ -63,11 +56,7 @@ returns-2 c =
     let b = a .store .now in
     let h = s .pre in
     let clear : firstFailed (tests (storeIn b) (setOperand (record { operation = a .n; index = a .i; value = a .v }))) ≡ none = sym (after-operand-cause .operand-cause .ensures) ∙ ap causeOf (after-enum-told .enum-told .given .1) in
-    let t = there-operand b h (a .n) (a .i) (a .v) clear in
-    let e = after-put-operand .put-operand .ensures in
-    did-work b h (setOperand (record { operation = a .n; index = a .i; value = a .v })) _ (after-put-operand .put-operand .last .0) clear (after-put-operand .put-operand .kept .0)
-    (ap storeOf e ∙ operand-reads (columns b) (a .n) (a .i) (a .v) (laid b h) (t .op) (t .operand))
-    (subst Laid (sym e) (operand-laid (columns b) (a .n) (a .i) (a .v) (laid b h) (t .op) (t .operand) (shaped b h))) refl
+    operand-done b h (a .n) (a .i) (a .v) clear (after-put-operand .put-operand .last .0) (after-put-operand .put-operand .kept .0) (after-put-operand .put-operand .ensures)
 
 pub set-operand-spec : {M : Type 1} → statement M
 set-operand-spec =

@@ -1,0 +1,2 @@
+-- What a call on a lent buffer remembers, in words.
+pub mod Raw

@@ -1,0 +1,2 @@
+-- What going back to a mark leaves.
+pub mod Returning

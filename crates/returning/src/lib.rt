@@ -1,0 +1,2 @@
+// The call that goes back to a mark, on a lent buffer.
+pub mod going;

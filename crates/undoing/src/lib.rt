@@ -1,0 +1,3 @@
+// Undoing what the journal remembers, on a sound buffer.
+pub mod entries;
+pub mod removing;
