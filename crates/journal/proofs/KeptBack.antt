@@ -91,7 +91,7 @@ sound-at s journal rs g (List·Memᴰ·head {x = q} {xs = qs} e) = ap (λ (z : M
 sound-at s journal rs g (List·Memᴰ·tail {x = q} {xs = qs} m) = sound-at s journal qs (g .2) m
 
 -- as many of everything as were counted
-counts-then : (s : Store) (journal : List Entry) (r : MarkRow) → countsWithin (r .counts) (countsOf s) ≡ true → countsOf (snapshotOf s journal r) ≡ r .counts
+pub counts-then : (s : Store) (journal : List Entry) (r : MarkRow) → countsWithin (r .counts) (countsOf s) ≡ true → countsOf (snapshotOf s journal r) ≡ r .counts
 unfolding snapshotOf
 counts-then s journal r w =
     let younger = drop (r .place) journal in

@@ -83,7 +83,7 @@ module _ (s : Store) (journal : List Entry) where
       let l : place ≤ q .place = p .0 in
       (omega (arith, length-take-le (q .place) journal end), take-take place (q .place) journal l)
 
-  before-snapshot : (q : MarkRow) (rs : List MarkRow) → Rising (q .place) (q .counts) (length journal) (countsOf s) rs
+  pub before-snapshot : (q : MarkRow) (rs : List MarkRow) → Rising (q .place) (q .counts) (length journal) (countsOf s) rs
       → snapshotOf (storeBefore s journal rs) (journalBefore journal rs) q ≡ snapshotOf s journal q
   unfolding storeBefore journalBefore
   before-snapshot q [] p = refl

@@ -1,0 +1,2 @@
+-- What is asked of a lent buffer's marks, row by row.
+pub mod Lending
