@@ -15,9 +15,6 @@ pub(crate) enum Column {
     #[allow(dead_code)] // links of operations are followed in the library alone
     OpNext,
     BlockNext,
-    #[allow(dead_code)] // marks and their journal are read in the library alone
-    MarkNumber, MarkPlace, MarkCounts,
-    JournalCounts, JournalSort, JournalOwner, JournalKey, JournalKind, JournalContent,
 }
 
 /// How many there are of each thing: the words of the first column.
@@ -38,7 +35,7 @@ pub(crate) const BLOCK_SLOTS: usize = 512 * SLOTS;
 
 const COLUMNS: usize = 43;
 
-#[rustfmt::skip] // as the enum above
+#[rustfmt::skip] // as the enum above; behind it marks and their journal, which the library alone reads
 const SIZES: [usize; COLUMNS] = [
     8,
     512, 512, 512, 512, 512, 512, 512, 512, 512, 512,
