@@ -22,6 +22,7 @@ use Rattle.journal.proofs.Rows.{Rising, Back, Steps, rising-end}
 use Rattle.journal.proofs.Steps.{before-snapshot}
 use Rattle.marks.specs.Raw.{placeIn, rowOf}
 use Rattle.marks.proofs.Listed.{first-tabulate}
+use Rattle.marks.proofs.Holding.{journal-set}
 use Rattle.lending.specs.Lending.{rowFits, entriesBetween, tablesAt, stepHolds}
 use Rattle.lending.proofs.Resting.{row-rests, rows-rest, entries-rest, totals-rest, ranges-rest, rests-on}
 use Rattle.lending.proofs.Step.{left-within}
@@ -74,8 +75,7 @@ module _ (C : Cols) where
 
   module _ (some : 0 < markCount C) where
     pub journal-is : journalOf C ≡ tabulate (entryCount C) (entryAt C)
-    unfolding journalOf
-    journal-is = ap (λ (t : Bool). cond t [] (tabulate (entryCount C) (entryAt C))) (ne-eqb (markCount C) 0 (λ e. omega arith))
+    journal-is = journal-set C some
 
     journal-long : length journal ≡ entryCount C
     journal-long = ap length journal-is ∙ length-tabulate (entryCount C) (entryAt C)

@@ -1,17 +1,18 @@
 -- Which words hold behind the tables, by name: how long the journal is, what is counted of it, and each mark's row. Assumes nothing.
 use Prim.Native.Nat.{ℕ, _<_, _≤_}
+use native.Mathlib.Omega.{arith}
 use mathlib.Core.Bool.{Bool, true, false, cond}
 use mathlib.Core.List.{List, [], _∷_}
 use mathlib.Core.Path.{_≡_, refl, sym, ap, _∙_}
-use borrow.Author.Tests.{leb-true, le-leb, eqb-true, eq-eqb}
+use borrow.Author.Tests.{leb-true, le-leb, eqb-true, eq-eqb, ne-eqb}
 use lib.Dec.{eqb, leb}
 use Rattle.rules.specs.Lists.{every, allBelow}
 use Rattle.rules.specs.Store.{Store, operandTotal, successorTotal, attributeTotal}
 use Rattle.rules.proofs.Basics.Tests.{and-left, and-right, and-both, passed, every-of, allBelow-at, allBelow-of}
 use Rattle.layout.specs.Columns.{Cols, at, journalCounts}
-use Rattle.layout.specs.Reading.{storeOf}
+use Rattle.layout.specs.Reading.{tabulate, storeOf}
 use Rattle.journal.specs.Journal.{Entry, replacedIn, snapshotOf}
-use Rattle.journal.specs.Words.{markCount, entryCount, journalOf, rowCounts, rowAt, maxEntries, rangesEnd, totalsKept, rowHolds, journalHolds}
+use Rattle.journal.specs.Words.{markCount, entryCount, entryAt, journalOf, rowCounts, rowAt, maxEntries, rangesEnd, totalsKept, rowHolds, journalHolds}
 use Rattle.marks.proofs.Standing.{Full, fullAt}
 
 pub record Remembered (C : Cols) : Type 0 where
@@ -37,6 +38,11 @@ holds-of C h =
     go : (t x : Bool) → x ≡ true → cond t true x ≡ true
     go true x e = refl
     go false x e = e
+
+-- while a mark is set, the journal is its entries
+pub journal-set : (C : Cols) → 0 < markCount C → journalOf C ≡ tabulate (entryCount C) (entryAt C)
+unfolding journalOf
+journal-set C l = ap (λ (t : Bool). cond t [] (tabulate (entryCount C) (entryAt C))) (ne-eqb (markCount C) 0 (λ e. omega arith))
 
 -- ---- a mark's row
 

@@ -1,4 +1,4 @@
-// The calls on marks to go back to, on a lent buffer.
+// A mark set, on a lent buffer: its row, and the journal that is freed.
 pub mod copying;
 pub mod freeing;
 pub mod rows;

@@ -9,8 +9,8 @@ use mathlib.Core.Path.{_≡_, refl, sym, ap, subst, _∙_}
 use lib.Dec.{ltb}
 use lib.ListN.{length}
 use Rattle.rules.specs.Store.{Store}
-use Rattle.rules.specs.Building.{Call, newOperation, newBlock, setAttribute, setOperand, refused, tests, firstFailed, applied, acceptance}
-use Rattle.rules.specs.Marks.{build, replaces, maxRemembered, canRemember, markedTests, markedAcceptance, markedAnswerBy, markedBy, markedAnswer, marked}
+use Rattle.rules.specs.Building.{Call, refused, tests, firstFailed, applied, acceptance}
+use Rattle.rules.specs.Marks.{build, replaces, maxRemembered, canRemember, markedTests, markedAcceptance}
 use Rattle.rules.proofs.Basics.Tests.{impossible}
 use Rattle.rules.proofs.Soundness.Accepted.{firstFailed-none}
 use Rattle.layout.specs.Columns.{Cols, columns}
@@ -27,8 +27,11 @@ use Rattle.journal.proofs.ReadTests.{tests-read}
 use Rattle.journal.proofs.KeptCall.{call-sound}
 use Rattle.journal.proofs.Short.{journal-short}
 use Rattle.marks.specs.Doing.{IsLent, DidMarked}
+use Rattle.marks.proofs.Doing as doing
+use Rattle.marks.proofs.Lent.{Lent, lent-facts}
+use Rattle.marks.proofs.Holding.{Remembered}
 use Rattle.remembering.specs.Raw.{replacedCount}
-use Rattle.remembering.proofs.Lent.{Lent, Held, lent-facts, lent-of, held-facts, held-of, journal-length}
+use Rattle.remembering.proofs.Lent.{held-facts, held-of, journal-length}
 use Rattle.remembering.proofs.Kept.{Kept, rows-kept, row-holds}
 
 -- ---- tests, and more behind them
@@ -58,14 +61,6 @@ pub remembered-behind : (n : ℕ) (f : ℕ → MarkRow) (journal new : List Entr
 unfolding rememberedIn tabulate tabulateFrom
 remembered-behind zero f journal new l = absurd (not-suc-le-zero l)
 remembered-behind (suc n) f journal new l = refl
-
--- an accepted call is not refused
-never : (s : Store) (c : Call) (cause : ℕ) → acceptance s c ≡ refused cause → ⊥
-unfolding acceptance
-never s (newOperation o) cause h = impossible cc
-never s (newBlock b) cause h = impossible cc
-never s (setAttribute w a) cause h = impossible cc
-never s (setOperand u) cause h = impossible cc
 
 module _ (b : List ℕ) (h : IsLent b) (c : Call) where
   abbrev C : Cols
@@ -101,21 +96,11 @@ module _ (b : List ℕ) (h : IsLent b) (c : Call) where
   -- ---- refused
 
   module _ (r : Built) where
-    refuses : (cause : ℕ) → failing ≡ some cause → builtOf r ≡ refused cause → DidMarked b b (build c) r
-    unfolding markedAnswer marked markedAnswerBy markedBy
-    refuses cause e q =
-        record {
-          answered = q ∙ sym (ap (λ (o : Option ℕ). markedAnswerBy o (markedIn b) (build c)) e);
-          reads = sym (ap (λ (o : Option ℕ). markedBy o (markedIn b) (build c)) e);
-          sound = h;
-          unchanged = λ k z. refl;
-        }
-
     pub marked-refuse : (cause : ℕ) → firstFailed (tests s c) ≡ some cause → builtOf r ≡ refused cause → DidMarked b b (build c) r
-    marked-refuse cause e q = refuses cause (fails cause e) q
+    marked-refuse cause e q = doing.marked-refuse b (build c) r h cause (fails cause e) q
 
     pub marked-full : firstFailed (tests s c) ≡ none → canRemember (markedIn b) c ≡ false → builtOf r ≡ refused 17 → DidMarked b b (build c) r
-    marked-full clear full q = refuses 17 (passes-by clear false full) q
+    marked-full clear full q = doing.marked-refuse b (build c) r h 17 (passes-by clear false full) q
 
   -- ---- accepted
 
@@ -142,8 +127,8 @@ module _ (b : List ℕ) (h : IsLent b) (c : Call) where
         exit-sound : journalSound (journaledOf D) ≡ true
         exit-sound = ap journalSound called ∙ next-sound
 
-        held : 0 < markCount D → Held D
-        unfolding JournalShort journaledOf rowsOf
+        held : 0 < markCount D → Remembered D
+        unfolding JournalShort journaledOf rowsOf replacedCount
         held l =
             let m : 0 < markCount C = subst (λ (n : ℕ). 0 < n) (k .marks) l in
             let longer : journalOf D ≡ journalOf C ++ entriesFor s c = journal ∙ remembered-behind (markCount C) _ (journalOf C) (entriesFor s c) m in
@@ -156,22 +141,8 @@ module _ (b : List ℕ) (h : IsLent b) (c : Call) where
                   row-holds C D k c (lent .tables .ruled) clear reads longer (facts j (lent .journal) .rising) i e ∙ was .rows i e;
             }
 
-        exit-lent : Lent exit
-        exit-lent =
-            record {
-              tables = sound;
-              few = subst (λ (n : ℕ). n ≤ 8) (sym (k .marks)) (lent .few);
-              holds = held-of D held;
-              journal = exit-sound;
-            }
-
         pub marked-work : (r : Built) → builtOf r ≡ acceptance s c → DidMarked b exit (build c) r
-        unfolding markedAnswer marked markedAnswerBy markedBy markedAcceptance markedOf journaledOf CallRead
+        unfolding markedAcceptance markedOf journaledOf CallRead
         marked-work r q =
-            let e : failing ≡ none = passes-by clear true can in
-            record {
-              answered = q ∙ sym (ap (λ (o : Option ℕ). markedAnswerBy o (markedIn b) (build c)) e);
-              reads = ap markedOf called ∙ call-read j c (lent .journal) clear ∙ sym (ap (λ (o : Option ℕ). markedBy o (markedIn b) (build c)) e);
-              sound = lent-of exit exit-lent;
-              unchanged = λ cause z. absurd (never s c cause (sym q ∙ z));
-            }
+            doing.marked-work b (build c) r exit (journaledCall j c) (passes-by clear true can) called (call-read j c (lent .journal) clear) next-sound
+            (subst (λ (n : ℕ). n ≤ 8) (sym (k .marks)) (lent .few)) (held-of D held) sound q

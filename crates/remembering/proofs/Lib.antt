@@ -1,5 +1,4 @@
 -- The building calls on a lent buffer.
-pub mod Tables
 pub mod Lent
 pub mod Kept
 pub mod Done

@@ -6,14 +6,14 @@ use mathlib.Core.Bool.{Bool, true, false, cond}
 use mathlib.Core.List.{List, [], _∷_, _++_}
 use mathlib.Core.Option.{Option, none}
 use mathlib.Core.Path.{_≡_, refl, sym, ap, ap₂, subst, _∙_}
-use borrow.Author.Tests.{le-ltb, ne-eqb, leb-false}
-use lib.Dec.{eqb, leb}
+use borrow.Author.Tests.{le-ltb, ltb-true, ne-eqb, leb-false}
+use lib.Dec.{eqb, leb, ltb}
 use lib.ListN.{length, set, length-set, length-append}
 use lib.Seq.{getD-set-same, getD-set-other}
 use Rattle.rules.specs.Lists.{filter}
 use Rattle.rules.specs.Building.{Call, tests, firstFailed, answerBy, storeBy, answer, built}
 use Rattle.rules.specs.Marks.{build, maxRemembered, canRemember}
-use Rattle.layout.specs.Columns.{Cols, columns, at, write, blockNext, journalCounts, journalSort, journalOwner, journalKey, journalKind, journalContent}
+use Rattle.layout.specs.Columns.{Cols, columns, at, write, counts, blockNext, markNumber, journalCounts, journalSort, journalOwner, journalKey, journalKind, journalContent}
 use Rattle.layout.specs.Reading.{tabulate, storeOf}
 use Rattle.layout.proofs.Laid.{Shaped}
 use Rattle.layout.proofs.Tabulate.{tabulate-cong, tabulate-suc}
@@ -26,10 +26,12 @@ use Rattle.journal.specs.Words.{entryFrom, entryAt, markCount, entryCount, maxE
 use Rattle.journal.proofs.Rows.{facts}
 use Rattle.journal.proofs.Replaced.{replaced-append}
 use Rattle.marks.specs.Doing.{IsLent, DidMarked}
+use Rattle.marks.proofs.Tables.{TablesKept, store-kept, sound-kept}
+use Rattle.marks.proofs.Lent.{lent-facts}
+use Rattle.marks.proofs.Holding.{journal-set}
 use Rattle.remembering.specs.declared.entries.Entry.{Entry}
 use Rattle.remembering.specs.Raw.{entryOf, countsAs, replacedCount, entryPut, withEntry}
-use Rattle.remembering.proofs.Tables.{SameTables, tables-read, tables-sound}
-use Rattle.remembering.proofs.Lent.{lent-facts, held-facts, journal-is, journal-length}
+use Rattle.remembering.proofs.Lent.{held-counted, journal-length}
 use Rattle.remembering.proofs.Kept.{Kept}
 use Rattle.remembering.proofs.Done.{remembered-behind, journal-room, marked-work}
 use Rattle.remembering.proofs.Unremembered.{behind-kept, behind-journal, behind-entries, behind-replaced}
@@ -50,14 +52,18 @@ module _ (C : Cols) (e : Entry) where
   abbrev X : Cols
   X = withEntry C e
 
-  front : (k : ℕ) → k ≤ blockNext → (j : ℕ) → leb j blockNext ≡ false → eqb k j ≡ false
+  front : (k : ℕ) → k < markNumber → (j : ℕ) → leb j blockNext ≡ false → eqb k j ≡ false
   front k l j t = ne-eqb k j (λ q. omega (arith, leb-false j blockNext t))
 
-  entry-tables : SameTables C X
-  unfolding withEntry entryPut write
-  entry-tables k l =
-      rw (front k l journalCounts refl, front k l journalContent refl, front k l journalKind refl, front k l journalKey refl, front k l journalOwner refl, front k l journalSort refl)
-      refl
+  entry-tables : Shaped C → TablesKept C X
+  unfolding withEntry entryPut write at
+  entry-tables sh = record { same = same; words = sh counts; countsSame = λ i l. refl }
+    where
+      same : (k : ℕ) → eqb k counts ≡ false → ltb k markNumber ≡ true → X k ≡ C k
+      same k e t =
+          let l = ltb-true k markNumber t in
+          rw (front k l journalCounts refl, front k l journalContent refl, front k l journalKind refl, front k l journalKey refl, front k l journalOwner refl, front k l journalSort refl)
+          refl
 
   entry-kept : (B : Cols) → Kept B C → Kept B X
   unfolding withEntry entryPut write markCount at
@@ -108,10 +114,10 @@ module _ (C : Cols) (e : Entry) where
     pub journal-grown : 0 < markCount C → journalOf X ≡ journalOf C ++ (entryOf e ∷ [])
     unfolding withEntry entryPut write markCount at
     journal-grown m =
-        journal-is X m
+        journal-set X m
         ∙ ap (λ (k : ℕ). tabulate k (entryAt X)) (entries-grown ∙ add-one n)
         ∙ tabulate-suc n (entryAt X)
-        ∙ ap₂ (λ (es : List rules.Entry) (x : rules.Entry). es ++ (x ∷ [])) (tabulate-cong n (entryAt X) (entryAt C) old-entry ∙ sym (journal-is C m)) new-entry
+        ∙ ap₂ (λ (es : List rules.Entry) (x : rules.Entry). es ++ (x ∷ [])) (tabulate-cong n (entryAt X) (entryAt C) old-entry ∙ sym (journal-set C m)) new-entry
 
 -- ---- the call
 
@@ -133,7 +139,7 @@ module _ (b : List ℕ) (h : IsLent b) (c : Call) (l : 0 < markCount (columns b)
   entry-room =
       let f = lent-facts b h in (
         omega (arith, entry-fits, behind-entries B M (did .behind)),
-        omega (arith, behind-replaced B M (did .behind), held-facts B l (f .holds) .counted, facts _ (f .journal) .few),
+        omega (arith, behind-replaced B M (did .behind), held-counted B l (f .holds), facts _ (f .journal) .few),
       )
 
   module _ (exit : List ℕ) (len : length exit ≡ length mid) (written : columns exit ≡ withEntry M e) where
@@ -147,7 +153,7 @@ module _ (b : List ℕ) (h : IsLent b) (c : Call) (l : 0 < markCount (columns b)
         ap replacedCount written
         ∙ replaced-grown M e (shaped mid (did .sound)) (entry-room .0)
         ∙ ap₂ _+_
-        (behind-replaced B M (did .behind) ∙ held-facts B l (lent-facts b h .holds) .counted ∙ ap replacedIn (sym (behind-journal B M (did .behind))))
+        (behind-replaced B M (did .behind) ∙ held-counted B l (lent-facts b h .holds) ∙ ap replacedIn (sym (behind-journal B M (did .behind))))
         (entry-counted e)
         ∙ sym (replaced-append (journalOf M) (entryOf e ∷ []))
         ∙ ap replacedIn (sym longer)
@@ -156,8 +162,8 @@ module _ (b : List ℕ) (h : IsLent b) (c : Call) (l : 0 < markCount (columns b)
     unfolding answer built answerBy storeBy rowsOf
     remembered-call =
         marked-work b h c clear can exit
-        (ap storeOf written ∙ tables-read M (withEntry M e) (entry-tables M e) ∙ did .reads ∙ ap (λ (o : Option ℕ). storeBy o (storeOf B) c) clear)
-        (tables-sound mid exit (did .sound) len (subst (SameTables M) (sym written) (entry-tables M e)))
+        (ap storeOf written ∙ store-kept M (withEntry M e) (entry-tables M e (shaped mid (did .sound))) ∙ did .reads ∙ ap (λ (o : Option ℕ). storeBy o (storeOf B) c) clear)
+        (sound-kept mid exit (did .sound) (len ∙ did .sound .sized) (subst (TablesKept M) (sym written) (entry-tables M e (shaped mid (did .sound)))))
         (subst (Kept B) (sym written) (entry-kept M e B (behind-kept B M (did .behind))))
         (longer ∙ (λ z. behind-journal B M (did .behind) z ++ is z) ∙ sym (remembered-behind (markCount B) (rowAt B) (journalOf B) (entriesFor (storeOf B) c) l))
         (λ m. counted)

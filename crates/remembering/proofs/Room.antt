@@ -14,13 +14,14 @@ use Rattle.layout.specs.Reading.{storeIn}
 use Rattle.journal.specs.Journal.{replacedIn}
 use Rattle.journal.specs.Words.{markCount, journalOf, markedIn}
 use Rattle.marks.specs.Doing.{IsLent}
+use Rattle.marks.proofs.Lent.{lent-facts}
 use Rattle.remembering.specs.Raw.{replacedCount}
-use Rattle.remembering.proofs.Lent.{lent-facts, held-facts}
+use Rattle.remembering.proofs.Lent.{held-counted}
 use Rattle.remembering.proofs.Done.{can-remember}
 
 module _ (b : List ℕ) (h : IsLent b) (l : 0 < markCount (columns b)) (c : Call) where
   counted : replacedCount (columns b) ≡ replacedIn (journalOf (columns b))
-  counted = held-facts (columns b) l (lent-facts b h .holds) .counted
+  counted = held-counted (columns b) l (lent-facts b h .holds)
 
   pub new-fits : replaces (storeIn b) c ≡ false → canRemember (markedIn b) c ≡ true
   new-fits e = can-remember b h c ∙ or-left _ (ltb (replacedIn (journalOf (columns b))) maxRemembered) (ap not e)

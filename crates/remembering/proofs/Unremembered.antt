@@ -20,8 +20,9 @@ use Rattle.calling.specs.Doing.{Behind, Did}
 use Rattle.journal.specs.Journal.{Entry, entriesFor, replacedIn, rememberedIn}
 use Rattle.journal.specs.Words.{entryFrom, entryAt, markCount, entryCount, journalOf, rowAt, rowsOf, markedIn}
 use Rattle.marks.specs.Doing.{IsLent, DidMarked}
+use Rattle.marks.proofs.Lent.{lent-facts}
 use Rattle.remembering.specs.Raw.{replacedCount}
-use Rattle.remembering.proofs.Lent.{lent-facts, held-facts}
+use Rattle.remembering.proofs.Lent.{held-counted}
 use Rattle.remembering.proofs.Kept.{Kept}
 use Rattle.remembering.proofs.Done.{remembered-behind, can-remember, marked-refuse, marked-work}
 
@@ -89,7 +90,7 @@ module _ (b : List ℕ) (h : IsLent b) (exit : List ℕ) (c : Call) (r : Built) 
           (did .sound)
           (behind-kept C D (did .behind))
           (journal ∙ sym same)
-          (λ l. behind-replaced C D (did .behind) ∙ held-facts C l (lent-facts b h .holds) .counted ∙ ap replacedIn (sym journal))
+          (λ l. behind-replaced C D (did .behind) ∙ held-counted C l (lent-facts b h .holds) ∙ ap replacedIn (sym journal))
           r
           (did .answered ∙ ap (λ (o : Option ℕ). answerBy o s c) e)
 

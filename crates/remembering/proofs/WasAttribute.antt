@@ -28,9 +28,9 @@ use Rattle.setting.proofs.Placed.{attribute-done}
 use Rattle.journal.specs.Journal.{Entry, attributeWas, keyWasNone, attributeOr, entriesFor}
 use Rattle.journal.specs.Words.{entryFrom, markCount, entryCount, maxEntries, markedIn}
 use Rattle.marks.specs.Doing.{IsLent, DidMarked}
+use Rattle.marks.proofs.Lent.{lent-facts}
 use Rattle.remembering.specs.declared.entries.Entry as words
 use Rattle.remembering.specs.Raw.{entryOf, replacedCount, withEntry, attributeEntry, keyEntry}
-use Rattle.remembering.proofs.Lent.{lent-facts}
 use Rattle.remembering.proofs.Remembered.{entry-room, remembered-call}
 
 -- ---- where an attribute goes

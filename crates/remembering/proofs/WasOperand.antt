@@ -22,8 +22,8 @@ use Rattle.setting.proofs.OperandDone.{operand-done}
 use Rattle.journal.specs.Journal.{operandWas, entriesFor}
 use Rattle.journal.specs.Words.{entryFrom, markCount, entryCount, maxEntries}
 use Rattle.marks.specs.Doing.{IsLent, DidMarked}
+use Rattle.marks.proofs.Lent.{lent-facts}
 use Rattle.remembering.specs.Raw.{entryOf, replacedCount, withEntry, operandEntry}
-use Rattle.remembering.proofs.Lent.{lent-facts}
 use Rattle.remembering.proofs.Room.{one-fits}
 use Rattle.remembering.proofs.Remembered.{entry-room, remembered-call}
 

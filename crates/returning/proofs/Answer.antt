@@ -31,7 +31,7 @@ use Rattle.marks.specs.Doing.{DidMarked}
 use Rattle.marks.proofs.Lent.{Lent}
 use Rattle.marks.proofs.Doing.{marked-work}
 use Rattle.marks.proofs.Sought.{place-set, place-row, place-upTo}
-use Rattle.returning.specs.Returning.{WentBack}
+use Rattle.returning.specs.Returning.{PutBack}
 use Rattle.returning.proofs.Rows.{numbered-at}
 use Rattle.returning.proofs.Undone.{row-is}
 
@@ -82,7 +82,7 @@ module _ (b : List ℕ) (h : Lent b) (k : ℕ) where
     abbrev after : Journaled
     after = journaledBack j r
 
-    module _ (exit : List ℕ) (w : WentBack b exit row) where
+    module _ (exit : List ℕ) (w : PutBack b exit row) where
       step : journaledOf (columns exit) ≡ after
       unfolding journaledOf journaledBack rowAt
       step =

@@ -31,7 +31,7 @@ use Rattle.marks.proofs.Tables.{TablesKept, kept-write, kept-count, kept-then, 
 use Rattle.marks.proofs.Standing.{fullAt, rowIn}
 use Rattle.marks.proofs.Holding.{holds-of, FullHolds, full-facts, full-of}
 use Rattle.marks.proofs.HeldRows.{held-as}
-use Rattle.returning.specs.Returning.{forgotten, rowsCut, WentBack}
+use Rattle.returning.specs.Returning.{forgotten, rowsCut, PutBack}
 use Rattle.returning.proofs.Words.{full-same, entry-same, ranges-same, ranges-behind}
 use Rattle.returning.proofs.Rows.{rising-two}
 use Rattle.returning.proofs.Undone.{place, behind, f, words, journal-is, row-is, rows-long, between, place-fits, then, cut-reads, cut-sound}
@@ -214,7 +214,7 @@ module _
       subst (FullHolds E (storeOf E) (journalOf E)) (sym (full i))
       (held-as B E (storeOf B) (storeOf E) (journalOf B) (journalOf E) (fullAt B i) (rowAt B i) (snapshot i m) (ranges i g ∙ sym (held i g .ranges)) (held i g))
 
-  pub went-back : WentBack b exit row
+  pub went-back : PutBack b exit row
   unfolding then
   went-back =
       record {

@@ -22,7 +22,7 @@ use Rattle.cutting.specs.Back.{backSound}
 use Rattle.undoing.specs.Undoing.{UndidAll}
 use Rattle.marks.proofs.Lent.{Lent}
 use Rattle.marks.proofs.Standing.{Full, fullAt}
-use Rattle.marks.proofs.Holding.{Remembered, holds-facts, FullHolds, full-facts}
+use Rattle.marks.proofs.Holding.{Remembered, holds-facts, journal-set, FullHolds, full-facts}
 use Rattle.returning.proofs.Words.{full-same, ranges-behind}
 use Rattle.returning.proofs.Rows.{undoable-at}
 
@@ -46,8 +46,7 @@ module _ (b : List ℕ) (h : Lent b) (row : ℕ) (set : row < markCount (columns
   words = holds-facts C (h .holds) some
 
   pub journal-is : journalOf C ≡ tabulate (entryCount C) (entryAt C)
-  unfolding journalOf
-  journal-is = ap (λ (t : Bool). cond t [] (tabulate (entryCount C) (entryAt C))) some
+  journal-is = journal-set C (omega arith)
 
   pub row-is : (i : ℕ) → i < markCount C → getD (rowsOf C) i (rowAt C 0) ≡ rowAt C i
   unfolding rowsOf

@@ -20,7 +20,7 @@ unfoldable pub rowsCut : Cols → ℕ → ℕ → Cols
 rowsCut C n row = write (forgotten C n) counts 7 (row + 1)
 
 -- the tables are the snapshot of the row, the journal ends at its place, and it is the last row
-pub record WentBack (entry exit : List ℕ) (row : ℕ) : Type 0 where
+pub record PutBack (entry exit : List ℕ) (row : ℕ) : Type 0 where
   pub tables : IsSound exit
   pub reads : storeIn exit ≡ snapshotOf (storeIn entry) (journalOf (columns entry)) (rowAt (columns entry) row)
   pub left : journalOf (columns exit) ≡ take (at (columns entry) markPlace row) (journalOf (columns entry))

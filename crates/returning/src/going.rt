@@ -19,7 +19,7 @@ ghost use Rattle.rules.specs.Marks.{goBack};
 ghost use Rattle.layout.specs.Columns.{bufferLength, columns};
 ghost use Rattle.journal.specs.Words.{markCount, maxEntries};
 ghost use Rattle.marks.specs.Doing.{IsLent, DidMarked};
-ghost use Rattle.returning.specs.Returning.{forgotten, WentBack};
+ghost use Rattle.returning.specs.Returning.{forgotten, PutBack};
 
 // The journal ends at entry n: those behind it are forgotten, and the replacements among them.
 fn forget_from(store: &mut [u32], n: usize)
@@ -36,7 +36,7 @@ fn forget_from(store: &mut [u32], n: usize)
 fn put_back(store: &mut [u32], row: usize)
     requires { ⌜ IsLent (now store) ⌝ }
     requires { ⌜ row < markCount (columns (now store)) ⌝ }
-    ensures { λ _. ⌜ WentBack (now (store .entry)) (now (store .exit)) row ⌝ }
+    ensures { λ _. ⌜ PutBack (now (store .entry)) (now (store .exit)) row ⌝ }
 {
     let entries = number(store, JOURNAL_COUNTS, ENTRIES);
     let place = number(store, MARK_PLACE, row);

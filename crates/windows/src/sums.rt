@@ -1,4 +1,5 @@
-// The sums of the windows of a block. Each operation is hashed once, and each window is summed from the hashes.
+// The sums of the windows of a block. Each operation is hashed once, the first window is summed from the hashes, and each next one is kept from
+// the one before it.
 use crate::listing::BLOCK_OPS;
 use crate::powers::POWERS;
 use crate::shells::shell_hash;

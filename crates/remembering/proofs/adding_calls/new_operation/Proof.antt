@@ -2,7 +2,7 @@
 use mathlib.Core.Path.{refl}
 use Rattle.rules.specs.Marks.{replaces}
 use Rattle.journal.specs.Journal.{entriesFor}
-use Rattle.remembering.proofs.Lent.{lent-facts}
+use Rattle.marks.proofs.Lent.{lent-facts}
 use Rattle.remembering.proofs.Unremembered.{adding-call}
 use borrow.Author.Needs.{needs}
 use Rattle.remembering.proofs.adding_calls.new_operation.Statement.{statement}

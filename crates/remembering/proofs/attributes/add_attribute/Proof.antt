@@ -5,8 +5,8 @@ use Rattle.layout.specs.Columns.{columns}
 use Rattle.layout.specs.Owners.{ownerOf}
 use Rattle.calling.specs.Types.{attributeOf}
 use Rattle.setting.proofs.Placed.{PlaceMeans, told}
+use Rattle.marks.proofs.Lent.{lent-facts}
 use Rattle.remembering.specs.Raw.{withEntry, keyEntry}
-use Rattle.remembering.proofs.Lent.{lent-facts}
 use Rattle.remembering.proofs.Room.{new-fits}
 use Rattle.remembering.proofs.WasAttribute.{adds-new, owner-small, key-replaced, key-entry, attribute-room, attribute-remembered}
 use borrow.Author.Needs.{needs}

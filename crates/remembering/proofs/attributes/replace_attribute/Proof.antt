@@ -6,8 +6,8 @@ use Rattle.layout.specs.Owners.{ownerOf}
 use Rattle.calling.specs.Types.{attributeOf, builtOf}
 use Rattle.setting.proofs.AttributeCauses.{owner-there}
 use Rattle.setting.proofs.Placed.{PlaceMeans, told}
+use Rattle.marks.proofs.Lent.{lent-facts}
 use Rattle.remembering.specs.Raw.{withEntry, attributeEntry}
-use Rattle.remembering.proofs.Lent.{lent-facts}
 use Rattle.remembering.proofs.Done.{marked-full}
 use Rattle.remembering.proofs.Room.{one-fits, none-fits}
 use Rattle.remembering.proofs.WasAttribute.{replaces-there, owner-small, key-replaced, attribute-entry, attribute-room, attribute-remembered}

@@ -8,7 +8,7 @@ use Rattle.layout.specs.Owners.{ownerOf}
 use Rattle.calling.specs.Types.{attributeOf, builtOf}
 use Rattle.setting.proofs.Placed.{PlaceMeans, told}
 use Rattle.journal.specs.Words.{markCount}
-use Rattle.remembering.proofs.Lent.{lent-facts}
+use Rattle.marks.proofs.Lent.{lent-facts}
 use Rattle.remembering.proofs.Done.{marked-refuse}
 use Rattle.remembering.proofs.Unremembered.{unmarked-call}
 use borrow.Author.Needs.{needs}

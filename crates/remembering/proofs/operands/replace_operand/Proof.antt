@@ -5,8 +5,8 @@ use Rattle.rules.specs.Marks.{replaces}
 use Rattle.layout.specs.Columns.{columns}
 use Rattle.calling.specs.Types.{builtOf}
 use Rattle.setting.proofs.OperandDone.{operand-reached}
+use Rattle.marks.proofs.Lent.{lent-facts}
 use Rattle.remembering.specs.Raw.{withEntry}
-use Rattle.remembering.proofs.Lent.{lent-facts}
 use Rattle.remembering.proofs.Done.{marked-full}
 use Rattle.remembering.proofs.Room.{none-fits}
 use Rattle.remembering.proofs.WasOperand.{operand-room, operand-remembered}

@@ -7,7 +7,7 @@ use Rattle.layout.specs.Columns.{columns}
 use Rattle.layout.specs.Causes.{causeOf}
 use Rattle.calling.specs.Types.{builtOf}
 use Rattle.journal.specs.Words.{markCount}
-use Rattle.remembering.proofs.Lent.{lent-facts}
+use Rattle.marks.proofs.Lent.{lent-facts}
 use Rattle.remembering.proofs.Done.{marked-refuse}
 use Rattle.remembering.proofs.Unremembered.{unmarked-call}
 use borrow.Author.Needs.{needs}

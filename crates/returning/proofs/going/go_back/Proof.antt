@@ -7,7 +7,7 @@ use Rattle.calling.specs.Types.{builtOf}
 use Rattle.journal.specs.Words.{markCount}
 use Rattle.marks.proofs.Lent.{lent-facts}
 use Rattle.marks.proofs.Doing.{marked-refuse}
-use Rattle.returning.specs.Returning.{WentBack}
+use Rattle.returning.specs.Returning.{PutBack}
 use Rattle.returning.proofs.Answer.{not-set, back-done}
 use borrow.Author.Needs.{needs}
 use Rattle.returning.proofs.going.go_back.Statement.{statement}
@@ -59,7 +59,7 @@ returns-2 c =
     let b = a .store .now in
     let exit = p .put-back .last .0 in
     back-done b (lent-facts b (s .pre)) (a .mark) (omega (arith, count .number .ensures, r .row-of .ensures, test .if1 .left)) exit
-    (subst (λ (x : ℕ). WentBack b exit x) (r .row-of .ensures) (p .put-back .ensures))
+    (subst (λ (x : ℕ). PutBack b exit x) (r .row-of .ensures) (p .put-back .ensures))
 
 pub go-back-spec : {M : Type 1} → statement M
 go-back-spec =
