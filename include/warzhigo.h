@@ -11,9 +11,10 @@
  * present type; two types are the same where their present types are. It may be empty (NULL and 0).
  *
  * wz_...        anything may be lent: the call tests it, and refuses by 1, 8 or 14.
- * wz_known_...  the store must be sound and the mapping allowed beside it, as wz_is_sound and wz_known_is_allowed tell, and `types` an index
- *               that wz_known_index_types has made, or no words at all for the empty list; anything else is undefined behaviour. A store
- *               stays sound under every call, a mapping allowed while its store only grows; an index is for any store.
+ * wz_known_...  the store must be sound, with its marks, and the mapping allowed beside it, as wz_is_sound and wz_known_is_allowed tell, and
+ *               `types` an index that wz_known_index_types has made, or no words at all for the empty list; anything else is undefined
+ *               behaviour. A store stays sound under every call. A mapping stays allowed while its store only grows, so not when the store
+ *               goes back to a mark (wz_go_back, wz_known_go_back): what it names may have gone. An index is for any store.
  */
 #ifndef WARZHIGO_H
 #define WARZHIGO_H
@@ -58,7 +59,8 @@ typedef struct {
     uint32_t right;
 } wz_run_answer;
 
-/* What a building call answers. 0: `number` is the new one's; 1: accepted; 2: refused, and `number` is the cause. */
+/* What a building call answers, and one that sets a mark or goes back. 0: `number` is the new one's; 1: accepted; 2: refused, and `number`
+ * is the cause. */
 typedef struct {
     uint32_t code;
     uint32_t number;
@@ -95,7 +97,7 @@ size_t wz_key_bytes(void);
 /* The words that an index of a list of renamed types is made in. */
 size_t wz_index_words(void);
 
-/* Is it a sound store? */
+/* Is it a sound store, and would it be one after going back to any of its marks? */
 bool wz_is_sound(const uint32_t *store, size_t words);
 
 /* Is the mapping allowed beside this store? */
@@ -130,17 +132,32 @@ wz_outcome wz_new_block(uint32_t *store, size_t words, uint32_t region, uint32_t
 wz_outcome wz_known_new_block(uint32_t *store, size_t words, uint32_t region, uint32_t label, uint32_t location,
                               const uint32_t *types, size_t type_count);
 
-/* Sets an attribute of operation n, or of block n where `blocks` is true; a key that is there is replaced. */
+/* Sets an attribute of operation n, or of block n where `blocks` is true; a key that is there is replaced. While a mark is set, refused by
+ * 17 where that can't be remembered. */
 wz_outcome wz_set_attribute(uint32_t *store, size_t words, bool blocks, uint32_t n, uint32_t key, uint32_t kind, uint32_t content);
 
 /* The same, on a store known to be sound. */
 wz_outcome wz_known_set_attribute(uint32_t *store, size_t words, bool blocks, uint32_t n, uint32_t key, uint32_t kind, uint32_t content);
 
-/* Sets operand i of operation n to value v. */
+/* Sets operand i of operation n to value v. While a mark is set, refused by 17 where that can't be remembered. */
 wz_outcome wz_set_operand(uint32_t *store, size_t words, uint32_t n, uint32_t i, uint32_t v);
 
 /* The same, on a store known to be sound. */
 wz_outcome wz_known_set_operand(uint32_t *store, size_t words, uint32_t n, uint32_t i, uint32_t v);
+
+/* Sets a mark, 1 to 8, that names the store as it stands; one that is set already moves here. From the oldest set mark on, up to 1,024
+ * replacements of operands and attributes are remembered. Refused by 16 for any other number. */
+wz_outcome wz_set_mark(uint32_t *store, size_t words, uint32_t mark);
+
+/* The same, on a store known to be sound. */
+wz_outcome wz_known_set_mark(uint32_t *store, size_t words, uint32_t mark);
+
+/* Goes back to a mark: all is as it was when it was last set. The mark stays set, those set after it are void, and numbers given since are
+ * given again. Refused by 16 where it is not set. */
+wz_outcome wz_go_back(uint32_t *store, size_t words, uint32_t mark);
+
+/* The same, on a store known to be sound. A mapping is no longer known to be allowed beside it. */
+wz_outcome wz_known_go_back(uint32_t *store, size_t words, uint32_t mark);
 
 /* Compares operations lhs and rhs, each with all inside it; locations are ignored where `locations` is true, and attributes whose kind's bit
  * is set in `bits`. What corresponds is entered into the mapping; entries made before a difference stay. */

@@ -1,7 +1,9 @@
-// The building calls as data, for calls that are to be refused or repeated. Each list of a call is one word, repeated.
+// The offered calls as data, for calls that are to be refused or repeated. Each list of a call is one word, repeated.
+use building::calls::go_back;
 use building::calls::new_block;
 use building::calls::new_operation;
 use building::calls::set_attribute;
+use building::calls::set_mark;
 use building::calls::set_operand;
 use building::types::Attribute;
 use building::types::Built;
@@ -17,6 +19,9 @@ pub enum Call {
     Attribute(Owner, u32, u32),
     // An operation, an index and a value.
     Operand(u32, u32, u32),
+    // A mark set, and one gone back to.
+    SetMark(u32),
+    GoBack(u32),
 }
 
 // The longest list of a call: one word more than any list may have.
@@ -73,5 +78,7 @@ pub fn make(store: &mut [u32], call: Call) -> Built {
             },
         ),
         Call::Operand(n, index, value) => set_operand(store, n, index, value),
+        Call::SetMark(mark) => set_mark(store, mark),
+        Call::GoBack(mark) => go_back(store, mark),
     }
 }

@@ -12,7 +12,7 @@ use building::types::Built;
 use building::types::Owner;
 use building::types::Parent;
 use layout::columns::STORE_LENGTH;
-use layout::sound::is_sound;
+use lending::lent::is_sound;
 
 // 8 regions, 16 results, 16 operands and 8 successors are accepted, and so are 16 arguments.
 pub fn full_lists(store: &mut Store) -> bool {
@@ -27,12 +27,13 @@ fn taken(step: FillStep, answer: Built, i: u32) -> bool {
     match step {
         FillStep::Key(_) => accepted(answer),
         FillStep::Keys => accepted(answer),
+        FillStep::Operand(_) => accepted(answer),
         _ => made(answer, i),
     }
 }
 
 // The steps from `from` up to `end`, all accepted.
-fn fill(store: &mut Store, step: FillStep, from: u32, end: u32) -> bool {
+pub fn fill(store: &mut Store, step: FillStep, from: u32, end: u32) -> bool {
     let mut i = from;
     while i < end {
         if !taken(step, take(store, step, i), i) {
@@ -44,13 +45,13 @@ fn fill(store: &mut Store, step: FillStep, from: u32, end: u32) -> bool {
 }
 
 // Step i is refused by this cause, and no word of the store changes.
-fn stops(store: &mut Store, step: FillStep, i: u32, cause: u32) -> bool {
+pub fn stops(store: &mut Store, step: FillStep, i: u32, cause: u32) -> bool {
     let kept = *store;
     let answer = take(store, step, i);
     turned_down(answer, cause, store, &kept)
 }
 
-fn sound(store: &Store) -> bool {
+pub fn sound(store: &Store) -> bool {
     is_sound(store)
 }
 

@@ -1,9 +1,10 @@
-// Cases of the four building calls: a form for a bird-ring recorder is built, and every cause for which they refuse is met. Each line that
+// Cases of the building calls and of marks: a form for a bird-ring recorder is built, and every cause for which they refuse is met. Each line that
 // the program writes says whether the answers of a group of cases were those of document 01.
 mod answers;
 mod calls;
 mod form;
 mod limits;
+mod marks;
 mod refusals;
 mod steps;
 
@@ -12,7 +13,12 @@ use building::types::Owner;
 use layout::columns::BLOCKS;
 use layout::columns::OPS;
 use layout::columns::STORE_LENGTH;
-use layout::sound::is_sound;
+use lending::lent::is_sound;
+
+// A word too few, and a word too many.
+const SHORT: usize = STORE_LENGTH - 1;
+
+const LONG: usize = STORE_LENGTH + 1;
 
 // The line of a group.
 fn say(group: &[u8], ok: bool) {
@@ -30,17 +36,17 @@ fn empty_stores() -> bool {
     if !is_sound(&store) {
         return false;
     }
-    let short: [u32; 34567] = [0; 34567];
+    let short: [u32; SHORT] = [0; SHORT];
     if is_sound(&short) {
         return false;
     }
-    let long: [u32; 34569] = [0; 34569];
+    let long: [u32; LONG] = [0; LONG];
     !is_sound(&long)
 }
 
 // Cause 1 for a buffer that is too short, for a count above its total, and for a block without a region.
 fn unsound_stores() -> bool {
-    let mut short: [u32; 34567] = [0; 34567];
+    let mut short: [u32; SHORT] = [0; SHORT];
     let short_kept = short;
     if !refusals::unsound(&mut short, &short_kept) {
         return false;
@@ -70,6 +76,7 @@ fn form_refusals(store: &mut Store, kept: &Store) {
     say(b"cause 4, lists", refusals::too_many(store, kept));
     say(b"cause 6", refusals::unknown_kind(store, kept));
     say(b"cause 7", refusals::no_such_operand(store, kept));
+    say(b"cause 16", refusals::no_such_mark(store, kept));
     say(
         b"several causes at once",
         refusals::first_cause(store, kept),
@@ -84,6 +91,9 @@ fn main() {
     say(b"form amended", form::amend_form(&mut store));
     let kept = store;
     form_refusals(&mut store, &kept);
+    say(b"marks", marks::gone_back(&mut store));
+    say(b"cause 17", marks::remembered(&mut store));
+    store = kept;
     say(b"full lists", limits::full_lists(&mut store));
     say(
         b"cause 4, keys of an operation",

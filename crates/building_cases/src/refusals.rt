@@ -29,7 +29,13 @@ pub fn unsound(buffer: &mut [u32], kept: &[u32]) -> bool {
     if !any_refuses(buffer, kept, Call::Attribute(Owner::Op(9), 1, 64), 1) {
         return false;
     }
-    any_refuses(buffer, kept, Call::Operand(9, 9, 99), 1)
+    if !any_refuses(buffer, kept, Call::Operand(9, 9, 99), 1) {
+        return false;
+    }
+    if !any_refuses(buffer, kept, Call::SetMark(9), 1) {
+        return false;
+    }
+    any_refuses(buffer, kept, Call::GoBack(9), 1)
 }
 
 // Cause 2, by a new operation of the form: no such block around it, no such operand, its own result, no such successor.
@@ -74,6 +80,14 @@ pub fn unknown_kind(store: &mut Store, kept: &Store) -> bool {
 pub fn no_such_operand(store: &mut Store, kept: &Store) -> bool {
     refuses(store, kept, Call::Operand(1, 1, 0), 7)
         && refuses(store, kept, Call::Operand(0, 0, 0), 7)
+}
+
+// Cause 16: marks are 1 to 8, and mark 1 is not set.
+pub fn no_such_mark(store: &mut Store, kept: &Store) -> bool {
+    refuses(store, kept, Call::SetMark(0), 16)
+        && refuses(store, kept, Call::SetMark(9), 16)
+        && refuses(store, kept, Call::GoBack(0), 16)
+        && refuses(store, kept, Call::GoBack(1), 16)
 }
 
 // Several causes at once: 6 before 2, 2 before 7, 2 before 4.

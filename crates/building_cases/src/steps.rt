@@ -1,4 +1,4 @@
-// Steps that fill a store, one call or two each. Step i makes operation i or block i, or sets key i.
+// Steps that fill a store, one call or two each. Step i makes operation i or block i, or sets key i or an operand.
 use crate::answers::made;
 use crate::calls::Call;
 use crate::calls::make;
@@ -17,6 +17,8 @@ pub enum FillStep {
     Key(Owner),
     // The next key, where each operation in turn gets eight.
     Keys,
+    // The first operand of an operation, set to value 0.
+    Operand(u32),
 }
 
 // The block that level i stands in.
@@ -45,5 +47,6 @@ pub fn take(store: &mut [u32], step: FillStep, i: u32) -> Built {
         FillStep::Block(arguments) => make(store, Call::Block(i, arguments)),
         FillStep::Key(owner) => make(store, Call::Attribute(owner, i, 2)),
         FillStep::Keys => make(store, Call::Attribute(Owner::Op(i / 8), i % 8, 2)),
+        FillStep::Operand(n) => make(store, Call::Operand(n, 0, 0)),
     }
 }

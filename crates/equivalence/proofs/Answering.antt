@@ -21,7 +21,7 @@ use Rattle.rules.proofs.Walking.Deep.{compare-not-deep}
 use Rattle.rules.proofs.Walking.Paired.{paired-most}
 use Rattle.rules.proofs.Types.Renamed.{exists-renamed, renamed-sound}
 use Rattle.layout.specs.Reading.{storeIn}
-use Rattle.layout.specs.Soundness.{soundBuffer, IsSound}
+use Rattle.layout.specs.Soundness.{IsSound}
 use Rattle.renaming.specs.Index.{listIn, IsIndex}
 use Rattle.renaming.proofs.Indexed.{no-words, no-list}
 use Rattle.fragments.specs.Options.{Options, under}
@@ -80,34 +80,38 @@ outcome-is (ended (oneLonger p) st) m h = refl
 outcome-is (ended tooDeep st) m h = absurd (h st refl)
 
 module _ (b types m : List ℕ) (ig : Ignore) (f : Sort) (l r : ℕ) where
-  pub unsound : soundBuffer b ≡ false → Answered b types m m ig f l r (Refused 1)
+  pub unsound : (ok : Bool) → ok ≡ false → Answered ok b types m m ig f l r (Refused 1)
   unfolding comparison comparisonBy compareTests firstFailed answerOf
-  unsound e = record { told = rw e refl; unchanged = λ c h. refl }
+  unsound ok e = record { told = rw e refl; unchanged = λ c h. refl }
 
-  pub unallowed : soundBuffer b ≡ true → allowed (storeIn b) (mappingOf m) ≡ false → Answered b types m m ig f l r (Refused 8)
+  pub unallowed : (ok : Bool) → ok ≡ true → allowed (storeIn b) (mappingOf m) ≡ false → Answered ok b types m m ig f l r (Refused 8)
   unfolding comparison comparisonBy compareTests firstFailed answerOf
-  unallowed e a = record { told = rw (e, a) refl; unchanged = λ c h. refl }
+  unallowed ok e a = record { told = rw (e, a) refl; unchanged = λ c h. refl }
 
-  pub untyped : soundBuffer b ≡ true → allowed (storeIn b) (mappingOf m) ≡ true → typesHold types ≡ false → Answered b types m m ig f l r (Refused 14)
+  pub untyped : allowed (storeIn b) (mappingOf m) ≡ true → typesHold types ≡ false → Answered true b types m m ig f l r (Refused 14)
   unfolding comparison comparisonBy compareTests firstFailed answerOf
-  untyped e a t = record { told = rw (e, a, t) refl; unchanged = λ c h. refl }
+  untyped a t = record { told = rw (a, t) refl; unchanged = λ c h. refl }
 
-  module _ (sd : soundBuffer b ≡ true) (a : allowed (storeIn b) (mappingOf m) ≡ true) (ty : typesHold types ≡ true) where
+  -- found to be sound, as if known to be
+  pub as-found : (ok : Bool) → ok ≡ true → {z : List ℕ} {q : EqResult} → Answered true b types m z ig f l r q → Answered ok b types m z ig f l r q
+  as-found ok e {z} {q} h = subst (λ (t : Bool). Answered t b types m z ig f l r q) (sym e) h
+
+  module _ (a : allowed (storeIn b) (mappingOf m) ≡ true) (ty : typesHold types ≡ true) where
     abbrev walk : Walk
     walk = compareBy (renamed types (storeIn b)) ig f l r (stateOf m 0)
 
-    pub refused-pair : (c : ℕ) → firstFailed (pairTests (storeIn b) f l r) ≡ some c → Answered b types m m ig f l r (Refused c)
+    pub refused-pair : (c : ℕ) → firstFailed (pairTests (storeIn b) f l r) ≡ some c → Answered true b types m m ig f l r (Refused c)
     unfolding comparison comparisonBy compareTests firstFailed answerOf pairTests
-    refused-pair c e = record { told = rw (sd, a, ty, e) refl; unchanged = λ k h. refl }
+    refused-pair c e = record { told = rw (a, ty, e) refl; unchanged = λ k h. refl }
 
     pub walked : IsSound b → (q : EqResult) (z : List ℕ) → firstFailed (pairTests (storeIn b) f l r) ≡ none
-        → Told walk q z → Answered b types m z ig f l r q
+        → Told walk q z → Answered true b types m z ig f l r q
     unfolding comparison comparisonBy compareTests firstFailed pairTests compare start stateOf Told
     walked h q z e t =
         let ex = pair-exists (storeIn b) f l r e .0 in
         let deep = compare-not-deep (renamed types (storeIn b)) (renamed-sound types (storeIn b) (h .ruled)) ig f l r (exists-renamed types (storeIn b) f l ∙ ex) (mappingOf m) in
         record {
-          told = rw (sd, a, ty, e) (outcome-is walk (mappingOf m) deep ∙ t);
+          told = rw (a, ty, e) (outcome-is walk (mappingOf m) deep ∙ t);
           unchanged = λ c k. let w = told-refused walk c z (subst (λ x. Told walk x z) k t) in absurd (deep (w .0) (w .1));
         }
 

@@ -8,7 +8,6 @@ use Rattle.rules.specs.Fragments.{Sort, exists}
 use Rattle.rules.specs.Shells as rules
 use Rattle.rules.specs.Answers.{shallow, comparison}
 use Rattle.layout.specs.Reading.{storeIn}
-use Rattle.layout.specs.Soundness.{soundBuffer}
 use Rattle.equivalence.specs.MappingWords.{mappingOf}
 use Rattle.equivalence.specs.Walked.{answerOf}
 use Rattle.equivalence.specs.declared.types.EqResult.{EqResult}
@@ -18,8 +17,8 @@ use Rattle.equivalence.specs.declared.types.EqResult.the-variants.{Refus
 unfoldable pub pairTests : Store → Sort → ℕ → ℕ → List (Bool × ℕ)
 pairTests s f l r = (exists s f l && exists s f r, 2) ∷ (shallow s f l && shallow s f r, 12) ∷ []
 
--- of two fragments of one sort, under a list of renamed types, begun with a lent mapping
-pub record Answered (store types before after : List ℕ) (ig : rules.Ignore) (f : Sort) (l r : ℕ) (q : EqResult) : Type 0 where
-  pub told : comparison (soundBuffer store) (storeIn store) types (mappingOf before) ig f l r ≡ record { answer = answerOf q; mapping = mappingOf after }
+-- of two fragments of one sort, under a list of renamed types, begun with a lent mapping; `ok` is whether the store is sound
+pub record Answered (ok : Bool) (store types before after : List ℕ) (ig : rules.Ignore) (f : Sort) (l r : ℕ) (q : EqResult) : Type 0 where
+  pub told : comparison ok (storeIn store) types (mappingOf before) ig f l r ≡ record { answer = answerOf q; mapping = mappingOf after }
   -- "refused: ... mapping as they were": every word
   pub unchanged : (cause : ℕ) → q ≡ Refused cause → after ≡ before

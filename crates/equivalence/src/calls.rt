@@ -6,7 +6,7 @@ use crate::types::EqResult;
 use crate::types::Fragments;
 use fragments::ignoring::Ignore;
 use fragments::types::Sort;
-use layout::sound::is_sound;
+use lending::lent::is_sound;
 use renaming::indexing::INDEX_LENGTH;
 use renaming::indexing::index_types;
 ghost use mathlib.Core.Bool.{true};
@@ -15,6 +15,7 @@ ghost use Rattle.rules.specs.Fragments.{op, block, region};
 ghost use Rattle.rules.specs.Mapping.{allowed};
 ghost use Rattle.layout.specs.Reading.{storeIn};
 ghost use Rattle.layout.specs.Soundness.{IsSound};
+ghost use Rattle.journal.specs.Words.{soundLent};
 ghost use Rattle.fragments.specs.Ignoring.{ignoreOf};
 ghost use Rattle.fragments.specs.Sorts.{sortOf};
 ghost use Rattle.equivalence.specs.MappingWords.{mappingOf};
@@ -31,7 +32,7 @@ fn indexed_eq(
 ) -> EqResult
     requires { ⌜ IsSound (now store) ⌝ }
     requires { ⌜ allowed (storeIn (now store)) (mappingOf (now mapping)) ≡ true ⌝ }
-    ensures { λ q. ⌜ Answered (now (store .entry)) (now (types .entry)) (now (mapping .entry)) (now (mapping .exit)) (ignoreOf ignore) (sortOf (of .sort)) (of .lhs) (of .rhs) q ⌝ }
+    ensures { λ q. ⌜ Answered true (now (store .entry)) (now (types .entry)) (now (mapping .entry)) (now (mapping .exit)) (ignoreOf ignore) (sortOf (of .sort)) (of .lhs) (of .rhs) q ⌝ }
 {
     let mut index = [0; INDEX_LENGTH];
     let words = index_types(types, &mut index);
@@ -50,7 +51,7 @@ fn lent_eq(
     of: Fragments,
     ignore: Ignore,
 ) -> EqResult
-    ensures { λ q. ⌜ Answered (now (store .entry)) (now (types .entry)) (now (mapping .entry)) (now (mapping .exit)) (ignoreOf ignore) (sortOf (of .sort)) (of .lhs) (of .rhs) q ⌝ }
+    ensures { λ q. ⌜ Answered (soundLent (now (store .entry))) (now (store .entry)) (now (types .entry)) (now (mapping .entry)) (now (mapping .exit)) (ignoreOf ignore) (sortOf (of .sort)) (of .lhs) (of .rhs) q ⌝ }
 {
     if !is_sound(store) {
         return EqResult::Refused(1);
@@ -72,7 +73,7 @@ pub fn operation_eq(
     rhs: u32,
     ignore: Ignore,
 ) -> EqResult
-    ensures { λ q. ⌜ Answered (now (store .entry)) (now (types .entry)) (now (mapping .entry)) (now (mapping .exit)) (ignoreOf ignore) op lhs rhs q ⌝ }
+    ensures { λ q. ⌜ Answered (soundLent (now (store .entry))) (now (store .entry)) (now (types .entry)) (now (mapping .entry)) (now (mapping .exit)) (ignoreOf ignore) op lhs rhs q ⌝ }
 {
     let of = Fragments {
         sort: Sort::Op,
@@ -90,7 +91,7 @@ pub fn region_eq(
     rhs: u32,
     ignore: Ignore,
 ) -> EqResult
-    ensures { λ q. ⌜ Answered (now (store .entry)) (now (types .entry)) (now (mapping .entry)) (now (mapping .exit)) (ignoreOf ignore) region lhs rhs q ⌝ }
+    ensures { λ q. ⌜ Answered (soundLent (now (store .entry))) (now (store .entry)) (now (types .entry)) (now (mapping .entry)) (now (mapping .exit)) (ignoreOf ignore) region lhs rhs q ⌝ }
 {
     let of = Fragments {
         sort: Sort::Region,
@@ -108,7 +109,7 @@ pub fn basic_block_eq(
     rhs: u32,
     ignore: Ignore,
 ) -> EqResult
-    ensures { λ q. ⌜ Answered (now (store .entry)) (now (types .entry)) (now (mapping .entry)) (now (mapping .exit)) (ignoreOf ignore) block lhs rhs q ⌝ }
+    ensures { λ q. ⌜ Answered (soundLent (now (store .entry))) (now (store .entry)) (now (types .entry)) (now (mapping .entry)) (now (mapping .exit)) (ignoreOf ignore) block lhs rhs q ⌝ }
 {
     let of = Fragments {
         sort: Sort::Block,

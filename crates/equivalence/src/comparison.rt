@@ -107,7 +107,7 @@ pub fn fragments_eq(
 ) -> EqResult
     requires { ⌜ Readable (now store) (now types) ⌝ }
     requires { ⌜ allowed (storeIn (now store)) (mappingOf (now mapping)) ≡ true ⌝ }
-    ensures { λ q. ⌜ Answered (now (store .entry)) (listIn (now (types .entry))) (now (mapping .entry)) (now (mapping .exit)) (ignoreOf ignore) (sortOf (of .sort)) (of .lhs) (of .rhs) q ⌝ }
+    ensures { λ q. ⌜ Answered true (now (store .entry)) (listIn (now (types .entry))) (now (mapping .entry)) (now (mapping .exit)) (ignoreOf ignore) (sortOf (of .sort)) (of .lhs) (of .rhs) q ⌝ }
 {
     let sort = of.sort;
     let cause = pair_cause(store, sort, of.lhs, of.rhs);
@@ -128,7 +128,7 @@ pub fn operations_eq(
 ) -> EqResult
     requires { ⌜ Readable (now store) (now types) ⌝ }
     requires { ⌜ allowed (storeIn (now store)) (mappingOf (now mapping)) ≡ true ⌝ }
-    ensures { λ q. ⌜ Answered (now (store .entry)) (listIn (now (types .entry))) (now (mapping .entry)) (now (mapping .exit)) (ignoreOf ignore) op lhs rhs q ⌝ }
+    ensures { λ q. ⌜ Answered true (now (store .entry)) (listIn (now (types .entry))) (now (mapping .entry)) (now (mapping .exit)) (ignoreOf ignore) op lhs rhs q ⌝ }
 {
     let cause = pair_cause(store, Sort::Op, lhs, rhs);
     if let Cause::Is(n) = cause {

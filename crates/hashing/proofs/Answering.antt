@@ -4,7 +4,7 @@ use Prim.Native.Nat.{ℕ}
 use mathlib.Core.Bool.{Bool, true, false, true≢false, cond}
 use mathlib.Core.List.{List, [], _∷_}
 use mathlib.Core.Option.{Option, none, some}
-use mathlib.Core.Path.{_≡_, refl, sym, ap, ap₂, _∙_}
+use mathlib.Core.Path.{_≡_, refl, sym, ap, subst, _∙_}
 use Rattle.rules.specs.Store.{Store}
 use Rattle.rules.specs.Fragments.{Sort, exists}
 use Rattle.rules.specs.Building.{firstFailed}
@@ -13,9 +13,9 @@ use Rattle.rules.specs.Types.{typesHold, renamed}
 use Rattle.rules.specs.Hash.{hash}
 use Rattle.rules.specs.Answers.{Hashed, shallow, hashTests, hashedBy, hashed}
 use Rattle.layout.specs.Reading.{storeIn}
-use Rattle.layout.specs.Soundness.{soundBuffer, IsSound}
-use Rattle.layout.proofs.Empty.{sound-of}
+use Rattle.layout.specs.Soundness.{IsSound}
 use Rattle.hashing.specs.Calls.{hashedOf, fragmentTests, Answered}
+use Rattle.hashing.specs.declared.types.Hashed as code
 use Rattle.hashing.specs.declared.types.Hashed.the-variants.{Hash, Refused}
 
 -- ---- the tests of a fragment
@@ -48,28 +48,32 @@ module _ (b types : List ℕ) (ig : Ignore) (f : Sort) (n : ℕ) where
   abbrev first : Option ℕ
   first = firstFailed (fragmentTests (storeIn b) f n)
 
-  by-tests : hashed (soundBuffer b) (storeIn b) types ig f n ≡ by (soundBuffer b) (typesHold types) first
+  by-tests : (ok : Bool) → hashed ok (storeIn b) types ig f n ≡ by ok (typesHold types) first
   unfolding hashed hashTests firstFailed fragmentTests by
-  by-tests = refl
+  by-tests ok = refl
 
-  pub unsound : soundBuffer b ≡ false → Answered b types ig f n (Refused 1)
+  pub unsound : (ok : Bool) → ok ≡ false → Answered ok b types ig f n (Refused 1)
   unfolding hashedBy hashedOf by
-  unsound h = record { told = by-tests ∙ ap (λ (t : Bool). by t (typesHold types) first) h }
+  unsound ok h = record { told = by-tests ok ∙ ap (λ (t : Bool). by t (typesHold types) first) h }
+
+  -- found to be sound, as if known to be
+  pub as-found : (ok : Bool) → ok ≡ true → {q : code.Hashed} → Answered true b types ig f n q → Answered ok b types ig f n q
+  as-found ok e {q} h = subst (λ (t : Bool). Answered t b types ig f n q) (sym e) h
 
   module _ (h : IsSound b) where
-    pub untyped : typesHold types ≡ false → Answered b types ig f n (Refused 14)
+    pub untyped : typesHold types ≡ false → Answered true b types ig f n (Refused 14)
     unfolding hashedBy hashedOf by
-    untyped k = record { told = by-tests ∙ ap₂ (λ (t u : Bool). by t u first) (sound-of b h) k }
+    untyped k = record { told = by-tests true ∙ ap (λ (u : Bool). by true u first) k }
 
     module _ (k : typesHold types ≡ true) where
-      tested : {o : Option ℕ} → first ≡ o → hashed (soundBuffer b) (storeIn b) types ig f n ≡ hashedBy o (renamed types (storeIn b)) ig f n
+      tested : {o : Option ℕ} → first ≡ o → hashed true (storeIn b) types ig f n ≡ hashedBy o (renamed types (storeIn b)) ig f n
       unfolding by
-      tested e = by-tests ∙ (λ i. by (sound-of b h i) (k i) (e i))
+      tested e = by-tests true ∙ (λ i. by true (k i) (e i))
 
-      pub refused : (cause : ℕ) → first ≡ some cause → Answered b types ig f n (Refused cause)
+      pub refused : (cause : ℕ) → first ≡ some cause → Answered true b types ig f n (Refused cause)
       unfolding hashedBy hashedOf
       refused cause e = record { told = tested e }
 
-      pub answered : (word : ℕ) → first ≡ none → word ≡ hash (renamed types (storeIn b)) ig f n → Answered b types ig f n (Hash word)
+      pub answered : (word : ℕ) → first ≡ none → word ≡ hash (renamed types (storeIn b)) ig f n → Answered true b types ig f n (Hash word)
       unfolding hashedBy hashedOf
       answered word e w = record { told = tested e ∙ ap (λ (k : ℕ). hashedOf (Hash k)) (sym w) }

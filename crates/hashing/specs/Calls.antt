@@ -9,7 +9,6 @@ use Rattle.rules.specs.Shells.{Ignore}
 use Rattle.rules.specs.Answers as rules
 use Rattle.rules.specs.Answers.{shallow, hashed}
 use Rattle.layout.specs.Reading.{storeIn}
-use Rattle.layout.specs.Soundness.{soundBuffer}
 use Rattle.hashing.specs.declared.types.Hashed.{Hashed}
 use Rattle.hashing.specs.declared.types.Hashed.the-variants.{Hash, Refused}
 
@@ -22,6 +21,6 @@ hashedOf (Refused cause) = rules.refusedHash cause
 unfoldable pub fragmentTests : Store → Sort → ℕ → List (Bool × ℕ)
 fragmentTests s f n = (exists s f n, 2) ∷ (shallow s f n, 12) ∷ []
 
--- of a fragment
-pub record Answered (store types : List ℕ) (ig : Ignore) (f : Sort) (n : ℕ) (q : Hashed) : Type 0 where
-  pub told : hashed (soundBuffer store) (storeIn store) types ig f n ≡ hashedOf q
+-- of a fragment; `ok` is whether the store is sound
+pub record Answered (ok : Bool) (store types : List ℕ) (ig : Ignore) (f : Sort) (n : ℕ) (q : Hashed) : Type 0 where
+  pub told : hashed ok (storeIn store) types ig f n ≡ hashedOf q

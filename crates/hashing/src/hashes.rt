@@ -84,7 +84,7 @@ fn hash_steps(
 // Compute a structural hash for a fragment.
 pub fn fragment_hash(store: &[u32], types: &[u32], sort: Sort, n: u32, ignore: Ignore) -> Hashed
     requires { ⌜ Readable (now store) (now types) ⌝ }
-    ensures { λ q. ⌜ Answered (now (store .entry)) (listIn (now (types .entry))) (ignoreOf ignore) (sortOf sort) n q ⌝ }
+    ensures { λ q. ⌜ Answered true (now (store .entry)) (listIn (now (types .entry))) (ignoreOf ignore) (sortOf sort) n q ⌝ }
 {
     let cause = hash_cause(store, sort, n);
     if let Cause::Is(k) = cause {

@@ -2,7 +2,7 @@
 -- the key. Assumes nothing.
 use Prim.Native.Nat.{ℕ, _≤_}
 use native.Mathlib.Omega.{arith}
-use mathlib.Core.Bool.{true, false}
+use mathlib.Core.Bool.{Bool, true, false}
 use mathlib.Core.List.{List, [], _∷_, _++_}
 use mathlib.Core.Option.{Option, none, some}
 use mathlib.Core.Path.{_≡_, refl, sym, ap, subst, _∙_}
@@ -21,8 +21,7 @@ use Rattle.rules.proofs.Keys.Longest.{key-longest}
 use Rattle.rules.proofs.Types.Renamed.{exists-renamed, steps-renamed, renamed-sound}
 use Rattle.rules.proofs.Walking.Answered.{fragment-shallow}
 use Rattle.layout.specs.Reading.{storeIn}
-use Rattle.layout.specs.Soundness.{soundBuffer, IsSound}
-use Rattle.layout.proofs.Empty.{sound-of}
+use Rattle.layout.specs.Soundness.{IsSound}
 use Rattle.renaming.specs.Index.{listIn, IsIndex}
 use Rattle.renaming.proofs.Indexed.{no-words, no-list}
 use Rattle.fragments.specs.Options.{Options, under}
@@ -72,50 +71,52 @@ empty-list (x ∷ xs) e = absurd (omega arith)
 
 -- ---- answers
 
--- the same list
-pub answered-as : {b types types′ : List ℕ} {ig : Ignore} {f : Sort} {n : ℕ} {before after : List ℕ} {q : Keyed} → types ≡ types′ → Answered b types ig f n before after q → Answered b types′ ig f n before after q
-answered-as {b} {types} {types′} {ig} {f} {n} {before} {after} {q} e h = subst (λ (ts : List ℕ). Answered b ts ig f n before after q) e h
+-- the same list, and found to be sound, as if known to be
+pub answered-as : {ok : Bool} {b types types′ : List ℕ} {ig : Ignore} {f : Sort} {n : ℕ} {before after : List ℕ} {q : Keyed} → ok ≡ true → types ≡ types′
+    → Answered true b types ig f n before after q → Answered ok b types′ ig f n before after q
+answered-as {ok} {b} {types} {types′} {ig} {f} {n} {before} {after} {q} k e h =
+    subst (λ (t : Bool). Answered t b types′ ig f n before after q) (sym k) (subst (λ (ts : List ℕ). Answered true b ts ig f n before after q) e h)
 
 module _ (b types : List ℕ) (ig : Ignore) (f : Sort) (n : ℕ) (before : List ℕ) where
   abbrev its : List ℕ
   its = key (renamed types (storeIn b)) ig f n
 
-  abbrev tested : Option ℕ
-  tested = firstFailed (keyTests (soundBuffer b) (storeIn b) types ig f n (length before))
+  abbrev tested : Bool → Option ℕ
+  tested ok = firstFailed (keyTests ok (storeIn b) types ig f n (length before))
 
-  refused : (cause : ℕ) → tested ≡ some cause → Answered b types ig f n before before (Refused cause)
+  refused : (ok : Bool) (cause : ℕ) → tested ok ≡ some cause → Answered ok b types ig f n before before (Refused cause)
   unfolding keyed keyedBy keyedOf
-  refused cause e =
+  refused ok cause e =
       record {
         told = ap (λ (o : Option ℕ). keyedBy o its before .answer) e;
         bytes = ap (λ (o : Option ℕ). keyedBy o its before .bytes) e;
       }
 
-  pub unsound : soundBuffer b ≡ false → Answered b types ig f n before before (Refused 1)
+  pub unsound : (ok : Bool) → ok ≡ false → Answered ok b types ig f n before before (Refused 1)
   unfolding keyTests firstFailed
-  unsound h = refused 1 (rw h refl)
+  unsound ok h = refused ok 1 (rw h refl)
 
   module _ (h : IsSound b) where
-    pub unlisted : typesHold types ≡ false → Answered b types ig f n before before (Refused 14)
+    pub unlisted : typesHold types ≡ false → Answered true b types ig f n before before (Refused 14)
     unfolding keyTests firstFailed
-    unlisted t = refused 14 (rw (sound-of b h, t) refl)
+    unlisted t = refused true 14 (rw t refl)
 
     module _ (t : typesHold types ≡ true) where
-      pub missing : exists (storeIn b) f n ≡ false → Answered b types ig f n before before (Refused 2)
+      pub missing : exists (storeIn b) f n ≡ false → Answered true b types ig f n before before (Refused 2)
       unfolding keyTests firstFailed
-      missing e = refused 2 (rw (sound-of b h, t, e) refl)
+      missing e = refused true 2 (rw (t, e) refl)
 
       module _ (e : exists (storeIn b) f n ≡ true) where
-        pub too-short : leb (length its) (length before) ≡ false → Answered b types ig f n before before (Refused 13)
+        pub too-short : leb (length its) (length before) ≡ false → Answered true b types ig f n before before (Refused 13)
         unfolding keyTests firstFailed
-        too-short l = refused 13 (rw (sound-of b h, t, e, fragment-shallow (storeIn b) (h .ruled) f n e, l) refl)
+        too-short l = refused true 13 (rw (t, e, fragment-shallow (storeIn b) (h .ruled) f n e, l) refl)
 
         module _ (l : leb (length its) (length before) ≡ true) where
-          none-failed : tested ≡ none
+          none-failed : tested true ≡ none
           unfolding keyTests firstFailed
-          none-failed = rw (sound-of b h, t, e, fragment-shallow (storeIn b) (h .ruled) f n e, l) refl
+          none-failed = rw (t, e, fragment-shallow (storeIn b) (h .ruled) f n e, l) refl
 
-          pub given : {after : List ℕ} {r : ℕ} → Put its before 0 after r → Answered b types ig f n before after (Length r)
+          pub given : {after : List ℕ} {r : ℕ} → Put its before 0 after r → Answered true b types ig f n before after (Length r)
           unfolding keyed keyedBy keyedOf written
           given {after} {r} p =
               let end : r ≡ length its = omega (arith, p .many) in

@@ -4,10 +4,11 @@ use crate::keys::fragment_key;
 use crate::types::Keyed;
 use fragments::ignoring::Ignore;
 use fragments::types::Sort;
-use layout::sound::is_sound;
+use lending::lent::is_sound;
 use renaming::indexing::INDEX_LENGTH;
 use renaming::indexing::index_types;
 ghost use Rattle.rules.specs.Fragments.{op, block, region};
+ghost use Rattle.journal.specs.Words.{soundLent};
 ghost use Rattle.fragments.specs.Ignoring.{ignoreOf};
 ghost use Rattle.fragments.specs.Sorts.{sortOf};
 ghost use Rattle.keys.specs.Calls.{Answered};
@@ -21,7 +22,7 @@ fn lent_key(
     n: u32,
     ignore: Ignore,
 ) -> Keyed
-    ensures { λ q. ⌜ Answered (now (store .entry)) (now (types .entry)) (ignoreOf ignore) (sortOf sort) n (now (key .entry)) (now (key .exit)) q ⌝ }
+    ensures { λ q. ⌜ Answered (soundLent (now (store .entry))) (now (store .entry)) (now (types .entry)) (ignoreOf ignore) (sortOf sort) n (now (key .entry)) (now (key .exit)) q ⌝ }
 {
     if !is_sound(store) {
         return Keyed::Refused(1);
@@ -38,13 +39,13 @@ fn lent_key(
 }
 
 pub fn operation_key(store: &[u32], types: &[u32], key: &mut [u8], n: u32, ignore: Ignore) -> Keyed
-    ensures { λ q. ⌜ Answered (now (store .entry)) (now (types .entry)) (ignoreOf ignore) op n (now (key .entry)) (now (key .exit)) q ⌝ }
+    ensures { λ q. ⌜ Answered (soundLent (now (store .entry))) (now (store .entry)) (now (types .entry)) (ignoreOf ignore) op n (now (key .entry)) (now (key .exit)) q ⌝ }
 {
     lent_key(store, types, key, Sort::Op, n, ignore)
 }
 
 pub fn region_key(store: &[u32], types: &[u32], key: &mut [u8], n: u32, ignore: Ignore) -> Keyed
-    ensures { λ q. ⌜ Answered (now (store .entry)) (now (types .entry)) (ignoreOf ignore) region n (now (key .entry)) (now (key .exit)) q ⌝ }
+    ensures { λ q. ⌜ Answered (soundLent (now (store .entry))) (now (store .entry)) (now (types .entry)) (ignoreOf ignore) region n (now (key .entry)) (now (key .exit)) q ⌝ }
 {
     lent_key(store, types, key, Sort::Region, n, ignore)
 }
@@ -56,7 +57,7 @@ pub fn basic_block_key(
     n: u32,
     ignore: Ignore,
 ) -> Keyed
-    ensures { λ q. ⌜ Answered (now (store .entry)) (now (types .entry)) (ignoreOf ignore) block n (now (key .entry)) (now (key .exit)) q ⌝ }
+    ensures { λ q. ⌜ Answered (soundLent (now (store .entry))) (now (store .entry)) (now (types .entry)) (ignoreOf ignore) block n (now (key .entry)) (now (key .exit)) q ⌝ }
 {
     lent_key(store, types, key, Sort::Block, n, ignore)
 }

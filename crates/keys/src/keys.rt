@@ -110,7 +110,7 @@ pub fn fragment_key(
     ignore: Ignore,
 ) -> Keyed
     requires { ⌜ Readable (now store) (now types) ⌝ }
-    ensures { λ q. ⌜ Answered (now (store .entry)) (listIn (now (types .entry))) (ignoreOf ignore) (sortOf sort) n (now (key .entry)) (now (key .exit)) q ⌝ }
+    ensures { λ q. ⌜ Answered true (now (store .entry)) (listIn (now (types .entry))) (ignoreOf ignore) (sortOf sort) n (now (key .entry)) (now (key .exit)) q ⌝ }
 {
     if !exists(store, sort, n) {
         return Keyed::Refused(2);

@@ -21,7 +21,7 @@ use Rattle.rules.proofs.Walking.Answered.{comparison-is}
 use Rattle.rules.proofs.Rust.Comparison.{compares-as-the-rust}
 use Rattle.rules.proofs.Rust.Hash.{hashes-as-the-rust}
 use Rattle.layout.specs.Reading.{storeIn}
-use Rattle.layout.specs.Soundness.{soundBuffer}
+use Rattle.journal.specs.Words.{soundLent}
 use Rattle.equivalence.specs.MappingWords.{mappingOf}
 use Rattle.equivalence.specs.Walked.{answerOf}
 use Rattle.equivalence.specs.Calls as comparisons
@@ -57,7 +57,7 @@ same-words (ended (oneLonger p) st) deep m after q e =
     ap₂ rust.answers (sym (names-only q p (st .paired) (sym (ap (λ (c : Comparison). c .answer) e)))) (ap (λ (c : Comparison). c .mapping) e)
 same-words (ended tooDeep st) deep m after q e = absurd (deep st refl)
 
-module _ (b : List ℕ) (sd : soundBuffer b ≡ true) (types : List ℕ) (th : typesHold types ≡ true) (ig : Ignore) (f : Sort) where
+module _ (b : List ℕ) (sd : soundLent b ≡ true) (types : List ℕ) (th : typesHold types ≡ true) (ig : Ignore) (f : Sort) where
   -- the store as it is read
   abbrev read : Store
   read = renamed types (storeIn b)
@@ -67,7 +67,7 @@ module _ (b : List ℕ) (sd : soundBuffer b ≡ true) (types : List ℕ) (th : t
   sound-read = renamed-sound types (storeIn b) (ruled b sd types th ig f)
 
   module _ (l r : ℕ) (il : In (storeIn b) f l) (ir : In (storeIn b) f r) (before after : List ℕ) (am : allowed (storeIn b) (mappingOf before) ≡ true)
-      (q : EqResult) (a : comparisons.Answered b types before after ig f l r q) where
+      (q : EqResult) (a : comparisons.Answered (soundLent b) b types before after ig f l r q) where
     walked : comparisonOf (compare read ig f l r (mappingOf before)) (mappingOf before) ≡ record { answer = answerOf q; mapping = mappingOf after }
     walked =
         sym (comparison-is (storeIn b) (ruled b sd types th ig f) ig f types th (mappingOf before) am l r il ir)

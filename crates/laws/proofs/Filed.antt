@@ -9,21 +9,23 @@ use mathlib.Core.Path.{_≡_, refl, sym, ap, subst, _∙_}
 use lib.ListN.{length, take, drop}
 use lib.Seq.{take-append-seam}
 use Rattle.rules.specs.Lists.{all}
-use Rattle.rules.specs.Store.{Store, emptyStore}
+use Rattle.rules.specs.Store.{Store}
 use Rattle.rules.specs.Fragments.{Sort}
-use Rattle.rules.specs.Building.{firstFailed, after}
+use Rattle.rules.specs.Building.{firstFailed}
 use Rattle.rules.specs.Shells.{Ignore}
 use Rattle.rules.specs.Types.{typesHold, renamed}
 use Rattle.rules.specs.Keys.{keyLength, key, keyTests, written, keyedBy, keyed, orderingNumber, compareBytes, fits, attributeFits, opFits, blockFits, valueFits, fieldsFit}
+use Rattle.rules.specs.Marks.{MarkedStore}
 use Rattle.rules.specs.Statements.{FiledAsEqual, FilersLaw, RenamedSound}
 use Rattle.rules.proofs.Types.Under.{renamed-sound, renamed-fits}
 use Rattle.rules.proofs.Basics.Tests.{and-left, and-right, and-both, every-of, impossible}
 use Rattle.rules.proofs.Keys.Filed.{filers-law}
 use Rattle.rules.proofs.Keys.Fitting.{all-getD}
-use Rattle.rules.proofs.Keys.Kept.{after-fits, empty-fits}
+use Rattle.rules.proofs.Marks.Kept.{after-marked-fits}
 use Rattle.layout.specs.Columns.{columns, columnSize, base, at}
 use Rattle.layout.specs.Reading.{tabulateFrom, tabulate, attributeAt, attributesFrom, opOf, blockOf, valueOf, opCount, blockCount, valueCount, storeOf, storeIn}
-use Rattle.layout.specs.Soundness.{soundBuffer}
+use Rattle.journal.specs.Journal.{markedOf}
+use Rattle.journal.specs.Words.{journaledOf, soundLent}
 use Rattle.building.specs.Calls.{AfterCalls}
 use Rattle.building.proofs.Answering.{after-calls}
 use Rattle.keys.specs.Calls.{keyedOf, orderingOf}
@@ -41,7 +43,7 @@ module _ (k before : List ℕ) where
       ap (λ (m : ℕ). take m left) (sym e) ∙ ap (take (length k)) (sym b) ∙ take-append-seam k (drop (length k) before)
   by-answer (some cause) n left a b = impossible cc
 
-module _ (b : List ℕ) (sd : soundBuffer b ≡ true) (types : List ℕ) (th : typesHold types ≡ true) (ig : Ignore) (f : Sort) where
+module _ (b : List ℕ) (sd : soundLent b ≡ true) (types : List ℕ) (th : typesHold types ≡ true) (ig : Ignore) (f : Sort) where
   -- the store as it is read
   abbrev read : Store
   read = renamed types (storeIn b)
@@ -65,10 +67,10 @@ module _ (b : List ℕ) (sd : soundBuffer b ≡ true) (types : List ℕ) (th : t
       )
 
 pub filing-of-code : FilingOfCode
-unfolding FilingOfCode AfterCalls
+unfolding FilingOfCode AfterCalls markedOf journaledOf
 filing-of-code entry e calls fit buffer made types th small ig f =
     let h = after-calls entry e calls buffer made in
-    answers-file buffer (h .1) types th ig f (renamed-fits types small (storeIn buffer) (subst (λ (s : Store). fieldsFit s ≡ true) (sym (h .0)) (after-fits emptyStore calls empty-fits fit)))
+    answers-file buffer (h .1) types th ig f (renamed-fits types small (storeIn buffer) (subst (λ (t : MarkedStore). fieldsFit (t .store) ≡ true) (sym (h .0)) (after-marked-fits calls fit)))
 
 -- ---- a store that is read from words
 

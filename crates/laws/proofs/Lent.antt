@@ -6,12 +6,11 @@ use Rattle.rules.specs.Mapping.{Mapping, allowed}
 use Rattle.rules.specs.Answers.{Comparison}
 use Rattle.rules.proofs.Walking.Allowed.{comparison-allowed}
 use Rattle.layout.specs.Reading.{storeIn}
-use Rattle.layout.specs.Soundness.{soundBuffer}
 use Rattle.equivalence.specs.MappingWords.{mappingOf}
 use Rattle.laws.specs.Lending.{AllowedAgain}
 
 pub allowed-again : AllowedAgain
 unfolding AllowedAgain
-allowed-again buffer sd types ig f l r before after h q a =
+allowed-again ok buffer types ig f l r before after h q a =
     subst (λ (m : Mapping). allowed (storeIn buffer) m ≡ true) (ap (λ (c : Comparison). c .mapping) (a .told))
-    (comparison-allowed (storeIn buffer) (soundBuffer buffer) types ig f l r (mappingOf before) h)
+    (comparison-allowed (storeIn buffer) ok types ig f l r (mappingOf before) h)

@@ -18,8 +18,8 @@ use Rattle.rules.specs.Statements.{RenamedSound, RenamedIn, RenamedPremise}
 use Rattle.rules.proofs.Types.Under.{renamed-sound, renamed-in, renamed-premise}
 use Rattle.rules.proofs.Laws.{laws-of-sound}
 use Rattle.layout.specs.Reading.{storeIn}
-use Rattle.layout.specs.Soundness.{soundBuffer}
-use Rattle.layout.proofs.Empty.{sound-facts}
+use Rattle.journal.specs.Words.{soundLent}
+use Rattle.marks.proofs.Lent.{lent-facts}
 use Rattle.building.specs.Calls.{AfterCalls}
 use Rattle.building.proofs.Answering.{after-calls}
 use Rattle.equivalence.specs.MappingWords.{mappingOf, emptyWords}
@@ -47,9 +47,9 @@ unfolding hashes.hashedOf
 hash-only (code.Hash v) w e = let k : v ≡ w = cc in ap code.Hash k
 hash-only (code.Refused c) w e = cc
 
-module _ (b : List ℕ) (sd : soundBuffer b ≡ true) (types : List ℕ) (th : typesHold types ≡ true) (ig : Ignore) (f : Sort) where
+module _ (b : List ℕ) (sd : soundLent b ≡ true) (types : List ℕ) (th : typesHold types ≡ true) (ig : Ignore) (f : Sort) where
   pub ruled : sound (storeIn b) ≡ true
-  ruled = sound-facts b sd .ruled
+  ruled = lent-facts b sd .tables .ruled
 
   -- the store as it is read
   abbrev read : Store

@@ -1,17 +1,18 @@
 -- Demand 3 of what the offered calls answer: "for every ignore rule and all fragments of one sort, equality is reflexive, symmetric and
--- transitive, and equal fragments have equal hashes, under 01's premise", on the buffer after every list of building calls, and under
--- every list of renamed types (order 3).
+-- transitive, and equal fragments have equal hashes, under 01's premise", on the buffer after every list of building calls, "that sets and
+-- returns to marks" (order 7) or does not, and under every list of renamed types (order 3).
 -- An answer is any that meets the offered call's contract; so the statement is about what the code gives, whenever it is called.
 use Prim.Native.Nat.{ℕ}
 use mathlib.Core.Bool.{true}
 use mathlib.Core.List.{List}
 use mathlib.Core.Path.{_≡_}
 use Rattle.rules.specs.Fragments.{Sort, Premise}
-use Rattle.rules.specs.Building.{Call}
 use Rattle.rules.specs.Shells.{Ignore}
 use Rattle.rules.specs.Types.{typesHold}
+use Rattle.rules.specs.Marks.{MarkedCall}
 use Rattle.rules.specs.Laws.{In}
 use Rattle.layout.specs.Reading.{storeIn}
+use Rattle.journal.specs.Words.{soundLent}
 use Rattle.building.specs.Calls.{Made, IsEmpty}
 use Rattle.equivalence.specs.MappingWords.{emptyWords}
 use Rattle.equivalence.specs.Calls as comparisons
@@ -23,11 +24,11 @@ use Rattle.hashing.specs.declared.types.Hashed.the-variants.{Hash}
 
 -- the offered comparison of a with b, lent this list of types and an empty mapping, answers q (`operation_eq`, `basic_block_eq`, `region_eq`)
 unfoldable pub Compares : List ℕ → List ℕ → Ignore → Sort → ℕ → ℕ → EqResult → Type 0
-Compares buffer types ig f a b q = (after : List ℕ) × comparisons.Answered buffer types emptyWords after ig f a b q
+Compares buffer types ig f a b q = (after : List ℕ) × comparisons.Answered (soundLent buffer) buffer types emptyWords after ig f a b q
 
 -- the offered hash of a, lent this list, answers h (`operation_hash`, `basic_block_hash`, `region_hash`)
 unfoldable pub Hashes : List ℕ → List ℕ → Ignore → Sort → ℕ → Hashed → Type 0
-Hashes buffer types ig f a h = hashes.Answered buffer types ig f a h
+Hashes buffer types ig f a h = hashes.Answered (soundLent buffer) buffer types ig f a h
 
 -- the answer is that the two are equal
 abbrev pub SaysEqual : EqResult → Type 0
@@ -49,9 +50,9 @@ pub record AnswersObey (buffer types : List ℕ) (ig : Ignore) (f : Sort) : Type
       → (q : EqResult) → Compares buffer types ig f a b q → SaysEqual q
       → (h k : Hashed) → Hashes buffer types ig f a h → Hashes buffer types ig f b k → (w : ℕ) × (h ≡ Hash w) × (k ≡ Hash w)
 
--- from every empty store, after every list of building calls made through the offered functions, whatever the arguments and refusals, and
--- under every list of types that is not refused; the empty one is such
+-- from every empty store, after every list of building calls, marks set and goings back made through the offered functions, whatever the
+-- arguments and refusals, and under every list of types that is not refused; the empty one is such
 unfoldable pub Demand3OfCode : Type 0
 Demand3OfCode =
-    (entry : List ℕ) → IsEmpty entry → (calls : List Call) (buffer : List ℕ) → Made entry calls buffer
+    (entry : List ℕ) → IsEmpty entry → (calls : List MarkedCall) (buffer : List ℕ) → Made entry calls buffer
     → (types : List ℕ) → typesHold types ≡ true → (ig : Ignore) (f : Sort) → AnswersObey buffer types ig f

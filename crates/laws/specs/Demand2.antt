@@ -18,7 +18,7 @@ use Rattle.rules.specs.Rust as rust
 use Rattle.rules.specs.Agreement.{metOneLonger}
 use Rattle.rules.specs.Laws.{In}
 use Rattle.layout.specs.Reading.{storeIn}
-use Rattle.layout.specs.Soundness.{soundBuffer}
+use Rattle.journal.specs.Words.{soundLent}
 use Rattle.equivalence.specs.MappingWords.{mappingOf}
 use Rattle.equivalence.specs.Walked.{answerOf}
 use Rattle.equivalence.specs.Calls as comparisons
@@ -40,12 +40,12 @@ pub record AnswersAgree (buffer types : List ℕ) (ig : Ignore) (f : Sort) : Typ
   -- a comparison of fragments that exist, from an allowed mapping: the rules' walk, with its mapping and `paired`
   pub compared :
       (l r : ℕ) → In (storeIn buffer) f l → In (storeIn buffer) f r → (before after : List ℕ) → allowed (storeIn buffer) (mappingOf before) ≡ true
-      → (q : EqResult) → comparisons.Answered buffer types before after ig f l r q
+      → (q : EqResult) → comparisons.Answered (soundLent buffer) buffer types before after ig f l r q
       → comparisonOf (compare (renamed types (storeIn buffer)) ig f l r (mappingOf before)) (mappingOf before) ≡ record { answer = answerOf q; mapping = mappingOf after }
   -- and the Rust's, where no list is met that is one longer on the left
   pub comparedAsTheRust :
       (l r : ℕ) → In (storeIn buffer) f l → In (storeIn buffer) f r → (before after : List ℕ) → allowed (storeIn buffer) (mappingOf before) ≡ true
-      → (q : EqResult) → comparisons.Answered buffer types before after ig f l r q
+      → (q : EqResult) → comparisons.Answered (soundLent buffer) buffer types before after ig f l r q
       → metOneLonger (compare (renamed types (storeIn buffer)) ig f l r (mappingOf before)) ≡ false
       → rust.rustEq (renamed types (storeIn buffer)) ig f l r (mappingOf before) ≡ rust.answers (verdictOf q) (mappingOf after)
   -- a hash of a fragment that exists: the rules', and the Rust's
@@ -54,5 +54,5 @@ pub record AnswersAgree (buffer types : List ℕ) (ig : Ignore) (f : Sort) : Typ
 
 unfoldable pub Demand2OfCode : Type 0
 Demand2OfCode =
-    (buffer : List ℕ) → soundBuffer buffer ≡ true → (types : List ℕ) → typesHold types ≡ true
+    (buffer : List ℕ) → soundLent buffer ≡ true → (types : List ℕ) → typesHold types ≡ true
     → (ig : Ignore) (f : Sort) → AnswersAgree buffer types ig f

@@ -10,12 +10,13 @@ use lib.IntN.{pos}
 use lib.ListN.{take}
 use Rattle.rules.specs.Lists.{all}
 use Rattle.rules.specs.Fragments.{Sort, Premise}
-use Rattle.rules.specs.Building.{Call}
 use Rattle.rules.specs.Shells.{Ignore}
 use Rattle.rules.specs.Types.{typesHold}
-use Rattle.rules.specs.Keys.{orderingNumber, compareBytes, fits, fieldsFit, callFits}
+use Rattle.rules.specs.Marks.{MarkedCall, markedCallFits}
+use Rattle.rules.specs.Keys.{orderingNumber, compareBytes, fits, fieldsFit}
 use Rattle.rules.specs.Laws.{In}
 use Rattle.layout.specs.Reading.{storeIn}
+use Rattle.journal.specs.Words.{soundLent}
 use Rattle.building.specs.Calls.{Made, IsEmpty}
 use Rattle.equivalence.specs.declared.types.EqResult.{EqResult}
 use Rattle.keys.specs.Calls as keys
@@ -29,7 +30,7 @@ pub record Writes (buffer types : List ℕ) (ig : Ignore) (f : Sort) (a : ℕ) (
   pub before : List ℕ
   pub after : List ℕ
   pub length : ℕ
-  pub answered : keys.Answered buffer types ig f a before after (Length length)
+  pub answered : keys.Answered (soundLent buffer) buffer types ig f a before after (Length length)
   pub begin : take length after ≡ key
 
 -- two such keys compare as r (`compare_keys`)
@@ -44,11 +45,11 @@ AnswersFile buffer types ig f =
     → (k l : List ℕ) → Writes buffer types ig f a k → Writes buffer types ig f b l → (r : Ordering) → Compare k l r
     → (orderingNumber (orderingOf r) ≡ pos 0) ↔ SaysEqual q
 
--- from every empty store, after every list of building calls made through the offered functions with arguments of 32 bits, refused ones
--- among them, under every list of types of 32 bits that is not refused: `filing-of-code`
+-- from every empty store, after every list of building calls, marks set and goings back made through the offered functions with arguments
+-- of 32 bits, refused ones among them, under every list of types of 32 bits that is not refused: `filing-of-code`
 unfoldable pub FilingOfCode : Type 0
 FilingOfCode =
-    (entry : List ℕ) → IsEmpty entry → (calls : List Call) → all callFits calls ≡ true → (buffer : List ℕ) → Made entry calls buffer
+    (entry : List ℕ) → IsEmpty entry → (calls : List MarkedCall) → all markedCallFits calls ≡ true → (buffer : List ℕ) → Made entry calls buffer
     → (types : List ℕ) → typesHold types ≡ true → all fits types ≡ true → (ig : Ignore) (f : Sort) → AnswersFile buffer types ig f
 
 -- the fields of a store that is read from words of 32 bits fit: `words-fit`

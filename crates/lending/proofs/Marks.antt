@@ -18,11 +18,10 @@ use Rattle.layout.specs.Soundness.{soundBuffer}
 use Rattle.layout.proofs.Scans.{same-tests}
 use Rattle.layout.proofs.Empty.{sound-facts}
 use Rattle.journal.specs.Journal.{replacedIn, journalSound}
-use Rattle.journal.specs.Statements.{BareSound}
 use Rattle.journal.specs.Words.{markCount, entryCount, entryAt, journalOf, rowAt, rowsOf, journaledOf, maxEntries, rowHolds, journalHolds, marksHoldIn, soundLent}
 use Rattle.journal.proofs.Rows.{facts}
-use Rattle.journal.proofs.Sound.{bare-sound}
 use Rattle.marks.specs.Raw.{firstEntries}
+use Rattle.marks.proofs.Bare.{bare-lent}
 use Rattle.marks.proofs.Holding.{Remembered, holds-facts, holds-of}
 use Rattle.lending.specs.Lending.{wordsHold, rowsHoldIn}
 use Rattle.lending.proofs.Reached.{journal-is}
@@ -101,36 +100,6 @@ module _ (C : Cols) (some : 0 < markCount C) where
   pub rows-tell : wordsHold C ≡ true → rowsHoldIn C ≡ marksHoldIn C
   rows-tell h = same-tests (rowsHoldIn C) (marksHoldIn C) (λ g. marks-of h g) (λ g. marks-rows g)
 
--- ---- without a mark
-
-module _ (C : Cols) (none : markCount C ≡ 0) where
-  none-there : eqb (markCount C) 0 ≡ true
-  none-there = eq-eqb (markCount C) 0 none
-
-  no-journal : journalOf C ≡ []
-  unfolding journalOf
-  no-journal = ap (λ (t : Bool). cond t [] (tabulate (entryCount C) (entryAt C))) none-there
-
-  no-rows : rowsOf C ≡ []
-  unfolding rowsOf tabulate tabulateFrom
-  no-rows = ap (λ (n : ℕ). tabulate n (rowAt C)) none
-
-  bare : journaledOf C ≡ record { store = storeOf C; journal = []; rows = [] }
-  unfolding journaledOf
-  bare = λ t. record { store = storeOf C; journal = no-journal t; rows = no-rows t }
-
-  passed-over : (t x : Bool) → t ≡ true → cond t true x ≡ true
-  passed-over true x e = refl
-  passed-over false x e = clash e refl
-
-  none-held : sound (storeOf C) ≡ true → marksHoldIn C ≡ true
-  unfolding marksHoldIn journalHolds BareSound
-  none-held h =
-      every-of _ (
-        le-leb (markCount C) maxMarks (omega (arith, none)),
-        (passed-over _ _ none-there, (ap journalSound bare ∙ bare-sound (storeOf C) h .0, tt)),
-      )
-
 -- ---- the buffer
 
 module _ (b : List ℕ) where
@@ -143,7 +112,7 @@ module _ (b : List ℕ) where
   lent-is e = ap (λ (t : Bool). t && marksHoldIn (columns b)) e
 
   pub lent-bare : soundBuffer b ≡ true → markCount (columns b) ≡ 0 → true ≡ soundLent b
-  lent-bare e none = sym (lent-is e ∙ none-held (columns b) none (sound-facts b e .ruled))
+  lent-bare e none = sym (bare-lent b (sound-facts b e) none)
 
 -- the whole written over as much
 pub copied-whole : (zs bs : List ℕ) → length bs ≡ length zs → pasted zs 0 bs ≡ bs

@@ -1,5 +1,5 @@
 // The calls on a store that is known to be sound, with an index of a list of renamed types, and with a mapping that is known to be allowed:
-// none of them is tested.
+// none of them is tested. Those that change a store ask for the tables of its marks to be sound too (`IsLent`), and leave them so.
 use crate::answers::Entries;
 use crate::answers::KeyAnswer;
 use crate::answers::Outcome;
@@ -42,7 +42,8 @@ ghost use Rattle.rules.specs.Keys;
 ghost use Rattle.layout.specs.Soundness.{IsSound};
 ghost use Rattle.renaming.specs.Index.{listIn, Indexes, indexLength};
 ghost use Rattle.fragments.specs.Options.{Readable};
-ghost use Rattle.calling.specs.Doing.{Did};
+ghost use Rattle.rules.specs.Marks.{build, setMark, goBack};
+ghost use Rattle.marks.specs.Doing.{IsLent, DidMarked};
 ghost use Rattle.equivalence.specs.Calls as comparing;
 ghost use Rattle.hashing.specs.Calls as hashing;
 ghost use Rattle.keys.specs.Calls as keys;
@@ -107,8 +108,8 @@ pub extern "C" fn wz_known_new_operation(
     operands: &[u32],
     successors: &[u32],
 ) -> Outcome
-    requires { ⌜ IsSound (now store) ⌝ }
-    ensures { λ r. ⌜ Did (now (store .entry)) (now (store .exit)) (newOperation (record {
+    requires { ⌜ IsLent (now store) ⌝ }
+    ensures { λ r. ⌜ DidMarked (now (store .entry)) (now (store .exit)) (build (newOperation (record {
       kind = kind;
       parent = parentFrom placed block;
       location = location;
@@ -116,7 +117,7 @@ pub extern "C" fn wz_known_new_operation(
       types = now (types .entry);
       operands = now (operands .entry);
       successors = now (successors .entry);
-    })) (outcomeMeans r) ⌝ }
+    }))) (outcomeMeans r) ⌝ }
 {
     let fields = OpFields {
         kind,
@@ -124,7 +125,7 @@ pub extern "C" fn wz_known_new_operation(
         location,
         regions,
     };
-    of_built(adding::operations::new_operation(store, fields, types, operands, successors))
+    of_built(remembering::adding_calls::new_operation(store, fields, types, operands, successors))
 }
 
 #[no_mangle]
@@ -135,15 +136,15 @@ pub extern "C" fn wz_known_new_block(
     location: u32,
     types: &[u32],
 ) -> Outcome
-    requires { ⌜ IsSound (now store) ⌝ }
-    ensures { λ r. ⌜ Did (now (store .entry)) (now (store .exit)) (newBlock (record {
+    requires { ⌜ IsLent (now store) ⌝ }
+    ensures { λ r. ⌜ DidMarked (now (store .entry)) (now (store .exit)) (build (newBlock (record {
       region = region;
       label = label;
       location = location;
       types = now (types .entry);
-    })) (outcomeMeans r) ⌝ }
+    }))) (outcomeMeans r) ⌝ }
 {
-    of_built(adding::blocks::new_block(store, region, label, location, types))
+    of_built(remembering::adding_calls::new_block(store, region, label, location, types))
 }
 
 #[no_mangle]
@@ -155,10 +156,10 @@ pub extern "C" fn wz_known_set_attribute(
     kind: u32,
     content: u32,
 ) -> Outcome
-    requires { ⌜ IsSound (now store) ⌝ }
-    ensures { λ r. ⌜ Did (now (store .entry)) (now (store .exit)) (setAttribute (ownerFrom blocks n) (attributeFrom key kind content)) (outcomeMeans r) ⌝ }
+    requires { ⌜ IsLent (now store) ⌝ }
+    ensures { λ r. ⌜ DidMarked (now (store .entry)) (now (store .exit)) (build (setAttribute (ownerFrom blocks n) (attributeFrom key kind content))) (outcomeMeans r) ⌝ }
 {
-    of_built(setting::attributes::set_attribute(
+    of_built(remembering::attributes::set_attribute(
         store,
         owner(blocks, n),
         Attribute { key, kind, content },
@@ -167,10 +168,26 @@ pub extern "C" fn wz_known_set_attribute(
 
 #[no_mangle]
 pub extern "C" fn wz_known_set_operand(store: &mut [u32], n: u32, i: u32, v: u32) -> Outcome
-    requires { ⌜ IsSound (now store) ⌝ }
-    ensures { λ r. ⌜ Did (now (store .entry)) (now (store .exit)) (setOperand (record { operation = n; index = i; value = v })) (outcomeMeans r) ⌝ }
+    requires { ⌜ IsLent (now store) ⌝ }
+    ensures { λ r. ⌜ DidMarked (now (store .entry)) (now (store .exit)) (build (setOperand (record { operation = n; index = i; value = v }))) (outcomeMeans r) ⌝ }
 {
-    of_built(setting::operands::set_operand(store, n, i, v))
+    of_built(remembering::operands::set_operand(store, n, i, v))
+}
+
+#[no_mangle]
+pub extern "C" fn wz_known_set_mark(store: &mut [u32], mark: u32) -> Outcome
+    requires { ⌜ IsLent (now store) ⌝ }
+    ensures { λ r. ⌜ DidMarked (now (store .entry)) (now (store .exit)) (setMark mark) (outcomeMeans r) ⌝ }
+{
+    of_built(marks::setting::set_mark(store, mark))
+}
+
+#[no_mangle]
+pub extern "C" fn wz_known_go_back(store: &mut [u32], mark: u32) -> Outcome
+    requires { ⌜ IsLent (now store) ⌝ }
+    ensures { λ r. ⌜ DidMarked (now (store .entry)) (now (store .exit)) (goBack mark) (outcomeMeans r) ⌝ }
+{
+    of_built(returning::going::go_back(store, mark))
 }
 
 #[no_mangle]
@@ -185,7 +202,7 @@ pub extern "C" fn wz_known_operation_eq(
 ) -> Verdict
     requires { ⌜ Readable (now store) (now types) ⌝ }
     requires { ⌜ allowed (storeIn (now store)) (mappingOf (now mapping)) ≡ true ⌝ }
-    ensures { λ r. ⌜ comparing.Answered (now (store .entry)) (listIn (now (types .entry))) (now (mapping .entry)) (now (mapping .exit)) (ignoring locations bits) op lhs rhs (verdictMeans r) ⌝ }
+    ensures { λ r. ⌜ comparing.Answered true (now (store .entry)) (listIn (now (types .entry))) (now (mapping .entry)) (now (mapping .exit)) (ignoring locations bits) op lhs rhs (verdictMeans r) ⌝ }
 {
     of_verdict(operations_eq(store, types, mapping, lhs, rhs, Ignore { locations, bits }))
 }
@@ -199,7 +216,7 @@ pub extern "C" fn wz_known_operation_hash(
     bits: u64,
 ) -> Sum
     requires { ⌜ Readable (now store) (now types) ⌝ }
-    ensures { λ r. ⌜ hashing.Answered (now (store .entry)) (listIn (now (types .entry))) (ignoring locations bits) op n (sumMeans r) ⌝ }
+    ensures { λ r. ⌜ hashing.Answered true (now (store .entry)) (listIn (now (types .entry))) (ignoring locations bits) op n (sumMeans r) ⌝ }
 {
     of_hash(fragment_hash(store, types, Sort::Op, n, Ignore { locations, bits }))
 }
@@ -216,7 +233,7 @@ pub extern "C" fn wz_known_basic_block_eq(
 ) -> Verdict
     requires { ⌜ Readable (now store) (now types) ⌝ }
     requires { ⌜ allowed (storeIn (now store)) (mappingOf (now mapping)) ≡ true ⌝ }
-    ensures { λ r. ⌜ comparing.Answered (now (store .entry)) (listIn (now (types .entry))) (now (mapping .entry)) (now (mapping .exit)) (ignoring locations bits) Rattle.rules.specs.Fragments.block lhs rhs (verdictMeans r) ⌝ }
+    ensures { λ r. ⌜ comparing.Answered true (now (store .entry)) (listIn (now (types .entry))) (now (mapping .entry)) (now (mapping .exit)) (ignoring locations bits) Rattle.rules.specs.Fragments.block lhs rhs (verdictMeans r) ⌝ }
 {
     of_verdict(fragments_eq(
         store,
@@ -240,7 +257,7 @@ pub extern "C" fn wz_known_basic_block_hash(
     bits: u64,
 ) -> Sum
     requires { ⌜ Readable (now store) (now types) ⌝ }
-    ensures { λ r. ⌜ hashing.Answered (now (store .entry)) (listIn (now (types .entry))) (ignoring locations bits) Rattle.rules.specs.Fragments.block n (sumMeans r) ⌝ }
+    ensures { λ r. ⌜ hashing.Answered true (now (store .entry)) (listIn (now (types .entry))) (ignoring locations bits) Rattle.rules.specs.Fragments.block n (sumMeans r) ⌝ }
 {
     of_hash(fragment_hash(store, types, Sort::Block, n, Ignore { locations, bits }))
 }
@@ -257,7 +274,7 @@ pub extern "C" fn wz_known_region_eq(
 ) -> Verdict
     requires { ⌜ Readable (now store) (now types) ⌝ }
     requires { ⌜ allowed (storeIn (now store)) (mappingOf (now mapping)) ≡ true ⌝ }
-    ensures { λ r. ⌜ comparing.Answered (now (store .entry)) (listIn (now (types .entry))) (now (mapping .entry)) (now (mapping .exit)) (ignoring locations bits) Rattle.rules.specs.Fragments.region lhs rhs (verdictMeans r) ⌝ }
+    ensures { λ r. ⌜ comparing.Answered true (now (store .entry)) (listIn (now (types .entry))) (now (mapping .entry)) (now (mapping .exit)) (ignoring locations bits) Rattle.rules.specs.Fragments.region lhs rhs (verdictMeans r) ⌝ }
 {
     of_verdict(fragments_eq(
         store,
@@ -281,7 +298,7 @@ pub extern "C" fn wz_known_region_hash(
     bits: u64,
 ) -> Sum
     requires { ⌜ Readable (now store) (now types) ⌝ }
-    ensures { λ r. ⌜ hashing.Answered (now (store .entry)) (listIn (now (types .entry))) (ignoring locations bits) Rattle.rules.specs.Fragments.region n (sumMeans r) ⌝ }
+    ensures { λ r. ⌜ hashing.Answered true (now (store .entry)) (listIn (now (types .entry))) (ignoring locations bits) Rattle.rules.specs.Fragments.region n (sumMeans r) ⌝ }
 {
     of_hash(fragment_hash(store, types, Sort::Region, n, Ignore { locations, bits }))
 }
@@ -296,7 +313,7 @@ pub extern "C" fn wz_known_operation_key(
     bits: u64,
 ) -> KeyAnswer
     requires { ⌜ Readable (now store) (now types) ⌝ }
-    ensures { λ r. ⌜ keys.Answered (now (store .entry)) (listIn (now (types .entry))) (ignoring locations bits) op n (now (key .entry)) (now (key .exit)) (keyAnswerMeans r) ⌝ }
+    ensures { λ r. ⌜ keys.Answered true (now (store .entry)) (listIn (now (types .entry))) (ignoring locations bits) op n (now (key .entry)) (now (key .exit)) (keyAnswerMeans r) ⌝ }
 {
     of_key(fragment_key(store, types, key, Sort::Op, n, Ignore { locations, bits }))
 }
@@ -333,7 +350,7 @@ pub extern "C" fn wz_known_basic_block_key(
     bits: u64,
 ) -> KeyAnswer
     requires { ⌜ Readable (now store) (now types) ⌝ }
-    ensures { λ r. ⌜ keys.Answered (now (store .entry)) (listIn (now (types .entry))) (ignoring locations bits) Rattle.rules.specs.Fragments.block n (now (key .entry)) (now (key .exit)) (keyAnswerMeans r) ⌝ }
+    ensures { λ r. ⌜ keys.Answered true (now (store .entry)) (listIn (now (types .entry))) (ignoring locations bits) Rattle.rules.specs.Fragments.block n (now (key .entry)) (now (key .exit)) (keyAnswerMeans r) ⌝ }
 {
     of_key(fragment_key(
         store,
@@ -377,7 +394,7 @@ pub extern "C" fn wz_known_region_key(
     bits: u64,
 ) -> KeyAnswer
     requires { ⌜ Readable (now store) (now types) ⌝ }
-    ensures { λ r. ⌜ keys.Answered (now (store .entry)) (listIn (now (types .entry))) (ignoring locations bits) Rattle.rules.specs.Fragments.region n (now (key .entry)) (now (key .exit)) (keyAnswerMeans r) ⌝ }
+    ensures { λ r. ⌜ keys.Answered true (now (store .entry)) (listIn (now (types .entry))) (ignoring locations bits) Rattle.rules.specs.Fragments.region n (now (key .entry)) (now (key .exit)) (keyAnswerMeans r) ⌝ }
 {
     of_key(fragment_key(
         store,
@@ -422,7 +439,7 @@ pub extern "C" fn wz_known_repeated_run(
     bits: u64,
 ) -> RunAnswer
     requires { ⌜ Readable (now store) (now types) ⌝ }
-    ensures { λ r. ⌜ finding.Answered (now (store .entry)) (listIn (now (types .entry))) (ignoring locations bits) block length (runMeans r) ⌝ }
+    ensures { λ r. ⌜ finding.Answered true (now (store .entry)) (listIn (now (types .entry))) (ignoring locations bits) block length (runMeans r) ⌝ }
 {
     of_run(block_runs(store, types, block, length, Ignore { locations, bits }))
 }

@@ -19,7 +19,8 @@ ghost use mathlib.Core.Path.{_≡_};
 ghost use Rattle.rules.specs.Building.{newOperation, newBlock, setAttribute, setOperand};
 ghost use Rattle.rules.specs.Fragments.{op};
 ghost use Rattle.rules.specs.Keys.{compareBytes, orderingNumber};
-ghost use Rattle.layout.specs.Soundness.{soundBuffer};
+ghost use Rattle.rules.specs.Marks.{build, setMark, goBack};
+ghost use Rattle.journal.specs.Words.{soundLent};
 ghost use Rattle.building.specs.Calls as building;
 ghost use Rattle.equivalence.specs.Calls as comparing;
 ghost use Rattle.hashing.specs.Calls as hashing;
@@ -29,9 +30,9 @@ ghost use Rattle.link.specs.Codes.{verdictMeans, sumMeans, keyAnswerMean
 
 #[no_mangle]
 pub extern "C" fn wz_is_sound(store: &[u32]) -> bool
-    ensures { λ r. ⌜ r ≡ soundBuffer (now (store .entry)) ⌝ }
+    ensures { λ r. ⌜ r ≡ soundLent (now (store .entry)) ⌝ }
 {
-    layout::sound::is_sound(store)
+    lending::lent::is_sound(store)
 }
 
 #[no_mangle]
@@ -46,7 +47,7 @@ pub extern "C" fn wz_new_operation(
     operands: &[u32],
     successors: &[u32],
 ) -> Outcome
-    ensures { λ r. ⌜ building.Answered (now (store .entry)) (now (store .exit)) (newOperation (record {
+    ensures { λ r. ⌜ building.Answered (now (store .entry)) (now (store .exit)) (build (newOperation (record {
       kind = kind;
       parent = parentFrom placed block;
       location = location;
@@ -54,7 +55,7 @@ pub extern "C" fn wz_new_operation(
       types = now (types .entry);
       operands = now (operands .entry);
       successors = now (successors .entry);
-    })) (outcomeMeans r) ⌝ }
+    }))) (outcomeMeans r) ⌝ }
 {
     of_built(building::calls::new_operation(
         store,
@@ -76,12 +77,12 @@ pub extern "C" fn wz_new_block(
     location: u32,
     types: &[u32],
 ) -> Outcome
-    ensures { λ r. ⌜ building.Answered (now (store .entry)) (now (store .exit)) (newBlock (record {
+    ensures { λ r. ⌜ building.Answered (now (store .entry)) (now (store .exit)) (build (newBlock (record {
       region = region;
       label = label;
       location = location;
       types = now (types .entry);
-    })) (outcomeMeans r) ⌝ }
+    }))) (outcomeMeans r) ⌝ }
 {
     of_built(building::calls::new_block(store, region, label, location, types))
 }
@@ -95,7 +96,7 @@ pub extern "C" fn wz_set_attribute(
     kind: u32,
     content: u32,
 ) -> Outcome
-    ensures { λ r. ⌜ building.Answered (now (store .entry)) (now (store .exit)) (setAttribute (ownerFrom blocks n) (attributeFrom key kind content)) (outcomeMeans r) ⌝ }
+    ensures { λ r. ⌜ building.Answered (now (store .entry)) (now (store .exit)) (build (setAttribute (ownerFrom blocks n) (attributeFrom key kind content))) (outcomeMeans r) ⌝ }
 {
     of_built(building::calls::set_attribute(
         store,
@@ -106,9 +107,23 @@ pub extern "C" fn wz_set_attribute(
 
 #[no_mangle]
 pub extern "C" fn wz_set_operand(store: &mut [u32], n: u32, i: u32, v: u32) -> Outcome
-    ensures { λ r. ⌜ building.Answered (now (store .entry)) (now (store .exit)) (setOperand (record { operation = n; index = i; value = v })) (outcomeMeans r) ⌝ }
+    ensures { λ r. ⌜ building.Answered (now (store .entry)) (now (store .exit)) (build (setOperand (record { operation = n; index = i; value = v }))) (outcomeMeans r) ⌝ }
 {
     of_built(building::calls::set_operand(store, n, i, v))
+}
+
+#[no_mangle]
+pub extern "C" fn wz_set_mark(store: &mut [u32], mark: u32) -> Outcome
+    ensures { λ r. ⌜ building.Answered (now (store .entry)) (now (store .exit)) (setMark mark) (outcomeMeans r) ⌝ }
+{
+    of_built(building::calls::set_mark(store, mark))
+}
+
+#[no_mangle]
+pub extern "C" fn wz_go_back(store: &mut [u32], mark: u32) -> Outcome
+    ensures { λ r. ⌜ building.Answered (now (store .entry)) (now (store .exit)) (goBack mark) (outcomeMeans r) ⌝ }
+{
+    of_built(building::calls::go_back(store, mark))
 }
 
 #[no_mangle]
@@ -121,7 +136,7 @@ pub extern "C" fn wz_operation_eq(
     locations: bool,
     bits: u64,
 ) -> Verdict
-    ensures { λ r. ⌜ comparing.Answered (now (store .entry)) (now (types .entry)) (now (mapping .entry)) (now (mapping .exit)) (ignoring locations bits) op lhs rhs (verdictMeans r) ⌝ }
+    ensures { λ r. ⌜ comparing.Answered (soundLent (now (store .entry))) (now (store .entry)) (now (types .entry)) (now (mapping .entry)) (now (mapping .exit)) (ignoring locations bits) op lhs rhs (verdictMeans r) ⌝ }
 {
     of_verdict(equivalence::calls::operation_eq(
         store,
@@ -141,7 +156,7 @@ pub extern "C" fn wz_operation_hash(
     locations: bool,
     bits: u64,
 ) -> Sum
-    ensures { λ r. ⌜ hashing.Answered (now (store .entry)) (now (types .entry)) (ignoring locations bits) op n (sumMeans r) ⌝ }
+    ensures { λ r. ⌜ hashing.Answered (soundLent (now (store .entry))) (now (store .entry)) (now (types .entry)) (ignoring locations bits) op n (sumMeans r) ⌝ }
 {
     of_hash(hashing::calls::operation_hash(store, types, n, Ignore { locations, bits }))
 }
@@ -156,7 +171,7 @@ pub extern "C" fn wz_basic_block_eq(
     locations: bool,
     bits: u64,
 ) -> Verdict
-    ensures { λ r. ⌜ comparing.Answered (now (store .entry)) (now (types .entry)) (now (mapping .entry)) (now (mapping .exit)) (ignoring locations bits) Rattle.rules.specs.Fragments.block lhs rhs (verdictMeans r) ⌝ }
+    ensures { λ r. ⌜ comparing.Answered (soundLent (now (store .entry))) (now (store .entry)) (now (types .entry)) (now (mapping .entry)) (now (mapping .exit)) (ignoring locations bits) Rattle.rules.specs.Fragments.block lhs rhs (verdictMeans r) ⌝ }
 {
     of_verdict(equivalence::calls::basic_block_eq(
         store,
@@ -176,7 +191,7 @@ pub extern "C" fn wz_basic_block_hash(
     locations: bool,
     bits: u64,
 ) -> Sum
-    ensures { λ r. ⌜ hashing.Answered (now (store .entry)) (now (types .entry)) (ignoring locations bits) Rattle.rules.specs.Fragments.block n (sumMeans r) ⌝ }
+    ensures { λ r. ⌜ hashing.Answered (soundLent (now (store .entry))) (now (store .entry)) (now (types .entry)) (ignoring locations bits) Rattle.rules.specs.Fragments.block n (sumMeans r) ⌝ }
 {
     of_hash(hashing::calls::basic_block_hash(store, types, n, Ignore { locations, bits }))
 }
@@ -191,7 +206,7 @@ pub extern "C" fn wz_region_eq(
     locations: bool,
     bits: u64,
 ) -> Verdict
-    ensures { λ r. ⌜ comparing.Answered (now (store .entry)) (now (types .entry)) (now (mapping .entry)) (now (mapping .exit)) (ignoring locations bits) Rattle.rules.specs.Fragments.region lhs rhs (verdictMeans r) ⌝ }
+    ensures { λ r. ⌜ comparing.Answered (soundLent (now (store .entry))) (now (store .entry)) (now (types .entry)) (now (mapping .entry)) (now (mapping .exit)) (ignoring locations bits) Rattle.rules.specs.Fragments.region lhs rhs (verdictMeans r) ⌝ }
 {
     of_verdict(equivalence::calls::region_eq(
         store,
@@ -211,7 +226,7 @@ pub extern "C" fn wz_region_hash(
     locations: bool,
     bits: u64,
 ) -> Sum
-    ensures { λ r. ⌜ hashing.Answered (now (store .entry)) (now (types .entry)) (ignoring locations bits) Rattle.rules.specs.Fragments.region n (sumMeans r) ⌝ }
+    ensures { λ r. ⌜ hashing.Answered (soundLent (now (store .entry))) (now (store .entry)) (now (types .entry)) (ignoring locations bits) Rattle.rules.specs.Fragments.region n (sumMeans r) ⌝ }
 {
     of_hash(hashing::calls::region_hash(store, types, n, Ignore { locations, bits }))
 }
@@ -225,7 +240,7 @@ pub extern "C" fn wz_operation_key(
     locations: bool,
     bits: u64,
 ) -> KeyAnswer
-    ensures { λ r. ⌜ keys.Answered (now (store .entry)) (now (types .entry)) (ignoring locations bits) op n (now (key .entry)) (now (key .exit)) (keyAnswerMeans r) ⌝ }
+    ensures { λ r. ⌜ keys.Answered (soundLent (now (store .entry))) (now (store .entry)) (now (types .entry)) (ignoring locations bits) op n (now (key .entry)) (now (key .exit)) (keyAnswerMeans r) ⌝ }
 {
     of_key(keys::calls::operation_key(store, types, key, n, Ignore { locations, bits }))
 }
@@ -239,7 +254,7 @@ pub extern "C" fn wz_basic_block_key(
     locations: bool,
     bits: u64,
 ) -> KeyAnswer
-    ensures { λ r. ⌜ keys.Answered (now (store .entry)) (now (types .entry)) (ignoring locations bits) Rattle.rules.specs.Fragments.block n (now (key .entry)) (now (key .exit)) (keyAnswerMeans r) ⌝ }
+    ensures { λ r. ⌜ keys.Answered (soundLent (now (store .entry))) (now (store .entry)) (now (types .entry)) (ignoring locations bits) Rattle.rules.specs.Fragments.block n (now (key .entry)) (now (key .exit)) (keyAnswerMeans r) ⌝ }
 {
     of_key(keys::calls::basic_block_key(store, types, key, n, Ignore { locations, bits }))
 }
@@ -253,7 +268,7 @@ pub extern "C" fn wz_region_key(
     locations: bool,
     bits: u64,
 ) -> KeyAnswer
-    ensures { λ r. ⌜ keys.Answered (now (store .entry)) (now (types .entry)) (ignoring locations bits) Rattle.rules.specs.Fragments.region n (now (key .entry)) (now (key .exit)) (keyAnswerMeans r) ⌝ }
+    ensures { λ r. ⌜ keys.Answered (soundLent (now (store .entry))) (now (store .entry)) (now (types .entry)) (ignoring locations bits) Rattle.rules.specs.Fragments.region n (now (key .entry)) (now (key .exit)) (keyAnswerMeans r) ⌝ }
 {
     of_key(keys::calls::region_key(store, types, key, n, Ignore { locations, bits }))
 }
@@ -268,7 +283,7 @@ pub extern "C" fn wz_repeated_run(
     locations: bool,
     bits: u64,
 ) -> RunAnswer
-    ensures { λ r. ⌜ finding.Answered (now (store .entry)) (now (types .entry)) (ignoring locations bits) block length (runMeans r) ⌝ }
+    ensures { λ r. ⌜ finding.Answered (soundLent (now (store .entry))) (now (store .entry)) (now (types .entry)) (ignoring locations bits) block length (runMeans r) ⌝ }
 {
     of_run(runs::calls::repeated_run(store, types, block, length, Ignore { locations, bits }))
 }

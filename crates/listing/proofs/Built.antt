@@ -12,6 +12,7 @@ use Rattle.layout.specs.Causes.{causeOf}
 use Rattle.layout.specs.Soundness.{IsSound}
 use Rattle.layout.specs.declared.causes.Cause.{Cause}
 use Rattle.layout.specs.declared.causes.Cause.the-variants.{Is}
+use Rattle.journal.specs.Words.{markCount}
 use Rattle.calling.specs.Types.{builtOf}
 use Rattle.calling.specs.Doing.{Did}
 use Rattle.calling.specs.declared.types.Built as code
@@ -24,6 +25,7 @@ unread entry line e h =
     record {
       does = λ p t. sym (ap (lineDoes p (record { store = storeIn entry; tally = t })) e);
       sound = h;
+      marks = refl;
       unchanged = λ cause q. refl;
     }
 
@@ -42,7 +44,7 @@ refused-is (refused k) cause h = ap refused (Option·some-injective _ _ h)
 -- a line that means a call
 module _ (entry exit : List ℕ) (c : Call) (b : code.Built) (r : Cause) (did : Did entry exit c b) (cause : causeOf r ≡ refusalIn (builtOf b)) where
   pub line-built : (line : Option Line) → some (building c) ≡ line → LineDid entry exit line r
-  unfolding lineDoes causeOf
+  unfolding lineDoes causeOf markCount
   line-built line e =
       record {
         does = λ p t.
@@ -51,6 +53,7 @@ module _ (entry exit : List ℕ) (c : Call) (b : code.Built) (r : Cause) (did : 
             ∙ outcome (builtOf b) (storeIn entry) (storeIn exit) t
             ∙ ap (ledTo (record { store = storeIn exit; tally = t })) (sym cause);
         sound = did .sound;
+        marks = did .behind .marks;
         unchanged = λ k q. did .unchanged k (refused-is (builtOf b) k (sym cause ∙ ap causeOf q));
       }
 

@@ -14,7 +14,9 @@ use Rattle.layout.specs.Reading.{storeIn}
 use Rattle.layout.specs.Soundness.{IsSound}
 use Rattle.layout.proofs.Laid.{laid-of}
 use Rattle.layout.proofs.Empty.{empty-reads, empty-laid}
+use Rattle.journal.specs.Words.{markCount}
 use Rattle.equivalence.specs.MappingWords.{mappingLength, emptyWords}
+use Rattle.listing.specs.Stepping.{Bare}
 
 -- ---- the store
 
@@ -29,13 +31,17 @@ module _ (b after : List ℕ) (long : length after ≡ bufferLength) (e : column
   pub store-empty : storeIn after ≡ emptyStore
   store-empty = empty-reads (columns after) no-counts
 
-  pub store-sound : IsSound after
+  store-sound : IsSound after
   store-sound =
       record {
         sized = long;
         laid = laid-of (columns after) (empty-laid (columns after) no-counts);
         ruled = subst (λ (s : Store). sound s ≡ true) (sym store-empty) empty-sound;
       }
+
+  pub store-bare : Bare after
+  unfolding markCount
+  store-bare = record { sound = store-sound; unmarked = no-counts 7 (omega arith) }
 
 -- ---- the mapping
 

@@ -8,8 +8,6 @@ use mathlib.Core.Path.{_≡_, refl, subst, _∙_}
 use Rattle.rules.specs.Answers.{hashed}
 use Rattle.rules.specs.Listings.{hashesLine, lineDoes, sumsAnswer, sumsProgram}
 use Rattle.layout.specs.Reading.{storeIn}
-use Rattle.layout.specs.Soundness.{IsSound}
-use Rattle.layout.proofs.Empty.{sound-of}
 use Rattle.fragments.specs.Sorts.{sortOf}
 use Rattle.fragments.specs.Ignoring.{ignoreOf}
 use Rattle.hashing.specs.Calls.{hashedOf, Answered}
@@ -26,17 +24,11 @@ use Rattle.listing.specs.Progress.{progressOf}
 use Rattle.listing.specs.Asking.{outcomeOf, Goes, Stepped}
 use Rattle.lines.proofs.Joined.{within}
 
--- a hash of a fragment of a query, of a sound store
-hash-told : (b : List ℕ) (q : Query) (n : ℕ) (h : Hashed) → IsSound b → Answered b [] (ignoreOf (q .ignore)) (sortOf (q .sort)) n h
-    → hashed true (storeIn b) [] (ignoreOf (q .ignore)) (sortOf (q .sort)) n ≡ hashedOf h
-hash-told b q n h sound a =
-    subst (λ (t : Bool). hashed t (storeIn b) [] (ignoreOf (q .ignore)) (sortOf (q .sort)) n ≡ hashedOf h) (sound-of b sound) (a .told)
-
-module _ (b : List ℕ) (now : Progress) (q : Query) (left right : Hashed) (sound : IsSound b)
-    (l : Answered b [] (ignoreOf (q .ignore)) (sortOf (q .sort)) (q .left) left) (r : Answered b [] (ignoreOf (q .ignore)) (sortOf (q .sort)) (q .right) right) where
+module _ (b : List ℕ) (now : Progress) (q : Query) (left right : Hashed)
+    (l : Answered true b [] (ignoreOf (q .ignore)) (sortOf (q .sort)) (q .left) left) (r : Answered true b [] (ignoreOf (q .ignore)) (sortOf (q .sort)) (q .right) right) where
   sums-asks : lineDoes sumsProgram (progressOf b now) (some (queryOf q)) ≡ sumsAnswer (hashedOf left) (hashedOf right) (progressOf b now)
   unfolding lineDoes sumsProgram progressOf queryOf
-  sums-asks = rw (hash-told b q (q .left) left sound l, hash-told b q (q .right) right sound r) refl
+  sums-asks = rw (l .told, r .told) refl
 
   module _ (out : List ℕ) where
     pub left-stops : (cause : ℕ) → left ≡ Refused cause → Stepped (lineDoes sumsProgram (progressOf b now) (some (queryOf q))) b out out now (Stopped cause)

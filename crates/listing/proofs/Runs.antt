@@ -3,18 +3,21 @@
 use Prim.Native.Nat.{ℕ, suc, _+_, _-_, _*_, _<_, _≤_}
 use native.Mathlib.Numerals.{add-one}
 use native.Mathlib.Omega.{arith}
+use mathlib.Core.Bool.{true}
 use mathlib.Core.List.{List, [], _∷_, _++_, append-assoc}
 use mathlib.Core.Path.{_≡_, refl, sym, ap, subst, _∙_}
 use lib.ListN.{length, drop, length-drop}
 use lib.Seq.{drop-length}
 use Rattle.rules.specs.Store.{Store, emptyStore}
+use Rattle.rules.specs.Marks.{unmarked}
 use Rattle.rules.specs.Bytes.{lineFeed, Pieces, cutAt}
 use Rattle.rules.specs.Listings as rules
 use Rattle.rules.specs.Listings.{LineOutcome, prints, stops, refusal, does, proceed, atEnd, run, atStart, keeps, leaves, noTally, twinsProgram, sumsProgram, maxListing, maxOutput}
 use Rattle.rules.proofs.Listings.Short.{Within, Terse, does-within, twins-terse, sums-terse}
 use Rattle.layout.specs.Reading.{slice, storeIn}
-use Rattle.layout.specs.Soundness.{IsSound}
 use Rattle.layout.proofs.Scans.{slice-length}
+use Rattle.journal.specs.Words.{markedIn, soundLent}
+use Rattle.marks.proofs.Bare.{bare-lent, bare-reads}
 use Rattle.equivalence.specs.MappingWords.{emptyWords}
 use Rattle.lines.specs.Pieces.{piecesFrom, PieceEnd}
 use Rattle.lines.specs.Wrote.{Wrote}
@@ -28,7 +31,7 @@ use Rattle.listing.specs.declared.types.LineResult.the-variants.{On, Sto
 use Rattle.listing.specs.Tally.{tallyOf, mostOps, TallyFits, Further}
 use Rattle.listing.specs.Progress.{programOf, progressOf}
 use Rattle.listing.specs.Asking.{stepRoom, outcomeOf, Goes}
-use Rattle.listing.specs.Stepping.{secondLine, closes, LineDoes, Ran}
+use Rattle.listing.specs.Stepping.{secondLine, closes, Bare, LineDoes, Ran}
 
 -- the rules print at most so many bytes for each byte of a line, its line feed included
 abbrev perByte : ℕ
@@ -137,7 +140,7 @@ as-known {p} {line} {store} {store′} {out} {out′} {now} e d = subst (LineDoe
 
 module _ (p : Program) (listing : List ℕ) (from : ℕ) (before : List ℕ) where
   pub record Running (store mapping out : List ℕ) (now : Progress) (n start : ℕ) : Type 0 where
-    pub sound : IsSound store
+    pub bare : Bare store
     pub empty : mapping ≡ emptyWords
     pub bytes : List ℕ
     pub wrote : Wrote (perByte * start) before out 0 bytes (now .at)
@@ -150,11 +153,11 @@ module _ (p : Program) (listing : List ℕ) (from : ℕ) (before : List ℕ) whe
     pub lines : n ≤ start
 
 module _ {p : Program} {listing : List ℕ} {from : ℕ} {before : List ℕ} (roomy : maxOutput ≤ length before) (short : length listing ≤ maxListing) where
-  pub running-starts : (store mapping : List ℕ) → IsSound store → storeIn store ≡ emptyStore → mapping ≡ emptyWords → secondLine ≤ from → from ≤ length listing → Running p listing from before store mapping before (record { at = 0; tally = record { equal = 0; all = 0 } }) 2 from
+  pub running-starts : (store mapping : List ℕ) → Bare store → storeIn store ≡ emptyStore → mapping ≡ emptyWords → secondLine ≤ from → from ≤ length listing → Running p listing from before store mapping before (record { at = 0; tally = record { equal = 0; all = 0 } }) 2 from
   unfolding progressOf tallyOf atStart noTally
-  running-starts store mapping sound reads e long h =
+  running-starts store mapping bare reads e long h =
       record {
-        sound = sound;
+        bare = bare;
         empty = e;
         bytes = [];
         wrote = nothing (perByte * from) before 0;
@@ -196,8 +199,8 @@ module _ {p : Program} {listing : List ℕ} {from : ℕ} {before : List ℕ} (ro
     ran last most store′ after r s m w e f mapping′ q =
         record {
           wrote = finished last most after r m w e;
-          left = ap storeIn s ∙ sym (inv .store-left ∙ f);
-          sound = subst IsSound (sym s) (inv .sound);
+          left = ap markedIn s ∙ bare-reads store (inv .bare .sound) (inv .bare .unmarked) ∙ ap unmarked (sym (inv .store-left ∙ f));
+          sound = subst (λ (b : List ℕ). soundLent b ≡ true) (sym s) (bare-lent store (inv .bare .sound) (inv .bare .unmarked));
           empty = q;
         }
 
@@ -270,7 +273,7 @@ module _ {p : Program} {listing : List ℕ} {from : ℕ} {before : List ℕ} (ro
               let t = inv .lines in
               let i = ended in
               record {
-                sound = did .sound;
+                bare = record { sound = did .sound; unmarked = did .marks ∙ inv .bare .unmarked };
                 empty = q;
                 bytes = inv .bytes ++ did .step .bytes;
                 wrote = within (then g h (omega arith)) (omega arith);

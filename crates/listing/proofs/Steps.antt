@@ -90,10 +90,10 @@ module _ (p : rules.Program) (now : rules.Progress) (line : List ℕ) where
 
 module _ (p : Program) (line store out : List ℕ) (now : Progress) (sound : IsSound store) where
   pub line-stopped : (k : ℕ) → does (programOf p) (progressOf store now) line ≡ stops k → LineDoes p line store store out out now (Stopped k)
-  line-stopped k e = record { step = stopped _ store out now k e; sound = sound; unchanged = λ cause q. refl }
+  line-stopped k e = record { step = stopped _ store out now k e; sound = sound; marks = refl; unchanged = λ cause q. refl }
 
   pub line-asked : (after : List ℕ) (r : LineResult) (o : LineOutcome) → does (programOf p) (progressOf store now) line ≡ o → Stepped o store out after now r → LineDoes p line store store out after now r
-  line-asked after r o e s = record { step = same-outcome e s; sound = sound; unchanged = λ cause q. refl }
+  line-asked after r o e s = record { step = same-outcome e s; sound = sound; marks = refl; unchanged = λ cause q. refl }
 
   module _ (exit : List ℕ) (meant : Option Line) (r : Cause) (e : does (programOf p) (progressOf store now) line ≡ lineDoes (programOf p) (progressOf store now) meant) (did : LineDid store exit meant r) where
     led : does (programOf p) (progressOf store now) line ≡ ledTo (progressOf exit now) (causeOf r)
@@ -106,6 +106,7 @@ module _ (p : Program) (line store out : List ℕ) (now : Progress) (sound : IsS
         record {
           step = stopped _ exit out now k (led ∙ ap (λ (x : Cause). ledTo (progressOf exit now) (causeOf x)) q);
           sound = did .sound;
+          marks = did .marks;
           unchanged = λ cause z. did .unchanged k q;
         }
 
@@ -120,5 +121,6 @@ module _ (p : Program) (line store out : List ℕ) (now : Progress) (sound : IsS
                 goes = (nothing stepRoom out (now .at), same-count (now .tally) h);
               };
           sound = did .sound;
+          marks = did .marks;
           unchanged = λ cause z. absurd (goes-on z);
         }

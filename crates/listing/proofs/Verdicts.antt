@@ -23,7 +23,6 @@ use Rattle.rules.proofs.Basics.Tests.{and-right}
 use Rattle.rules.proofs.Walking.Answered.{empty-allowed}
 use Rattle.layout.specs.Reading.{storeIn}
 use Rattle.layout.specs.Soundness.{IsSound}
-use Rattle.layout.proofs.Empty.{sound-of}
 use Rattle.fragments.specs.Sorts.{sortOf}
 use Rattle.fragments.specs.Ignoring.{ignoreOf}
 use Rattle.equivalence.specs.MappingWords.{mappingLength, mappingOf, emptyWords}
@@ -59,17 +58,17 @@ as-many m after e long = long ∙ ap length e ∙ empty-length
 
 -- ---- the comparison
 
-module _ (b m after left : List ℕ) (q : Query) (r : EqResult) (sound : IsSound b) (e : m ≡ emptyWords) where
-  answered : Answered b [] m after (ignoreOf (q .ignore)) (sortOf (q .sort)) (q .left) (q .right) r → answerOf r ≡ answerTo b q
+module _ (b m after left : List ℕ) (q : Query) (r : EqResult) (e : m ≡ emptyWords) where
+  answered : Answered true b [] m after (ignoreOf (q .ignore)) (sortOf (q .sort)) (q .left) (q .right) r → answerOf r ≡ answerTo b q
   unfolding answerTo
   answered h =
       let ig = ignoreOf (q .ignore) in
       let f = sortOf (q .sort) in
       sym
       (subst (λ (x : Mapping). comparison true (storeIn b) [] x ig f (q .left) (q .right) .answer ≡ answerOf r) (words-are m e)
-      (subst (λ (t : Bool). comparison t (storeIn b) [] (mappingOf m) ig f (q .left) (q .right) .answer ≡ answerOf r) (sound-of b sound) (ap (λ (c : Comparison). c .answer) (h .told))))
+      (ap (λ (c : Comparison). c .answer) (h .told)))
 
-  pub compares : Answered b [] m after (ignoreOf (q .ignore)) (sortOf (q .sort)) (q .left) (q .right) r
+  pub compares : Answered true b [] m after (ignoreOf (q .ignore)) (sortOf (q .sort)) (q .left) (q .right) r
       → left ≡ emptyWords → QueryCompared b left q r
   compares h w = record { same = answered h; empty = w }
 

@@ -10,6 +10,7 @@ use lib.Dec.{eqb}
 use lib.ListN.{length}
 use Rattle.rules.specs.Bytes.{lineFeed, cutAt}
 use Rattle.rules.specs.Building.{firstFailed}
+use Rattle.rules.specs.Marks.{unmarked}
 use Rattle.rules.specs.Listings as rules
 use Rattle.rules.specs.Listings.{refusal, run, atStart, leaves, listingCause, behindFirst, unless, storeAfter, maxOutput}
 use Rattle.layout.specs.Causes.{causeOf}
@@ -70,7 +71,7 @@ module _ (p : Program) (listing store mapping out store′ mapping′ out′ : L
         leaves =
             record {
               refused = λ cause q. absurd (Option·none-ne-some cause (sym accepted ∙ q));
-              reads = λ q. ran .left ∙ ap (leaves (programOf p) atStart) (sym (h .begun e .lines));
+              reads = λ q. ran .left ∙ ap (λ (ls : List (List ℕ)). unmarked (leaves (programOf p) atStart ls)) (sym (h .begun e .lines));
               sound = λ q. ran .sound;
               empty = λ q. ran .empty;
             };

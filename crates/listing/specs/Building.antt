@@ -8,11 +8,13 @@ use lib.Dec.{eqb}
 use Rattle.rules.specs.Building.{Built, made, accepted, refused}
 use Rattle.rules.specs.Lines.{Line, operationLine, blockLine, attributeLine, operandLine, wholly}
 use Rattle.rules.specs.Listings.{Progress, Program, Tally, LineOutcome, prints, stops, lineDoes}
+use Rattle.layout.specs.Columns.{columns}
 use Rattle.layout.specs.Reading.{storeIn}
 use Rattle.layout.specs.Causes.{causeOf}
 use Rattle.layout.specs.Soundness.{IsSound}
 use Rattle.layout.specs.declared.causes.Cause.{Cause}
 use Rattle.layout.specs.declared.causes.Cause.the-variants.{Is}
+use Rattle.journal.specs.Words.{markCount}
 
 -- why a call was refused, if it was
 unfoldable pub refusalIn : Built → Option ℕ
@@ -34,4 +36,5 @@ ledTo next (some cause) = stops cause
 pub record LineDid (entry exit : List ℕ) (line : Option Line) (r : Cause) : Type 0 where
   pub does : (p : Program) (t : Tally) → lineDoes p (record { store = storeIn entry; tally = t }) line ≡ ledTo (record { store = storeIn exit; tally = t }) (causeOf r)
   pub sound : IsSound exit
+  pub marks : markCount (columns exit) ≡ markCount (columns entry)
   pub unchanged : (cause : ℕ) → r ≡ Is cause → exit ≡ entry

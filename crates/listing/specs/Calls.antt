@@ -1,16 +1,16 @@
 -- What the two offered functions give for every listing and all lent buffers.
 use Prim.Native.Nat.{ℕ, _<_, _≤_}
-use mathlib.Core.Bool.{Bool}
+use mathlib.Core.Bool.{Bool, true}
 use mathlib.Core.Option.{none, some}
 use mathlib.Core.List.{List, [], _∷_}
 use mathlib.Core.Path.{_≡_}
 use lib.Dec.{eqb}
 use lib.ListN.{length}
 use Rattle.rules.specs.Building.{firstFailed}
+use Rattle.rules.specs.Marks.{unmarked}
 use Rattle.rules.specs.Listings.{Program, listingCause, listed, storeAfter, maxOutput}
-use Rattle.layout.specs.Reading.{storeIn}
 use Rattle.layout.specs.Columns.{bufferLength}
-use Rattle.layout.specs.Soundness.{IsSound}
+use Rattle.journal.specs.Words.{markedIn, soundLent}
 use Rattle.lines.specs.Wrote.{Wrote}
 use Rattle.equivalence.specs.MappingWords.{mappingLength, emptyWords}
 use Rattle.listing.specs.declared.types.Listed.{Listed}
@@ -27,11 +27,11 @@ unfoldable pub bufferTests : Buffers → List (Bool × ℕ)
 bufferTests b = (eqb (length (b .store)) bufferLength, 1) ∷ (eqb (length (b .mapping)) mappingLength, 8) ∷ []
 
 -- the store and the mapping afterwards: as they were where the first line is refused; else the store is what the lines have built, up
--- to a refused one, and the mapping is empty
+-- to a refused one, without marks, and the mapping is empty
 pub record LeavesBuffers (p : Program) (listing : List ℕ) (before after : Buffers) : Type 0 where
   pub refused : (cause : ℕ) → listingCause listing ≡ some cause → (after .store ≡ before .store) × (after .mapping ≡ before .mapping)
-  pub reads : listingCause listing ≡ none → storeIn (after .store) ≡ storeAfter p listing
-  pub sound : listingCause listing ≡ none → IsSound (after .store)
+  pub reads : listingCause listing ≡ none → markedIn (after .store) ≡ unmarked (storeAfter p listing)
+  pub sound : listingCause listing ≡ none → soundLent (after .store) ≡ true
   pub empty : listingCause listing ≡ none → after .mapping ≡ emptyWords
 
 -- exactly what the rules print is written, from the start of the lent bytes on, and n is how many bytes that are

@@ -1,15 +1,18 @@
 -- What a line does, and what the lines from one on do.
 use Prim.Native.Nat.{ℕ, _≤_}
+use mathlib.Core.Bool.{true}
 use mathlib.Core.List.{List, []}
 use mathlib.Core.Path.{_≡_}
 use lib.ListN.{length}
 use Rattle.rules.specs.Bytes.{lineFeed, cutAt}
 use Rattle.rules.specs.Listings.{does, run, atStart, leaves, shareLine, listingCause, behindFirst, maxListing, maxOutput}
-use Rattle.layout.specs.Reading.{storeIn}
+use Rattle.rules.specs.Marks.{unmarked}
+use Rattle.layout.specs.Columns.{columns}
 use Rattle.layout.specs.Causes.{causeOf}
 use Rattle.layout.specs.Soundness.{IsSound}
 use Rattle.layout.specs.declared.causes.Cause.{Cause}
 use Rattle.layout.specs.declared.causes.Cause.the-variants.{None}
+use Rattle.journal.specs.Words.{markCount, markedIn, soundLent}
 use Rattle.equivalence.specs.MappingWords.{emptyWords}
 use Rattle.lines.specs.Pieces.{piecesFrom}
 use Rattle.lines.specs.Wrote.{Wrote}
@@ -48,10 +51,16 @@ closes Sums now = []
 
 -- ---- one line
 
+-- what lines build on: a sound store without marks
+pub record Bare (store : List ℕ) : Type 0 where
+  pub sound : IsSound store
+  pub unmarked : markCount (columns store) ≡ 0
+
 -- what the code does for a line, as what the rules' program does
 pub record LineDoes (p : Program) (line store store′ out out′ : List ℕ) (now : Progress) (r : LineResult) : Type 0 where
   pub step : Stepped (does (programOf p) (progressOf store now) line) store′ out out′ now r
   pub sound : IsSound store′
+  pub marks : markCount (columns store′) ≡ markCount (columns store)
   pub unchanged : (cause : ℕ) → r ≡ Stopped cause → store′ ≡ store
 
 -- ---- the lines from a position on, at which the second line begins
@@ -59,6 +68,6 @@ pub record LineDoes (p : Program) (line store store′ out out′ : List ℕ) (n
 -- all that they print is written, and the store is what they leave
 pub record Ran (p : Program) (listing : List ℕ) (from : ℕ) (store mapping out out′ : List ℕ) (r : ℕ) : Type 0 where
   pub wrote : Wrote maxOutput out out′ 0 (run (programOf p) 2 atStart (piecesFrom lineFeed listing from .whole) (piecesFrom lineFeed listing from .rest)) r
-  pub left : storeIn store ≡ leaves (programOf p) atStart (piecesFrom lineFeed listing from .whole)
-  pub sound : IsSound store
+  pub left : markedIn store ≡ unmarked (leaves (programOf p) atStart (piecesFrom lineFeed listing from .whole))
+  pub sound : soundLent store ≡ true
   pub empty : mapping ≡ emptyWords

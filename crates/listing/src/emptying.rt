@@ -9,13 +9,13 @@ ghost use lib.ListN.{length};
 ghost use Rattle.rules.specs.Store.{emptyStore};
 ghost use Rattle.layout.specs.Columns.{bufferLength};
 ghost use Rattle.layout.specs.Reading.{storeIn};
-ghost use Rattle.layout.specs.Soundness.{IsSound};
 ghost use Rattle.equivalence.specs.MappingWords.{mappingLength, emptyWords};
+ghost use Rattle.listing.specs.Stepping.{Bare};
 
-// A store is empty when its counts are 0: no other word is read then, and so they stay as they are.
+// A store is empty when its counts are 0, the number of set marks among them: no other word is read then, and so they stay as they are.
 pub fn empty_store(store: &mut [u32])
     requires { ⌜ length (now store) ≡ bufferLength ⌝ }
-    ensures { λ _. ⌜ IsSound (now (store .exit)) ⌝ }
+    ensures { λ _. ⌜ Bare (now (store .exit)) ⌝ }
     ensures { λ _. ⌜ storeIn (now (store .exit)) ≡ emptyStore ⌝ }
 {
     put_same(store, COUNTS, 0, 8, 0);

@@ -29,7 +29,7 @@ ghost use Rattle.equivalence.specs.MappingWords.{mappingLength, emptyWords};
 ghost use Rattle.listing.specs.Tally.{TallyFits};
 ghost use Rattle.listing.specs.Progress.{programOf};
 ghost use Rattle.listing.specs.Asking.{stepRoom};
-ghost use Rattle.listing.specs.Stepping.{secondLine, LineDoes, Ran};
+ghost use Rattle.listing.specs.Stepping.{secondLine, Bare, LineDoes, Ran};
 ghost use Rattle.listing.specs.Calls.{PrintsListing, buffers};
 
 // One line: its length, its letter, and then what it does.
@@ -73,7 +73,7 @@ fn run(
     out: &mut [u8],
     from: usize,
 ) -> usize
-    requires { ⌜ IsSound (now store) ⌝ }
+    requires { ⌜ Bare (now store) ⌝ }
     requires { ⌜ storeIn (now store) ≡ emptyStore ⌝ }
     requires { ⌜ now mapping ≡ emptyWords ⌝ }
     requires { ⌜ secondLine ≤ from ⌝ }

@@ -1,6 +1,7 @@
 -- The calls on marks: what they write, and what it is read as.
 pub mod Lent
 pub mod Doing
+pub mod Bare
 pub mod Copies
 pub mod Sought
 pub mod Gone

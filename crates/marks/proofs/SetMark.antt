@@ -76,7 +76,7 @@ unfolding isMark
 is-mark k l h = and-both _ _ (le-leb 1 k l) (le-leb k maxMarks h)
 
 module _ (b : List ℕ) (k : ℕ) where
-  refused-as : isMark k ≡ false → firstFailed (markedTests (markedIn b) (setMark k)) ≡ some 16
+  pub refused-as : isMark k ≡ false → firstFailed (markedTests (markedIn b) (setMark k)) ≡ some 16
   unfolding markedTests
   refused-as e = fails (isMark k) 16 [] e
 
@@ -181,7 +181,7 @@ module _ (b : List ℕ) (h : Lent b) (k : ℕ) (named : isMark k ≡ true) where
   abbrev n : ℕ
   n = at E markPlace 0
 
-  freed-so : Stands B (withMark B k) (map (fullBack n) fulls) (drop n remembered)
+  pub freed-so : Stands B (withMark B k) (map (fullBack n) fulls) (drop n remembered)
   unfolding withMark
   freed-so = words-freed B E fulls remembered added-so added-free
 

@@ -21,6 +21,7 @@ use Rattle.journal.specs.Journal.{Entry, entriesFor, replacedIn, rememberedIn}
 use Rattle.journal.specs.Words.{entryFrom, entryAt, markCount, entryCount, journalOf, rowAt, rowsOf, markedIn}
 use Rattle.marks.specs.Doing.{IsLent, DidMarked}
 use Rattle.marks.proofs.Lent.{lent-facts}
+use Rattle.marks.proofs.Bare.{no-journal}
 use Rattle.remembering.specs.Raw.{replacedCount}
 use Rattle.remembering.proofs.Lent.{held-counted}
 use Rattle.remembering.proofs.Kept.{Kept}
@@ -94,16 +95,12 @@ module _ (b : List ℕ) (h : IsLent b) (exit : List ℕ) (c : Call) (r : Built) 
           r
           (did .answered ∙ ap (λ (o : Option ℕ). answerBy o s c) e)
 
-  no-journal : markCount C ≡ 0 → journalOf C ≡ []
-  unfolding journalOf
-  no-journal e = ap (λ (n : ℕ). cond (eqb n 0) [] (tabulate (entryCount C) (entryAt C))) e
-
   pub unmarked-call : markCount C ≡ 0 → DidMarked b exit (build c) r
   unfolding rowsOf tabulate tabulateFrom rememberedIn replacedIn filter
   unmarked-call e =
       none-remembered
-      (can-remember b h c ∙ or-right (not (replaces s c)) _ (ap (λ (es : List Entry). ltb (replacedIn es) maxRemembered) (no-journal e)))
-      (ap (λ (n : ℕ). rememberedIn (tabulate n (rowAt C)) (journalOf C) (entriesFor s c)) e ∙ sym (no-journal e))
+      (can-remember b h c ∙ or-right (not (replaces s c)) _ (ap (λ (es : List Entry). ltb (replacedIn es) maxRemembered) (no-journal C e)))
+      (ap (λ (n : ℕ). rememberedIn (tabulate n (rowAt C)) (journalOf C) (entriesFor s c)) e ∙ sym (no-journal C e))
 
   pub adding-call : replaces s c ≡ false → entriesFor s c ≡ [] → DidMarked b exit (build c) r
   unfolding rowsOf

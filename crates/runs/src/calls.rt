@@ -3,17 +3,19 @@
 use crate::finding::block_runs;
 use crate::types::Repeated;
 use fragments::ignoring::Ignore;
-use layout::sound::is_sound;
+use lending::lent::is_sound;
 use renaming::indexing::INDEX_LENGTH;
 use renaming::indexing::index_types;
 ghost use Rattle.layout.specs.Soundness.{IsSound};
+ghost use mathlib.Core.Bool.{true};
+ghost use Rattle.journal.specs.Words.{soundLent};
 ghost use Rattle.fragments.specs.Ignoring.{ignoreOf};
 ghost use Rattle.runs.specs.Calls.{Answered};
 
 // Search a block of a sound store, with the list of types tested and indexed first.
 fn indexed_runs(store: &[u32], types: &[u32], block: u32, length: u32, ignore: Ignore) -> Repeated
     requires { ⌜ IsSound (now store) ⌝ }
-    ensures { λ q. ⌜ Answered (now (store .entry)) (now (types .entry)) (ignoreOf ignore) block length q ⌝ }
+    ensures { λ q. ⌜ Answered true (now (store .entry)) (now (types .entry)) (ignoreOf ignore) block length q ⌝ }
 {
     let mut index = [0; INDEX_LENGTH];
     let words = index_types(types, &mut index);
@@ -32,7 +34,7 @@ pub fn repeated_run(
     length: u32,
     ignore: Ignore,
 ) -> Repeated
-    ensures { λ q. ⌜ Answered (now (store .entry)) (now (types .entry)) (ignoreOf ignore) block length q ⌝ }
+    ensures { λ q. ⌜ Answered (soundLent (now (store .entry))) (now (store .entry)) (now (types .entry)) (ignoreOf ignore) block length q ⌝ }
 {
     if !is_sound(store) {
         return Repeated::Refused(1);

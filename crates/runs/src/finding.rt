@@ -12,6 +12,7 @@ use windows::chains::chain_starts;
 use windows::listing::BLOCK_OPS;
 use windows::listing::ops_in;
 use windows::sums::window_sums;
+ghost use mathlib.Core.Bool.{true};
 ghost use Prim.Native.Nat.{_<_, _≤_};
 ghost use lib.ListN.{length};
 ghost use Rattle.rules.specs.Runs.{maxRun};
@@ -62,7 +63,7 @@ fn found_in(store: &[u32], types: &[u32], runs: Runs) -> Repeated
 // The first two equal runs of `length` operations of a block that do not overlap.
 pub fn block_runs(store: &[u32], types: &[u32], block: u32, length: u32, ignore: Ignore) -> Repeated
     requires { ⌜ Readable (now store) (now types) ⌝ }
-    ensures { λ q. ⌜ Answered (now (store .entry)) (listIn (now (types .entry))) (ignoreOf ignore) block length q ⌝ }
+    ensures { λ q. ⌜ Answered true (now (store .entry)) (listIn (now (types .entry))) (ignoreOf ignore) block length q ⌝ }
 {
     if !exists(store, Sort::Block, block) {
         return Repeated::Refused(2);

@@ -3,6 +3,8 @@
 use std::hint::black_box;
 use std::time::Instant;
 
+use warzhigo::MarkId;
+
 use crate::cases::{Shape, case, full};
 use crate::fragments::Times;
 use crate::race::{Effort, Runner, Series, race, runner};
@@ -14,6 +16,13 @@ pub struct Calls {
     name: &'static str,
     calls: Vec<Call>,
     timed: usize,
+}
+
+impl Calls {
+    /// How many calls are measured.
+    fn measured(&self) -> usize {
+        self.calls.len() - self.timed
+    }
 }
 
 /// Building calls, measured.
@@ -30,9 +39,31 @@ pub type Building = Series<Calls, 3>;
 
 /// Each sort of call by itself: only these calls are timed, in a store that was emptied before, in the same memory.
 pub fn each_call(effort: Effort) -> Building {
-    let measure = |calls: &Calls, effort| race([section::<Inner>(calls), section::<Offered>(calls), section::<Pliron>(calls)], effort);
-    let calls = [operations(), blocks(), attributes(), operands()].map(checked);
+    let measure = |calls: &Calls, effort| {
+        race([section::<Inner>(calls, nothing), section::<Offered>(calls, nothing), section::<Pliron>(calls, nothing)], effort)
+    };
+    let calls = [operations(), blocks(), attributes(), operands(511)].map(checked);
     Series::new("building calls", calls.into(), effort, measure)
+}
+
+/// The same in a store known to be sound, without a mark and with one: up to as many replacements as are remembered.
+pub fn marked_calls(effort: Effort) -> Series<Calls, 2> {
+    let measure = |calls: &Calls, effort| race([section::<Inner>(calls, nothing), section(calls, mark)], effort);
+    let calls = [operations(), blocks(), attributes(), replaced_attributes(), operands(256)];
+    Series::new("building calls with a mark", calls.into(), effort, measure)
+}
+
+/// Calls of a sort, how many were measured, and the nanoseconds for each.
+pub fn marked_rows(series: Series<Calls, 2>) -> Vec<(&'static str, usize, [f64; 2])> {
+    let each = |calls: &Calls, nanos: f64| nanos / calls.measured() as f64;
+    series.rows().map(|(calls, nanos)| (calls.name, calls.measured(), nanos.map(|nanos| each(&calls, nanos)))).collect()
+}
+
+/// Nothing is done between the calls before and those that are timed.
+fn nothing<S: Side>(_: &mut S) {}
+
+fn mark(side: &mut Inner) {
+    side.store.mark(MarkId(1)).expect("a mark");
 }
 
 /// Whole stores: the store is made anew, filled and dropped.
@@ -53,7 +84,7 @@ pub fn whole_stores(effort: Effort) -> Building {
 pub fn built(building: Building) -> Vec<Built> {
     let built = building.rows().map(|(calls, [inner, offered, pliron])| Built {
         name: calls.name,
-        calls: calls.calls.len() - calls.timed,
+        calls: calls.measured(),
         times: Times { inner, offered, pliron },
     });
     built.collect()
@@ -76,7 +107,7 @@ fn whole<S: Side>(calls: &Calls) -> S {
     side
 }
 
-fn section<S: Side + 'static>(calls: &Calls) -> Runner<'_> {
+fn section<S: Side + 'static>(calls: &Calls, between: fn(&mut S)) -> Runner<'_> {
     let (before, timed) = calls.calls.split_at(calls.timed);
     let mut kept = Some(S::empty());
     Box::new(move |times| {
@@ -84,6 +115,7 @@ fn section<S: Side + 'static>(calls: &Calls) -> Runner<'_> {
         for _ in 0..times {
             let mut side = kept.take().expect("the store of the run before").emptied();
             side.build(before);
+            between(&mut side);
             let start = Instant::now();
             side.build(black_box(timed));
             nanos += start.elapsed().as_nanos() as u64;
@@ -128,12 +160,21 @@ fn attributes() -> Calls {
     Calls { name: "an attribute", calls: sketch.calls, timed: 128 }
 }
 
-/// Each of 4 operands of 511 operations is set to another value.
-fn operands() -> Calls {
+/// The same attributes, set once more.
+fn replaced_attributes() -> Calls {
+    let Calls { mut calls, timed, .. } = attributes();
+    let again = calls[timed..].to_vec();
+    let timed = calls.len();
+    calls.extend(again);
+    Calls { name: "an attribute on a key already there", calls, timed }
+}
+
+/// Each of 4 operands of so many operations, of 511, is set to another value.
+fn operands(of: u32) -> Calls {
     let mut sketch = Sketch::default();
     shapes::flat(&mut sketch, 7, 512, shapes::Each { attributes: 0, operands: 4 });
     let mut calls = sketch.calls;
     let timed = calls.len();
-    calls.extend((0..511 * 4).map(|i| Call::Operand { op: 1 + i / 4, index: i % 4, value: i * 7 % 513 }));
+    calls.extend((0..of * 4).map(|i| Call::Operand { op: 1 + i / 4, index: i % 4, value: i * 7 % 513 }));
     Calls { name: "an operand", calls, timed }
 }

@@ -10,6 +10,7 @@ mod checks;
 mod fragments;
 mod keys;
 mod listings;
+mod marks;
 mod plot;
 mod programs;
 mod race;
@@ -71,9 +72,9 @@ fn measure(efforts: Efforts) -> Results {
     let (mut keys, mut lists, mut runs) = (keys::shapes(short), renaming::lists(short), runs::runs(middle));
     let (mut calls, mut stores) = (building::each_call(middle), building::whole_stores(middle));
     let (mut soundness, mut allowed, mut emptying) = (checks::soundness(short), checks::allowed(short), checks::emptying(middle));
-    let mut programs = programs::all(long);
+    let (mut marks, mut programs) = (marks::all(middle, short), programs::all(long));
     for number in 1..=passes {
-        let parts: [&mut dyn Pass; 11] = [
+        let parts: [&mut dyn Pass; 12] = [
             &mut shapes,
             &mut around,
             &mut keys,
@@ -84,6 +85,7 @@ fn measure(efforts: Efforts) -> Results {
             &mut soundness,
             &mut allowed,
             &mut emptying,
+            &mut marks,
             &mut programs,
         ];
         parts.into_iter().for_each(|part| told(number, part));
@@ -100,6 +102,7 @@ fn measure(efforts: Efforts) -> Results {
         soundness: checks::sound_rows(soundness),
         allowed: checks::allowed_rows(allowed),
         emptying: checks::emptying_rows(emptying),
+        marks: marks.rows(),
         programs: programs::rows(programs),
     }
 }

@@ -8,6 +8,7 @@ use crate::cases::{SIZES, Shape, each, two_fit};
 use crate::checks::{Allowed, Soundness};
 use crate::fragments::{Measured, Row, Times};
 use crate::keys;
+use crate::marks;
 use crate::programs;
 use crate::race::Effort;
 use crate::renaming;
@@ -27,6 +28,7 @@ pub struct Results {
     pub soundness: Vec<Soundness>,
     pub allowed: Vec<Allowed>,
     pub emptying: Vec<(String, [f64; 2])>,
+    pub marks: marks::Rows,
     pub programs: Vec<programs::Row>,
 }
 
@@ -37,7 +39,7 @@ pub struct Efforts {
     pub passes: u32,
     /// Comparisons, hashes, keys and tests.
     pub short: Effort,
-    /// Stores that are built, mappings that are filled to be emptied, and blocks that are searched for runs.
+    /// Stores that are built, or changed and gone back on, mappings that are filled to be emptied, and blocks that are searched for runs.
     pub middle: Effort,
     /// Whole listings.
     pub long: Effort,
@@ -48,7 +50,7 @@ pub fn page(results: &Results) -> String {
     let Efforts { passes, short, middle, long } = results.efforts;
     let rounds = |effort: Effort| (passes * effort.rounds).to_string();
     let (shapes, hashed) = (&results.shapes, |shape| shape != Shape::Unequal);
-    let places: [(&str, String); 25] = [
+    let places: [(&str, String); 28] = [
         ("processor", processor()),
         ("compiler", compiler()),
         ("short rounds", rounds(short)),
@@ -73,6 +75,9 @@ pub fn page(results: &Results) -> String {
         ("soundness", soundness(&results.soundness).to_string()),
         ("allowed", allowed(&results.allowed).to_string()),
         ("emptying", emptying(&results.emptying).to_string()),
+        ("marks", trips(&results.marks).to_string()),
+        ("marked calls", marked_calls(&results.marks).to_string()),
+        ("marked soundness", marked_soundness(&results.marks).to_string()),
         ("programs", programs(&results.programs).to_string()),
     ];
     filled(include_str!("page.md"), &places)
@@ -269,6 +274,30 @@ fn emptying(rows: &[(String, [f64; 2])]) -> Table {
     let mut table = Table::new(["Emptying after a comparison of", "all 2,816 words, ns", "`Mapping::clear`, ns"]);
     for (name, times) in rows {
         table.row(name, times.map(number));
+    }
+    table
+}
+
+fn trips(rows: &marks::Rows) -> Table {
+    let mut table = Table::new(["A mark set and gone back to", "inner ns", "offered ns", "all words copied, ns"]);
+    for (name, nanos) in &rows.trips {
+        table.row(name, nanos.map(number));
+    }
+    table
+}
+
+fn marked_calls(rows: &marks::Rows) -> Table {
+    let mut table = Table::new(["One sort, inner", "calls", "without a mark, ns", "with a mark, ns"]);
+    for (name, calls, nanos) in &rows.calls {
+        table.row(name, [thousands(*calls as u64)].into_iter().chain(nanos.map(number)));
+    }
+    table
+}
+
+fn marked_soundness(rows: &marks::Rows) -> Table {
+    let mut table = Table::new(["`lent::is_sound`", "no mark, ns", "1 mark, ns", "8 marks, ns"]);
+    for (name, nanos) in &rows.soundness {
+        table.row(name, nanos.map(number));
     }
     table
 }

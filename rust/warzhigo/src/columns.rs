@@ -15,9 +15,15 @@ pub(crate) enum Column {
     #[allow(dead_code)] // links of operations are followed in the library alone
     OpNext,
     BlockNext,
+    MarkNumber,
+    #[allow(dead_code)] // where a mark goes back to is the library's business
+    MarkPlace,
+    #[allow(dead_code)]
+    MarkCounts,
+    JournalCounts,
 }
 
-/// How many there are of each thing: the words of the first column.
+/// How many there are of each thing: the words of the first column. The first four are of things that have numbers.
 #[derive(Clone, Copy)]
 pub(crate) enum Count {
     Operations,
@@ -27,7 +33,11 @@ pub(crate) enum Count {
     Operands,
     Successors,
     Attributes,
+    Marks,
 }
+
+/// The word of `JournalCounts` that says how many replacements are remembered, where a mark is set.
+pub(crate) const REPLACED: usize = 1;
 
 /// The slots of attributes that an owner has; those of blocks stand behind those of operations.
 pub(crate) const SLOTS: usize = 8;
@@ -35,7 +45,7 @@ pub(crate) const BLOCK_SLOTS: usize = 512 * SLOTS;
 
 const COLUMNS: usize = 43;
 
-#[rustfmt::skip] // as the enum above; behind it marks and their journal, which the library alone reads
+#[rustfmt::skip] // as the enum above; behind it the journal's entries, which the library alone reads
 const SIZES: [usize; COLUMNS] = [
     8,
     512, 512, 512, 512, 512, 512, 512, 512, 512, 512,
@@ -84,6 +94,12 @@ pub(crate) fn part(words: &[u32], column: Column, range: core::ops::Range<u32>) 
 #[inline]
 pub(crate) fn count(words: &[u32], of: Count) -> u32 {
     at(words, Column::Counts, of as usize)
+}
+
+/// How many there are of operations, blocks, regions and values.
+#[inline]
+pub(crate) fn numbered(words: &[u32]) -> [u32; 4] {
+    [Count::Operations, Count::Blocks, Count::Regions, Count::Values].map(|of| count(words, of))
 }
 
 #[cfg(test)]

@@ -175,15 +175,14 @@ impl EqResult<u32, u32, u32> {
 /// Compares two fragments, and notes in the mapping what was entered.
 #[inline]
 fn compare<I: Fragment>(store: &Store, mapping: &mut Mapping, lhs: I, rhs: I, options: Options) -> Result<EqResult, Refused> {
-    let identity = store.sound.identity();
-    let (lhs, rhs) = (lhs.number_in(identity), rhs.number_in(identity));
+    let (lhs, rhs) = (lhs.number_in(store.eras()), rhs.number_in(store.eras()));
     let result = store.sound.compare(I::SORT, &mut mapping.words, (lhs, rhs), options)?.result()?;
     mapping.note(store, I::SORT, lhs, result.paired());
     Ok(result.within(store))
 }
 
 /// Compares two operations, each with all inside it. What is found to correspond is entered into the mapping; entries made before a
-/// difference stay. Refused by 8 where the mapping has entries of another store, or by 2.
+/// difference stay. Refused by 8 where the mapping has entries of another store, or of what has gone, or by 2.
 ///
 /// ```
 /// use warzhigo::{EqResult, Ignore, Mapping, NewOperation, Store, operation_eq};
@@ -236,7 +235,7 @@ pub fn region_eq<'a>(
 /// The hash of a fragment.
 #[inline]
 fn hash<I: Fragment>(store: &Store, fragment: I, options: Options) -> Result<u64, Refused> {
-    store.sound.hash(I::SORT, fragment.number_in(store.sound.identity()), options).result()
+    store.sound.hash(I::SORT, fragment.number_in(store.eras()), options).result()
 }
 
 /// The hash of an operation with all inside it, the same for equal operations (under the premise of the laws, docs/AUDIT.md). Refused by

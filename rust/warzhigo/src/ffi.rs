@@ -1,9 +1,10 @@
 //! The C functions of `liblink.a`, as `crates/link` exports them and `include/warzhigo.h` declares them, and all unsafe code of this
 //! crate: [`lent`] has those that anything may be lent to, [`known`] those that ask for a sound store, an index of a list of types and an
-//! allowed mapping.
+//! allowed mapping, whose words are in [`allowed`].
 //!
 //! A slice crosses as its pointer and its length, an answer as a struct of numbers.
 
+pub(crate) mod allowed;
 pub(crate) mod known;
 pub(crate) mod lent;
 
@@ -44,7 +45,8 @@ pub(crate) struct RunAnswer {
     pub(crate) right: u32,
 }
 
-/// What a building call answers. Code 0 is a new number, `number`; 1 is accepted; 2 is a refusal, and its cause is `number`.
+/// What a building call answers, and one that sets a mark or goes back. Code 0 is a new number, `number`; 1 is accepted; 2 is a refusal,
+/// and its cause is `number`.
 #[repr(C)]
 #[derive(Clone, Copy)]
 pub(crate) struct Outcome {
@@ -97,6 +99,10 @@ unsafe extern "C" {
     fn wz_known_set_attribute(store: *mut u32, words: usize, blocks: bool, n: u32, key: u32, kind: u32, content: u32) -> Outcome;
     fn wz_set_operand(store: *mut u32, words: usize, n: u32, i: u32, v: u32) -> Outcome;
     fn wz_known_set_operand(store: *mut u32, words: usize, n: u32, i: u32, v: u32) -> Outcome;
+    fn wz_set_mark(store: *mut u32, words: usize, mark: u32) -> Outcome;
+    fn wz_known_set_mark(store: *mut u32, words: usize, mark: u32) -> Outcome;
+    fn wz_go_back(store: *mut u32, words: usize, mark: u32) -> Outcome;
+    fn wz_known_go_back(store: *mut u32, words: usize, mark: u32) -> Outcome;
 
     fn wz_operation_eq(store: *const u32, words: usize, types: *const u32, type_words: usize, mapping: *mut u32, entries: usize, lhs: u32, rhs: u32, locations: bool, bits: u64) -> Verdict;
     fn wz_known_operation_eq(store: *const u32, words: usize, types: *const u32, type_words: usize, mapping: *mut u32, entries: usize, lhs: u32, rhs: u32, locations: bool, bits: u64) -> Verdict;

@@ -1,34 +1,65 @@
-//! Numbers of operations, blocks, regions and values, each with the store that it is of.
+//! Numbers of operations, blocks, regions and values, each with the store that it is of, and the era of that store.
 
 use core::fmt;
 use core::sync::atomic::{AtomicU64, Ordering};
 
-/// Which store a thing is of: no two stores of a process have the same.
-#[derive(Clone, Copy, PartialEq, Eq, PartialOrd, Ord, Hash)]
+use crate::columns::Count;
+use crate::eras::Eras;
+
+/// An era of a store, from when its first numbers are given until numbers go away: see [`Eras`]. No two have the same, of one store or of
+/// several, and a younger one has a larger.
+#[derive(Clone, Copy, PartialEq, Eq, PartialOrd, Ord, Hash, Debug)]
 pub(crate) struct Identity(u64);
 
+/// The bits of an id that are its number, and those that are its identity.
+const NUMBER_BITS: u32 = 16;
+const IDENTITY_BITS: u32 = 64 - NUMBER_BITS;
+
+/// The bit that an era has which is not its store's first.
+const LATER: u64 = 1;
+
 impl Identity {
-    /// One that no store has had. 48 bits of it stand in an id, more than any process makes stores.
-    pub(crate) fn new() -> Identity {
+    /// That of a new store's first era.
+    pub(crate) fn first() -> Identity {
+        Identity(Identity::count() << 1)
+    }
+
+    /// That of an era of a store that has had one before.
+    pub(crate) fn later() -> Identity {
+        Identity(Identity::count() << 1 | LATER)
+    }
+
+    /// More than any process begins: a million in a second, for four years.
+    fn count() -> u64 {
         static NEXT: AtomicU64 = AtomicU64::new(0);
-        Identity(NEXT.fetch_add(1, Ordering::Relaxed) & (u64::MAX >> 16))
+        let count = NEXT.fetch_add(1, Ordering::Relaxed);
+        assert!(count < 1 << (IDENTITY_BITS - 1), "this process has no more ids to give");
+        count
+    }
+
+    /// May both be of one store? First eras of different stores are told apart without the store.
+    pub(crate) fn may_be_of_one_store(self, other: Identity) -> bool {
+        self == other || (self.0 | other.0) & LATER != 0
     }
 }
 
 /// A number that nothing has, in any store.
 const NOTHING: u32 = u32::MAX;
 
-/// An id: a number, below 65,536, and the store that has it.
+/// An id: a number, below 65,536, and the era that the number belonged to when the id was given.
 pub(crate) trait Id: Copy {
-    /// Of a number that exists in that store: other parts of the crate rely on it.
+    /// The sort of what it names.
+    const OF: Count;
+
+    /// Of a number that exists, or has existed, and belongs to that era: other parts of the crate rely on it.
     fn existing(number: u32, identity: Identity) -> Self;
     fn number(self) -> u32;
     fn identity(self) -> Identity;
 
-    /// Its number in that store, or, if it is of another one, a number that doesn't exist there.
+    /// Its number in the store of these eras, or, if it names nothing there, a number that doesn't exist.
     #[inline]
-    fn number_in(self, store: Identity) -> u32 {
-        if self.identity() == store { self.number() } else { NOTHING }
+    fn number_in(self, store: &Eras) -> u32 {
+        if store.has(self) { self.number() } else { NOTHING }
     }
 }
 
@@ -41,11 +72,12 @@ pub(crate) trait Mapped: Id {
 }
 
 macro_rules! ids {
-    ($($(#[$doc:meta])* $name:ident $letter:literal;)*) => { $(
+    ($($(#[$doc:meta])* $name:ident $letter:literal $of:ident;)*) => { $(
         $(#[$doc])*
         ///
-        /// It is good for the store that gave it. In any other store, a clone of that one included, a call that is given it is refused
-        /// by 2: it names nothing there.
+        /// It is good for the store that gave it, until that store [goes back](crate::Store::go_back) to before it was made. After that,
+        /// and in any other store, a clone of that one included, a call that is given it is refused by 2: it names nothing there, even where
+        /// there is something of its number.
         #[derive(Clone, Copy, PartialEq, Eq, PartialOrd, Ord, Hash)]
         pub struct $name(u64);
 
@@ -53,15 +85,17 @@ macro_rules! ids {
             /// The number in its store, from 0 in order of creation.
             #[inline]
             pub fn number(self) -> u32 {
-                (self.0 & 0xffff) as u32
+                (self.0 & ((1 << NUMBER_BITS) - 1)) as u32
             }
         }
 
         impl Id for $name {
+            const OF: Count = Count::$of;
+
             #[inline]
             fn existing(number: u32, identity: Identity) -> $name {
-                debug_assert!(number < 1 << 16);
-                $name(identity.0 << 16 | number as u64)
+                debug_assert!(number < 1 << NUMBER_BITS);
+                $name(identity.0 << NUMBER_BITS | number as u64)
             }
             #[inline]
             fn number(self) -> u32 {
@@ -69,7 +103,7 @@ macro_rules! ids {
             }
             #[inline]
             fn identity(self) -> Identity {
-                Identity(self.0 >> 16)
+                Identity(self.0 >> NUMBER_BITS)
             }
         }
 
@@ -89,13 +123,13 @@ macro_rules! ids {
 
 ids! {
     /// An operation of a store.
-    OpId "o";
+    OpId "o" Operations;
     /// A block of a store.
-    BlockId "b";
+    BlockId "b" Blocks;
     /// A region of a store.
-    RegionId "r";
+    RegionId "r" Regions;
     /// A value of a store: a result of an operation, or an argument of a block.
-    ValueId "v";
+    ValueId "v" Values;
 }
 
 impl Mapped for ValueId {

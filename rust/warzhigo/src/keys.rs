@@ -32,7 +32,7 @@ fn key<I: Fragment>(store: &Store, fragment: I, options: Options) -> Result<Vec<
 /// The key of a fragment in lent bytes, and its length.
 #[inline]
 fn key_into<I: Fragment>(store: &Store, fragment: I, options: Options, key: &mut [u8]) -> Result<usize, Refused> {
-    store.sound.key(I::SORT, fragment.number_in(store.sound.identity()), options, key).result()
+    store.sound.key(I::SORT, fragment.number_in(store.eras()), options, key).result()
 }
 
 /// The key of an operation with all inside it: bytes that stand for its structure, by which it is filed.

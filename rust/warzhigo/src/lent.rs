@@ -85,14 +85,25 @@ pub fn new_block(store: &mut [u32], region: u32, label: u32, location: u32, argu
     lent::new_block(store, region, label, location, argument_types).accepted()
 }
 
-/// Sets an attribute. Refused by 1, 6, 2, 4 or 3.
+/// Sets an attribute. Refused by 1, 6, 2, 4 or 3, or by 17 where a key that is there would be replaced, and that can't be remembered.
 pub fn set_attribute(store: &mut [u32], owner: Owner, attribute: Attribute) -> Result<(), Refused> {
     lent::set_attribute(store, owner, attribute).accepted().map(|_| ())
 }
 
-/// Sets an operand. Refused by 1, 2 or 7.
+/// Sets an operand. Refused by 1, 2, 7 or 17.
 pub fn set_operand(store: &mut [u32], op: u32, index: u32, value: u32) -> Result<(), Refused> {
     lent::set_operand(store, op, index, value).accepted().map(|_| ())
+}
+
+/// Sets a mark, 1 to 8; as [`Store::mark`](crate::Store::mark). Refused by 1 or 16.
+pub fn set_mark(store: &mut [u32], mark: u32) -> Result<(), Refused> {
+    lent::set_mark(store, mark).accepted().map(|_| ())
+}
+
+/// Goes back to a mark; as [`Store::go_back`](crate::Store::go_back). Refused by 1 or 16. A lent mapping may name what has gone, and is
+/// refused by 8 then.
+pub fn go_back(store: &mut [u32], mark: u32) -> Result<(), Refused> {
+    lent::go_back(store, mark).accepted().map(|_| ())
 }
 
 /// Compares two operations. Refused by 1, 8, 14, 2 or 12.

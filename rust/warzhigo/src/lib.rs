@@ -23,12 +23,13 @@
 //! - [`Renamed`] is a list of types that have been renamed: calls that are asked under one compare, hash and file by present types.
 //! - [`operation_key`], [`basic_block_key`] and [`region_key`] give the bytes by which a fragment is filed, and [`compare_keys`] their order.
 //! - [`Store::repeated_run`] finds two equal runs of operations in one block.
+//! - [`Store::mark`] names the store as it stands, and [`Store::go_back`] returns to it.
 //! - A call outside the rules is [`Refused`] by number, and has changed nothing.
 //! - [`twins`] and [`sums`] answer the questions of a whole listing. [`lent`] has every call on words of any origin.
 //!
 //! The calls are those of the static library `liblink.a`, whose functions are proved; this crate adds the types around them, and is tested.
-//! What a caller can mix up is an error: an id of another store names nothing (2), a mapping with entries of another store isn't allowed
-//! (8).
+//! What a caller can mix up is an error: an id of another store, or of what has gone, names nothing (2); a mapping with entries of such isn't
+//! allowed (8).
 
 #![no_std]
 #![deny(missing_docs, unsafe_code, unsafe_op_in_unsafe_fn)]
@@ -38,6 +39,7 @@ extern crate alloc;
 
 mod columns;
 mod equivalence;
+mod eras;
 #[allow(unsafe_code)] // the only module that has any
 mod ffi;
 mod ids;
@@ -45,6 +47,7 @@ mod keys;
 pub mod lent;
 mod listing;
 mod mapping;
+mod marks;
 mod reading;
 mod refused;
 mod renamed;
@@ -59,6 +62,7 @@ pub use keys::{
 };
 pub use listing::{sums, twins};
 pub use mapping::Mapping;
+pub use marks::MarkId;
 pub use reading::{Block, Operation, Region, Totals, Value};
 pub use refused::Refused;
 pub use renamed::{Options, Renamed};

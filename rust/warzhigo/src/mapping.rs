@@ -4,8 +4,8 @@ use alloc::boxed::Box;
 use core::fmt;
 
 use crate::equivalence::Sort;
-use crate::ffi::known::{AllowedWords, NONE};
-use crate::ids::{BlockId, Identity, Mapped, OpId, ValueId};
+use crate::ffi::allowed::{AllowedWords, NONE};
+use crate::ids::{BlockId, OpId, ValueId};
 use crate::refused::Refused;
 use crate::store::Store;
 use crate::touched::{Touched, entered};
@@ -13,7 +13,8 @@ use crate::touched::{Touched, entered};
 /// Which value, block and operation on the right corresponds to which on the left.
 ///
 /// It is empty, or has entries of one store: those that comparisons in it have made, and those that were entered by hand. Lent to a
-/// comparison in another store while it has any, it is refused by 8. After [`clear`](Mapping::clear) it can be lent anew, to any store.
+/// comparison in another store while it has any, it is refused by 8; so it is where an entry names what has gone since, when the store went
+/// [back to a mark](Store::go_back). After [`clear`](Mapping::clear) it can be lent anew, to any store.
 ///
 /// ```
 /// use warzhigo::{Ignore, Mapping, NewOperation, Store, operation_eq};
@@ -26,6 +27,7 @@ use crate::touched::{Touched, entered};
 /// assert_eq!(operation_eq(&store.clone(), &mut mapping, a, b, &Ignore::NOTHING).unwrap_err().number(), 8);
 /// # Ok::<(), warzhigo::Refused>(())
 /// ```
+#[derive(Clone)]
 pub struct Mapping {
     pub(crate) words: AllowedWords,
     touched: Touched,
@@ -56,9 +58,7 @@ impl Mapping {
         if self.touched.is_empty() {
             return;
         }
-        for entries in &self.touched.0 {
-            self.words.remove(entries.clone());
-        }
+        self.words.remove(&self.touched.0);
         self.touched = Touched::NOTHING;
     }
 
@@ -77,7 +77,8 @@ impl Mapping {
     }
 
     /// Enters that value `from` corresponds to `to`. A later entry replaces an earlier one. Refused by 8 where the two, and the entries
-    /// that are there, are not of one store.
+    /// that are there, are not of one store. Of ids that were given after their store went back to a mark, or name what has gone, it may be
+    /// the next comparison that finds out, and refuses the mapping by 8.
     pub fn map_value(&mut self, from: ValueId, to: ValueId) -> Result<(), Refused> {
         self.words.enter(from, to)?;
         self.touched.values(from.number()..from.number() + 1);
@@ -100,70 +101,48 @@ impl Mapping {
 
     /// What value `from` corresponds to, if it has an entry.
     pub fn lookup_value(&self, from: ValueId) -> Option<ValueId> {
-        self.lookup(from)
+        self.words.image(from)
     }
 
     /// What block `from` corresponds to, if it has an entry.
     pub fn lookup_block(&self, from: BlockId) -> Option<BlockId> {
-        self.lookup(from)
+        self.words.image(from)
     }
 
     /// What operation `from` corresponds to, if it has an entry.
     pub fn lookup_op(&self, from: OpId) -> Option<OpId> {
-        self.lookup(from)
+        self.words.image(from)
     }
 
     /// What value `from` corresponds to: its entry, or itself where there is none.
     pub fn lookup_value_or_default(&self, from: ValueId) -> ValueId {
-        self.lookup(from).unwrap_or(from)
+        self.words.image(from).unwrap_or(from)
     }
 
     /// What block `from` corresponds to: its entry, or itself where there is none.
     pub fn lookup_block_or_default(&self, from: BlockId) -> BlockId {
-        self.lookup(from).unwrap_or(from)
+        self.words.image(from).unwrap_or(from)
     }
 
-    /// The entries of values, by rising left number.
+    /// The entries of values, by rising left number; as ids that were good when they were made.
     pub fn values(&self) -> impl Iterator<Item = (ValueId, ValueId)> + '_ {
-        self.entries()
+        self.words.entries()
     }
 
     /// The entries of blocks, by rising left number.
     pub fn blocks(&self) -> impl Iterator<Item = (BlockId, BlockId)> + '_ {
-        self.entries()
+        self.words.entries()
     }
 
     /// The entries of operations, by rising left number.
     pub fn ops(&self) -> impl Iterator<Item = (OpId, OpId)> + '_ {
-        self.entries()
-    }
-
-    fn lookup<I: Mapped>(&self, from: I) -> Option<I> {
-        let of = self.words.of().filter(|of| *of == from.identity())?;
-        self.image(from.number() as usize, of)
-    }
-
-    fn entries<'a, I: Mapped + 'a>(&'a self) -> impl Iterator<Item = (I, I)> + 'a {
-        let of = self.words.of().into_iter();
-        of.flat_map(move |of| (0..I::COUNT).filter_map(move |n| Some((I::existing(n as u32, of), self.image(n, of)?))))
-    }
-
-    /// The image in an entry: what it names exists in the store that the entries are of.
-    fn image<I: Mapped>(&self, n: usize, of: Identity) -> Option<I> {
-        let image = self.words()[I::ENTRIES + n];
-        (image != NONE).then(|| I::existing(image, of))
+        self.words.entries()
     }
 }
 
 impl Default for Mapping {
     fn default() -> Mapping {
         Mapping::new()
-    }
-}
-
-impl Clone for Mapping {
-    fn clone(&self) -> Mapping {
-        Mapping { words: self.words.copied(), touched: self.touched.clone() }
     }
 }
 

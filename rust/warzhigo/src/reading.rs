@@ -2,6 +2,7 @@
 
 use crate::columns::Column::*;
 use crate::columns::{self, BLOCK_SLOTS, Column, Count, SLOTS, at, part};
+use crate::eras::Eras;
 use crate::ids::{BlockId, Id, OpId, RegionId, ValueId};
 use crate::refused::Refused;
 use crate::store::{Attribute, Owner, Store};
@@ -42,40 +43,40 @@ impl Store {
 
     /// The operation of this number, if there is one.
     pub fn op_id(&self, number: u32) -> Option<OpId> {
-        self.id(number, Count::Operations)
+        self.id(number)
     }
 
     /// The block of this number, if there is one.
     pub fn block_id(&self, number: u32) -> Option<BlockId> {
-        self.id(number, Count::Blocks)
+        self.id(number)
     }
 
     /// The region of this number, if there is one.
     pub fn region_id(&self, number: u32) -> Option<RegionId> {
-        self.id(number, Count::Regions)
+        self.id(number)
     }
 
     /// The value of this number, if there is one.
     pub fn value_id(&self, number: u32) -> Option<ValueId> {
-        self.id(number, Count::Values)
+        self.id(number)
     }
 
-    /// What an operation has. Refused by 2 where it isn't of this store.
+    /// What an operation has. Refused by 2 where it isn't of this store, or has gone.
     pub fn operation(&self, op: OpId) -> Result<Operation<'_>, Refused> {
         Ok(Operation { store: self, n: self.own(op)? })
     }
 
-    /// What a block has. Refused by 2 where it isn't of this store.
+    /// What a block has. Refused by 2 where it isn't of this store, or has gone.
     pub fn block(&self, block: BlockId) -> Result<Block<'_>, Refused> {
         Ok(Block { store: self, n: self.own(block)? })
     }
 
-    /// What a region has. Refused by 2 where it isn't of this store.
+    /// What a region has. Refused by 2 where it isn't of this store, or has gone.
     pub fn region(&self, region: RegionId) -> Result<Region<'_>, Refused> {
         Ok(Region { store: self, n: self.own(region)? })
     }
 
-    /// What a value is. Refused by 2 where it isn't of this store.
+    /// What a value is. Refused by 2 where it isn't of this store, or has gone.
     pub fn value(&self, value: ValueId) -> Result<Value<'_>, Refused> {
         Ok(Value { store: self, n: self.own(value)? })
     }
@@ -104,17 +105,24 @@ impl Store {
         0..columns::count(self.words(), of) as usize
     }
 
-    fn id<I: Id>(&self, number: u32, of: Count) -> Option<I> {
-        (number < columns::count(self.words(), of)).then(|| self.existing(number))
+    fn id<I: Id>(&self, number: u32) -> Option<I> {
+        (number < columns::count(self.words(), I::OF)).then(|| self.existing(number))
+    }
+
+    /// Which ids are good.
+    #[inline]
+    pub(crate) fn eras(&self) -> &Eras {
+        self.sound.eras()
     }
 
     /// The id of a number that exists.
+    #[inline]
     pub(crate) fn existing<I: Id>(&self, number: u32) -> I {
-        I::existing(number, self.sound.identity())
+        I::existing(number, self.eras().owner(I::OF, number))
     }
 
     fn own<I: Id>(&self, id: I) -> Result<usize, Refused> {
-        if id.identity() != self.sound.identity() {
+        if !self.eras().has(id) {
             return Err(Refused::NOTHING_THERE);
         }
         Ok(id.number() as usize)

@@ -47,6 +47,8 @@ impl Refused {
             13 => "the lent key is too short",
             14 => "the list of renamed types has a half row, over 64 rows, an old type twice, or a present type that has a row itself",
             15 => "the run's length is 0 or over 256",
+            16 => "the mark is not one of 1 to 8, or is not set",
+            17 => "the replacement can't be remembered: 1,024 are since the oldest set mark",
             _ => "a cause that this version doesn't know",
         }
     }
@@ -67,7 +69,7 @@ mod tests {
 
     #[test]
     fn every_cause_has_words_of_its_own() {
-        for cause in 1..=15 {
+        for cause in 1..=17 {
             let (refused, unknown) = (Refused::by(cause), Refused::by(0));
             assert_eq!(refused.number(), cause);
             assert_ne!(refused.meaning(), unknown.meaning());

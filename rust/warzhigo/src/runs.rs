@@ -46,6 +46,6 @@ impl Store {
     /// # Ok::<(), warzhigo::Refused>(())
     /// ```
     pub fn repeated_run<'a>(&self, block: BlockId, length: u32, ignore: impl Into<Options<'a>>) -> Result<Option<Run>, Refused> {
-        self.sound.repeated_run(block.number_in(self.sound.identity()), length, ignore.into()).result()
+        self.sound.repeated_run(block.number_in(self.eras()), length, ignore.into()).result()
     }
 }

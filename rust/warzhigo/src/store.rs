@@ -5,17 +5,19 @@ use alloc::vec::Vec;
 use core::fmt;
 
 use crate::columns::{self, Count};
+use crate::eras::Eras;
 use crate::ffi::Outcome;
 use crate::ffi::known::SoundWords;
-use crate::ids::{BlockId, Id, Identity, OpId, RegionId, ValueId};
+use crate::ids::{BlockId, Id, OpId, RegionId, ValueId};
 use crate::refused::Refused;
 
 /// Operations, blocks, regions and values, each numbered from 0 in order of creation.
 ///
 /// A store owns its words and is sound from the start on: it is made empty or from words that are tested once, and only the four building
-/// calls change it. It takes 138,272 bytes, and none of its calls allocates but for lists over their limit.
+/// calls change it, and going back to a [mark](Store::mark). It takes 182,656 bytes, and its calls don't allocate, but for lists over their
+/// limit, and a few bytes where going back takes something away.
 ///
-/// A clone is a store of its own: ids of the one name nothing in the other, even where both have the number.
+/// A clone is a store of its own, with the same marks: ids of the one name nothing in the other, even where both have the number.
 ///
 /// ```
 /// use warzhigo::{Attribute, NewOperation, Store};
@@ -117,7 +119,7 @@ const FEW: usize = 16;
 
 /// The numbers of ids in a store, in `few` if they fit, else in `many`.
 #[inline]
-fn numbers<'b, I: Id>(ids: &[I], store: Identity, few: &'b mut [u32; FEW], many: &'b mut Vec<u32>) -> &'b [u32] {
+fn numbers<'b, I: Id>(ids: &[I], store: &Eras, few: &'b mut [u32; FEW], many: &'b mut Vec<u32>) -> &'b [u32] {
     if ids.len() > FEW {
         many.extend(ids.iter().map(|id| id.number_in(store)));
         return many;
@@ -152,7 +154,7 @@ impl Store {
     /// Makes an operation, with its regions and results, at the end of its block. Refused by 2, 4, 5 or 3.
     #[inline]
     pub fn new_operation(&mut self, new: &NewOperation<'_>) -> Result<OpId, Refused> {
-        let store = self.sound.identity();
+        let store = self.eras();
         let (mut operands, mut more_operands) = ([0; FEW], Vec::new());
         let (mut successors, mut more_successors) = ([0; FEW], Vec::new());
         let new = NewOperation {
@@ -164,22 +166,23 @@ impl Store {
             operands: numbers(new.operands, store, &mut operands, &mut more_operands),
             successors: numbers(new.successors, store, &mut successors, &mut more_successors),
         };
-        self.sound.new_operation(&new).accepted().map(|n| OpId::existing(n, store))
+        self.sound.new_operation(&new).accepted().map(|n| OpId::existing(n, self.eras().newest()))
     }
 
     /// Makes a block at the end of a region, with a label (0 is none; it is never compared), a location and 0 to 16 arguments, by their
     /// types. Refused by 2, 4 or 3.
     #[inline]
     pub fn new_block(&mut self, region: RegionId, label: u32, location: u32, argument_types: &[u32]) -> Result<BlockId, Refused> {
-        let store = self.sound.identity();
-        let outcome = self.sound.new_block(region.number_in(store), label, location, argument_types);
-        outcome.accepted().map(|n| BlockId::existing(n, store))
+        let region = region.number_in(self.eras());
+        let outcome = self.sound.new_block(region, label, location, argument_types);
+        outcome.accepted().map(|n| BlockId::existing(n, self.eras().newest()))
     }
 
-    /// Sets an attribute of an operation or a block; a key that is there is replaced. Refused by 6, 2, 4 or 3.
+    /// Sets an attribute of an operation or a block; a key that is there is replaced. Refused by 6, 2, 4 or 3, or by 17 where a replacement
+    /// can't be [remembered](Store::remembered).
     #[inline]
     pub fn set_attribute(&mut self, owner: impl Into<Owner>, attribute: Attribute) -> Result<(), Refused> {
-        let store = self.sound.identity();
+        let store = self.eras();
         let owner = match owner.into() {
             Owner::Op(op) => Owner::Op(op.number_in(store)),
             Owner::Block(block) => Owner::Block(block.number_in(store)),
@@ -187,11 +190,12 @@ impl Store {
         self.sound.set_attribute(owner, attribute).accepted().map(|_| ())
     }
 
-    /// Sets an operand that an operation has, by its index from 0, to any value, also a later one. Refused by 2 or 7.
+    /// Sets an operand that an operation has, by its index from 0, to any value, also a later one. Refused by 2 or 7, or by 17
+    /// where that can't be [remembered](Store::remembered).
     #[inline]
     pub fn set_operand(&mut self, op: OpId, index: u32, value: ValueId) -> Result<(), Refused> {
-        let store = self.sound.identity();
-        self.sound.set_operand(op.number_in(store), index, value.number_in(store)).accepted().map(|_| ())
+        let (op, value) = (op.number_in(self.eras()), value.number_in(self.eras()));
+        self.sound.set_operand(op, index, value).accepted().map(|_| ())
     }
 }
 
@@ -215,6 +219,7 @@ impl fmt::Debug for Store {
             .field("blocks", &count(Count::Blocks))
             .field("regions", &count(Count::Regions))
             .field("values", &count(Count::Values))
+            .field("marks", &self.marks().map(|mark| mark.0).collect::<Vec<_>>())
             .finish_non_exhaustive()
     }
 }

@@ -5,7 +5,7 @@ use core::ops::Range;
 use crate::columns::Column::*;
 use crate::columns::{Count, at, count, range};
 use crate::equivalence::Sort;
-use crate::ffi::known::NONE;
+use crate::ffi::allowed::NONE;
 use crate::ids::{BlockId, Mapped, OpId, ValueId};
 
 /// Where entries may be: a range of the words for each of values, blocks and operations.

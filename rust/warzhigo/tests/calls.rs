@@ -119,9 +119,34 @@ fn the_store_as_text() {
     let store = "op 0 7 - 5 r[0] v[] u[] s[] a[]|op 1 8 0 5 r[] v[1] u[0] s[] a[2:63:5,9:3:4]|op 2 7 - 6 r[1] v[] u[] s[] a[]\
         |op 3 8 1 6 r[] v[3] u[2] s[] a[]|op 4 1 1 2 r[] v[] u[] s[1,0] a[]\
         |block 0 0 5 v[0] o[1] a[]|block 1 1 6 v[2] o[3,4] a[0:1:1]|region 0 0 b[0]|region 1 2 b[1]\
-        |value 0 3 b0.0|value 1 3 o1.0|value 2 3 b1.0|value 3 3 o3.0|totals 2 2 3";
+        |value 0 3 b0.0|value 1 3 o1.0|value 2 3 b1.0|value 3 3 o3.0|totals 2 2 3|marks [] remembered 0";
     assert_eq!(answers(&lines), format!("{MADE}ok\nok\nok\n4\nsound\n{store}\n"));
-    assert_eq!(answers("D\nS\n"), "totals 0 0 0\nsound\n");
+    assert_eq!(answers("D\nS\n"), "totals 0 0 0|marks [] remembered 0\nsound\n");
+}
+
+/// Asserts that the store after these lines is sound, and that its text ends so.
+fn marks(lines: &str, end: &str) {
+    let text = answers(&format!("{TWO}{lines}D\nS\n"));
+    assert!(text.ends_with(&format!("|{end}\nsound\n")), "{lines}: {text}");
+}
+
+#[test]
+fn marks_are_set_and_gone_back_to() {
+    let lines = "M,1\nM,2\nM,1\nG,2\nG,1\nM,0\nM,9\nG,4294967295\nG,2\n";
+    assert_eq!(answers(lines), "ok\nok\nok\nok\nrefused,16\nrefused,16\nrefused,16\nrefused,16\nok\n");
+    marks("M,1\nM,2\nM,1\ns,1,0,3\na,o,1,4,1,9\na,o,1,4,1,9\ns,1,0,3\n", "totals 2 0 1|marks [2,1] remembered 3");
+    marks("M,1\nM,2\nM,1\ns,1,0,3\na,o,1,4,1,9\nG,1\n", "totals 2 0 0|marks [2,1] remembered 0");
+    marks("M,8\no,1,-,0,1,1,7,1,0,1,0\nM,3\nb,2,0,0,0\nG,8\n", "value 3 3 o3.0|totals 2 0 0|marks [8] remembered 0");
+    let again = "M,1\no,1,-,0,0,0,0,0\nG,1\nq,o,4,4,0,0\no,2,-,0,0,0,0,0\nE,o,4,4\nG,1\nq,o,0,0,0,0\n";
+    assert_eq!(answers(&format!("{TWO}{again}")), format!("{MADE}ok\n4\nok\nrefused,2\n4\nok\nrefused,8\n"));
+}
+
+#[test]
+fn replacements_that_cannot_be_remembered() {
+    let many = "s,1,0,3\n".repeat(1024);
+    let more = "s,1,0,3\na,o,1,1,1,1\na,o,1,1,1,1\ns,1,1,3\nG,1\ns,1,0,3\n";
+    let expected = "refused,17\nok\nrefused,17\nrefused,7\nok\nok\n";
+    assert_eq!(answers(&format!("{TWO}M,1\n{many}{more}")), format!("{MADE}ok\n{}{expected}", "ok\n".repeat(1024)));
 }
 
 #[test]
@@ -132,12 +157,13 @@ fn empty_lines_are_passed_over() {
 
 /// Lines that `calls` doesn't take.
 #[rustfmt::skip]
-const NOT_OF_THE_FORM: [&str; 44] = [
+const NOT_OF_THE_FORM: [&str; 52] = [
     "x", "o", "O,7,-,5,1,0,0,0", "o,7,-,5,1,0,0", "o,7,-,5,1,0,0,0,0", "o,7,-,5,1,2,3,0,0", "o,-,-,5,1,0,0,0", "o,+7,-,5,1,0,0,0",
     "o,07,-,5,1,0,0,0", "o,4294967296,-,5,1,0,0,0", "o, 7,-,5,1,0,0,0", "o,,-,5,1,0,0,0", "b,0,0,5", "b,0,-,5,0", "a,r,0,1,1,1",
     "a,o,0,1,1", "s,0,0", "q,x,0,0,0,0", "q,o,0,0,2,0", "q,o,0,0,0", "q,o,0,0,0,18446744073709551616", "q,o,0,0,0,0,", "E,r,0,0", "E,v,0",
     "P,1", "H,o,0,0", "D,0", "S,0", "S\r", " S", "o,7,-,5,1,0,0,0 ", "o,7,-,5,1,4294967295,0,0", "K,o,0,0,0", "K,v,0,0,0,9", "K,o,0,0,0,-",
     "K,o,0,0,0,4294967296", "C,o,0,0,0", "C,o,0,0,2,0", "B,00", "B,0,00", "B,00,000", "B,0g,00", "B,00,00,00", "B,+1,00",
+    "M", "M,", "M,-", "M,01", "M,1,1", "G", "G,1,1", "m,1",
 ];
 
 #[test]

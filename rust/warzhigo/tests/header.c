@@ -1,5 +1,5 @@
-/* The header from C: two operations built, compared, hashed and filed, types renamed, and a listing's question answered. Gives the number of the first thing that
- * isn't as it should be, or 0. */
+/* The header from C: two operations built, compared, hashed and filed, types renamed, a mark gone back to, and a listing's question
+ * answered. Gives the number of the first thing that isn't as it should be, or 0. */
 #include "warzhigo.h"
 
 #include <stdlib.h>
@@ -61,6 +61,17 @@ int main(void) {
     wz_sum known = wz_known_operation_hash(keyed, wz_store_words(), index, rows, 0, true, 0);
     if (renamed.code != 0 || known.code != 0 || renamed.word != known.word || renamed.word == left.word) return 18;
     if (wz_operation_key(keyed, wz_store_words(), half, 1, key, wz_key_bytes(), 0, true, 0).cause != 14) return 19;
+
+    wz_outcome marked = wz_set_mark(keyed, wz_store_words(), 1), moved = wz_known_set_mark(keyed, wz_store_words(), 1);
+    if (marked.code != 1 || moved.code != 1) return 20;
+    wz_outcome since = wz_known_new_operation(keyed, wz_store_words(), 9, false, 0, 1, 0, NULL, 0, NULL, 0, NULL, 0);
+    wz_outcome key_set = wz_set_attribute(keyed, wz_store_words(), false, 0, 1, 1, 1);
+    if (since.number != 2 || key_set.code != 1 || wz_known_go_back(keyed, wz_store_words(), 1).code != 1) return 21;
+    if (wz_operation_hash(keyed, wz_store_words(), NULL, 0, 2, true, 0).cause != 2) return 22;
+    if (wz_operation_hash(keyed, wz_store_words(), NULL, 0, 0, true, 0).word != left.word) return 23;
+    wz_outcome unset = wz_go_back(keyed, wz_store_words(), 2), unnumbered = wz_set_mark(keyed, wz_store_words(), 9);
+    if (unset.code != 2 || unset.number != 16 || unnumbered.code != 2 || unnumbered.number != 16) return 24;
+    if (wz_go_back(keyed, 1, 1).number != 1 || !wz_is_sound(keyed, wz_store_words())) return 25;
 
     free(index);
     free(keyed);

@@ -15,7 +15,7 @@ pub struct Inner {
 }
 
 impl Inner {
-    fn of(store: Store) -> Inner {
+    pub fn of(store: Store) -> Inner {
         Inner { store, operands: Vec::new(), successors: Vec::new() }
     }
 

@@ -27,7 +27,7 @@ fn block_in(store: &mut Store, op: OpId, location: u32, argument_types: &[u32]) 
 }
 
 /// A page: a field, and a check of what is typed there.
-fn page(store: &mut Store, parent: BlockId, keyboard: ValueId, location: u32, length: u32) -> Result<OpId, Refused> {
+pub fn page(store: &mut Store, parent: BlockId, keyboard: ValueId, location: u32, length: u32) -> Result<OpId, Refused> {
     let page = store.new_operation(&NewOperation { kind: PAGE, parent: Some(parent), location, regions: 1, ..Default::default() })?;
     let inside = block_in(store, page, location, &[])?;
     let field = store.new_operation(&NewOperation {

@@ -1,49 +1,49 @@
-//! The calls that don't test what they are lent, behind three types that hold what those calls ask for, from the time they are made:
-//! [`SoundWords`] are sound, [`IndexWords`] an index of a list of renamed types, and [`AllowedWords`] a mapping that is allowed beside the store
-//! that they belong to.
+//! The calls that don't test what they are lent, behind types that hold what those calls ask for: [`SoundWords`] are sound, with their
+//! marks, and [`IndexWords`] an index of a list of renamed types, from the time they are made; [`AllowedWords`] are a mapping that is lent
+//! only where it is allowed.
 
 use alloc::boxed::Box;
 use alloc::vec;
 use alloc::vec::Vec;
 
+use super::allowed::AllowedWords;
 use super::*;
+use crate::columns::numbered;
 use crate::equivalence::{Fragment, Sort};
-use crate::ids::{Identity, Mapped};
+use crate::eras::Eras;
 use crate::refused::Refused;
 use crate::renamed::Options;
 use crate::store::{Attribute, NewOperation, Owner};
 
-/// The entry of a number without an image.
-pub(crate) const NONE: u32 = u32::MAX;
-
-/// The words of a sound store, and which store it is. They are made empty or tested once; after that only building calls write to them,
-/// and a building call is proved to leave a sound store sound.
+/// The words of a sound store, and which ids are good for it. They are made empty or tested once; after that only building calls write to
+/// them, and those that set marks and go back, and each is proved to leave a sound store sound.
 pub(crate) struct SoundWords {
     words: Box<[u32]>,
-    identity: Identity,
+    eras: Eras,
 }
 
-// SAFETY, of every call on known words below: `words` of `SoundWords` are sound, those of `IndexWords` an index, and where a mapping is lent,
-// `is_for` has said that it is allowed beside them: that is all that these calls ask for. Pointers and lengths are as in `lent`.
+// SAFETY, of every call on known words below: `words` of `SoundWords` are sound, those of `IndexWords` an index, and a mapping comes from
+// `AllowedWords::lent`, which gives it only where it is allowed beside them as they are: that is all that these calls ask for. Pointers and
+// lengths are as in `lent`.
 
 impl SoundWords {
     /// The empty store.
     pub(crate) fn empty() -> SoundWords {
         let words = vec![0; lent::store_words()].into_boxed_slice();
-        SoundWords { words, identity: Identity::new() }
+        SoundWords { words, eras: Eras::new() }
     }
 
     /// These words, if they are sound; else they are refused by 1.
     pub(crate) fn tested(words: Box<[u32]>) -> Result<SoundWords, Refused> {
         match lent::is_sound(&words) {
-            true => Ok(SoundWords { words, identity: Identity::new() }),
+            true => Ok(SoundWords { words, eras: Eras::new() }),
             false => Err(Refused::NOT_SOUND),
         }
     }
 
     /// The same words as a store of its own.
     pub(crate) fn copied(&self) -> SoundWords {
-        SoundWords { words: self.words.clone(), identity: Identity::new() }
+        SoundWords { words: self.words.clone(), eras: Eras::new() }
     }
 
     pub(crate) fn into_words(self) -> Box<[u32]> {
@@ -54,8 +54,9 @@ impl SoundWords {
         &self.words
     }
 
-    pub(crate) fn identity(&self) -> Identity {
-        self.identity
+    #[inline]
+    pub(crate) fn eras(&self) -> &Eras {
+        &self.eras
     }
 
     #[inline]
@@ -101,12 +102,27 @@ impl SoundWords {
         unsafe { wz_known_set_operand(self.words.as_mut_ptr(), self.words.len(), op, index, value) }
     }
 
-    /// Refused by 8 where the mapping has entries of another store.
+    pub(crate) fn set_mark(&mut self, mark: u32) -> Outcome {
+        // SAFETY: as above.
+        unsafe { wz_known_set_mark(self.words.as_mut_ptr(), self.words.len(), mark) }
+    }
+
+    /// The only call that takes numbers away: where it has, an era begins.
+    pub(crate) fn go_back(&mut self, mark: u32) -> Outcome {
+        let (before, next) = (numbered(&self.words), self.eras.next());
+        // SAFETY: as above.
+        let outcome = unsafe { wz_known_go_back(self.words.as_mut_ptr(), self.words.len(), mark) };
+        let left = numbered(&self.words);
+        if left != before {
+            self.eras.begin(next, left);
+        }
+        outcome
+    }
+
+    /// Refused by 8 where the mapping has entries of another store, or of what has gone away.
     #[inline]
     pub(crate) fn compare(&self, sort: Sort, mapping: &mut AllowedWords, pair: (u32, u32), options: Options) -> Result<Verdict, Refused> {
-        if !mapping.is_for(self.identity) {
-            return Err(Refused::MAPPING);
-        }
+        let (map, entries) = mapping.lent(&self.eras)?;
         let call = match sort {
             Sort::Op => wz_known_operation_eq,
             Sort::Block => wz_known_basic_block_eq,
@@ -114,7 +130,6 @@ impl SoundWords {
         };
         let (store, words) = (self.words.as_ptr(), self.words.len());
         let (index, rows) = options.types.index.lent();
-        let (map, entries) = (mapping.words.as_mut_ptr(), mapping.words.len());
         // SAFETY: as above.
         Ok(unsafe { call(store, words, index, rows, map, entries, pair.0, pair.1, options.ignore.locations, options.ignore.bits) })
     }
@@ -124,7 +139,7 @@ impl SoundWords {
     #[cfg(test)]
     fn entered(&self, mapping: &AllowedWords, sort: Sort, lhs: u32, paired: u32) -> Entries {
         let (store, words) = (self.words.as_ptr(), self.words.len());
-        let (map, entries) = (mapping.words.as_ptr(), mapping.words.len());
+        let (map, entries) = (mapping.words().as_ptr(), mapping.words().len());
         // SAFETY: as above, and the tests below lend what one comparison has left of an empty mapping.
         unsafe { wz_known_entered(store, words, map, entries, sort as u32, lhs, paired) }
     }
@@ -162,10 +177,10 @@ impl SoundWords {
         unsafe { wz_known_repeated_run(store, words, index, rows, block, length, options.ignore.locations, options.ignore.bits) }
     }
 
-    /// How long a key will be. Refused by 2 where the fragment is of another store.
+    /// How long a key will be. Refused by 2 where the fragment is of another store, or has gone away.
     #[inline]
     pub(crate) fn key_length<I: Fragment>(&self, fragment: I, options: Options) -> Result<usize, Refused> {
-        if fragment.identity() != self.identity {
+        if !self.eras.has(fragment) {
             return Err(Refused::NOTHING_THERE);
         }
         let call = match I::SORT {
@@ -175,8 +190,8 @@ impl SoundWords {
         };
         let (store, words) = (self.words.as_ptr(), self.words.len());
         let (index, rows) = options.types.index.lent();
-        // SAFETY: as above; and the fragment exists, as these calls ask for too: its id is of this store, and a store's numbers don't go
-        // away.
+        // SAFETY: as above; and the fragment exists, as these calls ask for too: its id is good for the eras of this store, of which one
+        // begins whenever numbers go away.
         Ok(unsafe { call(store, words, index, rows, fragment.number(), options.ignore.locations, options.ignore.bits) })
     }
 }
@@ -215,78 +230,9 @@ impl IndexWords {
     }
 }
 
-/// The words of a mapping, and the store that its entries are of. Every entry is allowed beside that store: it was entered from two ids of
-/// that store, or by a comparison in it, or tested once; and a store's numbers don't go away.
-pub(crate) struct AllowedWords {
-    words: Box<[u32]>,
-    of: Option<Identity>,
-}
-
-impl AllowedWords {
-    /// The empty mapping, of no store yet.
-    pub(crate) fn empty() -> AllowedWords {
-        AllowedWords { words: vec![NONE; lent::mapping_words()].into_boxed_slice(), of: None }
-    }
-
-    /// These words, if they are allowed beside the store; else they are refused by 8.
-    pub(crate) fn tested(words: Box<[u32]>, store: &SoundWords) -> Result<AllowedWords, Refused> {
-        let (lent, count) = (store.words.as_ptr(), store.words.len());
-        // SAFETY: as for the calls on known words above; the mapping may be any words.
-        match unsafe { wz_known_is_allowed(lent, count, words.as_ptr(), words.len()) } {
-            true => Ok(AllowedWords { words, of: Some(store.identity) }),
-            false => Err(Refused::MAPPING),
-        }
-    }
-
-    pub(crate) fn copied(&self) -> AllowedWords {
-        AllowedWords { words: self.words.clone(), of: self.of }
-    }
-
-    pub(crate) fn words(&self) -> &[u32] {
-        &self.words
-    }
-
-    /// The store that the entries are of; where there is none, the mapping has no entries.
-    pub(crate) fn of(&self) -> Option<Identity> {
-        self.of
-    }
-
-    /// Is it allowed beside that store? Where it belongs to another, it has to be empty, and belongs to that store from now on.
-    #[inline]
-    pub(crate) fn is_for(&mut self, store: Identity) -> bool {
-        if self.of == Some(store) {
-            return true;
-        }
-        let empty = self.of.is_none() || self.words.iter().all(|image| *image == NONE);
-        if empty {
-            self.of = Some(store);
-        }
-        empty
-    }
-
-    /// Enters the image `to` of `from`; refused by 8 where they are not of one store, or not of the mapping's.
-    pub(crate) fn enter<I: Mapped>(&mut self, from: I, to: I) -> Result<(), Refused> {
-        if from.identity() != to.identity() || !self.is_for(from.identity()) {
-            return Err(Refused::MAPPING);
-        }
-        self.words[I::ENTRIES + from.number() as usize] = to.number();
-        Ok(())
-    }
-
-    /// Takes entries out. A few of them are written one by one: to call a fill for each costs more.
-    #[inline]
-    pub(crate) fn remove(&mut self, entries: core::ops::Range<usize>) {
-        match &mut self.words[entries] {
-            [] => {}
-            [a] => *a = NONE,
-            [a, b] => (*a, *b) = (NONE, NONE),
-            many => many.fill(NONE),
-        }
-    }
-}
-
 #[cfg(test)]
 mod tests {
+    use super::super::allowed::NONE;
     use super::*;
     use crate::{Ignore, Mapping, OpId, Store, operation_eq};
 

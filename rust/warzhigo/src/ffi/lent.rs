@@ -92,6 +92,18 @@ pub(crate) fn set_operand(store: &mut [u32], op: u32, index: u32, value: u32) ->
 }
 
 #[inline]
+pub(crate) fn set_mark(store: &mut [u32], mark: u32) -> Outcome {
+    // SAFETY: as above.
+    unsafe { wz_set_mark(store.as_mut_ptr(), store.len(), mark) }
+}
+
+#[inline]
+pub(crate) fn go_back(store: &mut [u32], mark: u32) -> Outcome {
+    // SAFETY: as above.
+    unsafe { wz_go_back(store.as_mut_ptr(), store.len(), mark) }
+}
+
+#[inline]
 pub(crate) fn compare(sort: Sort, store: &[u32], types: &[u32], mapping: &mut [u32], pair: (u32, u32), ignore: &Ignore) -> Verdict {
     let call = match sort {
         Sort::Op => wz_operation_eq,

@@ -4,6 +4,7 @@ use warzhigo::lent::{self, Owner};
 use warzhigo::{Attribute, Ignore, Refused, Store};
 
 use super::call::{Call, New};
+use super::marked::Step;
 use super::question::{LENT, Question, Sort, hash_lent, key_lent};
 
 pub const SORTS: [Sort; 3] = [Sort::Op, Sort::Block, Sort::Region];
@@ -25,9 +26,10 @@ pub fn all_refuse(store: &[u32], mapping: &[u32], context: &str) {
     assert!(!lent::is_sound(store), "{context}: sound by `is_sound`");
     assert_eq!(Store::from_words(store).err().map(Refused::number), Some(1), "{context}: `from_words`");
     let mut words = store.to_vec();
-    for call in building_calls() {
-        assert_eq!(call.lent(&mut words), Err(1), "{context}: {call:?}");
-        assert!(words == store, "{context}: the refused {call:?} has changed words");
+    let of_marks = [Step::Mark(1), Step::Back(1), Step::Mark(9), Step::Back(0)];
+    for step in building_calls().map(Step::Build).into_iter().chain(of_marks) {
+        assert_eq!(step.lent(&mut words), Err(1), "{context}: {step:?}");
+        assert!(words == store, "{context}: the refused {step:?} has changed words");
     }
     for sort in SORTS {
         assert_eq!(hash_lent(store, sort, 0, &Ignore::NOTHING).map_err(Refused::number), Err(1), "{context}: hash of {sort:?}");

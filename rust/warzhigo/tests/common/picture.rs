@@ -73,7 +73,7 @@ impl Picture {
         }
     }
 
-    /// The lines of `D` in the form for calls, parted by vertical bars.
+    /// The lines of `D` in the form for calls, parted by vertical bars, but for the one of marks.
     pub fn dump(&self) -> String {
         let mut lines = Vec::new();
         lines.extend(self.ops.iter().enumerate().map(|(n, op)| op.line(n)));

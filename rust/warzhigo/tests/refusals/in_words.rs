@@ -1,12 +1,20 @@
 //! How a refusal presents itself. Causes 9, 10 and 11 are only printed, and 12 is never met: no call gives them as a value.
 
-use warzhigo::{Attribute, Ignore, Mapping, NewOperation, Refused, Renamed, Store, operation_eq, operation_key_into};
+use warzhigo::{Attribute, Ignore, Mapping, MarkId, NewOperation, Refused, Renamed, Store, operation_eq, operation_key_into};
 
 use crate::common::call::{Call, New};
 use crate::stores::{deep, filled, small};
 
-/// One refusal by each cause from 1 to 8, and from 13 to 15.
-fn refusals() -> [Option<Refused>; 11] {
+/// A store that can remember no more replacements, and one that is refused.
+fn not_remembered() -> Option<Refused> {
+    let mut store = small();
+    let (op, value) = (store.op_id(1)?, store.value_id(0)?);
+    store.mark(MarkId(1)).ok()?;
+    (0..1025).find_map(|_| store.set_operand(op, 0, value).err())
+}
+
+/// One refusal by each cause from 1 to 8, and from 13 to 17.
+fn refusals() -> [Option<Refused>; 13] {
     let (mut store, deepest) = deep();
     let (op, parent, foreign) = (store.op_id(0).unwrap(), store.block_id(deepest), small().op_id(0).unwrap());
     let typed = store.new_operation(&NewOperation { result_types: &[1], ..Default::default() }).unwrap();
@@ -27,12 +35,14 @@ fn refusals() -> [Option<Refused>; 11] {
         operation_key_into(&store, op, &Ignore::NOTHING, &mut []).err(),
         Renamed::new(&[(3, 3)]).err(),
         store.repeated_run(parent.unwrap(), 0, &Ignore::NOTHING).err(),
+        store.go_back(MarkId(1)).err(),
+        not_remembered(),
     ]
 }
 
 #[test]
 fn refusals_have_a_number_and_a_meaning() {
-    for (refused, number) in refusals().into_iter().zip((1..=8).chain(13..=15)) {
+    for (refused, number) in refusals().into_iter().zip((1..=8).chain(13..=17)) {
         let refused = refused.expect("a refused call");
         assert_eq!(refused.number(), number);
         assert!(!refused.meaning().is_empty(), "{number}");
@@ -46,5 +56,5 @@ fn meanings_differ() {
     let mut meanings: Vec<&str> = refusals().into_iter().flatten().map(Refused::meaning).collect();
     meanings.sort();
     meanings.dedup();
-    assert_eq!(meanings.len(), 11);
+    assert_eq!(meanings.len(), 13);
 }

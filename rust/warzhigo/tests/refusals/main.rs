@@ -2,7 +2,7 @@
 //! and `comparison_refused` look.
 //!
 //! Cause 12, a walk that reaches an operation nested deeper than 32, can't be met: such a store isn't sound, and is refused by 1 before. That
-//! no sound store gives 12 is proved.
+//! no sound store gives 12 is proved. Causes 16 and 17, of marks, are met in the test `marks`.
 
 #[path = "../common/mod.rs"]
 mod common;

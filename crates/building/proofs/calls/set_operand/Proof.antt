@@ -1,7 +1,6 @@
--- `set_operand` meets its contract: by the soundness check, and by the call on a sound buffer. Assumes nothing.
+-- `set_operand` meets its contract: by the soundness check, and by the call on a lent buffer. Assumes nothing.
 use mathlib.Core.Path.{refl}
 use Rattle.layout.proofs.Scans.{failed, held}
-use Rattle.layout.proofs.Empty.{sound-facts}
 use Rattle.calling.specs.Types.{builtOf}
 use Rattle.building.proofs.Answering.{turned-down, taken-up}
 use borrow.Author.Needs.{needs}
@@ -21,7 +20,7 @@ returns c =
     turned-down (a .store .now) _ _ (failed (c .before .is-sound .ensures) (c .if1 .taken)) refl
 
 set-operand-requires : tie.Need-set-operand-requires
-set-operand-requires c κs = sound-facts _ (held (c .before .before .is-sound .ensures) (c .before .if1 .left))
+set-operand-requires c κs = held (c .before .before .is-sound .ensures) (c .before .if1 .left)
 
 same-length-2 : tie.Need-same-length-2
 same-length-2 c = search needs

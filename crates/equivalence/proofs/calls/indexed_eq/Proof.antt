@@ -1,9 +1,9 @@
 -- `indexed_eq` meets its contract: cause 14 is a list that does not hold, and any other list is the one of its index. Assumes nothing.
 use Prim.Native.Nat.{ℕ, _<_}
+use mathlib.Core.Bool.{true}
 use mathlib.Core.List.{List}
 use mathlib.Core.Path.{sym, subst}
 use lib.Seq.{length-take-le}
-use Rattle.layout.proofs.Empty.{sound-of}
 use Rattle.fragments.specs.Ignoring.{ignoreOf}
 use Rattle.fragments.specs.Sorts.{sortOf}
 use Rattle.equivalence.specs.Calls.{Answered}
@@ -33,7 +33,7 @@ returns c =
     let t = c .before .before in
     let s = begun t in
     let a = s .args in
-    untyped (a .store .now) (a .types .now) (a .mapping .now) (ignoreOf (a .ignore)) (sortOf (a .of .sort)) (a .of .lhs) (a .of .rhs) (sound-of (a .store .now) (s .pre .0)) (s .pre .1) (t .index-types .ensures .refused (c .if1 .taken))
+    untyped (a .store .now) (a .types .now) (a .mapping .now) (ignoreOf (a .ignore)) (sortOf (a .of .sort)) (a .of .lhs) (a .of .rhs) (s .pre .1) (t .index-types .ensures .refused (c .if1 .taken))
 
 array-share-prefix-index : tie.Need-array-share-prefix-index
 array-share-prefix-index c = search needs
@@ -58,7 +58,7 @@ returns-2 c =
     let r = c .before .before .fragments-eq in
     let k = c .before .before .before .before .before in
     let a = begun (tested k) .args in
-    subst (λ (types : List ℕ). Answered (a .store .now) types (a .mapping .now) (r .last .1 .1 .0) (ignoreOf (a .ignore)) (sortOf (a .of .sort)) (a .of .lhs) (a .of .rhs) (r .result))
+    subst (λ (types : List ℕ). Answered true (a .store .now) types (a .mapping .now) (r .last .1 .1 .0) (ignoreOf (a .ignore)) (sortOf (a .of .sort)) (a .of .lhs) (a .of .rhs) (r .result))
     (tested k .index-types .ensures .list (made k)) (r .ensures)
 
 pub indexed-eq-spec : {M : Type 1} → statement M

@@ -2,7 +2,6 @@
 use mathlib.Core.Path.{sym, ap, _∙_}
 use Rattle.layout.specs.Reading.{storeIn}
 use Rattle.layout.specs.Causes.{causeOf}
-use Rattle.layout.proofs.Empty.{sound-of}
 use Rattle.renaming.specs.Index.{listIn}
 use Rattle.renaming.proofs.Indexed.{index-holds}
 use Rattle.fragments.specs.Ignoring.{ignoreOf}
@@ -28,7 +27,7 @@ returns c =
     let s = from (c .before .before .before) in
     let a = s .args in
     let b = a .store .now in
-    refused-pair b (listIn (a .types .now)) (a .mapping .now) (ignoreOf (a .ignore)) (sortOf (a .of .sort)) (a .of .lhs) (a .of .rhs) (sound-of b (s .pre .0 .sound)) (s .pre .1) (index-holds _ (s .pre .0 .indexed)) _ (sym (c .before .before .before .pair-cause .ensures) ∙ ap causeOf (c .before .cause .given .1))
+    refused-pair b (listIn (a .types .now)) (a .mapping .now) (ignoreOf (a .ignore)) (sortOf (a .of .sort)) (a .of .lhs) (a .of .rhs) (s .pre .1) (index-holds _ (s .pre .0 .indexed)) _ (sym (c .before .before .before .pair-cause .ensures) ∙ ap causeOf (c .before .cause .given .1))
 
 enum-told : tie.Need-enum-told
 enum-told c = search needs
@@ -55,7 +54,7 @@ returns-2 c =
     let b = a .store .now in
     let none = sym (tested .pair-cause .ensures) ∙ ap causeOf (told .enum-told .given .1) in
     let r = c .before .before .walk-eq in
-    walked b (listIn (a .types .now)) (a .mapping .now) (ignoreOf (a .ignore)) (sortOf (a .of .sort)) (a .of .lhs) (a .of .rhs) (sound-of b (s .pre .0 .sound)) (s .pre .1) (index-holds _ (s .pre .0 .indexed)) (s .pre .0 .sound) (r .result) (r .last .1 .1 .0) none (r .ensures)
+    walked b (listIn (a .types .now)) (a .mapping .now) (ignoreOf (a .ignore)) (sortOf (a .of .sort)) (a .of .lhs) (a .of .rhs) (s .pre .1) (index-holds _ (s .pre .0 .indexed)) (s .pre .0 .sound) (r .result) (r .last .1 .1 .0) none (r .ensures)
 
 pub fragments-eq-spec : {M : Type 1} → statement M
 fragments-eq-spec =

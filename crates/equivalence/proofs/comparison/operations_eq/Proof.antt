@@ -11,7 +11,6 @@ use Rattle.rules.specs.Comparison.{Walk, pairOps}
 use Rattle.layout.specs.Columns.{Cols, columns}
 use Rattle.layout.specs.Reading.{opCount, storeIn}
 use Rattle.layout.specs.Causes.{causeOf}
-use Rattle.layout.proofs.Empty.{sound-of}
 use Rattle.layout.proofs.Laid.{laid-facts}
 use Rattle.renaming.specs.Index.{listIn}
 use Rattle.renaming.proofs.Indexed.{index-holds}
@@ -47,7 +46,7 @@ returns c =
     let s = from (c .before .before .before) in
     let a = s .args in
     let b = a .store .now in
-    refused-pair b (listIn (a .types .now)) (a .mapping .now) (ignoreOf (a .ignore)) op (a .lhs) (a .rhs) (sound-of b (s .pre .0 .sound)) (s .pre .1) (index-holds _ (s .pre .0 .indexed)) _ (sym (c .before .before .before .pair-cause .ensures) ∙ ap causeOf (c .before .cause .given .1))
+    refused-pair b (listIn (a .types .now)) (a .mapping .now) (ignoreOf (a .ignore)) op (a .lhs) (a .rhs) (s .pre .1) (index-holds _ (s .pre .0 .indexed)) _ (sym (c .before .before .before .pair-cause .ensures) ∙ ap causeOf (c .before .cause .given .1))
 
 enum-told : tie.Need-enum-told
 enum-told c = search needs
@@ -96,7 +95,7 @@ returns-2 c =
     let st = stateOf m 0 in
     let unlike = kinds-unlike (columns b) o (head-whole b (s .pre .0 .sound) (a .lhs) (l-here t)) (head-whole b (s .pre .0 .sound) (a .rhs) (r-here t)) (λ e. c .if1 .taken (c .before .before .at .ensures ∙ e ∙ sym (c .before .at2 .ensures))) in
     let told = told-ended (pairOps (under o S) (o .ignore) (a .lhs) (a .rhs) st) (opWalk S o (a .lhs) (a .rhs)) q m (inl refl) (ops-unlike S o (a .lhs) (a .rhs) m 0 unlike) in
-    walked b (listIn (a .types .now)) m (o .ignore) op (a .lhs) (a .rhs) (sound-of b (s .pre .0 .sound)) (s .pre .1) (index-holds _ (s .pre .0 .indexed)) (s .pre .0 .sound) q m (passed t) (subst (λ (w : Walk). Told w q m) (sym (op-walk S o (a .lhs) (a .rhs) st)) told)
+    walked b (listIn (a .types .now)) m (o .ignore) op (a .lhs) (a .rhs) (s .pre .1) (index-holds _ (s .pre .0 .indexed)) (s .pre .0 .sound) q m (passed t) (subst (λ (w : Walk). Told w q m) (sym (op-walk S o (a .lhs) (a .rhs) st)) told)
 
 ops-eq-requires : tie.Need-ops-eq-requires
 ops-eq-requires c κs =
@@ -116,7 +115,7 @@ returns-3 c =
     let a = s .args in
     let b = a .store .now in
     let r = c .before .before .ops-eq in
-    walked b (listIn (a .types .now)) (a .mapping .now) (ignoreOf (a .ignore)) op (a .lhs) (a .rhs) (sound-of b (s .pre .0 .sound)) (s .pre .1) (index-holds _ (s .pre .0 .indexed)) (s .pre .0 .sound) (r .result) (r .last .1 .1 .0) (passed t) (r .ensures)
+    walked b (listIn (a .types .now)) (a .mapping .now) (ignoreOf (a .ignore)) op (a .lhs) (a .rhs) (s .pre .1) (index-holds _ (s .pre .0 .indexed)) (s .pre .0 .sound) (r .result) (r .last .1 .1 .0) (passed t) (r .ensures)
 
 pub operations-eq-spec : {M : Type 1} → statement M
 operations-eq-spec =

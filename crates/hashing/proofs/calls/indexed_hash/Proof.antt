@@ -1,6 +1,7 @@
 -- `indexed_hash` meets its contract: a list that does not hold is cause 14, and of any other the words in front are the index. Assumes nothing.
 use Prim.Native.Nat.{ℕ, _<_}
 use native.Mathlib.Omega.{arith}
+use mathlib.Core.Bool.{true}
 use mathlib.Core.List.{List}
 use mathlib.Core.Path.{refl, sym, subst}
 use lib.Seq.{length-take-le}
@@ -49,7 +50,7 @@ returns-2 : tie.Need-returns-2
 returns-2 c =
     let f = c .before in
     let a = begun f .args in
-    subst (λ (types : List ℕ). Answered (a .store .now) types (ignoreOf (a .ignore)) (sortOf (a .sort)) (a .n) (c .fragment-hash .result)) (told f .index-types .ensures .list (some-words f)) (c .fragment-hash .ensures)
+    subst (λ (types : List ℕ). Answered true (a .store .now) types (ignoreOf (a .ignore)) (sortOf (a .sort)) (a .n) (c .fragment-hash .result)) (told f .index-types .ensures .list (some-words f)) (c .fragment-hash .ensures)
 
 pub indexed-hash-spec : {M : Type 1} → statement M
 indexed-hash-spec =

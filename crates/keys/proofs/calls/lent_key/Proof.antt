@@ -1,10 +1,12 @@
 -- `lent_key` meets its contract: cause 1 comes first, then cause 14, and a list that holds is the one that its index stands for. Assumes nothing.
 use native.Mathlib.Omega.{arith}
-use mathlib.Core.Path.{sym}
+use mathlib.Core.Bool.{true}
+use mathlib.Core.Path.{_≡_, refl, sym}
 use lib.Seq.{length-take-le}
 use Rattle.layout.specs.Soundness.{IsSound}
-use Rattle.layout.proofs.Empty.{sound-facts}
 use Rattle.layout.proofs.Scans.{failed, held}
+use Rattle.journal.specs.Words.{soundLent}
+use Rattle.marks.proofs.Lent.{lent-facts}
 use Rattle.fragments.specs.Sorts.{sortOf}
 use Rattle.fragments.specs.Ignoring.{ignoreOf}
 use Rattle.keys.proofs.Answering.{empty-index, empty-list, answered-as, unsound, unlisted}
@@ -22,8 +24,11 @@ module _ (c : tie.Else1) where
   abbrev start : tie.Start
   start = begun (c .before)
 
+  lent : soundLent (start .args .store .now) ≡ true
+  lent = held (c .before .is-sound .ensures) (c .if1 .left)
+
   ruled : IsSound (start .args .store .now)
-  ruled = sound-facts (start .args .store .now) (held (c .before .is-sound .ensures) (c .if1 .left))
+  ruled = lent-facts (start .args .store .now) lent .tables
 
 -- with the index made
 module _ (c : tie.After-index2) where
@@ -36,7 +41,7 @@ is-sound-requires c κs = search needs
 returns : tie.Need-returns
 returns c =
     let a = begun (c .before) .args in
-    unsound (a .store .now) (a .types .now) (ignoreOf (a .ignore)) (sortOf (a .sort)) (a .n) (a .key .now) (failed (c .before .is-sound .ensures) (c .if1 .taken))
+    unsound (a .store .now) (a .types .now) (ignoreOf (a .ignore)) (sortOf (a .sort)) (a .n) (a .key .now) _ (failed (c .before .is-sound .ensures) (c .if1 .taken))
 
 fragment-key-requires : tie.Need-fragment-key-requires
 fragment-key-requires c κs =
@@ -47,7 +52,9 @@ same-length : tie.Need-same-length
 same-length c = search needs
 
 returns-2 : tie.Need-returns-2
-returns-2 c = answered-as (empty-list (start (c .before .before .before .before .before) .args .types .now) (c .before .before .before .before .if2 .taken)) (c .before .before .fragment-key .ensures)
+returns-2 c =
+    let f = c .before .before .before .before in
+    answered-as (lent (f .before)) (empty-list (start (f .before) .args .types .now) (f .if2 .taken)) (c .before .before .fragment-key .ensures)
 
 slice-aggregate-index-types : tie.Need-slice-aggregate-index-types
 slice-aggregate-index-types c = search needs
@@ -59,7 +66,8 @@ returns-3 : tie.Need-returns-3
 returns-3 c =
     let f = tested (c .before) in
     let a = start f .args in
-    unlisted (a .store .now) (a .types .now) (ignoreOf (a .ignore)) (sortOf (a .sort)) (a .n) (a .key .now) (ruled f) (c .before .before .index-types .ensures .refused (c .if3 .taken))
+    answered-as (lent f) refl
+    (unlisted (a .store .now) (a .types .now) (ignoreOf (a .ignore)) (sortOf (a .sort)) (a .n) (a .key .now) (ruled f) (c .before .before .index-types .ensures .refused (c .if3 .taken)))
 
 array-share-prefix-index : tie.Need-array-share-prefix-index
 array-share-prefix-index c = c .before .before .index-types .ensures .low
@@ -76,7 +84,10 @@ same-length-2 : tie.Need-same-length-2
 same-length-2 c = search needs
 
 returns-4 : tie.Need-returns-4
-returns-4 c = answered-as (c .before .before .before .before .before .before .before .index-types .ensures .list (omega (arith, c .before .before .before .before .before .if3 .left))) (c .before .before .fragment-key2 .ensures)
+returns-4 c =
+    let left = c .before .before .before .before .before in
+    let made = left .before .before in
+    answered-as (lent (tested (left .before))) (made .index-types .ensures .list (omega (arith, left .if3 .left))) (c .before .before .fragment-key2 .ensures)
 
 pub lent-key-spec : {M : Type 1} → statement M
 lent-key-spec =

@@ -1,5 +1,6 @@
 -- `compare` meets its contract: the comparison begins with no entries, and those that it made are taken out again. Assumes nothing.
 use Prim.Native.Nat.{ℕ}
+use mathlib.Core.Bool.{true}
 use mathlib.Core.List.{List, []}
 use mathlib.Core.Path.{sym, subst}
 use Rattle.rules.specs.Fragments.{Sort}
@@ -18,8 +19,8 @@ use Rattle.listing.proofs.comparing.compare.Statement.{statement}
 use Rattle.listing.proofs.comparing.compare.Tie as tie
 
 -- as a list that is empty
-unlisted : {b m after : List ℕ} {ig : Ignore} {f : Sort} {l r : ℕ} {q : EqResult} → Answered b (listIn []) m after ig f l r q → Answered b [] m after ig f l r q
-unlisted {b} {m} {after} {ig} {f} {l} {r} {q} h = subst (λ (ts : List ℕ). Answered b ts m after ig f l r q) no-list h
+unlisted : {b m after : List ℕ} {ig : Ignore} {f : Sort} {l r : ℕ} {q : EqResult} → Answered true b (listIn []) m after ig f l r q → Answered true b [] m after ig f l r q
+unlisted {b} {m} {after} {ig} {f} {l} {r} {q} h = subst (λ (ts : List ℕ). Answered true b ts m after ig f l r q) no-list h
 
 slice-aggregate-fragments-eq : tie.Need-slice-aggregate-fragments-eq
 slice-aggregate-fragments-eq c = search needs
@@ -39,7 +40,7 @@ unmap-entered-requires c κs =
     let a = s .args in
     let told = compared .fragments-eq in
     let after = told .last .1 .1 .0 in
-    let by = answered-entered (a .store .now) [] (a .mapping .now) after _ _ (a .query .left) (a .query .right) (told .result) (s .pre .0) (s .pre .1) (unlisted (told .ensures)) in (
+    let by = answered-entered true (a .store .now) [] (a .mapping .now) after _ _ (a .query .left) (a .query .right) (told .result) (s .pre .0) (s .pre .1) (unlisted (told .ensures)) in (
       s .pre .0,
       (
         as-many (a .mapping .now) after (s .pre .1) (told .kept .1 .1 .0),
@@ -57,7 +58,7 @@ returns c =
     let s = compared .before .before .before .before .before .before in
     let a = s .args in
     let told = compared .fragments-eq in
-    compares (a .store .now) (a .mapping .now) (told .last .1 .1 .0) _ (a .query) (told .result) (s .pre .0) (s .pre .1) (unlisted (told .ensures)) (emptied .unmap-entered .ensures)
+    compares (a .store .now) (a .mapping .now) (told .last .1 .1 .0) _ (a .query) (told .result) (s .pre .1) (unlisted (told .ensures)) (emptied .unmap-entered .ensures)
 
 pub compare-spec : {M : Type 1} → statement M
 compare-spec =

@@ -89,7 +89,7 @@ line-does-requires c κs =
     let s = begun (turn .before) in
     let r = has-room (roomy s) (short s) i in
     let e = w .inv .3 in
-    (i .sound, (i .empty, (omega arith, counts (roomy s) (short s) i)))
+    (i .bare .sound, (i .empty, (omega arith, counts (roomy s) (short s) i)))
 
 enum-known-step : tie.Need-enum-known-step Inv-loop μ-loop
 enum-known-step c = search needs

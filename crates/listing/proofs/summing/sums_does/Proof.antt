@@ -1,5 +1,6 @@
 -- `sums_does` meets its contract: a refused hash stops the program, and else both are printed. Assumes nothing.
 use Prim.Native.Nat.{ℕ}
+use mathlib.Core.Bool.{true}
 use mathlib.Core.List.{List, []}
 use mathlib.Core.Path.{subst}
 use Rattle.rules.specs.Fragments.{Sort}
@@ -14,8 +15,8 @@ use Rattle.listing.proofs.summing.sums_does.Statement.{statement}
 use Rattle.listing.proofs.summing.sums_does.Tie as tie
 
 -- as a list that is empty
-unlisted : {b : List ℕ} {ig : Ignore} {f : Sort} {n : ℕ} {h : Hashed} → Answered b (listIn []) ig f n h → Answered b [] ig f n h
-unlisted {b} {ig} {f} {n} {h} a = subst (λ (ts : List ℕ). Answered b ts ig f n h) no-list a
+unlisted : {b : List ℕ} {ig : Ignore} {f : Sort} {n : ℕ} {h : Hashed} → Answered true b (listIn []) ig f n h → Answered true b [] ig f n h
+unlisted {b} {ig} {f} {n} {h} a = subst (λ (ts : List ℕ). Answered true b ts ig f n h) no-list a
 
 slice-aggregate-fragment-hash : tie.Need-slice-aggregate-fragment-hash
 slice-aggregate-fragment-hash c = search needs
@@ -57,7 +58,7 @@ returns c =
     let a = s .args in
     let left = left-hashed .fragment-hash in
     let right = right-hashed .fragment-hash2 in
-    left-stops (a .store .now) (a .progress) (a .query) (left .result) (right .result) (s .pre .0) (unlisted (left .ensures)) (unlisted (right .ensures)) (a .out .now) _ (left-known .left .given .1)
+    left-stops (a .store .now) (a .progress) (a .query) (left .result) (right .result) (unlisted (left .ensures)) (unlisted (right .ensures)) (a .out .now) _ (left-known .left .given .1)
 
 returns-2 : tie.Need-returns-2
 returns-2 c =
@@ -69,7 +70,7 @@ returns-2 c =
     let a = s .args in
     let left = left-hashed .fragment-hash in
     let right = right-hashed .fragment-hash2 in
-    right-stops (a .store .now) (a .progress) (a .query) (left .result) (right .result) (s .pre .0) (unlisted (left .ensures)) (unlisted (right .ensures)) (a .out .now) _ _ (left-known .left2 .given .1) (right-known .right .given .1)
+    right-stops (a .store .now) (a .progress) (a .query) (left .result) (right .result) (unlisted (left .ensures)) (unlisted (right .ensures)) (a .out .now) _ _ (left-known .left2 .given .1) (right-known .right .given .1)
 
 same-length : tie.Need-same-length
 same-length c = search needs
@@ -86,7 +87,7 @@ returns-3 c =
     let left = left-hashed .fragment-hash in
     let right = both .fragment-hash2 in
     let put = printed .put-hashes in
-    sums-goes (a .store .now) (a .progress) (a .query) (left .result) (right .result) (s .pre .0) (unlisted (left .ensures)) (unlisted (right .ensures)) (a .out .now) _ _
+    sums-goes (a .store .now) (a .progress) (a .query) (left .result) (right .result) (unlisted (left .ensures)) (unlisted (right .ensures)) (a .out .now) _ _
     (of-left .left2 .given .1) (of-right .right2 .given .1) (s .pre .1 .1) (put .last .0) (put .result) (put .ensures)
 
 pub sums-does-spec : {M : Type 1} → statement M

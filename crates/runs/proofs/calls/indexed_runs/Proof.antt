@@ -1,6 +1,7 @@
 -- `indexed_runs` meets its contract: a list that does not hold is cause 14, and of any other the words in front are the index. Assumes nothing.
 use Prim.Native.Nat.{ℕ, _<_}
 use native.Mathlib.Omega.{arith}
+use mathlib.Core.Bool.{true}
 use mathlib.Core.List.{List}
 use mathlib.Core.Path.{refl, sym, subst}
 use lib.Seq.{length-take-le}
@@ -48,7 +49,7 @@ returns-2 : tie.Need-returns-2
 returns-2 c =
     let f = c .before in
     let a = begun f .args in
-    subst (λ (types : List ℕ). Answered (a .store .now) types (ignoreOf (a .ignore)) (a .block) (a .length) (c .block-runs .result))
+    subst (λ (types : List ℕ). Answered true (a .store .now) types (ignoreOf (a .ignore)) (a .block) (a .length) (c .block-runs .result))
     (told f .index-types .ensures .list (some-words f)) (c .block-runs .ensures)
 
 pub indexed-runs-spec : {M : Type 1} → statement M

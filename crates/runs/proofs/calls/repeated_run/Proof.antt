@@ -1,16 +1,18 @@
 -- `repeated_run` meets its contract: cause 1 comes first, and where no list of types is lent, its words are their own index. Assumes nothing.
 use Prim.Native.Nat.{ℕ}
+use mathlib.Core.Bool.{true}
 use mathlib.Core.List.{List, []}
 use mathlib.Core.Path.{_≡_, sym, ap, subst, _∙_}
 use Rattle.layout.specs.Soundness.{IsSound}
-use Rattle.layout.proofs.Empty.{sound-facts}
 use Rattle.layout.proofs.Scans.{failed, held}
+use Rattle.journal.specs.Words.{soundLent}
+use Rattle.marks.proofs.Lent.{lent-facts}
 use Rattle.renaming.specs.Index.{listIn, IsIndex}
 use Rattle.renaming.proofs.Indexed.{no-words, no-list}
 use Rattle.fragments.specs.Ignoring.{ignoreOf}
 use Rattle.numbering.proofs.Lone.{no-children}
 use Rattle.runs.specs.Calls.{Answered}
-use Rattle.runs.proofs.Answering.{unsound}
+use Rattle.runs.proofs.Answering.{unsound, as-found}
 use borrow.Author.Needs.{needs}
 use Rattle.runs.proofs.calls.repeated_run.Statement.{statement}
 use Rattle.runs.proofs.calls.repeated_run.Tie as tie
@@ -21,15 +23,18 @@ is-sound-requires c κs = search needs
 returns : tie.Need-returns
 returns c =
     let a = c .before .before .before .before .args in
-    unsound (a .store .now) (a .types .now) (ignoreOf (a .ignore)) (a .block) (a .length) (failed (c .before .is-sound .ensures) (c .if1 .taken))
+    unsound (a .store .now) (a .types .now) (ignoreOf (a .ignore)) (a .block) (a .length) _ (failed (c .before .is-sound .ensures) (c .if1 .taken))
 
 -- with a sound store
 module _ (c : tie.Else1) where
   abbrev begun : tie.Start
   begun = c .before .before .before .before
 
+  lent : soundLent (begun .args .store .now) ≡ true
+  lent = held (c .before .is-sound .ensures) (c .if1 .left)
+
   sound : IsSound (begun .args .store .now)
-  sound = sound-facts (begun .args .store .now) (held (c .before .is-sound .ensures) (c .if1 .left))
+  sound = lent-facts (begun .args .store .now) lent .tables
 
 block-runs-requires : tie.Need-block-runs-requires
 block-runs-requires c κs =
@@ -41,14 +46,18 @@ returns-2 c =
     let tested = c .before in
     let a = begun (tested .before) .args in
     let none : a .types .now ≡ [] = no-children (a .types .now) (tested .if2 .taken) in
-    subst (λ (types : List ℕ). Answered (a .store .now) types (ignoreOf (a .ignore)) (a .block) (a .length) (c .block-runs .result))
-    (ap listIn none ∙ no-list ∙ sym none) (c .block-runs .ensures)
+    as-found (a .store .now) (a .types .now) (ignoreOf (a .ignore)) (a .block) (a .length) _ (lent (tested .before))
+    (subst (λ (types : List ℕ). Answered true (a .store .now) types (ignoreOf (a .ignore)) (a .block) (a .length) (c .block-runs .result))
+    (ap listIn none ∙ no-list ∙ sym none) (c .block-runs .ensures))
 
 indexed-runs-requires : tie.Need-indexed-runs-requires
 indexed-runs-requires c κs = sound (c .before)
 
 returns-3 : tie.Need-returns-3
-returns-3 c = c .indexed-runs .ensures
+returns-3 c =
+    let k = c .before .before in
+    let a = begun k .args in
+    as-found (a .store .now) (a .types .now) (ignoreOf (a .ignore)) (a .block) (a .length) _ (lent k) (c .indexed-runs .ensures)
 
 pub repeated-run-spec : {M : Type 1} → statement M
 repeated-run-spec =

@@ -43,6 +43,8 @@ pub enum Line {
         index: u32,
         value: u32,
     },
+    Mark(u32),
+    GoBack(u32),
     Compare {
         sort: Sort,
         lhs: u32,
@@ -93,6 +95,8 @@ impl Line {
             "b" => Line::Block { region: f.number()?, label: f.number()?, location: f.number()?, argument_types: f.list()? },
             "a" => Line::Attribute(owner(f)?, Attribute { key: f.number()?, kind: f.number()?, content: f.number()? }),
             "s" => Line::Operand { op: f.number()?, index: f.number()?, value: f.number()? },
+            "M" => Line::Mark(f.number()?),
+            "G" => Line::GoBack(f.number()?),
             "q" => Line::Compare { sort: sort(f)?, lhs: f.number()?, rhs: f.number()?, ignore: f.ignore()? },
             "E" => Line::Enter { entry: entry(f)?, left: f.number()?, image: f.number()? },
             "P" => Line::Entries,

@@ -58,6 +58,8 @@ impl Replay {
             }
             Line::Attribute(owner, attribute) => answered(lent::set_attribute(store, *owner, *attribute).map(|()| "ok")),
             Line::Operand { op, index, value } => answered(lent::set_operand(store, *op, *index, *value).map(|()| "ok")),
+            Line::Mark(mark) => answered(lent::set_mark(store, *mark).map(|()| "ok")),
+            Line::GoBack(mark) => answered(lent::go_back(store, *mark).map(|()| "ok")),
             Line::Compare { sort, lhs, rhs, ignore } => answered(self.compare(*sort, (*lhs, *rhs), ignore)),
             Line::Enter { entry, left, image } => self.enter(*entry, *left, *image),
             Line::Entries => Some(text::entries(&self.left)),

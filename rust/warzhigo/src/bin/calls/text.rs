@@ -71,5 +71,6 @@ fn others(store: &Store, text: &mut String) -> std::fmt::Result {
         write!(text, "value {} {} {owner}.{}|", value.id(), value.get_type(), value.place())?;
     }
     let totals = store.totals();
-    write!(text, "totals {} {} {}", totals.operands, totals.successors, totals.attributes)
+    write!(text, "totals {} {} {}|", totals.operands, totals.successors, totals.attributes)?;
+    write!(text, "marks {} remembered {}", list(store.marks()), store.remembered())
 }
