@@ -100,6 +100,9 @@ size_t wz_index_words(void);
 /* Is it a sound store, and would it be one after going back to any of its marks? */
 bool wz_is_sound(const uint32_t *store, size_t words);
 
+/* Are the marks and the journal of this store sound, whose tables are? For whoever takes these words alone from elsewhere. */
+bool wz_known_marks_are_sound(const uint32_t *store, size_t words);
+
 /* Is the mapping allowed beside this store? */
 bool wz_known_is_allowed(const uint32_t *store, size_t words, const uint32_t *mapping, size_t entries);
 

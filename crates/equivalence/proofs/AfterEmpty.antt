@@ -12,11 +12,11 @@ use Rattle.rules.specs.Entered.{EnteredBy, pairedIn}
 use Rattle.rules.proofs.Walking.Entered.{comparison-entered}
 use Rattle.layout.specs.Reading.{storeIn}
 use Rattle.layout.specs.Soundness.{IsSound}
-use Rattle.equivalence.specs.MappingWords.{mappingOf, emptyWords}
-use Rattle.equivalence.specs.Walked.{answerOf}
+use Rattle.mapping.specs.MappingWords.{mappingOf, emptyWords}
+use Rattle.pairing.specs.Told.{answerOf}
 use Rattle.equivalence.specs.Calls.{Answered}
-use Rattle.equivalence.specs.declared.types.EqResult.{EqResult}
-use Rattle.equivalence.proofs.Unmapped.{empty-words}
+use Rattle.pairing.specs.declared.types.EqResult.{EqResult}
+use Rattle.mapping.proofs.Unmapped.{empty-words}
 
 pub answered-entered : (ok : Bool) (store types before after : List ℕ) (ig : Ignore) (f : Sort) (l r : ℕ) (q : EqResult) → IsSound store → before ≡ emptyWords
     → Answered ok store types before after ig f l r q → EnteredBy (storeIn store) (mappingOf after) (pairedIn (answerOf q))

@@ -26,13 +26,14 @@ use Rattle.renaming.specs.Index.{listIn, IsIndex}
 use Rattle.renaming.proofs.Indexed.{no-words, no-list}
 use Rattle.fragments.specs.Options.{Options, under}
 use Rattle.fragments.specs.Order.{blockList}
-use Rattle.equivalence.specs.MappingWords.{mappingLength, mappingOf}
-use Rattle.equivalence.specs.Walked.{answerOf, stateOf, outcome, Told, PairedFits, leftOf, rightOf, pairOfLists, regionWalk, opWalk, listsWalk, fragmentsWalk}
+use Rattle.mapping.specs.MappingWords.{mappingLength, mappingOf}
+use Rattle.pairing.specs.Told.{answerOf, stateOf, outcome, Told, PairedFits}
+use Rattle.equivalence.specs.Walked.{leftOf, rightOf, pairOfLists, regionWalk, opWalk, listsWalk, fragmentsWalk}
 use Rattle.equivalence.specs.Calls.{pairTests, Answered}
-use Rattle.equivalence.specs.declared.types.EqResult.{EqResult}
-use Rattle.equivalence.specs.declared.types.EqResult.the-variants.{Refused}
+use Rattle.pairing.specs.declared.types.EqResult.{EqResult}
+use Rattle.pairing.specs.declared.types.EqResult.the-variants.{Refused}
 use Rattle.equivalence.specs.declared.types.BlockLists.the-variants.{Alone}
-use Rattle.equivalence.proofs.Entries.{wrong-length}
+use Rattle.mapping.proofs.Entries.{wrong-length}
 
 -- ---- the tests of a pair
 

@@ -25,10 +25,11 @@ use Rattle.fragments.specs.Order.{blockList}
 use Rattle.fragments.specs.declared.types.Blocks.{Blocks}
 use Rattle.fragments.specs.declared.types.Blocks.the-variants as list
 use Rattle.fragments.proofs.Below.{below, aroundList, around-all, op-falls}
-use Rattle.equivalence.specs.MappingWords.{mappingOf, namesAgree}
-use Rattle.equivalence.specs.Walked.{answerOf, stateOf, outcome, Told, PairedFits, leftOf, rightOf, lefts, rights, pairOfLists, regionWalk, opWalk, opsWalk, listsWalk, pass1Walk, pass2Walk}
-use Rattle.equivalence.specs.declared.types.EqResult.{EqResult}
-use Rattle.equivalence.specs.declared.types.EqResult.the-variants.{Eq, FirstNEQOps}
+use Rattle.mapping.specs.MappingWords.{mappingOf, namesAgree}
+use Rattle.pairing.specs.Told.{answerOf, stateOf, outcome, Told, PairedFits}
+use Rattle.equivalence.specs.Walked.{leftOf, rightOf, lefts, rights, pairOfLists, regionWalk, opWalk, opsWalk, listsWalk, pass1Walk, pass2Walk}
+use Rattle.pairing.specs.declared.types.EqResult.{EqResult}
+use Rattle.pairing.specs.declared.types.EqResult.the-variants.{Eq, FirstNEQOps}
 use Rattle.equivalence.specs.declared.types.BlockLists.{BlockLists}
 use Rattle.equivalence.specs.declared.types.BlockLists.the-variants.{InRegions}
 use Rattle.equivalence.proofs.Telling.{NotEq, told-ended, told-bind, few-part}

@@ -12,12 +12,13 @@ use denote.Enum.Declared.{tagOf}
 use Rattle.rules.specs.Comparison.{State, Pair, unequal, oneLonger, tooDeep, Walk, on, ended, standing, _>>=_}
 use Rattle.rules.specs.Answers.{Compared, Comparison, eq, neq, refused, comparisonOf}
 use Rattle.rules.proofs.Walking.Paired.{Grows, grows-bind}
-use Rattle.equivalence.specs.Walked.{answerOf, stateOf, outcome, Told, maxPaired, PairedFits, pairOfLists, neqOf}
+use Rattle.pairing.specs.Told.{answerOf, stateOf, outcome, Told, maxPaired, PairedFits}
+use Rattle.equivalence.specs.Walked.{pairOfLists, neqOf}
 use Rattle.equivalence.specs.declared.types.BlockLists.{BlockLists}
 use Rattle.equivalence.specs.declared.types.BlockLists.the-variants.{InRegions, Alone}
-use Rattle.equivalence.specs.declared.types.EqResult.{EqResult}
-use Rattle.equivalence.specs.declared.types.EqResult.the-variants.{Eq, FirstNEQOps, FirstNEQRegions, FirstNEQBlocks, Refused}
-use Rattle.equivalence.proofs.types.EqResult as result
+use Rattle.pairing.specs.declared.types.EqResult.{EqResult}
+use Rattle.pairing.specs.declared.types.EqResult.the-variants.{Eq, FirstNEQOps, FirstNEQRegions, FirstNEQBlocks, Refused}
+use Rattle.pairing.proofs.types.EqResult as result
 
 -- an answer by another variant than the first
 abbrev pub NotEq : EqResult → Type 0

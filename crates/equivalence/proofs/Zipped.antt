@@ -8,10 +8,10 @@ use Rattle.rules.specs.Answers.{neq}
 use Rattle.rules.proofs.Walking.Paired.{Grows, grows-pairwise, grows-each}
 use Rattle.layout.specs.Children.{onFrom}
 use Rattle.layout.proofs.Seeking.{Rising, from-zero}
-use Rattle.equivalence.specs.Walked.{answerOf, stateOf, Told, maxPaired, PairedFits}
+use Rattle.pairing.specs.Told.{answerOf, stateOf, Told, maxPaired, PairedFits}
 use Rattle.equivalence.specs.Order.{nextOf}
-use Rattle.equivalence.specs.declared.types.EqResult.{EqResult}
-use Rattle.equivalence.specs.declared.types.EqResult.the-variants.{Eq}
+use Rattle.pairing.specs.declared.types.EqResult.{EqResult}
+use Rattle.pairing.specs.declared.types.EqResult.the-variants.{Eq}
 use Rattle.equivalence.specs.declared.types.ZipNext.{ZipNext}
 use Rattle.equivalence.specs.declared.types.ZipNext.the-variants.{Both, Neither, Unequal}
 use Rattle.equivalence.proofs.Ordered.{Else, BothNext, next-both, next-neither, next-unequal, next-else, pairwise-cons, pairwise-over, pairwise-uneven, each-cons, each-over}

@@ -8,10 +8,10 @@ use Rattle.rules.specs.Fragments.{Sort, exists}
 use Rattle.rules.specs.Shells as rules
 use Rattle.rules.specs.Answers.{shallow, comparison}
 use Rattle.layout.specs.Reading.{storeIn}
-use Rattle.equivalence.specs.MappingWords.{mappingOf}
-use Rattle.equivalence.specs.Walked.{answerOf}
-use Rattle.equivalence.specs.declared.types.EqResult.{EqResult}
-use Rattle.equivalence.specs.declared.types.EqResult.the-variants.{Refused}
+use Rattle.mapping.specs.MappingWords.{mappingOf}
+use Rattle.pairing.specs.Told.{answerOf}
+use Rattle.pairing.specs.declared.types.EqResult.{EqResult}
+use Rattle.pairing.specs.declared.types.EqResult.the-variants.{Refused}
 
 -- what is tested of two fragments before anything is entered
 unfoldable pub pairTests : Store → Sort → ℕ → ℕ → List (Bool × ℕ)

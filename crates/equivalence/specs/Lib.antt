@@ -1,8 +1,4 @@
--- The comparison on lent buffers: what a lent mapping is read as, and what is compared by the rows of the store.
-pub mod MappingWords
-pub mod Slots
-pub mod Rows
+-- The comparison on lent buffers: what is walked through, in which order, and what a call answers.
 pub mod Walked
 pub mod Order
 pub mod Calls
-pub mod Unmapping

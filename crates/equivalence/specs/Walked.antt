@@ -1,56 +1,17 @@
--- What the code tells of a walk: its answer and the words of the mapping stand for the rules' answer and mapping.
+-- What is walked through: two lists of blocks, and the rules' walks over them, over regions, operations and fragments.
 use Prim.Native.Nat.{ℕ, _≤_}
 use mathlib.Core.List.{List}
-use mathlib.Core.Path.{_≡_}
-use lib.ListN.{length}
 use Rattle.rules.specs.Store.{Store, opsOf}
-use Rattle.rules.specs.Fragments.{Sort, op, block, region, levels}
-use Rattle.rules.specs.Comparison.{State, Pair, Walk, standing, pairwise, eachPair, pairOf, pairOps, checkOps, pass1, pass2, compareLists, compareRegions, compareBy}
-use Rattle.rules.specs.Answers.{Compared, Comparison, eq, neq, refused, comparisonOf}
-use Rattle.layout.specs.Soundness.{IsSound}
-use Rattle.renaming.specs.Index.{IsIndex}
+use Rattle.rules.specs.Fragments.{Sort, block, region, levels}
+use Rattle.rules.specs.Comparison.{State, Pair, Walk, pairwise, eachPair, pairOf, pairOps, checkOps, pass1, pass2, compareLists, compareRegions, compareBy}
 use Rattle.fragments.specs.Options.{Options, under}
 use Rattle.fragments.specs.Order.{blockList}
 use Rattle.fragments.specs.declared.types.Blocks.{Blocks}
 use Rattle.fragments.specs.declared.types.Blocks.the-variants as list
-use Rattle.equivalence.specs.MappingWords.{mappingLength, mappingOf}
-use Rattle.equivalence.specs.declared.types.EqResult.{EqResult}
-use Rattle.equivalence.specs.declared.types.EqResult.the-variants.{Eq, FirstNEQOps, FirstNEQRegions, FirstNEQBlocks, Refused}
+use Rattle.pairing.specs.declared.types.EqResult.{EqResult}
+use Rattle.pairing.specs.declared.types.EqResult.the-variants.{FirstNEQRegions, FirstNEQBlocks}
 use Rattle.equivalence.specs.declared.types.BlockLists.{BlockLists}
 use Rattle.equivalence.specs.declared.types.BlockLists.the-variants.{InRegions, Alone}
-
--- 01's answer and numbers for each case
-unfoldable pub answerOf : EqResult → Compared
-answerOf (Eq n) = eq n
-answerOf (FirstNEQOps l r n) = neq (pairOf op l r) n
-answerOf (FirstNEQRegions l r n) = neq (pairOf region l r) n
-answerOf (FirstNEQBlocks l r n) = neq (pairOf block l r) n
-answerOf (Refused cause) = refused cause
-
--- the state of a walk: the words of the mapping, and so many pairs entered
-unfoldable pub stateOf : List ℕ → ℕ → State
-stateOf b n = record { mapping = mappingOf b; paired = n }
-
--- where a walk has come to: its answer, and the mapping with the entries made so far
-unfoldable pub outcome : Walk → Comparison
-outcome w = comparisonOf w (standing w .mapping)
-
--- the answer and the words tell where the walk has come to
-unfoldable pub Told : Walk → EqResult → List ℕ → Type 0
-Told w q b = outcome w ≡ record { answer = answerOf q; mapping = mappingOf b }
-
--- a sound store, an index of renamed types, and a mapping of the right length: what every step of a walk asks for
-pub record ReadyToCompare (store types mapping : List ℕ) : Type 0 where
-  pub sound : IsSound store
-  pub indexed : IsIndex types
-  pub long : length mapping ≡ mappingLength
-
--- a walk enters no more than there are operations and blocks
-abbrev pub maxPaired : ℕ
-maxPaired = 768
-
-abbrev pub PairedFits : Walk → Type 0
-PairedFits w = standing w .paired ≤ maxPaired
 
 -- ---- two lists of blocks
 

@@ -1,12 +1,12 @@
 // The three offered comparisons: each refuses a buffer that is not sound, a mapping that is not allowed and a list of renamed types that does
 // not hold, and then compares its fragments.
 use crate::comparison::fragments_eq;
-use crate::mapping::is_allowed;
 use crate::types::EqResult;
 use crate::types::Fragments;
 use fragments::ignoring::Ignore;
 use fragments::types::Sort;
 use lending::lent::is_sound;
+use mapping::mapping::is_allowed;
 use renaming::indexing::INDEX_LENGTH;
 use renaming::indexing::index_types;
 ghost use mathlib.Core.Bool.{true};
@@ -18,7 +18,7 @@ ghost use Rattle.layout.specs.Soundness.{IsSound};
 ghost use Rattle.journal.specs.Words.{soundLent};
 ghost use Rattle.fragments.specs.Ignoring.{ignoreOf};
 ghost use Rattle.fragments.specs.Sorts.{sortOf};
-ghost use Rattle.equivalence.specs.MappingWords.{mappingOf};
+ghost use Rattle.mapping.specs.MappingWords.{mappingOf};
 ghost use Rattle.equivalence.specs.Calls.{Answered};
 
 // Compare two fragments on a sound store, begun with an allowed mapping, under a list of renamed types that may hold any words: it is

@@ -1,18 +1,18 @@
 // Comparison of two fragments on a sound store, begun with an allowed mapping.
-use crate::pairing::op_eq_map;
 use crate::regions::blocks_eq;
 use crate::regions::op_eq_mapped;
 use crate::regions::region_eq;
 use crate::types::BlockLists;
 use crate::types::EqResult;
 use crate::types::Fragments;
-use crate::types::Pair;
 use fragments::ignoring::Ignore;
 use fragments::sorts::exists;
 use fragments::types::Sort;
 use layout::causes::Cause;
 use layout::columns::OP_KIND;
 use layout::columns::at;
+use pairing::pairing::op_eq_map;
+use pairing::types::Pair;
 ghost use mathlib.Core.Bool.{true};
 ghost use mathlib.Core.Path.{_≡_};
 ghost use Rattle.rules.specs.Building.{firstFailed};
@@ -27,8 +27,9 @@ ghost use Rattle.fragments.specs.Sorts.{sortOf};
 ghost use Rattle.renaming.specs.Index.{listIn};
 ghost use Rattle.fragments.specs.Ignoring.{ignoreOf};
 ghost use Rattle.fragments.specs.Options.{optionsOf, Readable};
-ghost use Rattle.equivalence.specs.MappingWords.{mappingOf};
-ghost use Rattle.equivalence.specs.Walked.{ReadyToCompare, Told, PairedFits, stateOf, fragmentsWalk};
+ghost use Rattle.mapping.specs.MappingWords.{mappingOf};
+ghost use Rattle.pairing.specs.Told.{ReadyToCompare, Told, PairedFits, stateOf};
+ghost use Rattle.equivalence.specs.Walked.{fragmentsWalk};
 ghost use Rattle.equivalence.specs.Calls.{Answered, pairTests};
 
 // Why two fragments are not compared: one does not exist. In a sound store none is nested too deep.

@@ -3,15 +3,9 @@
 // The algorithm is two-pass, conceptually.
 // 1. Map all definitions (operations' results, blocks' arguments, and blocks).
 // 2. Compare everything. Uses (operands and successors) are compared through their mappings, where they have one.
-pub mod attributes;
 pub mod calls;
 pub mod comparison;
-pub mod mapping;
-pub mod names;
 pub mod order;
-pub mod pairing;
 pub mod passes;
 pub mod regions;
-pub mod shells;
 pub mod types;
-pub mod unmapping;

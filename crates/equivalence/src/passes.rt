@@ -1,19 +1,20 @@
 // The first two passes of `blocks_eq`: everything that two lists of blocks define is mapped, before any use is compared.
 use crate::order::next_blocks;
 use crate::order::next_ops;
-use crate::pairing::block_eq_map;
-use crate::pairing::op_eq_map;
 use crate::types::BlockLists;
 use crate::types::EqResult;
-use crate::types::Pair;
 use crate::types::ZipNext;
 use fragments::ignoring::Ignore;
+use pairing::pairing::block_eq_map;
+use pairing::pairing::op_eq_map;
+use pairing::types::Pair;
 ghost use Prim.Native.Nat.{_<_};
 ghost use mathlib.Core.Path.{_≡_};
 ghost use Rattle.layout.specs.Columns.{columns};
 ghost use Rattle.layout.specs.Reading.{blockCount, storeIn};
 ghost use Rattle.fragments.specs.Options.{optionsOf};
-ghost use Rattle.equivalence.specs.Walked.{ReadyToCompare, Told, PairedFits, stateOf, neqOf, Bounded, pass1Walk, pairsWalk, pass2Walk};
+ghost use Rattle.pairing.specs.Told.{ReadyToCompare, Told, PairedFits, stateOf};
+ghost use Rattle.equivalence.specs.Walked.{neqOf, Bounded, pass1Walk, pairsWalk, pass2Walk};
 ghost use Rattle.equivalence.specs.Order.{ListsExist};
 
 // One list is longer: the first unequal pair is the two regions. Two blocks alone are lists of the same length, so theirs is never reached.

@@ -2,19 +2,19 @@
 // since a region holds fewer operations than the operation around it. An operation's uses are compared after everything in its list of
 // blocks is mapped, and before anything in its own regions is. What is ignored is put together anew from its fields (`rule`): so calls take
 // it in registers, where a copy would go through memory each time.
-use crate::names::names_agree;
 use crate::order::next_blocks;
 use crate::order::next_ops;
 use crate::passes::map_blocks;
 use crate::passes::map_ops;
 use crate::types::BlockLists;
 use crate::types::EqResult;
-use crate::types::Pair;
 use crate::types::ZipNext;
 use fragments::ignoring::Ignore;
 use fragments::rows::op_regions;
 use layout::columns::OP_REGION_FIRST;
 use layout::columns::number;
+use pairing::names::names_agree;
+use pairing::types::Pair;
 ghost use Prim.Native.Nat.{_<_, min};
 ghost use mathlib.Core.Path.{_≡_};
 ghost use lib.ListN.{length};
@@ -23,7 +23,8 @@ ghost use Rattle.layout.specs.Columns.{columns};
 ghost use Rattle.layout.specs.Reading.{opCount, blockCount, regionCount, storeIn};
 ghost use Rattle.layout.specs.Soundness.{IsSound};
 ghost use Rattle.fragments.specs.Options.{optionsOf};
-ghost use Rattle.equivalence.specs.Walked.{ReadyToCompare, Told, PairedFits, stateOf, regionWalk, opWalk, opsWalk, listsWalk};
+ghost use Rattle.pairing.specs.Told.{ReadyToCompare, Told, PairedFits, stateOf};
+ghost use Rattle.equivalence.specs.Walked.{regionWalk, opWalk, opsWalk, listsWalk};
 ghost use Rattle.equivalence.specs.Order.{ListsExist};
 
 // How many pairs of regions two operations have.

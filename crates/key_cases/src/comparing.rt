@@ -7,9 +7,9 @@ use crate::writing::nothing;
 use fragments::ignoring::Ignore;
 use hashing::calls::operation_hash;
 use hashing::types::Hashed;
+use key_bytes::order::compare_keys;
+use key_bytes::types::Ordering;
 use keys::calls::operation_key;
-use keys::order::compare_keys;
-use keys::types::Ordering;
 
 pub fn order_line(name: &[u8], lhs: &[u8], rhs: &[u8]) {
     io::write_all(1, name);

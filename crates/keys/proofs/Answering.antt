@@ -26,9 +26,10 @@ use Rattle.renaming.specs.Index.{listIn, IsIndex}
 use Rattle.renaming.proofs.Indexed.{no-words, no-list}
 use Rattle.fragments.specs.Options.{Options, under}
 use Rattle.numbering.proofs.Counting.{noWords, room-start, stands-start}
-use Rattle.keys.specs.Written.{Put, stepsBytes, from, upTo, Wrote, KeyFits}
+use Rattle.key_bytes.specs.Put.{Put}
+use Rattle.keys.specs.Written.{stepsBytes, from, upTo, Wrote, KeyFits}
 use Rattle.keys.specs.Calls.{keyedOf, Answered}
-use Rattle.keys.proofs.Putting.{put-as}
+use Rattle.key_bytes.proofs.Putting.{put-as}
 use Rattle.keys.specs.declared.types.Keyed.{Keyed}
 use Rattle.keys.specs.declared.types.Keyed.the-variants.{Length, Refused}
 

@@ -18,7 +18,8 @@ use Rattle.layout.specs.Reading.{opCount, storeOf}
 use Rattle.layout.proofs.Tabulate.{ops-length}
 use Rattle.fragments.specs.Options.{Options, under}
 use Rattle.numbering.proofs.Lone.{two-steps}
-use Rattle.keys.specs.Written.{ownerBytes, namesBytes, stepsBytes}
+use Rattle.key_bytes.specs.Put.{ownerBytes}
+use Rattle.keys.specs.Written.{namesBytes, stepsBytes}
 use Rattle.keys.proofs.Naming.{name-few}
 
 -- a list of uses has a count and at most 9 bytes for each

@@ -8,7 +8,7 @@ use Rattle.rules.specs.Hash as rules
 use Rattle.rules.specs.Hash.{bytes, tag, leaf, count, nameBytes, walkNumber, storeNumber}
 use Rattle.numbering.specs.Words.{ruleName}
 use Rattle.numbering.specs.declared.words.Name.{Name}
-use Rattle.keys.specs.Written.{Put}
+use Rattle.key_bytes.specs.Put.{Put}
 
 pub name-few : (x : rules.Name) → length (nameBytes x) ≤ 9
 unfolding nameBytes bytes tag leaf count

@@ -18,8 +18,9 @@ use Rattle.numbering.specs.Words.{Stands}
 use Rattle.numbering.specs.Numbered.{numberedAll, valuesIn, blocksIn, Numbers}
 use Rattle.numbering.proofs.Counting.{numbers-none, numbers-then, numbers-counted, room-first, room-rest}
 use Rattle.numbering.proofs.Passing.{StepRelation}
-use Rattle.keys.specs.Written.{Put, Least, ownerBytes, namesBytes, stepsBytes, Place, from, upTo, Wrote, KeyFits}
-use Rattle.keys.proofs.Putting.{put-none, put-then, back, put-rest}
+use Rattle.key_bytes.specs.Put.{Put, Least, ownerBytes}
+use Rattle.keys.specs.Written.{namesBytes, stepsBytes, Place, from, upTo, Wrote, KeyFits}
+use Rattle.key_bytes.proofs.Putting.{put-none, put-then, back, put-rest}
 
 module _ (s : Store) (o : Options) where
   bytes-append : (xs ys : List Step) (N : Numbering) → stepsBytes s o (xs ++ ys) N ≡ stepsBytes s o xs N ++ stepsBytes s o ys (numberedAll s xs N)

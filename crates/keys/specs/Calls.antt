@@ -1,4 +1,4 @@
--- What the key calls and the comparison of keys give: the rules' answers, for every buffer, list of types, ignore rule, number and lent bytes.
+-- What the key calls give: the rules' answers, for every buffer, list of types, ignore rule, number and lent bytes.
 use Prim.Native.Nat.{ℕ}
 use mathlib.Core.Bool.{Bool}
 use mathlib.Core.List.{List}
@@ -10,18 +10,11 @@ use Rattle.rules.specs.Keys.{keyed}
 use Rattle.layout.specs.Reading.{storeIn}
 use Rattle.keys.specs.declared.types.Keyed.{Keyed}
 use Rattle.keys.specs.declared.types.Keyed.the-variants.{Length, Refused}
-use Rattle.keys.specs.declared.types.Ordering.{Ordering}
-use Rattle.keys.specs.declared.types.Ordering.the-variants.{Less, Equal, Greater}
 
 -- the rules' answer for each case
 unfoldable pub keyedOf : Keyed → rules.Keyed
 keyedOf (Length n) = rules.keyLength n
 keyedOf (Refused cause) = rules.refusedKey cause
-
-unfoldable pub orderingOf : Ordering → rules.Ordering
-orderingOf Less = rules.less
-orderingOf Equal = rules.same
-orderingOf Greater = rules.greater
 
 -- of a fragment under a lent list of types, with the lent bytes before and after; `ok` is whether the store is sound
 pub record Answered (ok : Bool) (store types : List ℕ) (ig : Ignore) (f : Sort) (n : ℕ) (before after : List ℕ) (q : Keyed) : Type 0 where

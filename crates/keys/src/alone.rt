@@ -1,10 +1,10 @@
 // An operation without regions, alone: no words are needed to number what it defines.
 use crate::names::put_name;
-use crate::shells::put_own_op;
-use crate::sink::least;
-use crate::sink::put_count;
 use fragments::ignoring::Ignore;
 use fragments::rows::op_row;
+use key_bytes::shells::put_own_op;
+use key_bytes::sink::least;
+use key_bytes::sink::put_count;
 use layout::slices::operands_of;
 use layout::slices::successors_of;
 use numbering::alone::own_name;
@@ -22,7 +22,8 @@ ghost use Rattle.layout.specs.Soundness.{IsSound};
 ghost use Rattle.renaming.specs.Index.{listIn};
 ghost use Rattle.fragments.specs.Ignoring.{ignoreOf};
 ghost use Rattle.fragments.specs.Options.{Readable};
-ghost use Rattle.keys.specs.Written.{Put, namesBytes};
+ghost use Rattle.key_bytes.specs.Put.{Put};
+ghost use Rattle.keys.specs.Written.{namesBytes};
 
 // How many uses there are, then each, where the numbers from `first` up to `end` are defined, and nothing else is.
 fn put_own_names(key: &mut [u8], list: &[u32], first: usize, end: usize) -> usize

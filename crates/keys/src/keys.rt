@@ -2,7 +2,6 @@
 // not fit its length is found first, by the same walk into no bytes at all, so that nothing is written before a refusal.
 use crate::alone::put_alone;
 use crate::shells::put_op_shell;
-use crate::sink::least;
 use crate::types::Keyed;
 use crate::walk::put_blocks_full;
 use crate::walk::put_op_full;
@@ -10,6 +9,7 @@ use fragments::ignoring::Ignore;
 use fragments::sorts::exists;
 use fragments::types::Blocks;
 use fragments::types::Sort;
+use key_bytes::sink::least;
 use numbering::alone::holds_nothing;
 use numbering::words::NUMBERS_LENGTH;
 use numbering::words::WalkNumbers;
@@ -27,7 +27,8 @@ ghost use Rattle.renaming.specs.Index.{listIn};
 ghost use Rattle.fragments.specs.Ignoring.{ignoreOf};
 ghost use Rattle.fragments.specs.Options.{optionsOf, Readable};
 ghost use Rattle.fragments.specs.Sorts.{sortOf};
-ghost use Rattle.keys.specs.Written.{Put, from, upTo, Wrote, KeyFits};
+ghost use Rattle.key_bytes.specs.Put.{Put};
+ghost use Rattle.keys.specs.Written.{from, upTo, Wrote, KeyFits};
 ghost use Rattle.keys.specs.Calls.{Answered};
 
 // No key is longer.

@@ -1,8 +1,8 @@
 // What an operation uses: each operand and successor by its name, behind how many there are.
-use crate::sink::least;
-use crate::sink::put_count;
-use crate::sink::put_store_number;
-use crate::sink::put_walk_number;
+use key_bytes::sink::least;
+use key_bytes::sink::put_count;
+use key_bytes::sink::put_store_number;
+use key_bytes::sink::put_walk_number;
 use layout::slices::operands_of;
 use layout::slices::successors_of;
 use numbering::words::Name;
@@ -21,7 +21,8 @@ ghost use Rattle.layout.specs.Columns.{columns};
 ghost use Rattle.layout.specs.Reading.{opCount, valueCount, storeIn};
 ghost use Rattle.layout.specs.Soundness.{IsSound};
 ghost use Rattle.numbering.specs.Words.{ruleName};
-ghost use Rattle.keys.specs.Written.{Put, PutsOperands, PutsSuccessors, WroteNames};
+ghost use Rattle.key_bytes.specs.Put.{Put};
+ghost use Rattle.keys.specs.Written.{PutsOperands, PutsSuccessors, WroteNames};
 
 // A use by its name: tag 0 and the walk number, or tag 1 and the number in the store.
 pub fn put_name(key: &mut [u8], name: Name) -> usize

@@ -1,13 +1,13 @@
 // The first two passes of `put_blocks_full`: what a list of blocks defines is written by itself and numbered, before any use is.
-use crate::counts::blocks_counted;
-use crate::counts::ops_counted;
 use crate::shells::put_block_shell;
 use crate::shells::put_op_shell;
-use crate::sink::least;
-use crate::sink::put_count;
 use fragments::ignoring::Ignore;
 use fragments::order::next_in;
 use fragments::types::Blocks;
+use key_bytes::counts::blocks_counted;
+use key_bytes::counts::ops_counted;
+use key_bytes::sink::least;
+use key_bytes::sink::put_count;
 use layout::children::Found;
 use layout::children::next_op;
 use numbering::words::WalkNumbers;

@@ -4,10 +4,10 @@
 use crate::names::put_names;
 use crate::passes::put_block_shells;
 use crate::passes::put_op_shells;
-use crate::sink::least;
 use fragments::ignoring::Ignore;
 use fragments::order::next_in;
 use fragments::types::Blocks;
+use key_bytes::sink::least;
 use layout::children::Found;
 use layout::children::next_op;
 use layout::columns::OP_REGION_END;

@@ -22,11 +22,11 @@ use Rattle.rules.proofs.Rust.Comparison.{compares-as-the-rust}
 use Rattle.rules.proofs.Rust.Hash.{hashes-as-the-rust}
 use Rattle.layout.specs.Reading.{storeIn}
 use Rattle.journal.specs.Words.{soundLent}
-use Rattle.equivalence.specs.MappingWords.{mappingOf}
-use Rattle.equivalence.specs.Walked.{answerOf}
+use Rattle.mapping.specs.MappingWords.{mappingOf}
+use Rattle.pairing.specs.Told.{answerOf}
 use Rattle.equivalence.specs.Calls as comparisons
-use Rattle.equivalence.specs.declared.types.EqResult.{EqResult}
-use Rattle.equivalence.specs.declared.types.EqResult.the-variants as code
+use Rattle.pairing.specs.declared.types.EqResult.{EqResult}
+use Rattle.pairing.specs.declared.types.EqResult.the-variants as code
 use Rattle.hashing.specs.declared.types.Hashed.the-variants.{Hash}
 use Rattle.laws.specs.Demand2.{verdictOf, AnswersAgree, Demand2OfCode}
 use Rattle.laws.proofs.Obeyed.{ruled, here, equal-only, hash-said}

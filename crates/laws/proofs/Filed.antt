@@ -28,7 +28,8 @@ use Rattle.journal.specs.Journal.{markedOf}
 use Rattle.journal.specs.Words.{journaledOf, soundLent}
 use Rattle.building.specs.Calls.{AfterCalls}
 use Rattle.building.proofs.Answering.{after-calls}
-use Rattle.keys.specs.Calls.{keyedOf, orderingOf}
+use Rattle.key_bytes.specs.Order.{orderingOf}
+use Rattle.keys.specs.Calls.{keyedOf}
 use Rattle.laws.specs.Filing.{Writes, AnswersFile, FilingOfCode, WordsFit}
 use Rattle.laws.proofs.Obeyed.{ruled, here, apart, says, said}
 

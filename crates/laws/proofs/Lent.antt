@@ -6,7 +6,7 @@ use Rattle.rules.specs.Mapping.{Mapping, allowed}
 use Rattle.rules.specs.Answers.{Comparison}
 use Rattle.rules.proofs.Walking.Allowed.{comparison-allowed}
 use Rattle.layout.specs.Reading.{storeIn}
-use Rattle.equivalence.specs.MappingWords.{mappingOf}
+use Rattle.mapping.specs.MappingWords.{mappingOf}
 use Rattle.laws.specs.Lending.{AllowedAgain}
 
 pub allowed-again : AllowedAgain

@@ -22,11 +22,11 @@ use Rattle.journal.specs.Words.{soundLent}
 use Rattle.marks.proofs.Lent.{lent-facts}
 use Rattle.building.specs.Calls.{AfterCalls}
 use Rattle.building.proofs.Answering.{after-calls}
-use Rattle.equivalence.specs.MappingWords.{mappingOf, emptyWords}
-use Rattle.equivalence.specs.Walked.{answerOf}
-use Rattle.equivalence.proofs.Unmapped.{empty-words}
-use Rattle.equivalence.specs.declared.types.EqResult.{EqResult}
-use Rattle.equivalence.specs.declared.types.EqResult.the-variants.{Eq, FirstNEQOps, FirstNEQRegions, FirstNEQBlocks, Refused}
+use Rattle.mapping.specs.MappingWords.{mappingOf, emptyWords}
+use Rattle.pairing.specs.Told.{answerOf}
+use Rattle.mapping.proofs.Unmapped.{empty-words}
+use Rattle.pairing.specs.declared.types.EqResult.{EqResult}
+use Rattle.pairing.specs.declared.types.EqResult.the-variants.{Eq, FirstNEQOps, FirstNEQRegions, FirstNEQBlocks, Refused}
 use Rattle.hashing.specs.Calls as hashes
 use Rattle.hashing.specs.declared.types.Hashed.{Hashed}
 use Rattle.hashing.specs.declared.types.Hashed.the-variants as code

@@ -14,10 +14,10 @@ use Rattle.rules.specs.Laws.{In}
 use Rattle.layout.specs.Reading.{storeIn}
 use Rattle.journal.specs.Words.{soundLent}
 use Rattle.building.specs.Calls.{Made, IsEmpty}
-use Rattle.equivalence.specs.MappingWords.{emptyWords}
+use Rattle.mapping.specs.MappingWords.{emptyWords}
 use Rattle.equivalence.specs.Calls as comparisons
-use Rattle.equivalence.specs.declared.types.EqResult.{EqResult}
-use Rattle.equivalence.specs.declared.types.EqResult.the-variants.{Eq}
+use Rattle.pairing.specs.declared.types.EqResult.{EqResult}
+use Rattle.pairing.specs.declared.types.EqResult.the-variants.{Eq}
 use Rattle.hashing.specs.Calls as hashes
 use Rattle.hashing.specs.declared.types.Hashed.{Hashed}
 use Rattle.hashing.specs.declared.types.Hashed.the-variants.{Hash}

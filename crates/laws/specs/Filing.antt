@@ -18,11 +18,11 @@ use Rattle.rules.specs.Laws.{In}
 use Rattle.layout.specs.Reading.{storeIn}
 use Rattle.journal.specs.Words.{soundLent}
 use Rattle.building.specs.Calls.{Made, IsEmpty}
-use Rattle.equivalence.specs.declared.types.EqResult.{EqResult}
+use Rattle.pairing.specs.declared.types.EqResult.{EqResult}
 use Rattle.keys.specs.Calls as keys
-use Rattle.keys.specs.Calls.{orderingOf}
+use Rattle.key_bytes.specs.Order.{orderingOf}
 use Rattle.keys.specs.declared.types.Keyed.the-variants.{Length}
-use Rattle.keys.specs.declared.types.Ordering.{Ordering}
+use Rattle.key_bytes.specs.declared.types.Ordering.{Ordering}
 use Rattle.laws.specs.Answers.{Compares, SaysEqual}
 
 -- the offered key call of a has written this key into some lent bytes (`operation_key`, `basic_block_key`, `region_key`)

@@ -8,9 +8,9 @@ use Rattle.rules.specs.Fragments.{Sort}
 use Rattle.rules.specs.Shells.{Ignore}
 use Rattle.rules.specs.Mapping.{allowed}
 use Rattle.layout.specs.Reading.{storeIn}
-use Rattle.equivalence.specs.MappingWords.{mappingOf}
+use Rattle.mapping.specs.MappingWords.{mappingOf}
 use Rattle.equivalence.specs.Calls as comparisons
-use Rattle.equivalence.specs.declared.types.EqResult.{EqResult}
+use Rattle.pairing.specs.declared.types.EqResult.{EqResult}
 
 -- whatever the buffer, the list of types and the numbers, answered or refused; `ok` is whether the buffer is sound
 unfoldable pub AllowedAgain : Type 0

@@ -5,9 +5,9 @@ use mathlib.Core.Option.{Option, none, some}
 use lib.Dec.{eqb}
 use Rattle.rules.specs.Store as rules
 use Rattle.rules.specs.Shells.{Ignore}
-use Rattle.equivalence.specs.declared.types.EqResult.{EqResult}
-use Rattle.equivalence.specs.declared.types.EqResult.the-variants as EqResults
-use Rattle.equivalence.specs.declared.types.Entries as found
+use Rattle.pairing.specs.declared.types.EqResult.{EqResult}
+use Rattle.pairing.specs.declared.types.EqResult.the-variants as EqResults
+use Rattle.mapping.specs.declared.types.Entries as found
 use Rattle.hashing.specs.declared.types.Hashed.{Hashed}
 use Rattle.hashing.specs.declared.types.Hashed.the-variants as Hashes
 use Rattle.keys.specs.declared.types.Keyed.{Keyed}

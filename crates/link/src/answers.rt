@@ -81,7 +81,7 @@ pub struct Entries {
     pub past: u32,
 }
 
-pub fn of_entries(e: equivalence::types::Entries) -> Entries
+pub fn of_entries(e: mapping::types::Entries) -> Entries
     ensures { λ r. ⌜ entriesMean r ≡ e ⌝ }
 {
     Entries {

@@ -19,12 +19,12 @@ use calling::types::OpFields;
 use equivalence::comparison::fragments_eq;
 use equivalence::comparison::operations_eq;
 use equivalence::types::Fragments;
-use equivalence::unmapping::entered;
 use fragments::ignoring::Ignore;
 use fragments::types::Sort;
 use hashing::hashes::fragment_hash;
 use keys::keys::fragment_key;
 use keys::keys::key_length;
+use mapping::unmapping::entered;
 use renaming::indexing::index_types;
 use runs::finding::block_runs;
 ghost use mathlib.Core.Bool.{true};
@@ -33,9 +33,11 @@ ghost use lib.ListN.{length};
 ghost use Rattle.rules.specs.Mapping.{allowed};
 ghost use Rattle.rules.specs.Types.{renamed};
 ghost use Rattle.rules.specs.Entered.{EnteredBy};
+ghost use Rattle.layout.specs.Columns.{columns};
 ghost use Rattle.layout.specs.Reading.{storeIn};
-ghost use Rattle.equivalence.specs.MappingWords.{mappingLength, mappingOf};
-ghost use Rattle.equivalence.specs.Unmapping.{EntriesIn};
+ghost use Rattle.journal.specs.Words.{marksHoldIn};
+ghost use Rattle.mapping.specs.MappingWords.{mappingLength, mappingOf};
+ghost use Rattle.mapping.specs.Unmapping.{EntriesIn};
 ghost use Rattle.rules.specs.Building.{newOperation, newBlock, setAttribute, setOperand};
 ghost use Rattle.rules.specs.Fragments.{op, exists};
 ghost use Rattle.rules.specs.Keys;
@@ -56,7 +58,16 @@ pub extern "C" fn wz_known_is_allowed(store: &[u32], mapping: &[u32]) -> bool
     requires { ⌜ IsSound (now store) ⌝ }
     ensures { λ r. ⌜ r ≡ allowed (storeIn (now (store .entry))) (mappingOf (now (mapping .entry))) ⌝ }
 {
-    equivalence::mapping::is_allowed(store, mapping)
+    mapping::mapping::is_allowed(store, mapping)
+}
+
+// The test of the marks and the journal of a store whose tables are known to be sound.
+#[no_mangle]
+pub extern "C" fn wz_known_marks_are_sound(store: &[u32]) -> bool
+    requires { ⌜ IsSound (now store) ⌝ }
+    ensures { λ r. ⌜ r ≡ marksHoldIn (columns (now (store .entry))) ⌝ }
+{
+    lending::lent::marks_are_sound(store)
 }
 
 // Tests a list of renamed types, and makes the index of it that the calls below are lent as `types`: it is as many of these words as the

@@ -4,7 +4,7 @@ ghost use Rattle.rules.specs.Keys.{longestKey};
 ghost use Rattle.rules.specs.Listings.{maxOutput};
 ghost use Rattle.layout.specs.Columns.{bufferLength};
 ghost use Rattle.renaming.specs.Index.{indexLength};
-ghost use Rattle.equivalence.specs.MappingWords.{mappingLength};
+ghost use Rattle.mapping.specs.MappingWords.{mappingLength};
 
 // The words of a store; all 0 is an empty one.
 #[no_mangle]

@@ -2,7 +2,7 @@
 use crate::answers::Output;
 use crate::answers::of_listed;
 ghost use Rattle.rules.specs.Listings.{twinsProgram, sumsProgram};
-ghost use Rattle.equivalence.specs.MappingWords.{emptyWords};
+ghost use Rattle.mapping.specs.MappingWords.{emptyWords};
 ghost use Rattle.listing.specs.Calls.{Answered, buffers};
 ghost use Rattle.link.specs.Codes.{outputMeans};
 

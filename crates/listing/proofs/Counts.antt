@@ -7,9 +7,9 @@ use mathlib.Core.Option.{Option, none, some, Option·getD}
 use mathlib.Core.Path.{_≡_, refl, subst}
 use Rattle.fragments.specs.Sizes.{sizeFrom}
 use Rattle.fragments.specs.declared.types.Size.the-variants.{Of, TooDeep}
-use Rattle.equivalence.specs.Walked.{answerOf}
-use Rattle.equivalence.specs.declared.types.EqResult.{EqResult}
-use Rattle.equivalence.specs.declared.types.EqResult.the-variants.{Eq, FirstNEQOps, FirstNEQRegions, FirstNEQBlocks, Refused}
+use Rattle.pairing.specs.Told.{answerOf}
+use Rattle.pairing.specs.declared.types.EqResult.{EqResult}
+use Rattle.pairing.specs.declared.types.EqResult.the-variants.{Eq, FirstNEQOps, FirstNEQRegions, FirstNEQBlocks, Refused}
 use Rattle.equivalence.proofs.Telling.{NotEq}
 use Rattle.listing.specs.declared.types.Tally.{Tally}
 use Rattle.listing.specs.Tally.{mostOps, TallyFits, CountedMore, Further}

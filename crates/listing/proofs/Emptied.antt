@@ -15,7 +15,7 @@ use Rattle.layout.specs.Soundness.{IsSound}
 use Rattle.layout.proofs.Laid.{laid-of}
 use Rattle.layout.proofs.Empty.{empty-reads, empty-laid}
 use Rattle.journal.specs.Words.{markCount}
-use Rattle.equivalence.specs.MappingWords.{mappingLength, emptyWords}
+use Rattle.mapping.specs.MappingWords.{mappingLength, emptyWords}
 use Rattle.listing.specs.Stepping.{Bare}
 
 -- ---- the store

@@ -18,7 +18,7 @@ use Rattle.layout.specs.Reading.{slice, storeIn}
 use Rattle.layout.proofs.Scans.{slice-length}
 use Rattle.journal.specs.Words.{markedIn, soundLent}
 use Rattle.marks.proofs.Bare.{bare-lent, bare-reads}
-use Rattle.equivalence.specs.MappingWords.{emptyWords}
+use Rattle.mapping.specs.MappingWords.{emptyWords}
 use Rattle.lines.specs.Pieces.{piecesFrom, PieceEnd}
 use Rattle.lines.specs.Wrote.{Wrote}
 use Rattle.lines.specs.Room.{refusalRoom, shareRoom}

@@ -25,13 +25,13 @@ use Rattle.layout.specs.Reading.{storeIn}
 use Rattle.layout.specs.Soundness.{IsSound}
 use Rattle.fragments.specs.Sorts.{sortOf}
 use Rattle.fragments.specs.Ignoring.{ignoreOf}
-use Rattle.equivalence.specs.MappingWords.{mappingLength, mappingOf, emptyWords}
-use Rattle.equivalence.specs.Walked.{answerOf}
+use Rattle.mapping.specs.MappingWords.{mappingLength, mappingOf, emptyWords}
+use Rattle.pairing.specs.Told.{answerOf}
 use Rattle.equivalence.specs.Calls.{Answered}
-use Rattle.equivalence.specs.declared.types.EqResult.{EqResult}
-use Rattle.equivalence.specs.declared.types.EqResult.the-variants.{Eq, FirstNEQOps, FirstNEQRegions, FirstNEQBlocks, Refused}
-use Rattle.equivalence.proofs.types.EqResult as result
-use Rattle.equivalence.proofs.Unmapped.{empty-words}
+use Rattle.pairing.specs.declared.types.EqResult.{EqResult}
+use Rattle.pairing.specs.declared.types.EqResult.the-variants.{Eq, FirstNEQOps, FirstNEQRegions, FirstNEQBlocks, Refused}
+use Rattle.pairing.proofs.types.EqResult as result
+use Rattle.mapping.proofs.Unmapped.{empty-words}
 use Rattle.lines.specs.Parsing.{queryOf}
 use Rattle.lines.specs.Wrote.{Wrote}
 use Rattle.lines.specs.declared.parsing.Query.{Query}

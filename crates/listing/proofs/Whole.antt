@@ -21,7 +21,7 @@ use Rattle.lines.specs.Pieces.{piecesFrom}
 use Rattle.lines.specs.Wrote.{Wrote}
 use Rattle.lines.specs.Room.{refusalRoom}
 use Rattle.lines.proofs.Joined.{said, within}
-use Rattle.equivalence.specs.MappingWords.{mappingLength, emptyWords}
+use Rattle.mapping.specs.MappingWords.{mappingLength, emptyWords}
 use Rattle.listing.specs.declared.types.Program.{Program}
 use Rattle.listing.specs.declared.types.Listed.the-variants.{Printed, Refused, NoRoom}
 use Rattle.listing.specs.Progress.{programOf}

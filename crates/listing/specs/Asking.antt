@@ -9,9 +9,9 @@ use Rattle.rules.specs.Listings.{LineOutcome, prints, stops, equalLine, unequal
 use Rattle.layout.specs.Reading.{storeIn}
 use Rattle.fragments.specs.Sorts.{sortOf}
 use Rattle.fragments.specs.Ignoring.{ignoreOf}
-use Rattle.equivalence.specs.MappingWords.{emptyWords}
-use Rattle.equivalence.specs.Walked.{answerOf}
-use Rattle.equivalence.specs.declared.types.EqResult.{EqResult}
+use Rattle.mapping.specs.MappingWords.{emptyWords}
+use Rattle.pairing.specs.Told.{answerOf}
+use Rattle.pairing.specs.declared.types.EqResult.{EqResult}
 use Rattle.lines.specs.Wrote.{Wrote}
 use Rattle.lines.specs.Room.{unequalRoom}
 use Rattle.lines.specs.declared.parsing.Query.{Query}

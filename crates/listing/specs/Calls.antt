@@ -12,7 +12,7 @@ use Rattle.rules.specs.Listings.{Program, listingCause, listed, storeAfter, max
 use Rattle.layout.specs.Columns.{bufferLength}
 use Rattle.journal.specs.Words.{markedIn, soundLent}
 use Rattle.lines.specs.Wrote.{Wrote}
-use Rattle.equivalence.specs.MappingWords.{mappingLength, emptyWords}
+use Rattle.mapping.specs.MappingWords.{mappingLength, emptyWords}
 use Rattle.listing.specs.declared.types.Listed.{Listed}
 use Rattle.listing.specs.declared.types.Listed.the-variants.{Printed, Refused, NoRoom}
 

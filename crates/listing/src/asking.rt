@@ -10,7 +10,7 @@ ghost use Prim.Native.Nat.{_+_, _≤_};
 ghost use lib.ListN.{length};
 ghost use Rattle.rules.specs.Listings.{lineDoes};
 ghost use Rattle.layout.specs.Soundness.{IsSound};
-ghost use Rattle.equivalence.specs.MappingWords.{emptyWords};
+ghost use Rattle.mapping.specs.MappingWords.{emptyWords};
 ghost use Rattle.lines.specs.Parsing.{queryLineOf};
 ghost use Rattle.listing.specs.Tally.{TallyFits};
 ghost use Rattle.listing.specs.Progress.{programOf, progressOf};

@@ -3,16 +3,16 @@
 use crate::running::listed;
 use crate::types::Listed;
 use crate::types::Program;
-use equivalence::mapping::NO_IMAGE;
+use mapping::mapping::NO_IMAGE;
 ghost use Rattle.rules.specs.Listings.{twinsProgram, sumsProgram};
-ghost use Rattle.equivalence.specs.MappingWords.{emptyWords};
+ghost use Rattle.mapping.specs.MappingWords.{emptyWords};
 ghost use Rattle.listing.specs.Calls.{Answered, buffers};
 
 // How many words a store has, how many words a mapping has, and how many bytes are enough for all that may be printed: five for each byte of
 // the longest listing.
 pub const STORE: usize = layout::columns::STORE_LENGTH;
 
-pub const MAPPING: usize = equivalence::mapping::MAPPING_LENGTH;
+pub const MAPPING: usize = mapping::mapping::MAPPING_LENGTH;
 
 pub const ROOM: usize = 327680;
 

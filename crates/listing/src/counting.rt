@@ -11,7 +11,7 @@ ghost use Rattle.rules.specs.Listings.{opsIn};
 ghost use Rattle.layout.specs.Reading.{storeIn};
 ghost use Rattle.layout.specs.Soundness.{IsSound};
 ghost use Rattle.fragments.specs.Sorts.{sortOf};
-ghost use Rattle.equivalence.specs.Walked.{answerOf};
+ghost use Rattle.pairing.specs.Told.{answerOf};
 ghost use Rattle.listing.specs.Tally.{TallyFits, CountedMore};
 ghost use Rattle.listing.specs.Asking.{isEq};
 

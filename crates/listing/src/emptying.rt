@@ -1,15 +1,15 @@
 // Emptying buffers of the right lengths, whatever they hold.
-use equivalence::mapping::MAPPING_LENGTH;
-use equivalence::mapping::NO_IMAGE;
 use layout::columns::COUNTS;
 use layout::columns::put_same;
 use layout::lists::fill_at;
+use mapping::mapping::MAPPING_LENGTH;
+use mapping::mapping::NO_IMAGE;
 ghost use mathlib.Core.Path.{_≡_};
 ghost use lib.ListN.{length};
 ghost use Rattle.rules.specs.Store.{emptyStore};
 ghost use Rattle.layout.specs.Columns.{bufferLength};
 ghost use Rattle.layout.specs.Reading.{storeIn};
-ghost use Rattle.equivalence.specs.MappingWords.{mappingLength, emptyWords};
+ghost use Rattle.mapping.specs.MappingWords.{mappingLength, emptyWords};
 ghost use Rattle.listing.specs.Stepping.{Bare};
 
 // A store is empty when its counts are 0, the number of set marks among them: no other word is read then, and so they stay as they are.

@@ -25,7 +25,7 @@ ghost use Rattle.rules.specs.Listings.{maxListing, maxOutput};
 ghost use Rattle.layout.specs.Columns.{bufferLength};
 ghost use Rattle.layout.specs.Reading.{storeIn};
 ghost use Rattle.layout.specs.Soundness.{IsSound};
-ghost use Rattle.equivalence.specs.MappingWords.{mappingLength, emptyWords};
+ghost use Rattle.mapping.specs.MappingWords.{mappingLength, emptyWords};
 ghost use Rattle.listing.specs.Tally.{TallyFits};
 ghost use Rattle.listing.specs.Progress.{programOf};
 ghost use Rattle.listing.specs.Asking.{stepRoom};

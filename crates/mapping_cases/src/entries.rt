@@ -3,11 +3,11 @@ use crate::answers::equal;
 use crate::answers::unequal;
 use crate::form::Store;
 use equivalence::calls::operation_eq;
-use equivalence::mapping::MAPPING_LENGTH;
-use equivalence::mapping::NO_IMAGE;
-use equivalence::mapping::OP_ENTRIES;
 use fragments::ignoring::Ignore;
 use layout::lists::words_eq;
+use mapping::mapping::MAPPING_LENGTH;
+use mapping::mapping::NO_IMAGE;
+use mapping::mapping::OP_ENTRIES;
 
 pub type Mapping = [u32; MAPPING_LENGTH];
 

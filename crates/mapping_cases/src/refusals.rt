@@ -7,14 +7,14 @@ use crate::form::Store;
 use equivalence::calls::basic_block_eq;
 use equivalence::calls::operation_eq;
 use equivalence::calls::region_eq;
-use equivalence::mapping::BLOCK_ENTRIES;
-use equivalence::mapping::MAPPING_LENGTH;
-use equivalence::mapping::NO_IMAGE;
-use equivalence::mapping::OP_ENTRIES;
 use equivalence::types::EqResult;
 use fragments::types::Sort;
 use layout::columns::OPS;
 use layout::lists::words_eq;
+use mapping::mapping::BLOCK_ENTRIES;
+use mapping::mapping::MAPPING_LENGTH;
+use mapping::mapping::NO_IMAGE;
+use mapping::mapping::OP_ENTRIES;
 
 // What is asked, of the fragment by this number with itself, and why it is refused.
 struct Refusal {

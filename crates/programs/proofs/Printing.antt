@@ -11,7 +11,7 @@ use borrow.Author.Tests.{eq-eqb}
 use Rattle.rules.specs.Building.{firstFailed}
 use Rattle.rules.specs.Listings.{Program, listed, maxOutput}
 use Rattle.layout.specs.Columns.{bufferLength}
-use Rattle.equivalence.specs.MappingWords.{mappingLength}
+use Rattle.mapping.specs.MappingWords.{mappingLength}
 use Rattle.lines.specs.Wrote.{Wrote}
 use Rattle.listing.specs.declared.types.Program as types
 use Rattle.listing.specs.declared.types.Listed.{Listed}

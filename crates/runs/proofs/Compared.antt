@@ -25,12 +25,13 @@ use Rattle.layout.specs.Reading.{storeIn}
 use Rattle.layout.specs.Soundness.{IsSound}
 use Rattle.fragments.specs.Options.{Options, under}
 use Rattle.numbering.proofs.Reading.{block-there}
-use Rattle.equivalence.specs.MappingWords.{mappingOf, emptyWords}
-use Rattle.equivalence.specs.Walked.{answerOf, stateOf, outcome, Told, PairedFits, opWalk}
-use Rattle.equivalence.specs.declared.types.EqResult.{EqResult}
-use Rattle.equivalence.specs.declared.types.EqResult.the-variants.{Eq}
+use Rattle.mapping.specs.MappingWords.{mappingOf, emptyWords}
+use Rattle.pairing.specs.Told.{answerOf, stateOf, outcome, Told, PairedFits}
+use Rattle.equivalence.specs.Walked.{opWalk}
+use Rattle.pairing.specs.declared.types.EqResult.{EqResult}
+use Rattle.pairing.specs.declared.types.EqResult.the-variants.{Eq}
 use Rattle.equivalence.proofs.Telling.{NotEq, told-on, told-ended}
-use Rattle.equivalence.proofs.Unmapped.{empty-words}
+use Rattle.mapping.proofs.Unmapped.{empty-words}
 use Rattle.runs.specs.Walked.{RunsIn, runsWalk}
 use Rattle.runs.specs.declared.types.TwoRuns.{TwoRuns}
 use Rattle.runs.proofs.Deep.{runs-not-deep}

@@ -16,9 +16,9 @@ use Rattle.layout.specs.Reading.{opCount, storeIn}
 use Rattle.layout.specs.Soundness.{IsSound}
 use Rattle.layout.proofs.Laid.{laid-facts}
 use Rattle.fragments.proofs.Ordered.{op-in}
-use Rattle.equivalence.specs.Walked.{ReadyToCompare, stateOf, Told, maxPaired, PairedFits}
-use Rattle.equivalence.specs.declared.types.EqResult.{EqResult}
-use Rattle.equivalence.specs.declared.types.EqResult.the-variants.{Eq}
+use Rattle.pairing.specs.Told.{ReadyToCompare, stateOf, Told, maxPaired, PairedFits}
+use Rattle.pairing.specs.declared.types.EqResult.{EqResult}
+use Rattle.pairing.specs.declared.types.EqResult.the-variants.{Eq}
 use Rattle.equivalence.proofs.Telling.{NotEq, told-ended, told-bind, told-over, few-now, few-part}
 use Rattle.equivalence.proofs.Zipped.{Zips}
 use Rattle.runs.specs.Walked.{OpsOf, RunsIn}

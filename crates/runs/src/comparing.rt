@@ -1,19 +1,19 @@
 // Two runs of a block's operations are compared. `ops` are the numbers of all operations of the block.
 use crate::types::TwoRuns;
-use equivalence::pairing::op_eq_map;
 use equivalence::regions::op_eq_mapped;
 use equivalence::types::EqResult;
-use equivalence::types::Pair;
-use equivalence::unmapping::paired_of;
-use equivalence::unmapping::unmap_entered;
 use fragments::types::Sort;
+use mapping::unmapping::unmap_entered;
+use pairing::answers::paired_of;
+use pairing::pairing::op_eq_map;
+use pairing::types::Pair;
 ghost use mathlib.Core.Path.{_≡_};
 ghost use Rattle.rules.specs.Runs.{sameRuns};
 ghost use Rattle.layout.specs.Reading.{storeIn};
 ghost use Rattle.fragments.specs.Ignoring.{ignoreOf};
 ghost use Rattle.fragments.specs.Options.{Readable, optionsOf, under};
-ghost use Rattle.equivalence.specs.MappingWords.{emptyWords};
-ghost use Rattle.equivalence.specs.Walked.{ReadyToCompare, Told, PairedFits, stateOf};
+ghost use Rattle.mapping.specs.MappingWords.{emptyWords};
+ghost use Rattle.pairing.specs.Told.{ReadyToCompare, Told, PairedFits, stateOf};
 ghost use Rattle.runs.specs.Walked.{RunsIn, pairWalk, checkWalk, runsWalk};
 
 // Pass 2: the operations of both runs and their results are mapped.

@@ -2,11 +2,11 @@
 use crate::searching::first_run;
 use crate::types::Repeated;
 use crate::types::Runs;
-use equivalence::mapping::MAPPING_LENGTH;
-use equivalence::mapping::NO_IMAGE;
 use fragments::ignoring::Ignore;
 use fragments::sorts::exists;
 use fragments::types::Sort;
+use mapping::mapping::MAPPING_LENGTH;
+use mapping::mapping::NO_IMAGE;
 use windows::chains::TABLE;
 use windows::chains::chain_starts;
 use windows::listing::BLOCK_OPS;

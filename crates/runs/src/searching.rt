@@ -15,7 +15,7 @@ ghost use Rattle.rules.specs.Runs.{sameRuns};
 ghost use Rattle.layout.specs.Reading.{storeIn};
 ghost use Rattle.fragments.specs.Ignoring.{ignoreOf};
 ghost use Rattle.fragments.specs.Options.{Readable, optionsOf, under};
-ghost use Rattle.equivalence.specs.MappingWords.{emptyWords};
+ghost use Rattle.mapping.specs.MappingWords.{emptyWords};
 ghost use Rattle.windows.specs.Windows.{SumsOf, blockOps};
 ghost use Rattle.runs.specs.Walked.{OpsOf, RunsIn, ChainedStarts, BucketOf, startOf, leftFrom};
 ghost use Rattle.runs.specs.Calls.{FirstTwo};

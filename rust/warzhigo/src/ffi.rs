@@ -84,6 +84,8 @@ unsafe extern "C" {
     fn wz_index_words() -> usize;
 
     fn wz_is_sound(store: *const u32, words: usize) -> bool;
+    #[allow(dead_code)] // for other callers: a store of this crate is tested whole
+    fn wz_known_marks_are_sound(store: *const u32, words: usize) -> bool;
     fn wz_known_is_allowed(store: *const u32, words: usize, mapping: *const u32, entries: usize) -> bool;
     fn wz_known_index_types(types: *const u32, type_words: usize, index: *mut u32, index_words: usize) -> usize;
     #[cfg_attr(not(test), allow(dead_code))]

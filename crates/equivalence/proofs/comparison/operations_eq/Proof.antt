@@ -19,11 +19,12 @@ use Rattle.fragments.specs.Options.{optionsOf, under}
 use Rattle.fragments.specs.Sorts.{sortOf}
 use Rattle.fragments.proofs.ByRows.{headOfOp, head-whole}
 use Rattle.fragments.proofs.There.{there}
-use Rattle.equivalence.specs.Walked.{stateOf, Told, opWalk}
+use Rattle.pairing.specs.Told.{stateOf, Told}
+use Rattle.equivalence.specs.Walked.{opWalk}
 use Rattle.equivalence.specs.Calls.{pairTests}
-use Rattle.equivalence.specs.declared.types.EqResult.the-variants.{FirstNEQOps}
-use Rattle.equivalence.proofs.Alike.{kinds-unlike}
-use Rattle.equivalence.proofs.Paired.{ops-unlike}
+use Rattle.pairing.specs.declared.types.EqResult.the-variants.{FirstNEQOps}
+use Rattle.pairing.proofs.Alike.{kinds-unlike}
+use Rattle.pairing.proofs.Paired.{ops-unlike}
 use Rattle.equivalence.proofs.Telling.{told-ended}
 use Rattle.equivalence.proofs.Answering.{pair-exists, refused-pair, walked, few-walk, op-walk, allowed-long}
 use borrow.Author.Needs.{needs}

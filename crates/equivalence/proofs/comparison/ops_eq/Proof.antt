@@ -4,7 +4,8 @@ use mathlib.Core.Path.{sym, subst, _∙_}
 use Rattle.rules.specs.Comparison.{Walk, pairOps}
 use Rattle.layout.specs.Reading.{storeIn}
 use Rattle.fragments.specs.Options.{Options, optionsOf, under}
-use Rattle.equivalence.specs.Walked.{stateOf, Told, PairedFits, opWalk}
+use Rattle.pairing.specs.Told.{stateOf, Told, PairedFits}
+use Rattle.equivalence.specs.Walked.{opWalk}
 use Rattle.equivalence.proofs.Telling.{told-ended, told-bind}
 use Rattle.equivalence.proofs.Answering.{op-walk}
 use borrow.Author.Needs.{needs}

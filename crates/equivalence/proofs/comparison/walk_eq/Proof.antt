@@ -9,7 +9,8 @@ use Rattle.fragments.specs.Options.{optionsOf}
 use Rattle.fragments.specs.Sorts.{sortOf}
 use Rattle.fragments.specs.Order.{BlocksExist}
 use Rattle.fragments.proofs.There.{there}
-use Rattle.equivalence.specs.Walked.{leftOf, rightOf, stateOf, Told, PairedFits}
+use Rattle.pairing.specs.Told.{stateOf, Told, PairedFits}
+use Rattle.equivalence.specs.Walked.{leftOf, rightOf}
 use Rattle.equivalence.proofs.Answering.{few-walk, block-walk, region-walk}
 use borrow.Author.Needs.{needs}
 use Rattle.equivalence.proofs.comparison.walk_eq.Statement.{statement}

@@ -13,7 +13,8 @@ use Rattle.layout.proofs.Laid.{laid-facts}
 use Rattle.layout.proofs.Seeking.{Rising}
 use Rattle.fragments.specs.Options.{Options, optionsOf, under}
 use Rattle.fragments.proofs.Ordered.{block-list-rises, block-in}
-use Rattle.equivalence.specs.Walked.{leftOf, rightOf, stateOf, answerOf, lefts, rights, pairOfLists, pass1Walk}
+use Rattle.pairing.specs.Told.{stateOf, answerOf}
+use Rattle.equivalence.specs.Walked.{leftOf, rightOf, lefts, rights, pairOfLists, pass1Walk}
 use Rattle.equivalence.proofs.Ordered.{bounded}
 use Rattle.equivalence.proofs.Telling.{named-neq}
 use Rattle.equivalence.proofs.Zipped.{Zips, Rest, Turn, pairwise-zips, rest-begins, rest-fits, turn, turn-ends, turn-rest, pairwise-ends, pairwise-uneven-ends}

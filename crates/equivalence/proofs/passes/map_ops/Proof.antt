@@ -14,7 +14,8 @@ use Rattle.layout.specs.Reading.{blockCount, storeIn}
 use Rattle.layout.proofs.Laid.{laid-facts}
 use Rattle.fragments.specs.Options.{Options, optionsOf, under}
 use Rattle.fragments.proofs.Ordered.{block-list-rises, block-in}
-use Rattle.equivalence.specs.Walked.{leftOf, rightOf, stateOf, lefts, rights, pairsWalk, pass2Walk}
+use Rattle.pairing.specs.Told.{stateOf}
+use Rattle.equivalence.specs.Walked.{leftOf, rightOf, lefts, rights, pairsWalk, pass2Walk}
 use Rattle.equivalence.proofs.Zipped.{Zips, Rest, Turn, each-zips, rest-begins, turn, step-fits, turn-ends, turn-rest, each-ends}
 use borrow.Author.Needs.{needs}
 use Rattle.equivalence.proofs.passes.map_ops.Statement.{statement}

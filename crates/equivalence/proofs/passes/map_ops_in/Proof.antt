@@ -14,8 +14,9 @@ use Rattle.layout.proofs.Laid.{laid-facts}
 use Rattle.layout.proofs.Seeking.{ops-rise}
 use Rattle.fragments.specs.Options.{Options, optionsOf, under}
 use Rattle.fragments.proofs.Ordered.{op-in}
-use Rattle.equivalence.specs.Walked.{stateOf, answerOf, pairsWalk}
-use Rattle.equivalence.specs.declared.types.EqResult.the-variants.{FirstNEQBlocks}
+use Rattle.pairing.specs.Told.{stateOf, answerOf}
+use Rattle.equivalence.specs.Walked.{pairsWalk}
+use Rattle.pairing.specs.declared.types.EqResult.the-variants.{FirstNEQBlocks}
 use Rattle.equivalence.proofs.Zipped.{Zips, Rest, Turn, pairwise-zips, rest-begins, rest-fits, turn, turn-ends, turn-rest, pairwise-ends, pairwise-uneven-ends}
 use borrow.Author.Needs.{needs}
 use Rattle.equivalence.proofs.passes.map_ops_in.Statement.{statement}

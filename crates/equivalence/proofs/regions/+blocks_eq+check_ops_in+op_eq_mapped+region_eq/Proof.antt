@@ -24,7 +24,8 @@ use Rattle.fragments.specs.Options.{Options, optionsOf}
 use Rattle.fragments.specs.Order.{BlocksExist}
 use Rattle.fragments.proofs.Ordered.{op-in, block-in, block-list-rises}
 use Rattle.fragments.proofs.Below.{below, aroundList, around-region}
-use Rattle.equivalence.specs.Walked.{leftOf, rightOf, lefts, rights, stateOf, Told, PairedFits, regionWalk, opWalk, opsWalk, listsWalk}
+use Rattle.pairing.specs.Told.{stateOf, Told, PairedFits}
+use Rattle.equivalence.specs.Walked.{leftOf, rightOf, lefts, rights, regionWalk, opWalk, opsWalk, listsWalk}
 use Rattle.equivalence.specs.declared.types.BlockLists.the-variants.{InRegions}
 use Rattle.equivalence.proofs.Telling.{told-ended, told-bind, told-over, few-part}
 use Rattle.equivalence.proofs.Zipped as zipped
@@ -41,7 +42,7 @@ use Rattle.equivalence.proofs.regions.+blocks_eq+check_ops_in+op_eq_map
 use Rattle.equivalence.proofs.regions.region_eq.Reads as region-eq
 use Rattle.equivalence.proofs.regions.region_eq.Kinds as region-eq-kinds
 use Rattle.equivalence.proofs.regions.+blocks_eq+check_ops_in+op_eq_mapped+region_eq.Lts-region_eq as region-eq-lts
-use Rattle.equivalence.proofs.names.names_agree.Reads as names-agree-reads
+use Rattle.pairing.proofs.names.names_agree.Reads as names-agree-reads
 use Rattle.equivalence.proofs.order.next_blocks.Reads as next-blocks-reads
 use Rattle.equivalence.proofs.order.next_ops.Reads as next-ops-reads
 use Rattle.equivalence.proofs.passes.map_blocks.Reads as map-blocks-reads

@@ -7,10 +7,10 @@ use Rattle.rules.specs.Fragments.{op}
 use Rattle.layout.specs.Columns.{columns}
 use Rattle.layout.specs.Reading.{storeIn}
 use Rattle.fragments.specs.Options.{optionsOf}
-use Rattle.keys.specs.Written.{ownerBytes}
+use Rattle.key_bytes.specs.Put.{ownerBytes}
 use Rattle.keys.proofs.Lone.{ownUses, alone-bytes, op-there}
 use Rattle.keys.proofs.Answering.{longest}
-use Rattle.keys.proofs.Putting.{put-then, put-rest, put-as}
+use Rattle.key_bytes.proofs.Putting.{put-then, put-rest, put-as}
 use borrow.Author.Needs.{needs}
 use Rattle.keys.proofs.alone.put_alone.Statement.{statement}
 use Rattle.keys.proofs.alone.put_alone.Tie as tie

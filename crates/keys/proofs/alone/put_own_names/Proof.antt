@@ -8,8 +8,8 @@ use Rattle.layout.specs.Reading.{consecutive}
 use Rattle.numbering.specs.Words.{ruleName}
 use Rattle.keys.specs.Written.{namesBytes}
 use Rattle.keys.proofs.Naming.{name-few, name-put}
-use Rattle.keys.proofs.Putting.{put-rest}
-use Rattle.keys.proofs.Entries.{Entries, entries-none, entries-next, entries-all, counted-list}
+use Rattle.key_bytes.proofs.Putting.{put-rest}
+use Rattle.key_bytes.proofs.Entries.{Entries, entries-none, entries-next, entries-all, counted-list}
 use borrow.Author.Needs.{needs}
 use Rattle.keys.proofs.alone.put_own_names.Statement.{statement}
 use Rattle.keys.proofs.alone.put_own_names.Tie as tie

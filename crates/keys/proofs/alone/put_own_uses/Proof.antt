@@ -11,7 +11,7 @@ use Rattle.layout.specs.Reading.{tabulateFrom, consecutive, storeIn}
 use Rattle.layout.proofs.Tabulate.{ops-length}
 use Rattle.keys.specs.Written.{namesBytes}
 use Rattle.keys.proofs.Lone.{names-few}
-use Rattle.keys.proofs.Putting.{put-then, put-rest, put-as}
+use Rattle.key_bytes.proofs.Putting.{put-then, put-rest, put-as}
 use borrow.Author.Needs.{needs}
 use Rattle.keys.proofs.alone.put_own_uses.Statement.{statement}
 use Rattle.keys.proofs.alone.put_own_uses.Tie as tie

@@ -14,7 +14,7 @@ use Rattle.numbering.proofs.Counting.{noWords}
 use Rattle.numbering.proofs.Rounds.{block-steps, region-steps, steps-room, steps-done}
 use Rattle.keys.specs.Written.{from, KeyFits}
 use Rattle.keys.proofs.Answering.{whole-fits, wrote-whole}
-use Rattle.keys.proofs.Putting.{put-as}
+use Rattle.key_bytes.proofs.Putting.{put-as}
 use Rattle.keys.proofs.Writing.{keyWalk}
 use borrow.Author.Needs.{needs}
 use Rattle.keys.proofs.keys.put_fragment.Statement.{statement}

@@ -3,7 +3,7 @@ use mathlib.Core.Path.{sym, ap}
 use Rattle.rules.specs.Hash.{nameBytes}
 use Rattle.numbering.specs.Words.{ruleName}
 use Rattle.numbering.specs.declared.words.Name.{Name}
-use Rattle.keys.proofs.Putting.{put-as}
+use Rattle.key_bytes.proofs.Putting.{put-as}
 use borrow.Author.Needs.{needs}
 use Rattle.keys.proofs.names.put_name.Statement.{statement}
 use Rattle.keys.proofs.names.put_name.Tie as tie

@@ -14,7 +14,7 @@ use Rattle.layout.specs.Columns.{columns}
 use Rattle.layout.proofs.Tabulate.{ops-length, values-length}
 use Rattle.numbering.proofs.Rounds.{operands-there, successors-few}
 use Rattle.keys.specs.Written.{namesBytes}
-use Rattle.keys.proofs.Putting.{put-rest, put-as}
+use Rattle.key_bytes.proofs.Putting.{put-rest, put-as}
 use Rattle.keys.proofs.Writing.{wrote-names}
 use borrow.Author.Needs.{needs}
 use Rattle.keys.proofs.names.put_names.Statement.{statement}

@@ -9,8 +9,8 @@ use Rattle.numbering.specs.Words.{Stands, ruleName}
 use Rattle.numbering.proofs.Rounds.{below-at}
 use Rattle.keys.specs.Written.{namesBytes}
 use Rattle.keys.proofs.Naming.{name-few, name-put}
-use Rattle.keys.proofs.Putting.{put-rest}
-use Rattle.keys.proofs.Entries.{Entries, entries-none, entries-next, entries-all, counted-list}
+use Rattle.key_bytes.proofs.Putting.{put-rest}
+use Rattle.key_bytes.proofs.Entries.{Entries, entries-none, entries-next, entries-all, counted-list}
 use borrow.Author.Needs.{needs}
 use Rattle.keys.proofs.names.put_successors.Statement.{statement}
 use Rattle.keys.proofs.names.put_successors.Tie as tie

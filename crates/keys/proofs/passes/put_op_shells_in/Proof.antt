@@ -15,7 +15,7 @@ use Rattle.numbering.specs.Parts.{opShells}
 use Rattle.numbering.proofs.Passing.{Passing, pass-begun, pass-over, pass-room, pass-again}
 use Rattle.numbering.proofs.Rounds.{eachShell, each-shell}
 use Rattle.keys.specs.Written.{from, upTo, Wrote, KeyFits}
-use Rattle.keys.proofs.Putting.{put-counted}
+use Rattle.key_bytes.proofs.Putting.{put-counted}
 use Rattle.keys.proofs.Writing.{wrote-then, fits-rest, keyWalk, wrote-lent, lent-short, wrote-long, wrote-counted}
 use borrow.Author.Needs.{needs}
 use Rattle.keys.proofs.passes.put_op_shells_in.Statement.{statement}

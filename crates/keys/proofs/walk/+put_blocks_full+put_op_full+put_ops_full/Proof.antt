@@ -40,7 +40,7 @@ use Rattle.keys.proofs.walk.+put_blocks_full+put_op_full+put_ops_full.L
 use Rattle.keys.proofs.names.put_names.Reads as put-names-reads
 use Rattle.keys.proofs.passes.put_block_shells.Reads as put-block-shells-reads
 use Rattle.keys.proofs.passes.put_op_shells.Reads as put-op-shells-reads
-use Rattle.keys.proofs.sink.least.Reads as least-reads
+use Rattle.key_bytes.proofs.sink.least.Reads as least-reads
 use Rattle.keys.proofs.walk.+put_blocks_full+put_op_full+put_ops_full.{statement}
 use Rattle.keys.proofs.walk.+put_blocks_full+put_op_full+put_ops_full.Tie.{close}
 

@@ -1,7 +1,7 @@
 -- `wz_compare_keys` meets its contract, answer by answer: each number is that of the rules' answer. Assumes nothing.
 use mathlib.Core.Path.{sym, ap, _∙_}
 use Rattle.rules.specs.Keys.{orderingNumber}
-use Rattle.keys.specs.Calls.{orderingOf}
+use Rattle.key_bytes.specs.Order.{orderingOf}
 use borrow.Author.Needs.{needs}
 use Rattle.link.proofs.offered.wz_compare_keys.Statement.{statement}
 use Rattle.link.proofs.offered.wz_compare_keys.Tie as tie

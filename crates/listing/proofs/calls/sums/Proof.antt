@@ -1,6 +1,6 @@
 -- `sums` meets its contract, as `twins` does: a mapping of its own has no entry, and is as it was. Assumes nothing.
 use Rattle.rules.specs.Listings.{sumsProgram}
-use Rattle.equivalence.specs.MappingWords.{emptyWords}
+use Rattle.mapping.specs.MappingWords.{emptyWords}
 use Rattle.listing.specs.Progress.{programOf}
 use Rattle.listing.proofs.Emptied.{empty-length}
 use Rattle.listing.proofs.Whole.{wrong-store, no-room, answered, unmapped}

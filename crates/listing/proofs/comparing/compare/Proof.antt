@@ -9,9 +9,9 @@ use Rattle.rules.specs.Entered.{EnteredBy}
 use Rattle.layout.specs.Reading.{storeIn}
 use Rattle.renaming.specs.Index.{listIn}
 use Rattle.renaming.proofs.Indexed.{no-words, no-list}
-use Rattle.equivalence.specs.MappingWords.{mappingOf}
+use Rattle.mapping.specs.MappingWords.{mappingOf}
 use Rattle.equivalence.specs.Calls.{Answered}
-use Rattle.equivalence.specs.declared.types.EqResult.{EqResult}
+use Rattle.pairing.specs.declared.types.EqResult.{EqResult}
 use Rattle.equivalence.proofs.AfterEmpty.{answered-entered}
 use Rattle.listing.proofs.Verdicts.{entries-allowed, as-many, compares}
 use borrow.Author.Needs.{needs}

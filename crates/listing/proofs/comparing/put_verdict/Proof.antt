@@ -1,7 +1,7 @@
 -- `put_verdict` meets its contract, answer by answer. Assumes nothing.
 use native.Mathlib.Omega.{arith}
 use Rattle.fragments.specs.Sorts.{sortOf}
-use Rattle.equivalence.specs.Walked.{answerOf}
+use Rattle.pairing.specs.Told.{answerOf}
 use Rattle.listing.specs.Asking.{stepRoom, verdictLine}
 use Rattle.lines.proofs.Joined.{within, nothing}
 use borrow.Author.Needs.{needs}

@@ -1,6 +1,6 @@
 -- `is_eq` meets its contract, answer by answer. Assumes nothing.
 use mathlib.Core.Path.{refl}
-use Rattle.equivalence.specs.Walked.{answerOf}
+use Rattle.pairing.specs.Told.{answerOf}
 use Rattle.listing.specs.Asking.{isEq}
 use Rattle.listing.proofs.Counts.{not-eq}
 use borrow.Author.Needs.{needs}

@@ -5,7 +5,7 @@ use borrow.Author.Needs.{needs}
 use Rattle.rules.specs.Mapping.{noImage}
 use Rattle.rules.specs.Listings.{sumsProgram}
 use Rattle.layout.specs.Columns.{bufferLength}
-use Rattle.equivalence.specs.MappingWords.{mappingLength, emptyWords}
+use Rattle.mapping.specs.MappingWords.{mappingLength, emptyWords}
 use Rattle.listing.specs.Calls.{buffers}
 use Rattle.programs.proofs.Printing.{all-printed, never-refused, never-short}
 use Rattle.programs.proofs.answers.sums_printed.Statement.{statement}

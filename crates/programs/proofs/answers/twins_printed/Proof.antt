@@ -4,7 +4,7 @@ use lib.ListN.{length-replicate}
 use borrow.Author.Needs.{needs}
 use Rattle.rules.specs.Listings.{twinsProgram}
 use Rattle.layout.specs.Columns.{bufferLength}
-use Rattle.equivalence.specs.MappingWords.{mappingLength}
+use Rattle.mapping.specs.MappingWords.{mappingLength}
 use Rattle.listing.specs.Calls.{buffers}
 use Rattle.programs.proofs.Printing.{all-printed, never-refused, never-short}
 use Rattle.programs.proofs.answers.twins_printed.Statement.{statement}

@@ -8,7 +8,8 @@ use Rattle.rules.specs.Store.{Store}
 use Rattle.rules.specs.Comparison.{State, Walk, eachPair}
 use Rattle.layout.specs.Reading.{storeIn}
 use Rattle.fragments.specs.Options.{Options, optionsOf}
-use Rattle.equivalence.specs.Walked.{stateOf, opWalk}
+use Rattle.pairing.specs.Told.{stateOf}
+use Rattle.equivalence.specs.Walked.{opWalk}
 use Rattle.equivalence.proofs.Rounds.{grows-op}
 use Rattle.equivalence.proofs.Zipped.{Zips, each-zips}
 use Rattle.runs.specs.Walked.{checkWalk}

@@ -5,7 +5,8 @@ use Rattle.rules.specs.Store.{Store}
 use Rattle.rules.specs.Comparison.{State, Walk, _>>=_}
 use Rattle.layout.specs.Reading.{storeIn}
 use Rattle.fragments.specs.Options.{Options, optionsOf}
-use Rattle.equivalence.specs.Walked.{stateOf, Told, PairedFits, opWalk}
+use Rattle.pairing.specs.Told.{stateOf, Told, PairedFits}
+use Rattle.equivalence.specs.Walked.{opWalk}
 use Rattle.equivalence.proofs.Rounds.{grows-op}
 use Rattle.equivalence.proofs.Telling.{told-ended, told-bind, few-part}
 use Rattle.equivalence.proofs.Zipped.{each-zips}

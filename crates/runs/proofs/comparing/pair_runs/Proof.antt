@@ -10,7 +10,7 @@ use Rattle.rules.specs.Comparison.{State, Pair, Walk, pairOf, pairwise, pairOps
 use Rattle.rules.proofs.Walking.Paired.{grows-pair-ops}
 use Rattle.layout.specs.Reading.{storeIn}
 use Rattle.fragments.specs.Options.{Options, optionsOf, under}
-use Rattle.equivalence.specs.Walked.{stateOf}
+use Rattle.pairing.specs.Told.{stateOf}
 use Rattle.equivalence.proofs.Zipped.{Zips, pairwise-zips}
 use Rattle.runs.specs.Walked.{pairWalk}
 use Rattle.runs.specs.declared.types.TwoRuns.{TwoRuns}

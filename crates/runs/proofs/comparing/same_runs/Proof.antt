@@ -5,8 +5,8 @@ use Rattle.rules.specs.Mapping.{noImage}
 use Rattle.rules.specs.Entered.{EnteredBy, pairedIn}
 use Rattle.layout.specs.Reading.{storeIn}
 use Rattle.fragments.specs.Options.{Options, optionsOf}
-use Rattle.equivalence.specs.MappingWords.{mappingOf, mappingLength, emptyWords}
-use Rattle.equivalence.specs.Walked.{answerOf}
+use Rattle.mapping.specs.MappingWords.{mappingOf, mappingLength, emptyWords}
+use Rattle.pairing.specs.Told.{answerOf}
 use Rattle.runs.proofs.Compared.{runs-same, runs-differ, runs-unmap}
 use borrow.Author.Needs.{needs}
 use Rattle.runs.proofs.comparing.same_runs.Statement.{statement}

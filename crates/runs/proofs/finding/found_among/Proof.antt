@@ -13,7 +13,7 @@ use Rattle.rules.proofs.Basics.Tests.{all-of}
 use Rattle.layout.specs.Columns.{columns}
 use Rattle.layout.specs.Reading.{opCount}
 use Rattle.fragments.proofs.Ordered.{op-in}
-use Rattle.equivalence.specs.MappingWords.{emptyWords}
+use Rattle.mapping.specs.MappingWords.{emptyWords}
 use Rattle.runs.proofs.Stepping.{few}
 use borrow.Author.Needs.{needs}
 use Rattle.runs.proofs.finding.found_among.Statement.{statement}

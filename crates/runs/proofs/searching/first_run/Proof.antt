@@ -15,7 +15,7 @@ use Rattle.rules.specs.Types.{renamed}
 use Rattle.rules.proofs.Runs.Searched.{repeated-found}
 use Rattle.layout.specs.Reading.{storeIn}
 use Rattle.fragments.specs.Options.{Options, optionsOf, under}
-use Rattle.equivalence.specs.MappingWords.{emptyWords}
+use Rattle.mapping.specs.MappingWords.{emptyWords}
 use Rattle.windows.specs.Chains.{bucketOf, Follows}
 use Rattle.runs.specs.Walked.{startOf}
 use Rattle.runs.specs.Calls.{foundOf}

@@ -12,7 +12,7 @@ use Rattle.rules.specs.Store.{Store}
 use Rattle.rules.specs.Runs.{sameRuns}
 use Rattle.layout.specs.Reading.{storeIn}
 use Rattle.fragments.specs.Options.{Options, optionsOf, under}
-use Rattle.equivalence.specs.MappingWords.{emptyWords}
+use Rattle.mapping.specs.MappingWords.{emptyWords}
 use Rattle.windows.specs.Chains.{bucketOf, Follows}
 use Rattle.runs.specs.Walked.{RunsIn, startOf, leftFrom}
 use Rattle.runs.specs.declared.types.TwoRuns.{TwoRuns}

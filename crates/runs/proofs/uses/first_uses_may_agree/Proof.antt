@@ -15,8 +15,8 @@ use Rattle.layout.specs.Columns.{columns}
 use Rattle.layout.specs.Reading.{opCount, valueCount, storeIn}
 use Rattle.layout.proofs.Laid.{laid-facts}
 use Rattle.fragments.specs.Ignoring.{ignoreOf}
-use Rattle.equivalence.proofs.Named.{operands-below}
-use Rattle.equivalence.proofs.Pairs.{below-at}
+use Rattle.pairing.proofs.Named.{operands-below}
+use Rattle.pairing.proofs.Pairs.{below-at}
 use Rattle.runs.specs.Walked.{RunsIn, leftResults}
 use Rattle.runs.proofs.Stepping.{op-here}
 use Rattle.runs.proofs.FirstOperands.{uses-differ}

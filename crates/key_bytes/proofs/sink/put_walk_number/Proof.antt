@@ -1,0 +1,57 @@
+-- `put_walk_number` meets its contract: the tag, then the walk number into the rest. Assumes nothing.
+use native.Mathlib.Omega.{arith}
+use Rattle.rules.specs.Hash.{bytes, tag, count, nameBytes}
+use Rattle.key_bytes.proofs.Putting.{put-then, put-rest}
+use borrow.Author.Needs.{needs}
+use Rattle.key_bytes.proofs.sink.put_walk_number.Statement.{statement}
+use Rattle.key_bytes.proofs.sink.put_walk_number.Tie as tie
+
+-- with both put
+module _ (c : tie.After-slice-known3) where
+  abbrev first : tie.After-put-tag
+  first = c .before .before .before .before .before .before .before
+
+put-tag-requires : tie.Need-put-tag-requires
+put-tag-requires c κs = search needs
+
+least-requires : tie.Need-least-requires
+least-requires c κs = search needs
+
+sub-put-count : tie.Need-sub-put-count
+sub-put-count c = search needs
+
+part-put-count-start : tie.Need-part-put-count-start
+part-put-count-start c = search needs
+
+part-put-count-end : tie.Need-part-put-count-end
+part-put-count-end c = search needs
+
+put-count-requires : tie.Need-put-count-requires
+put-count-requires c κs = search needs
+
+add-result : tie.Need-add-result
+unfolding bytes tag count nameBytes
+add-result c = record { fits = omega (arith, c .before .before .put-count .ensures .many, first c .put-tag .ensures .many) }
+
+same-length : tie.Need-same-length
+same-length c = search needs
+
+returns : tie.Need-returns
+unfolding nameBytes
+returns c =
+    let a = first c .before .before .before .args in
+    put-then (tag 0) (count (a .n)) (first c .put-tag .ensures) (put-rest (count (a .n)) _ _ _ (c .before .before .before .before .least .ensures) (c .before .before .put-count .ensures))
+
+pub put-walk-number-spec : {M : Type 1} → statement M
+put-walk-number-spec =
+    tie.close
+    (tie.spec
+    put-tag-requires
+    least-requires
+    sub-put-count
+    part-put-count-start
+    part-put-count-end
+    put-count-requires
+    add-result
+    same-length
+    returns)
