@@ -41,7 +41,7 @@ hashes-line l r =
     ∙ append-snoc (hexadecimal l) comma (hexadecimal r ++ (lineFeed ∷ []))
 
 pub share-line : (equal all share : ℕ) → share ≡ perCent equal all
-    → text "share," ++ (decimal share ++ (lineFeed ∷ [])) ≡ shareLine (record { equal = equal; all = all })
+    → text "share," ++ (decimal share ++ (lineFeed ∷ [])) ≡ shareLine (perCent equal all)
 unfolding shareLine printed
 share-line equal all share e = ap (λ (n : ℕ). text "share," ++ (decimal n ++ (lineFeed ∷ []))) e
 

@@ -36,7 +36,3 @@ hashesRoom = 34
 -- `share,` and a number
 abbrev pub shareRoom : ℕ
 shareRoom = 17
-
--- the most operations that a share is computed of: 2 to the 50th, a hundred times of which has less than 64 bits
-abbrev pub mostShared : ℕ
-mostShared = 1125899906842624

@@ -9,11 +9,12 @@ ghost use mathlib.Core.List.{[], _∷_, _++_};
 ghost use Prim.Native.Nat.{_+_, _≤_};
 ghost use lib.ListN.{length};
 ghost use Rattle.rules.specs.Bytes.{comma, lineFeed, decimal};
+ghost use Rattle.rules.specs.Store.{maxOps};
 ghost use Rattle.rules.specs.Listings.{refusal, equalLine, sortText, unequalLine, hashesLine, roundedUp, perCent, shareLine};
 ghost use Rattle.rules.specs.Comparison.{pairOf};
 ghost use Rattle.fragments.specs.Sorts.{sortOf};
 ghost use Rattle.lines.specs.Wrote.{Wrote};
-ghost use Rattle.lines.specs.Room.{numberRoom, refusalRoom, equalRoom, sortRoom, unequalRoom, hashesRoom, shareRoom, mostShared};
+ghost use Rattle.lines.specs.Room.{numberRoom, refusalRoom, equalRoom, sortRoom, unequalRoom, hashesRoom, shareRoom};
 
 const COMMA: u8 = 44;
 
@@ -91,7 +92,7 @@ pub fn put_hashes(out: &mut [u8], at: usize, l: u64, r: u64) -> usize
 }
 
 // Whether a quotient is rounded up, 1 or 0, by twice the rest: past the half it is, at the half to the even number.
-fn rounded_up(quotient: u64, twice: u64, divisor: u64) -> u64
+fn rounded_up(quotient: u32, twice: u32, divisor: u32) -> u32
     ensures { λ r. ⌜ r ≡ roundedUp quotient twice divisor ⌝ }
 {
     if twice > divisor {
@@ -104,9 +105,9 @@ fn rounded_up(quotient: u64, twice: u64, divisor: u64) -> u64
 }
 
 // How many per cent `part` is of `whole`, to the nearest; 0 if there is nothing.
-fn per_cent(part: u64, whole: u64) -> u32
+fn per_cent(part: u32, whole: u32) -> u32
     requires { ⌜ part ≤ whole ⌝ }
-    requires { ⌜ whole ≤ mostShared ⌝ }
+    requires { ⌜ whole ≤ maxOps ⌝ }
     ensures { λ r. ⌜ r ≡ perCent part whole ⌝ }
 {
     if whole == 0 {
@@ -115,15 +116,15 @@ fn per_cent(part: u64, whole: u64) -> u32
     let hundredths = part * 100;
     let cent = hundredths / whole;
     let twice = 2 * (hundredths % whole);
-    (cent + rounded_up(cent, twice, whole)) as u32
+    cent + rounded_up(cent, twice, whole)
 }
 
-// The line of the share: how many per cent of all operations were found equal.
-pub fn put_share(out: &mut [u8], at: usize, equal: u64, all: u64) -> usize
+// The line of the share: how many per cent `equal` operations are of `all`.
+pub fn put_share(out: &mut [u8], at: usize, equal: u32, all: u32) -> usize
     requires { ⌜ at + shareRoom ≤ length (now out) ⌝ }
     requires { ⌜ equal ≤ all ⌝ }
-    requires { ⌜ all ≤ mostShared ⌝ }
-    ensures { λ r. ⌜ Wrote shareRoom (now (out .entry)) (now (out .exit)) at (shareLine (record { equal = equal; all = all })) r ⌝ }
+    requires { ⌜ all ≤ maxOps ⌝ }
+    ensures { λ r. ⌜ Wrote shareRoom (now (out .entry)) (now (out .exit)) at (shareLine (perCent equal all)) r ⌝ }
 {
     let share = per_cent(equal, all);
     let last = put_text(out, at, b"share,");

@@ -4,7 +4,7 @@ mod Heading
 mod Emptied
 mod Built
 mod Meant
-mod Counts
+mod Unequal
 mod Verdicts
 mod Hashes
 mod Steps

@@ -5,7 +5,7 @@ use native.Mathlib.Numerals.{add-one}
 use native.Mathlib.Omega.{arith}
 use mathlib.Core.Bool.{true}
 use mathlib.Core.List.{List, [], _∷_, _++_, append-assoc}
-use mathlib.Core.Path.{_≡_, refl, sym, ap, subst, _∙_}
+use mathlib.Core.Path.{_≡_, refl, sym, ap, ap₂, subst, _∙_}
 use lib.ListN.{length, drop, length-drop}
 use lib.Seq.{drop-length}
 use Rattle.rules.specs.Store.{Store, emptyStore}
@@ -19,16 +19,15 @@ use Rattle.layout.proofs.Scans.{slice-length}
 use Rattle.journal.specs.Words.{markedIn, soundLent}
 use Rattle.marks.proofs.Bare.{bare-lent, bare-reads}
 use Rattle.mapping.specs.MappingWords.{emptyWords}
+use Rattle.tally.specs.Tally.{tallyOf, IsTally}
 use Rattle.lines.specs.Pieces.{piecesFrom, PieceEnd}
 use Rattle.lines.specs.Wrote.{Wrote}
 use Rattle.lines.specs.Room.{refusalRoom, shareRoom}
 use Rattle.lines.proofs.Joined.{then, said, within, nothing}
 use Rattle.listing.specs.declared.types.Program.{Program}
 use Rattle.listing.specs.declared.types.Program.the-variants.{Twins, Sums}
-use Rattle.listing.specs.declared.types.Progress.{Progress}
 use Rattle.listing.specs.declared.types.LineResult.{LineResult}
 use Rattle.listing.specs.declared.types.LineResult.the-variants.{On, Stopped}
-use Rattle.listing.specs.Tally.{tallyOf, mostOps, TallyFits, Further}
 use Rattle.listing.specs.Progress.{programOf, progressOf}
 use Rattle.listing.specs.Asking.{stepRoom, outcomeOf, Goes}
 use Rattle.listing.specs.Stepping.{secondLine, closes, Bare, LineDoes, Ran}
@@ -56,7 +55,7 @@ module _ (p : Program) (listing : List ℕ) where
   printsFrom n at now = run (programOf p) n now (piecesFrom lineFeed listing at .whole) (piecesFrom lineFeed listing at .rest)
 
   abbrev leavesFrom : ℕ → rules.Progress → Store
-  leavesFrom at now = leaves (programOf p) now (piecesFrom lineFeed listing at .whole)
+  leavesFrom at now = leaves (programOf p) now (piecesFrom lineFeed listing at .whole) .store
 
   -- ---- a line, and the lines behind it
 
@@ -65,9 +64,9 @@ module _ (p : Program) (listing : List ℕ) where
     unfolding run
     line-first l = ap (λ (q : Pieces). run (programOf p) n now (q .whole) (q .rest)) (end .ended l)
 
-    line-leaves : e < length listing → leavesFrom start now ≡ keeps (does (programOf p) now (slice listing start e)) now (λ next. leavesFrom (e + 1) next)
+    line-leaves : e < length listing → leavesFrom start now ≡ keeps (does (programOf p) now (slice listing start e)) now (λ next. leaves (programOf p) next (piecesFrom lineFeed listing (e + 1) .whole)) .store
     unfolding leaves
-    line-leaves l = ap (λ (q : Pieces). leaves (programOf p) now (q .whole)) (end .ended l)
+    line-leaves l = ap (λ (q : Pieces). leaves (programOf p) now (q .whole) .store) (end .ended l)
 
     module _ (l : e < length listing) where
       printed-on : (b : List ℕ) (next : rules.Progress) → does (programOf p) now (slice listing start e) ≡ prints b next → printsFrom n start now ≡ b ++ printsFrom (n + 1) (e + 1) next
@@ -79,7 +78,7 @@ module _ (p : Program) (listing : List ℕ) where
 
       left-on : (b : List ℕ) (next : rules.Progress) → does (programOf p) now (slice listing start e) ≡ prints b next → leavesFrom start now ≡ leavesFrom (e + 1) next
       unfolding keeps
-      left-on b next d = line-leaves l ∙ ap (λ (o : LineOutcome). keeps o now (λ next′. leavesFrom (e + 1) next′)) d
+      left-on b next d = line-leaves l ∙ ap (λ (o : LineOutcome). keeps o now (λ next′. leaves (programOf p) next′ (piecesFrom lineFeed listing (e + 1) .whole)) .store) d
 
       stops-here : (k : ℕ) → does (programOf p) now (slice listing start e) ≡ stops k → printsFrom n start now ≡ refusal n k
       unfolding proceed
@@ -87,7 +86,7 @@ module _ (p : Program) (listing : List ℕ) where
 
       left-here : (k : ℕ) → does (programOf p) now (slice listing start e) ≡ stops k → leavesFrom start now ≡ now .store
       unfolding keeps
-      left-here k d = line-leaves l ∙ ap (λ (o : LineOutcome). keeps o now (λ next′. leavesFrom (e + 1) next′)) d
+      left-here k d = line-leaves l ∙ ap (λ (o : LineOutcome). keeps o now (λ next′. leaves (programOf p) next′ (piecesFrom lineFeed listing (e + 1) .whole)) .store) d
 
       -- five bytes for each byte of the line, its line feed included
       line-short : (b : List ℕ) (next : rules.Progress) → does (programOf p) now (slice listing start e) ≡ prints b next → length b + perByte * start ≤ perByte * (e + 1)
@@ -111,7 +110,7 @@ module _ (p : Program) (listing : List ℕ) where
 
     pub nothing-more : start < length listing → e ≡ length listing → leavesFrom start now ≡ now .store
     unfolding leaves
-    nothing-more l q = ap (λ (r : Pieces). leaves (programOf p) now (r .whole)) (end .unended (omega arith))
+    nothing-more l q = ap (λ (r : Pieces). leaves (programOf p) now (r .whole) .store) (end .unended (omega arith))
 
   -- ---- behind the last line
 
@@ -126,75 +125,69 @@ module _ (p : Program) (listing : List ℕ) where
 
     leaves-here : leavesFrom start now ≡ now .store
     unfolding leaves
-    leaves-here = ap (λ (q : Pieces). leaves (programOf p) now (q .whole)) no-pieces
+    leaves-here = ap (λ (q : Pieces). leaves (programOf p) now (q .whole) .store) no-pieces
 
-closing : (p : Program) (store : List ℕ) (now : Progress) → programOf p .close (progressOf store now) ≡ closes p (now .tally)
+closing : (p : Program) (store tally : List ℕ) → programOf p .close (progressOf store tally) ≡ closes p tally
 unfolding programOf closes progressOf twinsProgram sumsProgram
-closing Twins store now = refl
-closing Sums store now = refl
+closing Twins store tally = refl
+closing Sums store tally = refl
 
 -- ---- the loop
 
-pub as-known : {p : Program} {line store store′ out out′ : List ℕ} {now : Progress} {r q : LineResult} → r ≡ q → LineDoes p line store store′ out out′ now r → LineDoes p line store store′ out out′ now q
-as-known {p} {line} {store} {store′} {out} {out′} {now} e d = subst (LineDoes p line store store′ out out′ now) e d
+pub as-known : {p : Program} {line store store′ tally tally′ out out′ : List ℕ} {at : ℕ} {r q : LineResult} → r ≡ q
+    → LineDoes p line store store′ tally tally′ out out′ at r → LineDoes p line store store′ tally tally′ out out′ at q
+as-known {p} {line} {store} {store′} {tally} {tally′} {out} {out′} {at} e d = subst (LineDoes p line store store′ tally tally′ out out′ at) e d
 
 module _ (p : Program) (listing : List ℕ) (from : ℕ) (before : List ℕ) where
-  pub record Running (store mapping out : List ℕ) (now : Progress) (n start : ℕ) : Type 0 where
+  pub record Running (store mapping tally out : List ℕ) (at n start : ℕ) : Type 0 where
     pub bare : Bare store
     pub empty : mapping ≡ emptyWords
     pub bytes : List ℕ
-    pub wrote : Wrote (perByte * start) before out 0 bytes (now .at)
-    pub whole : printsFrom p listing 2 from atStart ≡ bytes ++ printsFrom p listing n start (progressOf store now)
-    pub store-left : leavesFrom p listing from atStart ≡ leavesFrom p listing start (progressOf store now)
-    pub room : now .at + spare ≤ perByte * start
+    pub wrote : Wrote (perByte * start) before out 0 bytes at
+    pub whole : printsFrom p listing 2 from atStart ≡ bytes ++ printsFrom p listing n start (progressOf store tally)
+    pub store-left : leavesFrom p listing from atStart ≡ leavesFrom p listing start (progressOf store tally)
+    pub room : at + spare ≤ perByte * start
     pub within : start ≤ length listing
-    pub part : now .tally .equal ≤ now .tally .all
-    pub few : now .tally .all ≤ mostOps * start
+    pub counts : IsTally tally
     pub lines : n ≤ start
 
 module _ {p : Program} {listing : List ℕ} {from : ℕ} {before : List ℕ} (roomy : maxOutput ≤ length before) (short : length listing ≤ maxListing) where
-  pub running-starts : (store mapping : List ℕ) → Bare store → storeIn store ≡ emptyStore → mapping ≡ emptyWords → secondLine ≤ from → from ≤ length listing → Running p listing from before store mapping before (record { at = 0; tally = record { equal = 0; all = 0 } }) 2 from
-  unfolding progressOf tallyOf atStart noTally
-  running-starts store mapping bare reads e long h =
+  pub running-starts : (store mapping tally : List ℕ) → Bare store → storeIn store ≡ emptyStore → mapping ≡ emptyWords → IsTally tally → tallyOf tally ≡ noTally
+      → secondLine ≤ from → from ≤ length listing → Running p listing from before store mapping tally before 0 2 from
+  unfolding progressOf atStart
+  running-starts store mapping tally bare reads e counts none long h =
       record {
         bare = bare;
         empty = e;
         bytes = [];
         wrote = nothing (perByte * from) before 0;
-        whole = ap (λ (s : Store). printsFrom p listing 2 from (record { store = s; tally = noTally })) (sym reads);
-        store-left = ap (λ (s : Store). leavesFrom p listing from (record { store = s; tally = noTally })) (sym reads);
+        whole = ap₂ (λ (s : Store) (t : rules.Tally). printsFrom p listing 2 from (record { store = s; tally = t })) (sym reads) (sym none);
+        store-left = ap₂ (λ (s : Store) (t : rules.Tally). leavesFrom p listing from (record { store = s; tally = t })) (sym reads) (sym none);
         room = omega arith;
         within = h;
-        part = omega arith;
-        few = omega arith;
+        counts = counts;
         lines = omega arith;
       }
 
-  module _ {store mapping out : List ℕ} {now : Progress} {n start : ℕ} (inv : Running p listing from before store mapping out now n start) where
-    pub counts : TallyFits (now .tally)
-    counts =
-        let a = inv .few in
-        let b = inv .within in
-        record { part = inv .part; few = omega arith }
-
-    pub has-room : now .at + spare ≤ length before
+  module _ {store mapping tally out : List ℕ} {at n start : ℕ} (inv : Running p listing from before store mapping tally out at n start) where
+    pub has-room : at + spare ≤ length before
     has-room = let a = inv .room in let b = inv .within in omega arith
 
     pub few-lines : n ≤ maxListing
     few-lines = let a = inv .lines in let b = inv .within in omega arith
 
     -- what was printed, and then these bytes, are all
-    finished : (last : List ℕ) (most : ℕ) (after : List ℕ) (r : ℕ) → most ≤ stepRoom → Wrote most out after (now .at) last r → printsFrom p listing n start (progressOf store now) ≡ last
+    finished : (last : List ℕ) (most : ℕ) (after : List ℕ) (r : ℕ) → most ≤ stepRoom → Wrote most out after at last r → printsFrom p listing n start (progressOf store tally) ≡ last
         → Wrote maxOutput before after 0 (printsFrom p listing 2 from atStart) r
     finished last most after r m w e =
         let a = inv .within in
         let b = inv .room in
-        let c : now .at ≡ 0 + length (inv .bytes) = inv .wrote .behind in
-        let g : Wrote (length (inv .bytes)) before out 0 (inv .bytes) (now .at) = record { written = inv .wrote .written; behind = inv .wrote .behind; short = omega arith } in
+        let c : at ≡ 0 + length (inv .bytes) = inv .wrote .behind in
+        let g : Wrote (length (inv .bytes)) before out 0 (inv .bytes) at = record { written = inv .wrote .written; behind = inv .wrote .behind; short = omega arith } in
         within (said (then g w (omega (arith, has-room))) (sym (inv .whole ∙ ap (λ (xs : List ℕ). inv .bytes ++ xs) e))) (omega arith)
 
-    pub ran : (last : List ℕ) (most : ℕ) (store′ after : List ℕ) (r : ℕ) → store′ ≡ store → most ≤ stepRoom → Wrote most out after (now .at) last r
-        → printsFrom p listing n start (progressOf store now) ≡ last → leavesFrom p listing start (progressOf store now) ≡ storeIn store
+    pub ran : (last : List ℕ) (most : ℕ) (store′ after : List ℕ) (r : ℕ) → store′ ≡ store → most ≤ stepRoom → Wrote most out after at last r
+        → printsFrom p listing n start (progressOf store tally) ≡ last → leavesFrom p listing start (progressOf store tally) ≡ storeIn store
         → (mapping′ : List ℕ) → mapping′ ≡ emptyWords → Ran p listing from store′ mapping′ before after r
     ran last most store′ after r s m w e f mapping′ q =
         record {
@@ -204,31 +197,31 @@ module _ {p : Program} {listing : List ℕ} {from : ℕ} {before : List ℕ} (ro
           empty = q;
         }
 
-    pub ran-out : (after : List ℕ) (r : ℕ) → length listing ≤ start → Wrote shareRoom out after (now .at) (closes p (now .tally)) r → Ran p listing from store mapping before after r
+    pub ran-out : (after : List ℕ) (r : ℕ) → length listing ≤ start → Wrote shareRoom out after at (closes p tally) r → Ran p listing from store mapping before after r
     unfolding progressOf
     ran-out after r l w =
         let a = inv .within in
         let e : start ≡ length listing = omega arith in
-        ran (closes p (now .tally)) shareRoom store after r refl (omega arith) w
-        (closes-here p listing n start (progressOf store now) e ∙ closing p store now)
-        (leaves-here p listing n start (progressOf store now) e)
+        ran (closes p tally) shareRoom store after r refl (omega arith) w
+        (closes-here p listing n start (progressOf store tally) e ∙ closing p store tally)
+        (leaves-here p listing n start (progressOf store tally) e)
         mapping (inv .empty)
 
     module _ (e : ℕ) (end : PieceEnd listing start lineFeed e) (l : start < length listing) where
-      pub ran-unended : (after : List ℕ) (r : ℕ) → e ≡ length listing → Wrote refusalRoom out after (now .at) (refusal n 11) r → Ran p listing from store mapping before after r
+      pub ran-unended : (after : List ℕ) (r : ℕ) → e ≡ length listing → Wrote refusalRoom out after at (refusal n 11) r → Ran p listing from store mapping before after r
       unfolding progressOf
       ran-unended after r q w =
           ran (refusal n 11) refusalRoom store after r refl (omega arith) w
-          (unended p listing n start e end (progressOf store now) l q)
-          (nothing-more p listing n start e end (progressOf store now) l q)
+          (unended p listing n start e end (progressOf store tally) l q)
+          (nothing-more p listing n start e end (progressOf store tally) l q)
           mapping (inv .empty)
 
-      module _ (m : e ≡ length listing → ⊥) (store′ out′ : List ℕ) where
+      module _ (m : e ≡ length listing → ⊥) (store′ tally′ out′ : List ℕ) where
         ended : e < length listing
         ended = let w : e ≤ length listing = end .within in omega arith
 
-        module _ (k : ℕ) (did : LineDoes p (slice listing start e) store store′ out out′ now (Stopped k)) where
-          stops-there : does (programOf p) (progressOf store now) (slice listing start e) ≡ stops k
+        module _ (k : ℕ) (did : LineDoes p (slice listing start e) store store′ tally tally′ out out′ at (Stopped k)) where
+          stops-there : does (programOf p) (progressOf store tally) (slice listing start e) ≡ stops k
           unfolding outcomeOf
           stops-there = did .step .does
 
@@ -236,40 +229,34 @@ module _ {p : Program} {listing : List ℕ} {from : ℕ} {before : List ℕ} (ro
           unfolding Goes
           same-out = did .step .goes
 
-          pub ran-stopped : (mapping′ after : List ℕ) (r : ℕ) → mapping′ ≡ emptyWords → Wrote refusalRoom out′ after (now .at) (refusal n k) r → Ran p listing from store′ mapping′ before after r
+          pub ran-stopped : (mapping′ after : List ℕ) (r : ℕ) → mapping′ ≡ emptyWords → Wrote refusalRoom out′ after at (refusal n k) r → Ran p listing from store′ mapping′ before after r
           unfolding progressOf
           ran-stopped mapping′ after r q w =
-              ran (refusal n k) refusalRoom store′ after r (did .unchanged k refl) (omega arith) (subst (λ (xs : List ℕ). Wrote refusalRoom xs after (now .at) (refusal n k) r) same-out w)
-              (stops-here p listing n start e end (progressOf store now) ended k stops-there)
-              (left-here p listing n start e end (progressOf store now) ended k stops-there)
+              ran (refusal n k) refusalRoom store′ after r (did .unchanged k refl) (omega arith) (subst (λ (xs : List ℕ). Wrote refusalRoom xs after at (refusal n k) r) same-out w)
+              (stops-here p listing n start e end (progressOf store tally) ended k stops-there)
+              (left-here p listing n start e end (progressOf store tally) ended k stops-there)
               mapping′ q
 
-        module _ (next : Progress) (did : LineDoes p (slice listing start e) store store′ out out′ now (On next)) where
-          goes-there : does (programOf p) (progressOf store now) (slice listing start e) ≡ prints (did .step .bytes) (progressOf store′ next)
+        module _ (next : ℕ) (did : LineDoes p (slice listing start e) store store′ tally tally′ out out′ at (On next)) where
+          goes-there : does (programOf p) (progressOf store tally) (slice listing start e) ≡ prints (did .step .bytes) (progressOf store′ tally′)
           unfolding outcomeOf
           goes-there = did .step .does
 
-          more : Wrote stepRoom out out′ (now .at) (did .step .bytes) (next .at)
+          more : Wrote stepRoom out out′ at (did .step .bytes) next
           unfolding Goes
-          more = did .step .goes .0
+          more = did .step .goes
 
-          further : Further (now .tally) (next .tally)
-          unfolding Goes
-          further = did .step .goes .1
-
-          pub running-turn : (mapping′ : List ℕ) → mapping′ ≡ emptyWords → Running p listing from before store′ mapping′ out′ next (n + 1) (e + 1)
+          pub running-turn : (mapping′ : List ℕ) → mapping′ ≡ emptyWords → Running p listing from before store′ mapping′ tally′ out′ next (n + 1) (e + 1)
           running-turn mapping′ q =
               let a = inv .room in
               let b = inv .within in
               let f : start ≤ e = end .behind in
               let w = has-room in
-              let x : now .at ≡ 0 + length (inv .bytes) = inv .wrote .behind in
-              let y : next .at ≡ now .at + length (did .step .bytes) = more .behind in
-              let z : length (did .step .bytes) + perByte * start ≤ perByte * (e + 1) = line-short p listing n start e end (progressOf store now) ended (did .step .bytes) (progressOf store′ next) goes-there in
-              let g : Wrote (length (inv .bytes)) before out 0 (inv .bytes) (now .at) = record { written = inv .wrote .written; behind = inv .wrote .behind; short = omega arith } in
-              let h : Wrote (length (did .step .bytes)) out out′ (now .at) (did .step .bytes) (next .at) = record { written = more .written; behind = more .behind; short = omega arith } in
-              let u = inv .few in
-              let v = further .few in
+              let x : at ≡ 0 + length (inv .bytes) = inv .wrote .behind in
+              let y : next ≡ at + length (did .step .bytes) = more .behind in
+              let z : length (did .step .bytes) + perByte * start ≤ perByte * (e + 1) = line-short p listing n start e end (progressOf store tally) ended (did .step .bytes) (progressOf store′ tally′) goes-there in
+              let g : Wrote (length (inv .bytes)) before out 0 (inv .bytes) at = record { written = inv .wrote .written; behind = inv .wrote .behind; short = omega arith } in
+              let h : Wrote (length (did .step .bytes)) out out′ at (did .step .bytes) next = record { written = more .written; behind = more .behind; short = omega arith } in
               let t = inv .lines in
               let i = ended in
               record {
@@ -279,11 +266,10 @@ module _ {p : Program} {listing : List ℕ} {from : ℕ} {before : List ℕ} (ro
                 wrote = within (then g h (omega arith)) (omega arith);
                 whole =
                     front (inv .bytes) (did .step .bytes) _
-                    (inv .whole ∙ ap (λ (xs : List ℕ). inv .bytes ++ xs) (printed-on p listing n start e end (progressOf store now) ended (did .step .bytes) (progressOf store′ next) goes-there));
-                store-left = inv .store-left ∙ left-on p listing n start e end (progressOf store now) ended (did .step .bytes) (progressOf store′ next) goes-there;
+                    (inv .whole ∙ ap (λ (xs : List ℕ). inv .bytes ++ xs) (printed-on p listing n start e end (progressOf store tally) ended (did .step .bytes) (progressOf store′ tally′) goes-there));
+                store-left = inv .store-left ∙ left-on p listing n start e end (progressOf store tally) ended (did .step .bytes) (progressOf store′ tally′) goes-there;
                 room = omega arith;
                 within = omega arith;
-                part = further .part;
-                few = omega arith;
+                counts = did .step .counts;
                 lines = omega arith;
               }

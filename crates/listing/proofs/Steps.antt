@@ -17,14 +17,12 @@ use Rattle.layout.specs.Causes.{causeOf}
 use Rattle.layout.specs.Soundness.{IsSound}
 use Rattle.layout.specs.declared.causes.Cause.{Cause}
 use Rattle.layout.specs.declared.causes.Cause.the-variants.{None, Is}
+use Rattle.tally.specs.Tally.{tallyOf, IsTally}
 use Rattle.lines.specs.Reading.{fieldsLeft, oneByte}
 use Rattle.lines.proofs.Letters.{no-letter, letter-is, other-letter}
 use Rattle.listing.specs.declared.types.Program.{Program}
-use Rattle.listing.specs.declared.types.Tally.{Tally}
-use Rattle.listing.specs.declared.types.Progress.{Progress}
 use Rattle.listing.specs.declared.types.LineResult.{LineResult}
 use Rattle.listing.specs.declared.types.LineResult.the-variants.{On, Stopped}
-use Rattle.listing.specs.Tally.{tallyOf, TallyFits, Further}
 use Rattle.listing.specs.Progress.{programOf, progressOf}
 use Rattle.listing.specs.Building.{buildingLine, ledTo, LineDid}
 use Rattle.listing.specs.Asking.{stepRoom, outcomeOf, Goes, Stepped}
@@ -33,22 +31,19 @@ use Rattle.lines.proofs.Joined.{nothing}
 
 -- ---- steps
 
-pub stopped : (o : LineOutcome) (store out : List ℕ) (now : Progress) (k : ℕ) → o ≡ stops k → Stepped o store out out now (Stopped k)
+pub stopped : (o : LineOutcome) (store tally out : List ℕ) (at k : ℕ) → IsTally tally → o ≡ stops k → Stepped o store tally out out at (Stopped k)
 unfolding outcomeOf Goes
-stopped o store out now k e = record { bytes = []; does = e; goes = refl }
+stopped o store tally out at k h e = record { bytes = []; does = e; goes = refl; counts = h }
 
-pub same-outcome : {o p : LineOutcome} {store before after : List ℕ} {now : Progress} {r : LineResult} → o ≡ p → Stepped p store before after now r → Stepped o store before after now r
-same-outcome e s = record { bytes = s .bytes; does = e ∙ s .does; goes = s .goes }
-
--- nothing is counted
-same-count : (now : Tally) → TallyFits now → Further now now
-same-count now h = record { part = h .part; few = omega arith }
+pub same-outcome : {o p : LineOutcome} {store tally before after : List ℕ} {at : ℕ} {r : LineResult} → o ≡ p
+    → Stepped p store tally before after at r → Stepped o store tally before after at r
+same-outcome e s = record { bytes = s .bytes; does = e ∙ s .does; goes = s .goes; counts = s .counts }
 
 abbrev isOn : LineResult → Bool
 isOn (On next) = true
 isOn (Stopped k) = false
 
-goes-on : {now : Progress} {k : ℕ} → On now ≡ Stopped k → ⊥
+goes-on : {at k : ℕ} → On at ≡ Stopped k → ⊥
 goes-on h = true≢false (ap (λ r. isOn r) h)
 
 -- ---- a line by its letter
@@ -88,37 +83,39 @@ module _ (p : rules.Program) (now : rules.Progress) (line : List ℕ) where
 
 -- ---- what the code does
 
-module _ (p : Program) (line store out : List ℕ) (now : Progress) (sound : IsSound store) where
-  pub line-stopped : (k : ℕ) → does (programOf p) (progressOf store now) line ≡ stops k → LineDoes p line store store out out now (Stopped k)
-  line-stopped k e = record { step = stopped _ store out now k e; sound = sound; marks = refl; unchanged = λ cause q. refl }
+module _ (p : Program) (line store tally out : List ℕ) (at : ℕ) (sound : IsSound store) (counts : IsTally tally) where
+  pub line-stopped : (k : ℕ) → does (programOf p) (progressOf store tally) line ≡ stops k → LineDoes p line store store tally tally out out at (Stopped k)
+  line-stopped k e = record { step = stopped _ store tally out at k counts e; sound = sound; marks = refl; unchanged = λ cause q. refl }
 
-  pub line-asked : (after : List ℕ) (r : LineResult) (o : LineOutcome) → does (programOf p) (progressOf store now) line ≡ o → Stepped o store out after now r → LineDoes p line store store out after now r
-  line-asked after r o e s = record { step = same-outcome e s; sound = sound; marks = refl; unchanged = λ cause q. refl }
+  pub line-asked : (tally′ after : List ℕ) (r : LineResult) (o : LineOutcome) → does (programOf p) (progressOf store tally) line ≡ o
+      → Stepped o store tally′ out after at r → LineDoes p line store store tally tally′ out after at r
+  line-asked tally′ after r o e s = record { step = same-outcome e s; sound = sound; marks = refl; unchanged = λ cause q. refl }
 
-  module _ (exit : List ℕ) (meant : Option Line) (r : Cause) (e : does (programOf p) (progressOf store now) line ≡ lineDoes (programOf p) (progressOf store now) meant) (did : LineDid store exit meant r) where
-    led : does (programOf p) (progressOf store now) line ≡ ledTo (progressOf exit now) (causeOf r)
+  module _ (exit : List ℕ) (meant : Option Line) (r : Cause) (e : does (programOf p) (progressOf store tally) line ≡ lineDoes (programOf p) (progressOf store tally) meant) (did : LineDid store exit meant r) where
+    led : does (programOf p) (progressOf store tally) line ≡ ledTo (progressOf exit tally) (causeOf r)
     unfolding progressOf
-    led = e ∙ did .does (programOf p) (tallyOf (now .tally))
+    led = e ∙ did .does (programOf p) (tallyOf tally)
 
-    pub line-refused : (k : ℕ) → r ≡ Is k → LineDoes p line store exit out out now (Stopped k)
+    pub line-refused : (k : ℕ) → r ≡ Is k → LineDoes p line store exit tally tally out out at (Stopped k)
     unfolding ledTo causeOf
     line-refused k q =
         record {
-          step = stopped _ exit out now k (led ∙ ap (λ (x : Cause). ledTo (progressOf exit now) (causeOf x)) q);
+          step = stopped _ exit tally out at k counts (led ∙ ap (λ (x : Cause). ledTo (progressOf exit tally) (causeOf x)) q);
           sound = did .sound;
           marks = did .marks;
           unchanged = λ cause z. did .unchanged k q;
         }
 
-    pub line-built : TallyFits (now .tally) → r ≡ None → LineDoes p line store exit out out now (On now)
+    pub line-built : r ≡ None → LineDoes p line store exit tally tally out out at (On at)
     unfolding ledTo causeOf outcomeOf Goes
-    line-built h q =
+    line-built q =
         record {
           step =
               record {
                 bytes = [];
-                does = led ∙ ap (λ (x : Cause). ledTo (progressOf exit now) (causeOf x)) q;
-                goes = (nothing stepRoom out (now .at), same-count (now .tally) h);
+                does = led ∙ ap (λ (x : Cause). ledTo (progressOf exit tally) (causeOf x)) q;
+                goes = nothing stepRoom out at;
+                counts = counts;
               };
           sound = did .sound;
           marks = did .marks;

@@ -11,14 +11,15 @@ use lib.ListN.{length}
 use types.Run.{OneOf}
 use denote.Enum.Declared.{tagOf}
 use Rattle.rules.specs.Store.{Store}
-use Rattle.rules.specs.Fragments.{Sort, exists}
+use Rattle.rules.specs.Fragments.{Sort, exists, fragmentOps}
 use Rattle.rules.specs.Building.{firstFailed}
 use Rattle.rules.specs.Shells.{Ignore}
 use Rattle.rules.specs.Mapping.{Mapping, emptyMapping, allowed}
 use Rattle.rules.specs.Lists.{every, all}
 use Rattle.rules.specs.Types.{wholeRows, oldTypes, presentTypes, eachOnce, typesHold}
 use Rattle.rules.specs.Answers.{Comparison, refused, compareTests, comparisonBy, comparison}
-use Rattle.rules.specs.Listings.{prints, tallied, opsIn, lineDoes, twinsAnswer, twinsProgram}
+use Rattle.rules.specs.Listings as rules
+use Rattle.rules.specs.Listings.{prints, tallied, lineDoes, twinsAnswer, twinsProgram}
 use Rattle.rules.proofs.Basics.Tests.{and-right}
 use Rattle.rules.proofs.Walking.Answered.{empty-allowed}
 use Rattle.layout.specs.Reading.{storeIn}
@@ -32,16 +33,13 @@ use Rattle.pairing.specs.declared.types.EqResult.{EqResult}
 use Rattle.pairing.specs.declared.types.EqResult.the-variants.{Eq, FirstNEQOps, FirstNEQRegions, FirstNEQBlocks, Refused}
 use Rattle.pairing.proofs.types.EqResult as result
 use Rattle.mapping.proofs.Unmapped.{empty-words}
+use Rattle.tally.specs.Tally.{tallyOf, IsTally, Tallied}
 use Rattle.lines.specs.Parsing.{queryOf}
 use Rattle.lines.specs.Wrote.{Wrote}
 use Rattle.lines.specs.declared.parsing.Query.{Query}
-use Rattle.listing.specs.declared.types.Tally.{Tally}
-use Rattle.listing.specs.declared.types.Progress.{Progress}
 use Rattle.listing.specs.declared.types.LineResult.the-variants.{On, Stopped}
-use Rattle.listing.specs.Tally.{tallyOf, TallyFits, CountedMore}
 use Rattle.listing.specs.Progress.{progressOf}
 use Rattle.listing.specs.Asking.{isEq, verdictLine, answerTo, QueryCompared, stepRoom, outcomeOf, Goes, Stepped}
-use Rattle.listing.proofs.Counts.{further}
 use Rattle.listing.proofs.Emptied.{empty-length}
 
 -- ---- the empty mapping
@@ -111,41 +109,45 @@ right-exists b q r same k = go (exists S f (q .left) && exists S f (q .right)) r
 
 -- ---- what `twins` does for a `q`
 
-twins-asks : (b : List ℕ) (now : Progress) (q : Query)
-    → lineDoes twinsProgram (progressOf b now) (some (queryOf q)) ≡ twinsAnswer (answerTo b q) (sortOf (q .sort)) (q .right) (progressOf b now)
-unfolding lineDoes twinsProgram progressOf queryOf answerTo
-twins-asks b now q = refl
+module _ (b tally : List ℕ) (q : Query) where
+  twins-asks : lineDoes twinsProgram (progressOf b tally) (some (queryOf q)) ≡ twinsAnswer (answerTo b q) (sortOf (q .sort)) (q .right) (progressOf b tally)
+  unfolding lineDoes twinsProgram progressOf queryOf answerTo
+  twins-asks = refl
 
-pub twins-stops : (b out : List ℕ) (now : Progress) (q : Query) (r : EqResult) (cause : ℕ) → answerOf r ≡ answerTo b q → r ≡ Refused cause
-    → Stepped (lineDoes twinsProgram (progressOf b now) (some (queryOf q))) b out out now (Stopped cause)
-unfolding twinsAnswer answerOf outcomeOf Goes
-twins-stops b out now q r cause same e =
-    record { bytes = []; does = twins-asks b now q ∙ rw (← same, e) refl; goes = refl }
+  -- the line is printed, and the right fragment goes into the tally
+  counted-as : (r : EqResult) → NotRefused r
+      → twinsAnswer (answerOf r) (sortOf (q .sort)) (q .right) (progressOf b tally)
+      ≡ prints (verdictLine (answerOf r))
+      (record { store = storeIn b; tally = tallied (isEq (answerOf r)) (fragmentOps (storeIn b) (sortOf (q .sort)) (q .right)) (tallyOf tally) })
+  unfolding twinsAnswer verdictLine isEq answerOf progressOf
+  counted-as (Eq n) k = refl
+  counted-as (FirstNEQOps x y n) k = refl
+  counted-as (FirstNEQRegions x y n) k = refl
+  counted-as (FirstNEQBlocks x y n) k = refl
+  counted-as (Refused c) k = absurd (answers (Refused c) k c refl)
 
-module _ (b : List ℕ) (now : Progress) (next : Tally) (q : Query) (at : ℕ) where
-  abbrev Counted : EqResult → Type 0
-  Counted r = CountedMore (now .tally) (isEq (answerOf r)) (opsIn (storeIn b) (sortOf (q .sort)) (q .right)) next
+  pub twins-stops : (out : List ℕ) (at : ℕ) (r : EqResult) (cause : ℕ) → IsTally tally → answerOf r ≡ answerTo b q → r ≡ Refused cause
+      → Stepped (lineDoes twinsProgram (progressOf b tally) (some (queryOf q))) b tally out out at (Stopped cause)
+  unfolding twinsAnswer answerOf outcomeOf Goes
+  twins-stops out at r cause h same e =
+      record { bytes = []; does = twins-asks ∙ rw (← same, e) refl; goes = refl; counts = h }
 
-  abbrev after : Progress
-  after = record { at = at; tally = next }
+  module _ (after : List ℕ) (r : EqResult) (m : Tallied (storeIn b) (sortOf (q .sort)) (q .right) (isEq (answerOf r)) tally after) where
+    prints-on : NotRefused r
+        → twinsAnswer (answerOf r) (sortOf (q .sort)) (q .right) (progressOf b tally) ≡ prints (verdictLine (answerOf r)) (progressOf b after)
+    unfolding progressOf
+    prints-on k =
+        counted-as r k ∙ ap (λ (t : rules.Tally). prints (verdictLine (answerOf r)) (record { store = storeIn b; tally = t })) (sym (m .reads))
 
-  prints-on : (r : EqResult) → NotRefused r → Counted r
-      → twinsAnswer (answerOf r) (sortOf (q .sort)) (q .right) (progressOf b now) ≡ prints (verdictLine (answerOf r)) (progressOf b after)
-  unfolding twinsAnswer tallied verdictLine isEq answerOf progressOf tallyOf
-  prints-on (Eq n) k m = rw (m .equal, m .all) refl
-  prints-on (FirstNEQOps x y n) k m = rw (m .equal, m .all) refl
-  prints-on (FirstNEQRegions x y n) k m = rw (m .equal, m .all) refl
-  prints-on (FirstNEQBlocks x y n) k m = rw (m .equal, m .all) refl
-  prints-on (Refused c) k m = absurd (answers (Refused c) k c refl)
-
-  pub twins-goes : (out out′ : List ℕ) (r : EqResult) → answerOf r ≡ answerTo b q → NotRefused r → TallyFits (now .tally) → Wrote stepRoom out out′ (now .at) (verdictLine (answerOf r)) at → Counted r
-      → Stepped (lineDoes twinsProgram (progressOf b now) (some (queryOf q))) b out out′ now (On after)
-  unfolding outcomeOf Goes
-  twins-goes out out′ r same k h w m =
-      record {
-        bytes = verdictLine (answerOf r);
-        does =
-            twins-asks b now q
-            ∙ subst (λ x. twinsAnswer x (sortOf (q .sort)) (q .right) (progressOf b now) ≡ prints (verdictLine (answerOf r)) (progressOf b after)) same (prints-on r k m);
-        goes = (w, further h m);
-      }
+    pub twins-goes : (out out′ : List ℕ) (at next : ℕ) → answerOf r ≡ answerTo b q → NotRefused r → Wrote stepRoom out out′ at (verdictLine (answerOf r)) next
+        → Stepped (lineDoes twinsProgram (progressOf b tally) (some (queryOf q))) b after out out′ at (On next)
+    unfolding outcomeOf Goes
+    twins-goes out out′ at next same k w =
+        record {
+          bytes = verdictLine (answerOf r);
+          does =
+              twins-asks
+              ∙ subst (λ x. twinsAnswer x (sortOf (q .sort)) (q .right) (progressOf b tally) ≡ prints (verdictLine (answerOf r)) (progressOf b after)) same (prints-on k);
+          goes = w;
+          counts = m .holds;
+        }

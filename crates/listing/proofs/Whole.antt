@@ -71,7 +71,7 @@ module _ (p : Program) (listing store mapping out store′ mapping′ out′ : L
         leaves =
             record {
               refused = λ cause q. absurd (Option·none-ne-some cause (sym accepted ∙ q));
-              reads = λ q. ran .left ∙ ap (λ (ls : List (List ℕ)). unmarked (leaves (programOf p) atStart ls)) (sym (h .begun e .lines));
+              reads = λ q. ran .left ∙ ap (λ (ls : List (List ℕ)). unmarked (leaves (programOf p) atStart ls .store)) (sym (h .begun e .lines));
               sound = λ q. ran .sound;
               empty = λ q. ran .empty;
             };

@@ -12,13 +12,12 @@ use Rattle.fragments.specs.Ignoring.{ignoreOf}
 use Rattle.mapping.specs.MappingWords.{emptyWords}
 use Rattle.pairing.specs.Told.{answerOf}
 use Rattle.pairing.specs.declared.types.EqResult.{EqResult}
+use Rattle.tally.specs.Tally.{IsTally}
 use Rattle.lines.specs.Wrote.{Wrote}
 use Rattle.lines.specs.Room.{unequalRoom}
 use Rattle.lines.specs.declared.parsing.Query.{Query}
-use Rattle.listing.specs.declared.types.Progress.{Progress}
 use Rattle.listing.specs.declared.types.LineResult.{LineResult}
 use Rattle.listing.specs.declared.types.LineResult.the-variants.{On, Stopped}
-use Rattle.listing.specs.Tally.{Further}
 use Rattle.listing.specs.Progress.{progressOf}
 
 -- ---- a comparison
@@ -49,16 +48,17 @@ pub record QueryCompared (store mapping : List ℕ) (q : Query) (r : EqResult) :
 abbrev pub stepRoom : ℕ
 stepRoom = unequalRoom
 
-unfoldable pub outcomeOf : List ℕ → List ℕ → LineResult → LineOutcome
-outcomeOf store bytes (On next) = prints bytes (progressOf store next)
-outcomeOf store bytes (Stopped cause) = stops cause
+unfoldable pub outcomeOf : List ℕ → List ℕ → List ℕ → LineResult → LineOutcome
+outcomeOf store tally bytes (On next) = prints bytes (progressOf store tally)
+outcomeOf store tally bytes (Stopped cause) = stops cause
 
-unfoldable pub Goes : List ℕ → List ℕ → Progress → List ℕ → LineResult → Type 0
-Goes before after now bytes (On next) = Wrote stepRoom before after (now .at) bytes (next .at) × Further (now .tally) (next .tally)
-Goes before after now bytes (Stopped cause) = after ≡ before
+unfoldable pub Goes : List ℕ → List ℕ → ℕ → List ℕ → LineResult → Type 0
+Goes before after at bytes (On next) = Wrote stepRoom before after at bytes next
+Goes before after at bytes (Stopped cause) = after ≡ before
 
--- of a step that leaves this store
-pub record Stepped (outcome : LineOutcome) (store : List ℕ) (before after : List ℕ) (now : Progress) (r : LineResult) : Type 0 where
+-- of a step that leaves this store and this tally, where so many bytes were printed before
+pub record Stepped (outcome : LineOutcome) (store tally before after : List ℕ) (at : ℕ) (r : LineResult) : Type 0 where
   pub bytes : List ℕ
-  pub does : outcome ≡ outcomeOf store bytes r
-  pub goes : Goes before after now bytes r
+  pub does : outcome ≡ outcomeOf store tally bytes r
+  pub goes : Goes before after at bytes r
+  pub counts : IsTally tally

@@ -1,5 +1,4 @@
 -- What the code does for a listing, as what the rules say of it.
-pub mod Tally
 pub mod Progress
 pub mod Building
 pub mod Asking

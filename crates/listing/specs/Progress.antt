@@ -4,15 +4,14 @@ use mathlib.Core.List.{List}
 use Rattle.rules.specs.Listings as rules
 use Rattle.rules.specs.Listings.{twinsProgram, sumsProgram}
 use Rattle.layout.specs.Reading.{storeIn}
+use Rattle.tally.specs.Tally.{tallyOf}
 use Rattle.listing.specs.declared.types.Program.{Program}
 use Rattle.listing.specs.declared.types.Program.the-variants.{Twins, Sums}
-use Rattle.listing.specs.declared.types.Progress.{Progress}
-use Rattle.listing.specs.Tally.{tallyOf}
 
 unfoldable pub programOf : Program → rules.Program
 programOf Twins = twinsProgram
 programOf Sums = sumsProgram
 
--- the words of the store, and what was counted
-unfoldable pub progressOf : List ℕ → Progress → rules.Progress
-progressOf store now = record { store = storeIn store; tally = tallyOf (now .tally) }
+-- the words of the store, and those of the tally
+unfoldable pub progressOf : List ℕ → List ℕ → rules.Progress
+progressOf store tally = record { store = storeIn store; tally = tallyOf tally }

@@ -5,7 +5,7 @@ use mathlib.Core.List.{List, []}
 use mathlib.Core.Path.{_≡_}
 use lib.ListN.{length}
 use Rattle.rules.specs.Bytes.{lineFeed, cutAt}
-use Rattle.rules.specs.Listings.{does, run, atStart, leaves, shareLine, listingCause, behindFirst, maxListing, maxOutput}
+use Rattle.rules.specs.Listings.{does, run, atStart, leaves, share, shareLine, listingCause, behindFirst, maxListing, maxOutput}
 use Rattle.rules.specs.Marks.{unmarked}
 use Rattle.layout.specs.Columns.{columns}
 use Rattle.layout.specs.Causes.{causeOf}
@@ -14,16 +14,14 @@ use Rattle.layout.specs.declared.causes.Cause.{Cause}
 use Rattle.layout.specs.declared.causes.Cause.the-variants.{None}
 use Rattle.journal.specs.Words.{markCount, markedIn, soundLent}
 use Rattle.mapping.specs.MappingWords.{emptyWords}
+use Rattle.tally.specs.Tally.{tallyOf}
 use Rattle.lines.specs.Pieces.{piecesFrom}
 use Rattle.lines.specs.Wrote.{Wrote}
 use Rattle.listing.specs.declared.types.Program.{Program}
 use Rattle.listing.specs.declared.types.Program.the-variants.{Twins, Sums}
-use Rattle.listing.specs.declared.types.Tally.{Tally}
-use Rattle.listing.specs.declared.types.Progress.{Progress}
 use Rattle.listing.specs.declared.types.LineResult.{LineResult}
 use Rattle.listing.specs.declared.types.LineResult.the-variants.{Stopped}
 use Rattle.listing.specs.Asking.{Stepped}
-use Rattle.listing.specs.Tally.{tallyOf}
 use Rattle.listing.specs.Progress.{programOf, progressOf}
 
 -- ---- the first line
@@ -45,9 +43,9 @@ pub record Headed (listing : List ℕ) (r : Cause) : Type 0 where
   pub begun : r ≡ None → StartsWithHeader listing
 
 -- what is printed behind the last line
-unfoldable pub closes : Program → Tally → List ℕ
-closes Twins now = shareLine (tallyOf now)
-closes Sums now = []
+unfoldable pub closes : Program → List ℕ → List ℕ
+closes Twins tally = shareLine (share (tallyOf tally))
+closes Sums tally = []
 
 -- ---- one line
 
@@ -57,8 +55,8 @@ pub record Bare (store : List ℕ) : Type 0 where
   pub unmarked : markCount (columns store) ≡ 0
 
 -- what the code does for a line, as what the rules' program does
-pub record LineDoes (p : Program) (line store store′ out out′ : List ℕ) (now : Progress) (r : LineResult) : Type 0 where
-  pub step : Stepped (does (programOf p) (progressOf store now) line) store′ out out′ now r
+pub record LineDoes (p : Program) (line store store′ tally tally′ out out′ : List ℕ) (at : ℕ) (r : LineResult) : Type 0 where
+  pub step : Stepped (does (programOf p) (progressOf store tally) line) store′ tally′ out out′ at r
   pub sound : IsSound store′
   pub marks : markCount (columns store′) ≡ markCount (columns store)
   pub unchanged : (cause : ℕ) → r ≡ Stopped cause → store′ ≡ store
@@ -68,6 +66,6 @@ pub record LineDoes (p : Program) (line store store′ out out′ : List ℕ) (n
 -- all that they print is written, and the store is what they leave
 pub record Ran (p : Program) (listing : List ℕ) (from : ℕ) (store mapping out out′ : List ℕ) (r : ℕ) : Type 0 where
   pub wrote : Wrote maxOutput out out′ 0 (run (programOf p) 2 atStart (piecesFrom lineFeed listing from .whole) (piecesFrom lineFeed listing from .rest)) r
-  pub left : markedIn store ≡ unmarked (leaves (programOf p) atStart (piecesFrom lineFeed listing from .whole))
+  pub left : markedIn store ≡ unmarked (leaves (programOf p) atStart (piecesFrom lineFeed listing from .whole) .store)
   pub sound : soundLent store ≡ true
   pub empty : mapping ≡ emptyWords

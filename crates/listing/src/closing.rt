@@ -1,23 +1,25 @@
 // What is printed behind the last line.
 use crate::types::Program;
-use crate::types::Progress;
 use lines::printing::put_share;
+use tally::counting::counts;
 ghost use Prim.Native.Nat.{_+_, _≤_};
 ghost use lib.ListN.{length};
+ghost use Rattle.tally.specs.Tally.{IsTally};
 ghost use Rattle.lines.specs.Wrote.{Wrote};
 ghost use Rattle.lines.specs.Room.{shareRoom};
-ghost use Rattle.listing.specs.Tally.{TallyFits};
 ghost use Rattle.listing.specs.Stepping.{closes};
 
 // `twins` prints the share, `sums` nothing.
-pub fn close(program: Program, out: &mut [u8], progress: Progress) -> usize
-    requires { ⌜ (progress .at) + shareRoom ≤ length (now out) ⌝ }
-    requires { ⌜ TallyFits (progress .tally) ⌝ }
-    ensures { λ r. ⌜ Wrote shareRoom (now (out .entry)) (now (out .exit)) (progress .at) (closes program (progress .tally)) r ⌝ }
+pub fn close(program: Program, tally: &[u8], out: &mut [u8], at: usize) -> usize
+    requires { ⌜ IsTally (now tally) ⌝ }
+    requires { ⌜ at + shareRoom ≤ length (now out) ⌝ }
+    ensures { λ r. ⌜ Wrote shareRoom (now (out .entry)) (now (out .exit)) at (closes program (now (tally .entry))) r ⌝ }
 {
-    let tally = progress.tally;
     match program {
-        Program::Twins => put_share(out, progress.at, tally.equal, tally.all),
-        Program::Sums => progress.at,
+        Program::Twins => {
+            let counted = counts(tally);
+            put_share(out, at, counted.equal, counted.all)
+        }
+        Program::Sums => at,
     }
 }

@@ -1,7 +1,5 @@
 // A `q` of `twins`: its fragments are compared, begun with an empty mapping, which is left empty.
-use crate::counting::counted;
 use crate::types::LineResult;
-use crate::types::Progress;
 use equivalence::comparison::fragments_eq;
 use equivalence::types::EqResult;
 use equivalence::types::Fragments;
@@ -11,6 +9,7 @@ use lines::printing::put_equal;
 use lines::printing::put_unequal;
 use mapping::unmapping::unmap_entered;
 use pairing::answers::paired_of;
+use tally::inside::mark_fragment;
 ghost use mathlib.Core.Option.{some};
 ghost use mathlib.Core.Path.{_≡_};
 ghost use Prim.Native.Nat.{_+_, _≤_};
@@ -21,9 +20,9 @@ ghost use Rattle.mapping.specs.MappingWords.{emptyWords};
 ghost use Rattle.pairing.specs.Told.{answerOf};
 ghost use Rattle.lines.specs.Parsing.{queryOf};
 ghost use Rattle.lines.specs.Wrote.{Wrote};
-ghost use Rattle.listing.specs.Tally.{TallyFits};
+ghost use Rattle.tally.specs.Tally.{IsTally};
 ghost use Rattle.listing.specs.Progress.{progressOf};
-ghost use Rattle.listing.specs.Asking.{verdictLine, QueryCompared, Stepped, stepRoom};
+ghost use Rattle.listing.specs.Asking.{isEq, verdictLine, QueryCompared, Stepped, stepRoom};
 
 // Compares the fragments of a query. No type is renamed: no words of the store are lent as the index of a list. The mapping is empty before,
 // and what was entered is taken out again.
@@ -44,6 +43,15 @@ fn compare(store: &[u32], mapping: &mut [u32], query: Query) -> EqResult
     result
 }
 
+fn is_eq(result: EqResult) -> bool
+    ensures { λ r. ⌜ r ≡ isEq (answerOf result) ⌝ }
+{
+    match result {
+        EqResult::Eq(_) => true,
+        _ => false,
+    }
+}
+
 // The line of a comparison; a refused one has none.
 fn put_verdict(out: &mut [u8], at: usize, result: EqResult) -> usize
     requires { ⌜ at + stepRoom ≤ length (now out) ⌝ }
@@ -58,30 +66,28 @@ fn put_verdict(out: &mut [u8], at: usize, result: EqResult) -> usize
     }
 }
 
-// A `q` of `twins`.
+// A `q` of `twins`: its line is printed behind the bytes up to `at`, and the operations inside its right fragment are counted.
 pub fn twins_does(
     store: &[u32],
     mapping: &mut [u32],
+    tally: &mut [u8],
     out: &mut [u8],
-    progress: Progress,
+    at: usize,
     query: Query,
 ) -> LineResult
     requires { ⌜ IsSound (now store) ⌝ }
     requires { ⌜ now mapping ≡ emptyWords ⌝ }
-    requires { ⌜ (progress .at) + stepRoom ≤ length (now out) ⌝ }
-    requires { ⌜ TallyFits (progress .tally) ⌝ }
-    ensures { λ r. ⌜ Stepped (lineDoes twinsProgram (progressOf (now (store .entry)) progress) (some (queryOf query))) (now (store .entry)) (now (out .entry)) (now (out .exit)) progress r ⌝ }
+    requires { ⌜ IsTally (now tally) ⌝ }
+    requires { ⌜ at + stepRoom ≤ length (now out) ⌝ }
+    ensures { λ r. ⌜ Stepped (lineDoes twinsProgram (progressOf (now (store .entry)) (now (tally .entry))) (some (queryOf query))) (now (store .entry)) (now (tally .exit)) (now (out .entry)) (now (out .exit)) at r ⌝ }
     ensures { λ r. ⌜ now (mapping .exit) ≡ emptyWords ⌝ }
 {
     let result = compare(store, mapping, query);
     if let EqResult::Refused(cause) = result {
         return LineResult::Stopped(cause);
     }
-    let at = put_verdict(out, progress.at, result);
+    let next = put_verdict(out, at, result);
     let sort = query.sort;
-    let tally = progress.tally;
-    LineResult::On(Progress {
-        at,
-        tally: counted(store, tally, sort, query.right, result),
-    })
+    mark_fragment(store, tally, sort, query.right, is_eq(result));
+    LineResult::On(next)
 }

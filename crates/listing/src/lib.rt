@@ -4,7 +4,6 @@ pub mod building_lines;
 pub mod calls;
 pub mod closing;
 pub mod comparing;
-pub mod counting;
 pub mod emptying;
 pub mod header;
 pub mod running;

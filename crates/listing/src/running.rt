@@ -10,13 +10,13 @@ use crate::header::header_cause;
 use crate::types::LineResult;
 use crate::types::Program;
 use crate::types::Progress;
-use crate::types::Tally;
 use layout::causes::Cause;
 use lines::parsing::query_line;
 use lines::pieces::piece_end;
 use lines::printing::put_refusal;
 use lines::reader::word_at;
 use lines::reading::Word;
+use tally::counting::TALLY_LENGTH;
 ghost use mathlib.Core.Path.{_≡_};
 ghost use Prim.Native.Nat.{_+_, _≤_};
 ghost use lib.ListN.{length};
@@ -26,7 +26,7 @@ ghost use Rattle.layout.specs.Columns.{bufferLength};
 ghost use Rattle.layout.specs.Reading.{storeIn};
 ghost use Rattle.layout.specs.Soundness.{IsSound};
 ghost use Rattle.mapping.specs.MappingWords.{mappingLength, emptyWords};
-ghost use Rattle.listing.specs.Tally.{TallyFits};
+ghost use Rattle.tally.specs.Tally.{IsTally};
 ghost use Rattle.listing.specs.Progress.{programOf};
 ghost use Rattle.listing.specs.Asking.{stepRoom};
 ghost use Rattle.listing.specs.Stepping.{secondLine, Bare, LineDoes, Ran};
@@ -34,18 +34,18 @@ ghost use Rattle.listing.specs.Calls.{PrintsListing, buffers};
 
 // One line: its length, its letter, and then what it does.
 fn line_does(
-    program: Program,
     store: &mut [u32],
     mapping: &mut [u32],
+    tally: &mut [u8],
     out: &mut [u8],
     progress: Progress,
     line: &[u8],
 ) -> LineResult
     requires { ⌜ IsSound (now store) ⌝ }
     requires { ⌜ now mapping ≡ emptyWords ⌝ }
+    requires { ⌜ IsTally (now tally) ⌝ }
     requires { ⌜ (progress .at) + stepRoom ≤ length (now out) ⌝ }
-    requires { ⌜ TallyFits (progress .tally) ⌝ }
-    ensures { λ r. ⌜ LineDoes program (now (line .entry)) (now (store .entry)) (now (store .exit)) (now (out .entry)) (now (out .exit)) progress r ⌝ }
+    ensures { λ r. ⌜ LineDoes (progress .program) (now (line .entry)) (now (store .entry)) (now (store .exit)) (now (tally .entry)) (now (tally .exit)) (now (out .entry)) (now (out .exit)) (progress .at) r ⌝ }
     ensures { λ r. ⌜ now (mapping .exit) ≡ emptyWords ⌝ }
 {
     if line.len() > MAX_LINE {
@@ -56,11 +56,11 @@ fn line_does(
     };
     if letter == b'q' {
         let query = query_line(line, at);
-        return query_does(program, store, mapping, out, progress, query);
+        return query_does(store, mapping, tally, out, progress, query);
     }
     match building_does(store, line, letter, at) {
         Cause::Is(cause) => LineResult::Stopped(cause),
-        Cause::None => LineResult::On(progress),
+        Cause::None => LineResult::On(progress.at),
     }
 }
 
@@ -82,26 +82,32 @@ fn run(
     requires { ⌜ maxOutput ≤ length (now out) ⌝ }
     ensures { λ r. ⌜ Ran program (now (listing .entry)) from (now (store .exit)) (now (mapping .exit)) (now (out .entry)) (now (out .exit)) r ⌝ }
 {
-    let mut progress = Progress {
-        at: 0,
-        tally: Tally { equal: 0, all: 0 },
-    };
+    let mut tally: [u8; TALLY_LENGTH] = [0; TALLY_LENGTH];
+    let mut at = 0;
     let mut number = 2;
     let mut start = from;
     while start < listing.len() {
         let end = piece_end(listing, start, b'\n');
         if end == listing.len() {
-            return put_refusal(out, progress.at, number, 11);
+            return put_refusal(out, at, number, 11);
         }
-        let step = line_does(program, store, mapping, out, progress, &listing[start..end]);
+        let progress = Progress { program, at };
+        let step = line_does(
+            store,
+            mapping,
+            &mut tally,
+            out,
+            progress,
+            &listing[start..end],
+        );
         match step {
-            LineResult::Stopped(cause) => return put_refusal(out, progress.at, number, cause),
-            LineResult::On(next) => progress = next,
+            LineResult::Stopped(cause) => return put_refusal(out, at, number, cause),
+            LineResult::On(next) => at = next,
         }
         start = end + 1;
         number += 1;
     }
-    close(program, out, progress)
+    close(program, &tally, out, at)
 }
 
 // A whole listing, in buffers of the right lengths and with room enough.

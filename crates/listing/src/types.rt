@@ -5,21 +5,15 @@ pub enum Program {
     Sums,
 }
 
-// What the share is computed from: the operations in right fragments found equal, and those in all right fragments.
-pub struct Tally {
-    pub equal: u64,
-    pub all: u64,
-}
-
-// How many bytes are printed, and what is counted.
+// Which program runs, and how many bytes it has printed.
 pub struct Progress {
+    pub program: Program,
     pub at: usize,
-    pub tally: Tally,
 }
 
-// What a line results in: the progress behind it, or the cause for which it is refused.
+// What a line results in: how many bytes are printed behind it, or the cause for which it is refused.
 pub enum LineResult {
-    On(Progress),
+    On(usize),
     Stopped(u32),
 }
 

@@ -14,7 +14,8 @@ use lib.ListN.{length, getD, take, drop, List·getD-eq-default}
 use lib.Seq.{getD-take, getD-drop}
 use Rattle.rules.specs.Store.{Owner, ofOp, ofBlock, Value, valueAt}
 use Rattle.rules.specs.Mapping.{noImage}
-use Rattle.rules.specs.Entered.{countBelow, mapped, ownerEntry, EnteredBy}
+use Rattle.rules.specs.Lists.{countBelow}
+use Rattle.rules.specs.Entered.{mapped, ownerEntry, EnteredBy}
 use Rattle.rules.proofs.Basics.Tests.{and-left, and-right, and-both, clash}
 use Rattle.rules.proofs.Basics.Counts.{count-le, count-less, count-none, count-parts}
 use Rattle.layout.specs.Columns.{Cols, at, counts, opResultFirst, opResultEnd, blockArgumentFirst, blockArgumentEnd, valueOwner}

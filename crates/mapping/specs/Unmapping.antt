@@ -8,7 +8,7 @@ use lib.Dec.{ltb}
 use lib.ListN.{getD, replicate}
 use Rattle.rules.specs.Store.{Owner, ofOp, ofBlock}
 use Rattle.rules.specs.Mapping.{noImage}
-use Rattle.rules.specs.Entered.{countBelow}
+use Rattle.rules.specs.Lists.{countBelow}
 use Rattle.layout.specs.Columns.{Cols, at, pasted, opResultFirst, opResultEnd, blockArgumentFirst, blockArgumentEnd, valueOwner}
 use Rattle.layout.specs.Reading.{opCount, blockCount, valueCount, ownerFrom}
 use Rattle.mapping.specs.declared.types.Entries.{Entries}

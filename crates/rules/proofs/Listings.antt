@@ -4,3 +4,4 @@ pub mod Written
 pub mod Taken
 pub mod Short
 pub mod Nearest
+pub mod Counted

@@ -8,6 +8,7 @@ use Rattle.rules.proofs.Walking.Paired as pairing
 use Rattle.rules.proofs.Walking.Allowed as allowing
 use Rattle.rules.proofs.Walking.Entered as entering
 use Rattle.rules.proofs.Listings.Nearest as nearest
+use Rattle.rules.proofs.Listings.Counted as counting
 use Rattle.rules.proofs.Walking.Sizes as sizing
 use Rattle.rules.proofs.Form.Canonical as forms
 use Rattle.rules.proofs.Listings.Short as printing
@@ -68,6 +69,18 @@ paired-most s sd ig f l r i st = pairing.paired-most s sd ig f l r i st
 pub size-most : stated.SizeMost
 unfolding stated.SizeMost
 size-most s sd f n size i e = sizing.size-most s sd f n size i e
+
+pub size-is : stated.SizeIs
+unfolding stated.SizeIs
+size-is s f n size e = sizing.size-is s f n size e
+
+pub counted-exactly : stated.CountedExactly
+unfolding stated.CountedExactly
+counted-exactly lines m = (counting.counted-all lines m, counting.counted-equal lines m)
+
+pub share-most : stated.ShareMost
+unfolding stated.ShareMost
+share-most lines = counting.share-most lines
 
 pub output-fits : stated.OutputFits
 unfolding stated.OutputFits

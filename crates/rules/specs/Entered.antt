@@ -1,19 +1,15 @@
 -- What there is to take out of a mapping that a comparison was lent empty: how many operations and blocks have an image, and which values
 -- can have one.
-use Prim.Native.Nat.{ℕ, zero, suc, _+_, _≤_}
-use mathlib.Core.Bool.{Bool, cond, not}
+use Prim.Native.Nat.{ℕ, _+_, _≤_}
+use mathlib.Core.Bool.{Bool, not}
 use mathlib.Core.List.{List}
 use mathlib.Core.Path.{_≡_}
 use lib.Dec.{eqb}
 use lib.ListN.{length, getD}
+use Rattle.rules.specs.Lists.{countBelow}
 use Rattle.rules.specs.Store.{Store, Owner, ofOp, ofBlock, valueAt, maxBlocks, maxOps}
 use Rattle.rules.specs.Mapping.{Mapping, noImage}
 use Rattle.rules.specs.Answers.{Compared, eq, neq, refused}
-
--- at how many numbers below n the test passes
-unfoldable pub countBelow : ℕ → (ℕ → Bool) → ℕ
-countBelow zero p = 0
-countBelow (suc n) p = cond (p n) (suc (countBelow n p)) (countBelow n p)
 
 -- a number has an image
 unfoldable pub mapped : List ℕ → ℕ → Bool

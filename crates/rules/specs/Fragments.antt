@@ -67,6 +67,10 @@ stepDefines (shell w) = w ∷ []
 stepDefines (names n) = []
 stepDefines (counted k) = []
 
+unfoldable pub opOwner : Owner → List ℕ
+opOwner (ofOp n) = n ∷ []
+opOwner (ofBlock b) = []
+
 unfoldable pub blockOwner : Owner → List ℕ
 blockOwner (ofOp n) = []
 blockOwner (ofBlock b) = b ∷ []
@@ -84,6 +88,10 @@ stepSuccessors s (counted k) = []
 -- the operations and blocks in a fragment, the fragment itself included
 unfoldable pub definesOwners : Store → Sort → ℕ → List Owner
 definesOwners s f n = concatMap stepDefines (steps s f n)
+
+-- the operations inside a fragment, "a fragment's own operation included": as many as its size
+unfoldable pub fragmentOps : Store → Sort → ℕ → List ℕ
+fragmentOps s f n = concatMap opOwner (definesOwners s f n)
 
 unfoldable pub definesValues : Store → Sort → ℕ → List ℕ
 definesValues s f n = concatMap (valuesOf s) (definesOwners s f n)

@@ -14,6 +14,7 @@ pub mod Keys
 pub mod Bytes
 pub mod Lines
 pub mod Listings
+pub mod Asked
 pub mod Rust
 pub mod Agreement
 pub mod Laws

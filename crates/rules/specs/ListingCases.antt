@@ -59,7 +59,7 @@ withSeven rest = withFive ("o,3,0,0,0,0,0,0" ∷ "o,3,0,0,0,0,0,0" ∷ rest)
 
 unfoldable pub listingCases : List ListingCase
 listingCases =
-    twinsPrints exampleListing ("eq,-,-,3" ∷ "op,0,2,0" ∷ "share,50" ∷ [])
+    twinsPrints exampleListing ("eq,-,-,3" ∷ "op,0,2,0" ∷ "share,100" ∷ [])
     ∷ sumsPrints exampleListing ("86d049952fe90c01,86d049952fe90c01" ∷ "c0db2bff72f7e56a,bf175687a8e326a7" ∷ [])
     -- no bytes at all; the header alone
     ∷ twinsPrints [] ("refused,1,9" ∷ [])
@@ -112,8 +112,21 @@ listingCases =
     -- 1 and 3 of 8 operations: an exact half, to the even number
     ∷ twinsPrints (withSeven ("q,o,0,0,0,0" ∷ "q,o,0,1,0,0" ∷ [])) ("eq,-,-,1" ∷ "op,0,1,0" ∷ "share,12" ∷ [])
     ∷ twinsPrints
-    (withFive ("q,o,0,0,0,0" ∷ "q,o,0,0,0,0" ∷ "q,o,0,0,0,0" ∷ "q,o,0,1,0,0" ∷ []))
+    (withSeven ("q,o,0,0,0,0" ∷ "q,o,2,2,0,0" ∷ "q,o,3,3,0,0" ∷ "q,o,0,1,0,0" ∷ []))
     ("eq,-,-,1" ∷ "eq,-,-,1" ∷ "eq,-,-,1" ∷ "op,0,1,0" ∷ "share,38" ∷ [])
+    -- an operation counts once: asked about three times, and inside another that is asked about; found unequal first, or last
+    ∷ twinsPrints
+    (withFive ("q,o,0,0,0,0" ∷ "q,o,0,0,0,0" ∷ "q,o,0,0,0,0" ∷ "q,o,0,1,0,0" ∷ []))
+    ("eq,-,-,1" ∷ "eq,-,-,1" ∷ "eq,-,-,1" ∷ "op,0,1,0" ∷ "share,17" ∷ [])
+    ∷ twinsPrints (withFive ("q,o,0,1,0,0" ∷ "q,o,2,3,0,0" ∷ [])) ("op,0,1,0" ∷ "eq,-,-,1" ∷ "share,20" ∷ [])
+    ∷ twinsPrints (withFive ("q,o,2,3,0,0" ∷ "q,o,0,3,0,0" ∷ [])) ("eq,-,-,1" ∷ "op,0,3,0" ∷ "share,100" ∷ [])
+    -- a fragment that grew between two queries counts as it stood at each; a region without operations counts for nothing
+    ∷ twinsPrints
+    (withFive ("q,b,0,0,0,0" ∷ "o,3,0,0,0,0,0,0" ∷ "q,o,0,6,0,0" ∷ "o,3,0,0,0,0,0,0" ∷ []))
+    ("eq,-,-,5" ∷ "op,0,6,0" ∷ "share,80" ∷ [])
+    ∷ twinsPrints (withOne ("o,2,-,0,2,0,0,0" ∷ "q,r,0,1,0,0" ∷ [])) ("eq,-,-,0" ∷ "share,0" ∷ [])
+    -- left fragments never count
+    ∷ twinsPrints (withFive ("q,o,1,0,0,0" ∷ "q,o,0,0,0,0" ∷ [])) ("op,1,0,0" ∷ "eq,-,-,1" ∷ "share,100" ∷ [])
     ∷ []
 
 -- ---- the per cent

@@ -1,13 +1,14 @@
 -- 01, "Listings": the two programs, from the bytes of a listing to the bytes that are printed. "A program tests 11 (listing's length,
 -- line 1), then per line 11, 9, 10, then the call."
 use Prim.Native.Nat.{ℕ, suc, _+_, _*_, _/_, _%_}
-use mathlib.Core.Bool.{Bool, true, false, cond}
-use mathlib.Core.Option.{Option, none, some, Option·getD}
+use mathlib.Core.Bool.{Bool, true, false, cond, _&&_, _||_}
+use mathlib.Core.Option.{Option, none, some}
 use mathlib.Core.List.{List, [], _∷_, _++_}
 use lib.Dec.{eqb, leb, ltb}
 use lib.ListN.{length}
-use Rattle.rules.specs.Store.{Store, emptyStore}
-use Rattle.rules.specs.Fragments.{Sort, op, block, region, fragmentSize}
+use Rattle.rules.specs.Lists.{any, countBelow}
+use Rattle.rules.specs.Store.{Store, emptyStore, maxOps}
+use Rattle.rules.specs.Fragments.{Sort, op, block, region, fragmentOps}
 use Rattle.rules.specs.Building.{Built, made, accepted, refused, answer, built, firstFailed}
 use Rattle.rules.specs.Shells.{Ignore}
 use Rattle.rules.specs.Mapping.{emptyMapping}
@@ -44,24 +45,25 @@ unequalLine p paired = printed (sortText (p .sort) ∷ decimal (p .left) ∷ dec
 unfoldable pub hashesLine : ℕ → ℕ → List ℕ
 hashesLine left right = printed (hexadecimal left ∷ hexadecimal right ∷ [])
 
--- ---- "The share is the operations inside right fragments found equal, a fragment's own operation included, over those inside all right
--- fragments, in whole per cent": to "the nearest per cent and an exact half to the even number". "The half is decided on whole numbers. 0
--- over nothing is still 0."
+-- ---- the share: "Count each operation once: over all operations inside any right fragment, those inside at least one right fragment found
+-- equal, each fragment as it stood at its `q`", "a fragment's own operation included", "in whole per cent": to "the nearest per cent and an
+-- exact half to the even number". "The half is decided on whole numbers. 0 over nothing is still 0."
 
+-- two sets of operation numbers: those inside right fragments found equal, and those inside any
 pub record Tally : Type 0 where
-  pub equal : ℕ
-  pub all : ℕ
+  pub equal : ℕ → Bool
+  pub all : ℕ → Bool
 
 unfoldable pub noTally : Tally
-noTally = record { equal = 0; all = 0 }
+noTally = record { equal = λ (m : ℕ). false; all = λ (m : ℕ). false }
 
--- the operations inside a right fragment, as it stands at its `q`
-unfoldable pub opsIn : Store → Sort → ℕ → ℕ
-opsIn s f n = Option·getD (fragmentSize s f n) 0
-
--- with a right fragment more, found equal or not
-unfoldable pub tallied : Bool → Store → Sort → ℕ → Tally → Tally
-tallied found s f n t = record { equal = t .equal + cond found (opsIn s f n) 0; all = t .all + opsIn s f n }
+-- with the operations inside a right fragment more, found equal or not
+unfoldable pub tallied : Bool → List ℕ → Tally → Tally
+tallied found ops t =
+    record {
+      equal = λ (m : ℕ). t .equal m || (found && any (eqb m) ops);
+      all = λ (m : ℕ). t .all m || any (eqb m) ops;
+    }
 
 -- whether a quotient is rounded up, 1 or 0: by twice the rest, beside the divisor
 unfoldable pub roundedUp : ℕ → ℕ → ℕ → ℕ
@@ -74,8 +76,12 @@ nearest n divisor = n / divisor + roundedUp (n / divisor) (2 * (n % divisor)) di
 unfoldable pub perCent : ℕ → ℕ → ℕ
 perCent part whole = cond (eqb whole 0) 0 (nearest (part * 100) whole)
 
-unfoldable pub shareLine : Tally → List ℕ
-shareLine t = printed (text "share" ∷ decimal (perCent (t .equal) (t .all)) ∷ [])
+-- operations have numbers below 512
+unfoldable pub share : Tally → ℕ
+share t = perCent (countBelow maxOps (t .equal)) (countBelow maxOps (t .all))
+
+unfoldable pub shareLine : ℕ → List ℕ
+shareLine cent = printed (text "share" ∷ decimal cent ∷ [])
 
 -- ---- lines one after another
 
@@ -169,27 +175,27 @@ listed p bytes =
 abbrev pub maxOutput : ℕ
 maxOutput = 327680
 
--- ---- the store afterwards: what the lines have built, up to a refused one
+-- ---- afterwards: what the lines have built and counted, up to a refused one
 
-unfoldable pub keeps : LineOutcome → Progress → (Progress → Store) → Store
+unfoldable pub keeps : LineOutcome → Progress → (Progress → Progress) → Progress
 keeps (prints out next) now more = more next
-keeps (stops cause) now more = now .store
+keeps (stops cause) now more = now
 
-unfoldable pub leaves : Program → Progress → List (List ℕ) → Store
-leaves p now [] = now .store
+unfoldable pub leaves : Program → Progress → List (List ℕ) → Progress
+leaves p now [] = now
 leaves p now (line ∷ lines) = keeps (does p now line) now (λ next. leaves p next lines)
 
--- of a listing whose first line is not refused
+-- the store, of a listing whose first line is not refused
 unfoldable pub storeAfter : Program → List ℕ → Store
-storeAfter p bytes = leaves p atStart (behindFirst (cutAt lineFeed bytes .whole))
+storeAfter p bytes = leaves p atStart (behindFirst (cutAt lineFeed bytes .whole)) .store
 
 -- ---- "`twins` prints a line for each `q`, then the share"
 
 unfoldable pub twinsAnswer : Compared → Sort → ℕ → Progress → LineOutcome
 twinsAnswer (eq paired) f r now =
-    prints (equalLine paired) (record { store = now .store; tally = tallied true (now .store) f r (now .tally) })
+    prints (equalLine paired) (record { store = now .store; tally = tallied true (fragmentOps (now .store) f r) (now .tally) })
 twinsAnswer (neq p paired) f r now =
-    prints (unequalLine p paired) (record { store = now .store; tally = tallied false (now .store) f r (now .tally) })
+    prints (unequalLine p paired) (record { store = now .store; tally = tallied false (fragmentOps (now .store) f r) (now .tally) })
 twinsAnswer (refusedCompared cause) f r now = stops cause
 
 -- "Each `q` starts with an empty mapping." No type is renamed: order 3's list is, "in the programs", empty.
@@ -197,7 +203,7 @@ unfoldable pub twinsProgram : Program
 twinsProgram =
     record {
       ask = λ now f l r ig. twinsAnswer (comparison true (now .store) [] emptyMapping ig f l r .answer) f r now;
-      close = λ now. shareLine (now .tally);
+      close = λ now. shareLine (share (now .tally));
     }
 
 unfoldable pub twins : List ℕ → List ℕ

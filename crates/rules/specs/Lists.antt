@@ -15,6 +15,11 @@ unfoldable pub allBelow : ℕ → (ℕ → Bool) → Bool
 allBelow zero p = true
 allBelow (suc n) p = p n && allBelow n p
 
+-- at how many numbers below n the test passes
+unfoldable pub countBelow : ℕ → (ℕ → Bool) → ℕ
+countBelow zero p = 0
+countBelow (suc n) p = cond (p n) (suc (countBelow n p)) (countBelow n p)
+
 unfoldable pub sum : List ℕ → ℕ
 sum [] = 0
 sum (n ∷ ns) = n + sum ns

@@ -11,7 +11,7 @@ use lib.IntN.{pos}
 use lib.ListN.{length, getD, replicate}
 use Rattle.rules.specs.Lists.{every, all, any, filter, sameList, concatMap}
 use Rattle.rules.specs.Store.{Store, Attribute, emptyStore, opAt, opsOf, resultsOf, sound, keysRise, maxOps}
-use Rattle.rules.specs.Fragments.{Sort, op, block, NamesNothingOf, Premise, fragmentSize}
+use Rattle.rules.specs.Fragments.{Sort, op, block, NamesNothingOf, Premise, fragmentOps, fragmentSize}
 use Rattle.rules.specs.Building.{Call, tests, firstFailed, applied, built, after}
 use Rattle.rules.specs.Shells.{Ignore, unignored, sameAttribute}
 use Rattle.rules.specs.Mapping.{Mapping, emptyMapping, allowed}
@@ -20,7 +20,8 @@ use Rattle.rules.specs.Comparison.{State, standing, compare, compareBy}
 use Rattle.rules.specs.Hash.{hash}
 use Rattle.rules.specs.Answers.{eq, refused, comparisonOf, comparison, hashIs, hashed}
 use Rattle.rules.specs.Keys.{key, keyed, keyLength, written, longestKey, same, less, compareBytes, orderingNumber, reversed, fits, fieldsFit, callFits}
-use Rattle.rules.specs.Listings.{perCent, twins, sums, maxOutput}
+use Rattle.rules.specs.Listings.{Tally, perCent, share, atStart, leaves, twinsProgram, twins, sums, maxOutput}
+use Rattle.rules.specs.Asked.{asked, inside, insideEqual}
 use Rattle.rules.specs.Laws.{In, Equal, equal, succeeds, Laws}
 use Rattle.rules.specs.Runs.{Run, compareRuns, sameRuns, repeated, windowSum, weighted, keptSum, maxRun, repeatedOf, repeatedRun}
 use Rattle.rules.specs.Marks.{Mark, MarkedStore, unmarked, MarkedCall, build, setMark, goBack, isMark, isSet, maxRemembered, marked, afterMarked, marksHold, soundMarked, sets, markedCallFits}
@@ -347,6 +348,22 @@ PairedMost =
 -- a fragment has at most 512 operations: `size-most`
 unfoldable pub SizeMost : Type 0
 SizeMost = (s : Store) → sound s ≡ true → (f : Sort) (n size : ℕ) → In s f n → fragmentSize s f n ≡ some size → size ≤ maxOps
+
+-- and so many are inside it: `size-is`
+unfoldable pub SizeIs : Type 0
+SizeIs = (s : Store) (f : Sort) (n size : ℕ) → fragmentSize s f n ≡ some size → size ≡ length (fragmentOps s f n)
+
+-- order 8: "over all operations inside any right fragment, those inside at least one right fragment found equal, each fragment as it stood
+-- at its `q`": what `twins` has counted after these lines: `counted-exactly`
+unfoldable pub CountedExactly : Type 0
+CountedExactly =
+    (lines : List (List ℕ)) (m : ℕ)
+    → (leaves twinsProgram atStart lines .tally .all m ≡ any (inside m) (asked atStart lines))
+    × (leaves twinsProgram atStart lines .tally .equal m ≡ any (insideEqual m) (asked atStart lines))
+
+-- "Count each operation once": so the ones are a part of the others, and the share is at most 100: `share-most`
+unfoldable pub ShareMost : Type 0
+ShareMost = (lines : List (List ℕ)) → share (leaves twinsProgram atStart lines .tally) ≤ 100
 
 -- the output of a listing fits: `output-fits`
 unfoldable pub OutputFits : Type 0

@@ -6,7 +6,7 @@ use native.Mathlib.Nat.{not-suc-le-zero}
 use native.Mathlib.Omega.{arith}
 use mathlib.Core.Bool.{Bool, true, false, cond}
 use mathlib.Core.Path.{_≡_, refl, sym, subst}
-use Rattle.rules.specs.Entered.{countBelow}
+use Rattle.rules.specs.Lists.{countBelow}
 use Rattle.rules.proofs.Basics.Tests.{clash}
 
 -- one step of a count

@@ -9,11 +9,10 @@ use borrow.Author.Tests.{ltb-true}
 use lib.ListN.{length}
 use Rattle.rules.specs.Lists.{concatMap}
 use Rattle.rules.specs.Store.{Store, Owner, ofOp, ofBlock, ownerExists, opExists, maxOps, maxBlocks, maxValues, sound}
-use Rattle.rules.specs.Fragments.{Sort, exists, blockOwner, definesOwners, definesValues, definesBlocks}
+use Rattle.rules.specs.Fragments.{Sort, exists, blockOwner, definesOwners, definesValues, definesBlocks, opOwner}
 use Rattle.rules.proofs.Soundness.Sound.{facts}
 use Rattle.rules.proofs.Basics.Distinct.{Distinct, distinct-concatMap, mem-concatMap}
 use Rattle.rules.proofs.Basics.Pigeons.{pigeons}
-use Rattle.rules.proofs.Form.Events.{opOwner}
 use Rattle.rules.proofs.Form.Once.{owners-once, owners-here, values-once, values-here, blocks-once, blocks-here}
 
 op-owner : (w : Owner) {n : ℕ} → List·Memᴰ n (opOwner w) → w ≡ ofOp n

@@ -8,7 +8,7 @@ use mathlib.Core.Path.{_≡_, refl, ap, ap₂, _∙_}
 use lib.ListN.{length}
 use Rattle.rules.specs.Lists.{concatMap}
 use Rattle.rules.specs.Store.{Store, Owner, ofOp, ofBlock, opsOf, blocksOf, regionsOf, valuesOf}
-use Rattle.rules.specs.Fragments.{Sort, op, block, region, levels, Step, shell, names, counted, fullOp, shells, listSteps, regionSteps, steps, blockOwner}
+use Rattle.rules.specs.Fragments.{Sort, op, block, region, levels, Step, shell, names, counted, fullOp, shells, listSteps, regionSteps, steps, blockOwner, opOwner}
 use Rattle.rules.specs.Shells.{Ignore, sameShells}
 use Rattle.rules.specs.Mapping.{enterAll}
 use Rattle.rules.specs.Comparison.{State}
@@ -81,10 +81,6 @@ module _ (s : Store) where
   bare-events region n = bareSteps-region levels n
 
 -- ---- the lock-step pass
-
-unfoldable pub opOwner : Owner → List ℕ
-opOwner (ofOp n) = n ∷ []
-opOwner (ofBlock b) = []
 
 abbrev pub andThen : Option State → (State → Option State) → Option State
 andThen none f = none

@@ -8,13 +8,13 @@ use mathlib.Core.Option.{Option, none, some}
 use mathlib.Core.Path.{_≡_, refl, ap, subst₂, _∙_}
 use lib.ListN.{length}
 use Rattle.rules.specs.Store.{Store, Owner, ofOp, ofBlock, opsOf, blocksOf, regionsOf}
-use Rattle.rules.specs.Fragments.{Sort, op, block, region, levels, shell, names, counted, blockOwner}
+use Rattle.rules.specs.Fragments.{Sort, op, block, region, levels, shell, names, counted, blockOwner, opOwner}
 use Rattle.rules.specs.Shells.{Ignore, sameShells}
 use Rattle.rules.specs.Mapping.{enterAll}
 use Rattle.rules.specs.Comparison.{State, Pair, Walk, on, ended, tooDeep, _>>=_, pairwise, pairOf, expect, pairOps, enterOps, pairBlocks, enterBlocks, pass1, compareBy}
 use Rattle.rules.specs.Form.{Event, step, listEvents, one, shellEvents, opEvents, blocksEvents, regionEvents, events}
 use Rattle.rules.proofs.Form.Tested.{namesAgree, testedNames, testedOps, tested2, tested3, testedLists, testedRegions, testedBy, compare-tested}
-use Rattle.rules.proofs.Form.Events.{opOwner, andThen, enterOwners, meet, lock}
+use Rattle.rules.proofs.Form.Events.{andThen, enterOwners, meet, lock}
 
 abbrev pub going : Walk → Option State
 going (on st) = some st

@@ -11,7 +11,7 @@ use lib.ListN.{length, length-append, length-map, getD, set, List·getD-map}
 use lib.Seq.{getD-set-other}
 use Rattle.rules.specs.Lists.{sum, concatMap}
 use Rattle.rules.specs.Store.{Store, Op, Block, Attribute, Owner, ofOp, ofBlock, noOp, noBlock, opAt, blockAt, typeOf, opsOf, blocksOf, regionsOf, valuesOf, operandTotal, successorTotal, attributeTotal, sound}
-use Rattle.rules.specs.Fragments.{Sort, op, block, region, exists, levels, Step, shell, names, counted, fullOp, shells, listSteps, regionSteps, steps, stepDefines, blockOwner, definesOwners, definesValues, definesBlocks}
+use Rattle.rules.specs.Fragments.{Sort, op, block, region, exists, levels, Step, shell, names, counted, fullOp, shells, listSteps, regionSteps, steps, stepDefines, blockOwner, definesOwners, definesValues, definesBlocks, opOwner}
 use Rattle.rules.specs.Shells.{Ignore, Shell, ignored, unignored, shellOf}
 use Rattle.rules.specs.Hash.{bytes, leaf, count, tag, listBytes, locationBytes, attributeBytes, shellBytes, headBytes, Numbering, noNumbers, numbered, Name, walkNumber, storeNumber, nameOf, nameBytes, feeds, allBytes}
 use Rattle.rules.specs.Keys.{key}
@@ -21,7 +21,6 @@ use Rattle.rules.proofs.Basics.Appended.{sum-append}
 use Rattle.rules.proofs.Basics.Pigeons.{pigeons}
 use Rattle.rules.proofs.Soundness.Sound.{Sound, facts}
 use Rattle.rules.proofs.Soundness.Children.{regions-in, regions-distinct}
-use Rattle.rules.proofs.Form.Events.{opOwner}
 use Rattle.rules.proofs.Form.OnceInLists.{defined}
 use Rattle.rules.proofs.Form.Once.{owners-once, owners-here, blocks-once, blocks-here}
 use Rattle.rules.proofs.Form.Counted.{values-most, ops-once, ops-here}

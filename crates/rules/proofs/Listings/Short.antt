@@ -17,7 +17,7 @@ use Rattle.rules.specs.Shells.{Ignore}
 use Rattle.rules.specs.Answers.{Compared, eq, neq, refused as refusedCompared, Hashed, hashIs, refusedHash}
 use Rattle.rules.specs.Bytes.{text, isText, lineFeed, cutAt}
 use Rattle.rules.specs.Lines.{Line, building, query, parse}
-use Rattle.rules.specs.Listings.{Progress, LineOutcome, prints, stops, Program, buildingDoes, lineDoes, maxLine, does, proceed, atEnd, run, atStart, headerTests, headerCause, listingCause, behindFirst, unless, maxListing, maxOutput, listed, twinsAnswer, twinsProgram, twins, sumsAnswer, sumsProgram, sums}
+use Rattle.rules.specs.Listings.{share, Progress, LineOutcome, prints, stops, Program, buildingDoes, lineDoes, maxLine, does, proceed, atEnd, run, atStart, headerTests, headerCause, listingCause, behindFirst, unless, maxListing, maxOutput, listed, twinsAnswer, twinsProgram, twins, sumsAnswer, sumsProgram, sums}
 use Rattle.rules.proofs.Basics.Tests.{numbers-same}
 use Rattle.rules.proofs.Listings.Cut.{weight, cut-weight}
 use Rattle.rules.proofs.Listings.Written.{lastMost, lineMost, refusal-short, share-short, equal-short, unequal-short, hashes-short}
@@ -117,7 +117,7 @@ twins-within (refusedCompared cause) f r now = tt
 
 pub twins-terse : Terse twinsProgram
 unfolding twinsProgram
-twins-terse = record { ask = λ now f l r ig. twins-within _ _ _ now; close = λ now. share-short (now .tally) }
+twins-terse = record { ask = λ now f l r ig. twins-within _ _ _ now; close = λ now. share-short (share (now .tally)) }
 
 pub twins-short : (bytes : List ℕ) → length (twins bytes) ≤ maxOutput
 unfolding twins

@@ -10,7 +10,7 @@ use lib.ListN.{length, length-append}
 use Rattle.rules.specs.Fragments.{Sort, op, block, region}
 use Rattle.rules.specs.Comparison.{Pair}
 use Rattle.rules.specs.Bytes.{text, comma, lineFeed, digit, lastDigits, digitCount, maxDigits, decimal, hexadecimal}
-use Rattle.rules.specs.Listings.{printed, refusal, equalLine, sortText, unequalLine, hashesLine, Tally, perCent, shareLine}
+use Rattle.rules.specs.Listings.{printed, refusal, equalLine, sortText, unequalLine, hashesLine, shareLine}
 use Rattle.rules.proofs.Listings.Cut.{weight}
 
 pub digits-length : (b k n : ℕ) → length (lastDigits b k n) ≡ k
@@ -54,11 +54,9 @@ unfolding refusal
 refusal-short line cause =
     omega (arith, printed-length (text "refused") (decimal line ∷ decimal cause ∷ []), decimal-short line, decimal-short cause)
 
-pub share-short : (t : Tally) → length (shareLine t) ≤ lastMost
+pub share-short : (cent : ℕ) → length (shareLine cent) ≤ lastMost
 unfolding shareLine
-share-short t =
-    let n = perCent (t .equal) (t .all) in
-    omega (arith, printed-length (text "share") (decimal n ∷ []), decimal-short n)
+share-short cent = omega (arith, printed-length (text "share") (decimal cent ∷ []), decimal-short cent)
 
 pub equal-short : (paired : ℕ) → length (equalLine paired) ≤ lineMost
 unfolding equalLine

@@ -11,6 +11,7 @@ use borrow.Author.Tests.{eq-eqb}
 use lib.Dec.{eqb}
 use lib.ListN.{length, getD, set, replicate, length-set, length-replicate}
 use lib.Seq.{getD-set-same, getD-set-other}
+use Rattle.rules.specs.Lists.{countBelow}
 use Rattle.rules.specs.Store.{Store, Owner, ofOp, ofBlock, valueAt, valuesOf, sound, maxBlocks, maxOps}
 use Rattle.rules.specs.Fragments.{Sort, exists, block}
 use Rattle.rules.specs.Building.{firstFailed}
@@ -20,7 +21,7 @@ use Rattle.rules.specs.Comparison.{State, unequal, oneLonger, tooDeep, W
 use Rattle.rules.specs.Types.{renamed}
 use Rattle.rules.specs.Answers.{compareTests, comparisonOf, comparisonBy, comparison}
 use Rattle.rules.specs.Runs.{compareRuns}
-use Rattle.rules.specs.Entered.{countBelow, mapped, ownerEntry, EnteredBy, pairedIn}
+use Rattle.rules.specs.Entered.{mapped, ownerEntry, EnteredBy, pairedIn}
 use Rattle.rules.proofs.Types.Renamed.{exists-renamed, entered-renamed, renamed-sound}
 use Rattle.rules.proofs.Basics.Counts.{count-more, count-zero}
 use Rattle.rules.proofs.Basics.Tests.{and-left, and-right}

@@ -37,12 +37,6 @@ add-result c =
     let up = up-one (s .args .part * 100 / s .args .whole) (2 * (s .args .part * 100 % s .args .whole)) (s .args .whole) in
     record { fits = omega (arith, c .rounded-up .ensures, up, at-most-all (s .args .part) (s .args .whole) (s .pre .0)) }
 
-cast-result : tie.Need-cast-result
-cast-result c =
-    let s = c .before .before in
-    let up = up-one (s .args .part * 100 / s .args .whole) (2 * (s .args .part * 100 % s .args .whole)) (s .args .whole) in
-    record { fits = omega (arith, c .rounded-up .ensures, up, at-most-all (s .args .part) (s .args .whole) (s .pre .0)) }
-
 returns-2 : tie.Need-returns-2
 unfolding nearest
 returns-2 c =
@@ -61,5 +55,4 @@ per-cent-spec =
     mul-twice
     rounded-up-requires
     add-result
-    cast-result
     returns-2)

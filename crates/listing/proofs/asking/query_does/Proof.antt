@@ -17,11 +17,11 @@ enum-told c = search needs
 returns : tie.Need-returns
 unfolding queryLineOf lineDoes
 returns c =
-    let s = c .before .before .before .before .before in
+    let s = c .before .before .before .before .before .before in
     let a = s .args in
     let store = a .store .now in
-    let now = a .progress in
-    (stopped _ store (a .out .now) now 10 (ap (λ l. lineDoes (programOf (a .program)) (progressOf store now) (queryLineOf l)) (c .enum-told .given .1)), s .pre .1 .0)
+    let tally = a .tally .now in
+    (stopped _ store tally (a .out .now) (a .progress .at) 10 (s .pre .1 .1 .0) (ap (λ l. lineDoes (programOf (a .progress .program)) (progressOf store tally) (queryLineOf l)) (c .enum-told .given .1)), s .pre .1 .0)
 
 enum-told-2 : tie.Need-enum-told-2
 enum-told-2 c = search needs
@@ -41,20 +41,23 @@ same-length c = search needs
 same-length-2 : tie.Need-same-length-2
 same-length-2 c = search needs
 
+same-length-3 : tie.Need-same-length-3
+same-length-3 c = search needs
+
 returns-2 : tie.Need-returns-2
 unfolding queryLineOf programOf
 returns-2 c =
-    let query-done = c .before .before .before .before in
-    let program-known = query-done .before .before .before in
+    let query-done = c .before .before .before .before .before .before in
+    let program-known = query-done .before .before .before .before in
     let query-known = program-known .before .before .before in
-    let s = query-known .before .before .before .before .before in
+    let s = query-known .before .before .before .before .before .before in
     let a = s .args in
     let store = a .store .now in
-    let now = a .progress in
-    (same-outcome (ap₂ (λ p l. lineDoes p (progressOf store now) l) (ap programOf (program-known .enum-told2 .given .1)) (ap queryLineOf (query-known .line .given .1))) (query-done .twins-does .ensures .0), query-done .twins-does .ensures .1)
+    let tally = a .tally .now in
+    (same-outcome (ap₂ (λ p l. lineDoes p (progressOf store tally) l) (ap programOf (program-known .enum-told2 .given .1)) (ap queryLineOf (query-known .line .given .1))) (query-done .twins-does .ensures .0), query-done .twins-does .ensures .1)
 
-same-length-3 : tie.Need-same-length-3
-same-length-3 c = search needs
+same-length-4 : tie.Need-same-length-4
+same-length-4 c = search needs
 
 returns-3 : tie.Need-returns-3
 unfolding queryLineOf programOf
@@ -62,11 +65,11 @@ returns-3 c =
     let query-done = c .before .before in
     let program-known = query-done .before .before in
     let query-known = program-known .before .before .before in
-    let s = query-known .before .before .before .before .before in
+    let s = query-known .before .before .before .before .before .before in
     let a = s .args in
     let store = a .store .now in
-    let now = a .progress in
-    (same-outcome (ap₂ (λ p l. lineDoes p (progressOf store now) l) (ap programOf (program-known .enum-told3 .given .1)) (ap queryLineOf (query-known .line .given .1))) (query-done .sums-does .ensures), s .pre .1 .0)
+    let tally = a .tally .now in
+    (same-outcome (ap₂ (λ p l. lineDoes p (progressOf store tally) l) (ap programOf (program-known .enum-told3 .given .1)) (ap queryLineOf (query-known .line .given .1))) (query-done .sums-does .ensures tally (s .pre .1 .1 .0)), s .pre .1 .0)
 
 pub query-does-spec : {M : Type 1} → statement M
 query-does-spec =
@@ -81,6 +84,7 @@ query-does-spec =
     sums-does-requires
     same-length
     same-length-2
-    returns-2
     same-length-3
+    returns-2
+    same-length-4
     returns-3)

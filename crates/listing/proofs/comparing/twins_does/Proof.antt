@@ -1,13 +1,22 @@
--- `twins_does` meets its contract: a refused comparison stops the program, and of any other the line is printed and the right fragment is
--- counted. Assumes nothing.
+-- `twins_does` meets its contract: a refused comparison stops the program, and of any other the line is printed and the operations inside the
+-- right fragment are counted. Assumes nothing.
+use mathlib.Core.Bool.{Bool}
+use mathlib.Core.Path.{subst}
+use Rattle.layout.specs.Reading.{storeIn}
+use Rattle.fragments.specs.Sorts.{sortOf}
+use Rattle.tally.specs.Tally.{Tallied}
 use Rattle.listing.proofs.Verdicts.{right-exists, twins-stops, twins-goes}
 use borrow.Author.Needs.{needs}
 use Rattle.listing.proofs.comparing.twins_does.Statement.{statement}
 use Rattle.listing.proofs.comparing.twins_does.Tie as tie
 
+-- the start, from behind the comparison
+abbrev begun : tie.After-compare → tie.Start
+begun c = c .before .before .before .before .before .before
+
 compare-requires : tie.Need-compare-requires
 compare-requires c κs =
-    let s = c .before .before .before .before in
+    let s = c .before .before .before .before .before in
     (s .pre .0, s .pre .1 .0)
 
 enum-known-result : tie.Need-enum-known-result
@@ -19,25 +28,25 @@ same-length c = search needs
 returns : tie.Need-returns
 returns c =
     let result-known = c .before in
-    let asked = result-known .before .before .before .before in
-    let s = asked .before .before .before .before .before in
+    let compared = result-known .before .before .before .before in
+    let s = begun compared in
     let a = s .args in
-    let compared = asked .compare in
-    (twins-stops (a .store .now) (a .out .now) (a .progress) (a .query) (compared .result) _ (compared .ensures .same) (result-known .result .given .1), compared .ensures .empty)
+    let told = compared .compare in
+    (twins-stops (a .store .now) (a .tally .now) (a .query) (a .out .now) (a .at) (told .result) _ (s .pre .1 .1 .0) (told .ensures .same) (result-known .result .given .1), told .ensures .empty)
 
 put-verdict-requires : tie.Need-put-verdict-requires
-put-verdict-requires c κs =
-    let asked = c .before .before .before .before in
-    let s = asked .before .before .before .before .before in
-    s .pre .1 .1 .0
+put-verdict-requires c κs = begun (c .before .before .before .before) .pre .1 .1 .1
 
-counted-requires : tie.Need-counted-requires
-counted-requires c κs =
-    let answered = c .before .before .before .before .before in
+is-eq-requires : tie.Need-is-eq-requires
+is-eq-requires c κs = search needs
+
+mark-fragment-requires : tie.Need-mark-fragment-requires
+mark-fragment-requires c κs =
+    let answered = c .before .before .before .before .before .before in
     let compared = answered .before .before .before in
-    let s = compared .before .before .before .before .before in
+    let s = begun compared in
     let there = right-exists (s .args .store .now) (s .args .query) (compared .compare .result) (compared .compare .ensures .same) (answered .match .keys2) in
-    (s .pre .0, (there, s .pre .1 .1 .1))
+    (s .pre .0, (there, s .pre .1 .1 .0))
 
 same-length-2 : tie.Need-same-length-2
 same-length-2 c = search needs
@@ -45,17 +54,23 @@ same-length-2 c = search needs
 same-length-3 : tie.Need-same-length-3
 same-length-3 c = search needs
 
+same-length-4 : tie.Need-same-length-4
+same-length-4 c = search needs
+
 returns-2 : tie.Need-returns-2
 returns-2 c =
-    let printed = c .before .before .before .before in
+    let marked = c .before .before in
+    let found = marked .before in
+    let printed = found .before .before .before .before in
     let answered = printed .before .before in
     let compared = answered .before .before .before in
-    let s = compared .before .before .before .before .before in
+    let s = begun compared in
     let a = s .args in
     let put = printed .put-verdict in
-    let told = compared .compare in (
-      twins-goes (a .store .now) (a .progress) (c .counted .result) (a .query) (put .result) (a .out .now) (put .last .0) (told .result)
-          (told .ensures .same) (answered .match .keys2) (s .pre .1 .1 .1) (put .ensures) (c .counted .ensures),
+    let told = compared .compare in
+    let after = marked .mark-fragment .last .1 .0 in
+    let counted = subst (λ (t : Bool). Tallied (storeIn (a .store .now)) (sortOf (a .query .sort)) (a .query .right) t (a .tally .now) after) (found .is-eq .ensures) (marked .mark-fragment .ensures) in (
+      twins-goes (a .store .now) (a .tally .now) (a .query) after (told .result) counted (a .out .now) (put .last .0) (a .at) (put .result) (told .ensures .same) (answered .match .keys2) (put .ensures),
       told .ensures .empty,
     )
 
@@ -68,7 +83,9 @@ twins-does-spec =
     same-length
     returns
     put-verdict-requires
-    counted-requires
+    is-eq-requires
+    mark-fragment-requires
     same-length-2
     same-length-3
+    same-length-4
     returns-2)

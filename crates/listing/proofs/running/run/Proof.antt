@@ -2,20 +2,21 @@
 use Prim.Native.Nat.{_-_, _≤_}
 use Rattle.rules.specs.Listings.{maxListing, maxOutput}
 use Rattle.layout.specs.Reading.{slice}
-use Rattle.listing.proofs.Runs.{Running, running-starts, running-turn, counts, has-room, few-lines, as-known, ran-out, ran-unended, ran-stopped}
+use Rattle.listing.proofs.Runs.{Running, running-starts, running-turn, has-room, few-lines, as-known, ran-out, ran-unended, ran-stopped}
 use native.Mathlib.Omega.{arith}
 use mathlib.Core.Path.{_≡_, refl, _∙_}
 use lib.ListN.{length}
+use Rattle.tally.proofs.Empty.{zeros-tally, zeros-none}
 use borrow.Author.Needs.{needs}
 use Rattle.listing.proofs.running.run.Statement.{statement}
 use Rattle.listing.proofs.running.run.Tie as tie
 
 abbrev Inv-loop : tie.InvT-loop
-Inv-loop program listing store₀ mapping₀ out₀ from progress₀ number₀ start₀ store mapping out progress number start =
-    Running program listing from out₀ store mapping out progress number start × (length store ≡ length store₀) × (length mapping ≡ length mapping₀) × (length out ≡ length out₀)
+Inv-loop program listing store₀ mapping₀ out₀ from tally₀ at₀ number₀ start₀ store mapping out tally at number start =
+    Running program listing from out₀ store mapping tally out at number start × (length store ≡ length store₀) × (length mapping ≡ length mapping₀) × (length out ≡ length out₀)
 
 abbrev μ-loop : tie.MeasureT-loop
-μ-loop program listing store₀ mapping₀ out₀ from progress₀ number₀ start₀ store mapping out progress number start =
+μ-loop program listing store₀ mapping₀ out₀ from tally₀ at₀ number₀ start₀ store mapping out tally at number start =
     length listing - start
 
 -- what the function is lent
@@ -32,16 +33,16 @@ begun t = t .before .before .before .before .before
 
 -- behind a line: back to where it was done, and from there to where it was seen to have a line feed
 abbrev line-done : tie.After-slice-known7 Inv-loop μ-loop → tie.After-line-does Inv-loop μ-loop
-line-done c = c .before .before .before .before .before .before
+line-done c = c .before .before .before .before .before .before .before
 
 abbrev line-ended : tie.After-line-does Inv-loop μ-loop → tie.Else1 Inv-loop μ-loop
-line-ended d = d .before .before .before .before .before
+line-ended d = d .before .before .before .before .before .before
 
 loop-holds : tie.Need-loop-holds Inv-loop μ-loop
 loop-holds c =
     let s = c .before .before .before .before in
     let h = s .pre in (
-      running-starts (roomy s) (short s) (s .args .store .now) (s .args .mapping .now) (h .0) (h .1 .0) (h .1 .1 .0) (h .1 .1 .1 .0) (h .1 .1 .1 .1 .0),
+      running-starts (roomy s) (short s) (s .args .store .now) (s .args .mapping .now) _ (h .0) (h .1 .0) (h .1 .1 .0) zeros-tally zeros-none (h .1 .1 .1 .0) (h .1 .1 .1 .1 .0),
       refl,
       refl,
       refl,
@@ -71,6 +72,9 @@ returns c =
     let s = begun (turn .before) in
     ran-unended (roomy s) (short s) (turn .before .loop .inv .0) _ (cut .piece-end .ensures) (turn .loop-test .taken) _ _ (tested .if1 .taken) (refused .put-refusal .ensures)
 
+slice-aggregate-line-does : tie.Need-slice-aggregate-line-does Inv-loop μ-loop
+slice-aggregate-line-does c = search needs
+
 sub-line-does : tie.Need-sub-line-does Inv-loop μ-loop
 sub-line-does c = search needs
 
@@ -82,20 +86,26 @@ part-line-does-end c = search needs
 
 line-does-requires : tie.Need-line-does-requires Inv-loop μ-loop
 line-does-requires c κs =
-    let tested = c .before .before .before .before in
+    let tested = c .before .before .before .before .before in
     let turn = tested .before .before in
     let w = turn .before .loop in
     let i = w .inv .0 in
     let s = begun (turn .before) in
     let r = has-room (roomy s) (short s) i in
     let e = w .inv .3 in
-    (i .bare .sound, (i .empty, (omega arith, counts (roomy s) (short s) i)))
+    (i .bare .sound, (i .empty, (i .counts, omega arith)))
 
 enum-known-step : tie.Need-enum-known-step Inv-loop μ-loop
 enum-known-step c = search needs
 
 put-refusal-requires-2 : tie.Need-put-refusal-requires-2 Inv-loop μ-loop
-put-refusal-requires-2 c κs = search needs
+put-refusal-requires-2 c κs =
+    let done = line-done (c .before .before .before .before) in
+    let turn = line-ended done .before .before in
+    let w = turn .before .loop in
+    let s = begun (turn .before) in
+    let r = has-room (roomy s) (short s) (w .inv .0) in
+    omega (arith, done .line-does .kept .1 .1 .1 .0, w .inv .3)
 
 same-length-4 : tie.Need-same-length-4 Inv-loop μ-loop
 same-length-4 c = search needs
@@ -116,7 +126,7 @@ returns-2 c =
     let cut = tested .before in
     let turn = cut .before in
     let s = begun (turn .before) in
-    ran-stopped (roomy s) (short s) (turn .before .loop .inv .0) _ (cut .piece-end .ensures) (turn .loop-test .taken) (tested .if1 .left) _ _ _ (as-known (known .step .given .1) (done .line-does .ensures .0)) _ _ _ (done .line-does .ensures .1) (refused .put-refusal2 .ensures)
+    ran-stopped (roomy s) (short s) (turn .before .loop .inv .0) _ (cut .piece-end .ensures) (turn .loop-test .taken) (tested .if1 .left) _ _ _ _ (as-known (known .step .given .1) (done .line-does .ensures .0)) _ _ _ (done .line-does .ensures .1) (refused .put-refusal2 .ensures)
 
 enum-known-step-2 : tie.Need-enum-known-step-2 Inv-loop μ-loop
 enum-known-step-2 c = search needs
@@ -144,12 +154,15 @@ loop-again c =
     let turn = cut .before in
     let w = turn .before .loop in
     let s = begun (turn .before) in
-    let kept = done .line-does .kept .1 in (
-      running-turn (roomy s) (short s) (w .inv .0) _ (cut .piece-end .ensures) (turn .loop-test .taken) (tested .if1 .left) _ _ _ (as-known (known .step2 .given .1) (done .line-does .ensures .0)) _ (done .line-does .ensures .1),
+    let kept = done .line-does .kept in (
+      running-turn (roomy s) (short s) (w .inv .0) _ (cut .piece-end .ensures) (turn .loop-test .taken) (tested .if1 .left) _ _ _ _ (as-known (known .step2 .given .1) (done .line-does .ensures .0)) _ (done .line-does .ensures .1),
       kept .0 ∙ w .inv .1,
       kept .1 .0 ∙ w .inv .2,
-      kept .1 .1 .0 ∙ w .inv .3,
+      kept .1 .1 .1 .0 ∙ w .inv .3,
     )
+
+slice-aggregate-close : tie.Need-slice-aggregate-close Inv-loop μ-loop
+slice-aggregate-close c = search needs
 
 close-requires : tie.Need-close-requires Inv-loop μ-loop
 close-requires c κs = search needs
@@ -166,7 +179,7 @@ same-length-9 c = search needs
 returns-3 : tie.Need-returns-3 Inv-loop μ-loop
 returns-3 c =
     let closed = c .before .before in
-    let tested = closed .before .before in
+    let tested = closed .before .before .before in
     let s = begun (tested .before) in
     ran-out (roomy s) (short s) (tested .before .loop .inv .0) _ _ (tested .loop-test .left) (closed .close .ensures)
 
@@ -183,6 +196,7 @@ run-spec =
     same-length-2
     same-length-3
     returns
+    slice-aggregate-line-does
     sub-line-does
     part-line-does-start
     part-line-does-end
@@ -198,6 +212,7 @@ run-spec =
     add-number
     loop-less
     loop-again
+    slice-aggregate-close
     close-requires
     same-length-7
     same-length-8

@@ -58,7 +58,7 @@ returns c =
     let a = s .args in
     let left = left-hashed .fragment-hash in
     let right = right-hashed .fragment-hash2 in
-    left-stops (a .store .now) (a .progress) (a .query) (left .result) (right .result) (unlisted (left .ensures)) (unlisted (right .ensures)) (a .out .now) _ (left-known .left .given .1)
+    λ tally h. left-stops (a .store .now) tally h (a .query) (left .result) (right .result) (unlisted (left .ensures)) (unlisted (right .ensures)) (a .out .now) (a .at) _ (left-known .left .given .1)
 
 returns-2 : tie.Need-returns-2
 returns-2 c =
@@ -70,14 +70,14 @@ returns-2 c =
     let a = s .args in
     let left = left-hashed .fragment-hash in
     let right = right-hashed .fragment-hash2 in
-    right-stops (a .store .now) (a .progress) (a .query) (left .result) (right .result) (unlisted (left .ensures)) (unlisted (right .ensures)) (a .out .now) _ _ (left-known .left2 .given .1) (right-known .right .given .1)
+    λ tally h. right-stops (a .store .now) tally h (a .query) (left .result) (right .result) (unlisted (left .ensures)) (unlisted (right .ensures)) (a .out .now) (a .at) _ _ (left-known .left2 .given .1) (right-known .right .given .1)
 
 same-length : tie.Need-same-length
 same-length c = search needs
 
 returns-3 : tie.Need-returns-3
 returns-3 c =
-    let printed = c .before .before .before in
+    let printed = c .before .before in
     let of-right = printed .before .before .before in
     let of-left = of-right .before .before .before in
     let both = of-left .before .before in
@@ -87,8 +87,8 @@ returns-3 c =
     let left = left-hashed .fragment-hash in
     let right = both .fragment-hash2 in
     let put = printed .put-hashes in
-    sums-goes (a .store .now) (a .progress) (a .query) (left .result) (right .result) (unlisted (left .ensures)) (unlisted (right .ensures)) (a .out .now) _ _
-    (of-left .left2 .given .1) (of-right .right2 .given .1) (s .pre .1 .1) (put .last .0) (put .result) (put .ensures)
+    λ tally h. sums-goes (a .store .now) tally h (a .query) (left .result) (right .result) (unlisted (left .ensures)) (unlisted (right .ensures)) (a .out .now) (a .at) _ _
+    (of-left .left2 .given .1) (of-right .right2 .given .1) (put .last .0) (put .result) (put .ensures)
 
 pub sums-does-spec : {M : Type 1} → statement M
 sums-does-spec =

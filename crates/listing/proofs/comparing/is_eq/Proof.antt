@@ -2,10 +2,10 @@
 use mathlib.Core.Path.{refl}
 use Rattle.pairing.specs.Told.{answerOf}
 use Rattle.listing.specs.Asking.{isEq}
-use Rattle.listing.proofs.Counts.{not-eq}
+use Rattle.listing.proofs.Unequal.{not-eq}
 use borrow.Author.Needs.{needs}
-use Rattle.listing.proofs.counting.is_eq.Statement.{statement}
-use Rattle.listing.proofs.counting.is_eq.Tie as tie
+use Rattle.listing.proofs.comparing.is_eq.Statement.{statement}
+use Rattle.listing.proofs.comparing.is_eq.Tie as tie
 
 enum-told : tie.Need-enum-told
 enum-told c = search needs

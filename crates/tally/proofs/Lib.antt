@@ -1,0 +1,7 @@
+-- Marking the operations inside a fragment makes the rules' tally with that fragment.
+pub mod Marking
+pub mod Counts
+pub mod Empty
+pub mod Alike
+pub mod Tallies
+pub mod Turns

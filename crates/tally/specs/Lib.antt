@@ -1,0 +1,2 @@
+-- A tally in words, and what marks it.
+pub mod Tally
