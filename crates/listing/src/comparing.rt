@@ -9,7 +9,7 @@ use lines::printing::put_equal;
 use lines::printing::put_unequal;
 use mapping::unmapping::unmap_entered;
 use pairing::answers::paired_of;
-use tally::inside::mark_fragment;
+use tally::inside::include_fragment;
 ghost use mathlib.Core.Option.{some};
 ghost use mathlib.Core.Path.{_≡_};
 ghost use Prim.Native.Nat.{_+_, _≤_};
@@ -88,6 +88,6 @@ pub fn twins_does(
     }
     let next = put_verdict(out, at, result);
     let sort = query.sort;
-    mark_fragment(store, tally, sort, query.right, is_eq(result));
+    include_fragment(store, tally, sort, query.right, is_eq(result));
     LineResult::On(next)
 }

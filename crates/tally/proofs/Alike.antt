@@ -1,4 +1,4 @@
--- The operations in the order of marking are those that the walk of the rules defines: both come to each operation of each block, and in it
+-- The operations in the order of including are those that the walk of the rules defines: both come to each operation of each block, and in it
 -- to the same of its regions. Assumes nothing.
 use Prim.Native.Nat.{ℕ, zero, suc}
 use mathlib.Core.Bool.{Bool, true, false, _||_}
@@ -11,11 +11,11 @@ use Rattle.rules.proofs.Basics.Filtered.{any-append}
 use Rattle.rules.proofs.Basics.Distinct.{concatMap-append}
 use Rattle.tally.specs.Tally.{opOpsBy, blockOpsBy, regionOps, blockOps, opOps}
 
--- those inside a fragment, as they are marked
-unfoldable pub opsMarked : Store → Sort → ℕ → List ℕ
-opsMarked s op n = opOps levels s n
-opsMarked s block n = blockOps levels s n
-opsMarked s region n = regionOps levels s n
+-- those inside a fragment, as they are included
+unfoldable pub opsIncluded : Store → Sort → ℕ → List ℕ
+opsIncluded s op n = opOps levels s n
+opsIncluded s block n = blockOps levels s n
+opsIncluded s region n = regionOps levels s n
 
 -- ---- a test that some entry of a list passes
 
@@ -64,29 +64,29 @@ module _ (p : ℕ → Bool) where
   hit-ops [] = refl
   hit-ops (n ∷ ns) = ap (λ (b : Bool). p n || b) (hit-ops ns)
 
-  module _ (s : Store) (marks : ℕ → List ℕ) (inRegion : ℕ → List Step) (same : (r : ℕ) → any p (marks r) ≡ hit (inRegion r)) where
+  module _ (s : Store) (includes : ℕ → List ℕ) (inRegion : ℕ → List Step) (same : (r : ℕ) → any p (includes r) ≡ hit (inRegion r)) where
     full : ℕ → List Step
     full = fullOp s inRegion
 
     -- an operation and all in its regions
-    op-hit : (n : ℕ) → any p (opOpsBy marks s n) ≡ (p n || hit (full n))
+    op-hit : (n : ℕ) → any p (opOpsBy includes s n) ≡ (p n || hit (full n))
     unfolding any hit full fullOp concatMap stepDefines opOpsBy
     op-hit n =
         ap (λ (b : Bool). p n || b)
-        (any-concat p marks (regionsOf s n) ∙ ap (λ (q : ℕ → Bool). any q (regionsOf s n)) (fun-ext same) ∙ sym (hit-concat inRegion (regionsOf s n)))
+        (any-concat p includes (regionsOf s n) ∙ ap (λ (q : ℕ → Bool). any q (regionsOf s n)) (fun-ext same) ∙ sym (hit-concat inRegion (regionsOf s n)))
 
-    block-hit : (b : ℕ) → any p (blockOpsBy marks s b) ≡ (hit (shells ofOp (opsOf s b)) || hit (concatMap full (opsOf s b)))
+    block-hit : (b : ℕ) → any p (blockOpsBy includes s b) ≡ (hit (shells ofOp (opsOf s b)) || hit (concatMap full (opsOf s b)))
     unfolding blockOpsBy
     block-hit b =
-        any-concat p (opOpsBy marks s) (opsOf s b)
+        any-concat p (opOpsBy includes s) (opsOf s b)
         ∙ ap (λ (q : ℕ → Bool). any q (opsOf s b)) (fun-ext op-hit)
         ∙ any-both p (λ (n : ℕ). hit (full n)) (opsOf s b)
         ∙ ap₂ _||_ (sym (hit-ops (opsOf s b))) (sym (hit-concat full (opsOf s b)))
 
-    list-hit : (bs : List ℕ) → any p (concatMap (blockOpsBy marks s) bs) ≡ hit (listSteps s full bs)
+    list-hit : (bs : List ℕ) → any p (concatMap (blockOpsBy includes s) bs) ≡ hit (listSteps s full bs)
     unfolding listSteps
     list-hit bs =
-        any-concat p (blockOpsBy marks s) bs
+        any-concat p (blockOpsBy includes s) bs
         ∙ ap (λ (q : ℕ → Bool). any q bs) (fun-ext block-hit)
         ∙ any-both _ _ bs
         ∙ ap₂ _||_ (sym (hit-concat _ bs)) (sym (hit-concat _ bs))
@@ -110,8 +110,8 @@ module _ (p : ℕ → Bool) where
 
   -- ---- a fragment
 
-  pub same-ops : (s : Store) (f : Sort) (n : ℕ) → any p (opsMarked s f n) ≡ any p (fragmentOps s f n)
-  unfolding opsMarked opOps blockOps fragmentOps definesOwners steps hit full concatMap any stepDefines opOwner
+  pub same-ops : (s : Store) (f : Sort) (n : ℕ) → any p (opsIncluded s f n) ≡ any p (fragmentOps s f n)
+  unfolding opsIncluded opOps blockOps fragmentOps definesOwners steps hit full concatMap any stepDefines opOwner
   same-ops s op n = op-hit s (regionOps levels s) (regionSteps levels s) (region-hit s levels) n
   same-ops s block n =
       ap (any p) (sym (append-nil (blockOpsBy (regionOps levels s) s n)))

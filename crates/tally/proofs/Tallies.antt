@@ -1,4 +1,4 @@
--- Marks of the operations inside a fragment make the rules' tally with that fragment: they are operations of the store, which have numbers
+-- The operations inside a fragment, included, make the rules' tally with that fragment: they are operations of the store, which have numbers
 -- below 512, and the order in which they come makes no difference. Assumes nothing.
 use Prim.Native.Nat.{ℕ, _<_, _≤_}
 use native.Mathlib.Omega.{arith}
@@ -18,9 +18,9 @@ use Rattle.rules.proofs.Basics.Filtered.{any-at}
 use Rattle.rules.proofs.Soundness.Sound.{facts}
 use Rattle.rules.proofs.Form.Once.{owners-here}
 use Rattle.rules.proofs.Form.Counted.{ops-here}
-use Rattle.tally.specs.Tally.{tallyLength, tallyOf, IsTally, markedAll, Tallied}
-use Rattle.tally.proofs.Marking.{reads-marked, marked-holds}
-use Rattle.tally.proofs.Alike.{opsMarked, same-ops}
+use Rattle.tally.specs.Tally.{tallyLength, tallyOf, IsTally, includedAll, Tallied}
+use Rattle.tally.proofs.Including.{reads-included, included-holds}
+use Rattle.tally.proofs.Alike.{opsIncluded, same-ops}
 
 stands : (m : ℕ) (ns : List ℕ) → any (eqb m) ns ≡ true → List·Memᴰ m ns
 unfolding any
@@ -38,7 +38,7 @@ tallied-same found ms ns t same =
     }
 
 module _ (s : Store) (sd : sound s ≡ true) (f : Sort) (n : ℕ) (e : exists s f n ≡ true) where
-  below : (m : ℕ) → List·Memᴰ m (opsMarked s f n) → m < tallyLength
+  below : (m : ℕ) → List·Memᴰ m (opsIncluded s f n) → m < tallyLength
   unfolding fragmentOps
   below m i =
       let so = facts s sd in
@@ -47,11 +47,11 @@ module _ (s : Store) (sd : sound s ≡ true) (f : Sort) (n : ℕ) (e : exists s 
       let k : length (s .ops) ≤ maxOps = so .totals .ops in
       omega arith
 
-  pub makes-tally : (found : Bool) (words : List ℕ) → IsTally words → Tallied s f n found words (markedAll found (opsMarked s f n) words)
+  pub makes-tally : (found : Bool) (words : List ℕ) → IsTally words → Tallied s f n found words (includedAll found (opsIncluded s f n) words)
   makes-tally found words t =
       record {
         reads =
-            reads-marked found (opsMarked s f n) words (λ m i. subst (λ (j : ℕ). m < j) (sym (t .long)) (below m i))
-            ∙ tallied-same found (opsMarked s f n) (fragmentOps s f n) (tallyOf words) (λ m. same-ops (eqb m) s f n);
-        holds = marked-holds found (opsMarked s f n) words below t;
+            reads-included found (opsIncluded s f n) words (λ m i. subst (λ (j : ℕ). m < j) (sym (t .long)) (below m i))
+            ∙ tallied-same found (opsIncluded s f n) (fragmentOps s f n) (tallyOf words) (λ m. same-ops (eqb m) s f n);
+        holds = included-holds found (opsIncluded s f n) words below t;
       }

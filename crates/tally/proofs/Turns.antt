@@ -1,4 +1,4 @@
--- Marking goes on child by child: with each one the marks that are left lead to the same words at the end. Assumes nothing.
+-- Including goes on child by child: with each one those that are left lead to the same words at the end. Assumes nothing.
 use Prim.Native.Nat.{ℕ, suc, _+_, _-_, _<_}
 use native.Mathlib.Numerals.{add-one}
 use native.Mathlib.Omega.{arith}
@@ -9,54 +9,54 @@ use lib.ListN.{length}
 use Rattle.rules.specs.Lists.{concatMap}
 use Rattle.rules.specs.Store.{Store, opsOf, blocksOf, regionsOf}
 use Rattle.layout.proofs.Ranges.{range, range-first}
-use Rattle.tally.specs.Tally.{tallyLength, marked, markedAll, opOpsBy, blockOpsBy, regionOps, blockOps, opOps}
-use Rattle.tally.proofs.Marking.{marked-append, marked-length}
+use Rattle.tally.specs.Tally.{tallyLength, included, includedAll, opOpsBy, blockOpsBy, regionOps, blockOps, opOps}
+use Rattle.tally.proofs.Including.{included-append, included-length}
 
--- there is a word for each operation, and marking what is in these children leaves the words at the end
-pub record Leads (found : Bool) (marks : ℕ → List ℕ) (rest words end : List ℕ) : Type 0 where
+-- there is a word for each operation, and including what is in these children leaves the words at the end
+pub record Leads (found : Bool) (includes : ℕ → List ℕ) (rest words end : List ℕ) : Type 0 where
   pub long : length words ≡ tallyLength
-  pub same : markedAll found (concatMap marks rest) words ≡ end
+  pub same : includedAll found (concatMap includes rest) words ≡ end
 
-module _ {found : Bool} {marks : ℕ → List ℕ} {rest words : List ℕ} where
-  pub begins : {children : List ℕ} → rest ≡ children → length words ≡ tallyLength → Leads found marks rest words (markedAll found (concatMap marks children) words)
-  begins e l = record { long = l; same = ap (λ (ns : List ℕ). markedAll found (concatMap marks ns) words) e }
+module _ {found : Bool} {includes : ℕ → List ℕ} {rest words : List ℕ} where
+  pub begins : {children : List ℕ} → rest ≡ children → length words ≡ tallyLength → Leads found includes rest words (includedAll found (concatMap includes children) words)
+  begins e l = record { long = l; same = ap (λ (ns : List ℕ). includedAll found (concatMap includes ns) words) e }
 
-  module _ {end : List ℕ} (h : Leads found marks rest words end) where
-    pub goes-on : {n : ℕ} {ns after : List ℕ} → rest ≡ n ∷ ns → after ≡ markedAll found (marks n) words → Leads found marks ns after end
+  module _ {end : List ℕ} (h : Leads found includes rest words end) where
+    pub goes-on : {n : ℕ} {ns after : List ℕ} → rest ≡ n ∷ ns → after ≡ includedAll found (includes n) words → Leads found includes ns after end
     unfolding concatMap
     goes-on {n} {ns} {after} first e =
         record {
-          long = ap length e ∙ marked-length found (marks n) words ∙ h .long;
+          long = ap length e ∙ included-length found (includes n) words ∙ h .long;
           same =
-              ap (markedAll found (concatMap marks ns)) e
-              ∙ sym (marked-append found (marks n) (concatMap marks ns) words)
-              ∙ ap (λ (ms : List ℕ). markedAll found (concatMap marks ms) words) (sym first)
+              ap (includedAll found (concatMap includes ns)) e
+              ∙ sym (included-append found (includes n) (concatMap includes ns) words)
+              ∙ ap (λ (ms : List ℕ). includedAll found (concatMap includes ms) words) (sym first)
               ∙ h .same;
         }
 
     pub ends : rest ≡ [] → words ≡ end
-    unfolding markedAll concatMap
-    ends none-left = ap (λ (ns : List ℕ). markedAll found (concatMap marks ns) words) (sym none-left) ∙ h .same
+    unfolding includedAll concatMap
+    ends none-left = ap (λ (ns : List ℕ). includedAll found (concatMap includes ns) words) (sym none-left) ∙ h .same
 
 pub region-first : (r end : ℕ) → r < end → range r end ≡ r ∷ range (r + 1) end
 region-first r end l = range-first r end l ∙ ap (λ (i : ℕ). r ∷ range i end) (sym (add-one r))
 
--- ---- what is marked in a block, an operation and a region, by their children
+-- ---- what is included in a block, an operation and a region, by their children
 
 module _ (s : Store) (k : ℕ) (found : Bool) (words : List ℕ) where
-  pub block-marks : (b : ℕ) → markedAll found (concatMap (opOps k s) (opsOf s b)) words ≡ markedAll found (blockOps k s b) words
+  pub block-includes : (b : ℕ) → includedAll found (concatMap (opOps k s) (opsOf s b)) words ≡ includedAll found (blockOps k s b) words
   unfolding blockOps opOps blockOpsBy
-  block-marks b = refl
+  block-includes b = refl
 
-  pub op-marks : (n : ℕ) (after : List ℕ) → after ≡ marked found n words
-      → markedAll found (concatMap (regionOps k s) (regionsOf s n)) after ≡ markedAll found (opOps k s n) words
-  unfolding opOps opOpsBy markedAll
-  op-marks n after e = ap (markedAll found (concatMap (regionOps k s) (regionsOf s n))) e
+  pub op-includes : (n : ℕ) (after : List ℕ) → after ≡ included found n words
+      → includedAll found (concatMap (regionOps k s) (regionsOf s n)) after ≡ includedAll found (opOps k s n) words
+  unfolding opOps opOpsBy includedAll
+  op-includes n after e = ap (includedAll found (concatMap (regionOps k s) (regionsOf s n))) e
 
-  pub region-marks : (r : ℕ) → (k ≡ 0 → ⊥) → markedAll found (concatMap (blockOps (k - 1) s) (blocksOf s r)) words ≡ markedAll found (regionOps k s r) words
+  pub region-includes : (r : ℕ) → (k ≡ 0 → ⊥) → includedAll found (concatMap (blockOps (k - 1) s) (blocksOf s r)) words ≡ includedAll found (regionOps k s r) words
   unfolding regionOps blockOps
-  region-marks r ne = let e : k ≡ suc (k - 1) = omega arith in ap (λ (i : ℕ). markedAll found (regionOps i s r) words) (sym e)
+  region-includes r ne = let e : k ≡ suc (k - 1) = omega arith in ap (λ (i : ℕ). includedAll found (regionOps i s r) words) (sym e)
 
-  pub no-marks : (r : ℕ) → k ≡ 0 → words ≡ markedAll found (regionOps k s r) words
-  unfolding regionOps markedAll
-  no-marks r e = ap (λ (i : ℕ). markedAll found (regionOps i s r) words) (sym e)
+  pub no-includes : (r : ℕ) → k ≡ 0 → words ≡ includedAll found (regionOps k s r) words
+  unfolding regionOps includedAll
+  no-includes r e = ap (λ (i : ℕ). includedAll found (regionOps i s r) words) (sym e)

@@ -1,2 +1,2 @@
--- A tally in words, and what marks it.
+-- A tally in words, and what including a fragment leaves of it.
 pub mod Tally

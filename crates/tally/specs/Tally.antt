@@ -1,4 +1,4 @@
--- The words of a tally: what they are read as, and what marking a fragment's operations leaves.
+-- The words of a tally: what they are read as, and what including a fragment's operations leaves.
 use Prim.Native.Nat.{ℕ, zero, suc, _≤_}
 use mathlib.Core.Bool.{Bool, cond}
 use mathlib.Core.List.{List, [], _∷_}
@@ -23,20 +23,20 @@ pub record IsTally (words : List ℕ) : Type 0 where
   pub long : length words ≡ tallyLength
   pub states : (m : ℕ) → getD words m 0 ≤ 2
 
--- ---- marking
+-- ---- including
 
 unfoldable pub stateAfter : Bool → ℕ → ℕ
 stateAfter found state = cond found 2 (cond (eqb state 0) 1 state)
 
-unfoldable pub marked : Bool → ℕ → List ℕ → List ℕ
-marked found n words = set words n (stateAfter found (getD words n 0))
+unfoldable pub included : Bool → ℕ → List ℕ → List ℕ
+included found n words = set words n (stateAfter found (getD words n 0))
 
 -- one after the other
-unfoldable pub markedAll : Bool → List ℕ → List ℕ → List ℕ
-markedAll found [] words = words
-markedAll found (n ∷ ns) words = markedAll found ns (marked found n words)
+unfoldable pub includedAll : Bool → List ℕ → List ℕ → List ℕ
+includedAll found [] words = words
+includedAll found (n ∷ ns) words = includedAll found ns (included found n words)
 
--- ---- the operations inside, in the order in which they are marked: each one ahead of those in its regions
+-- ---- the operations inside, in the order in which they are included: each one ahead of those in its regions
 
 unfoldable pub opOpsBy : (ℕ → List ℕ) → Store → ℕ → List ℕ
 opOpsBy inRegion s n = n ∷ concatMap inRegion (regionsOf s n)

@@ -4,19 +4,19 @@ use crate::types::Counts;
 ghost use mathlib.Core.Path.{_≡_};
 ghost use Prim.Native.Nat.{_<_, _≤_};
 ghost use lib.ListN.{length};
-ghost use Rattle.tally.specs.Tally.{tallyLength, IsTally, marked, Counted};
+ghost use Rattle.tally.specs.Tally.{tallyLength, IsTally, included, Counted};
 
 pub const TALLY_LENGTH: usize = 512;
 
-pub const INSIDE: u8 = 1;
+const INSIDE: u8 = 1;
 
-pub const INSIDE_EQUAL: u8 = 2;
+const INSIDE_EQUAL: u8 = 2;
 
 // Operation n is inside a right fragment, found equal or not. One that was inside an equal one before still counts as such.
-pub fn mark(tally: &mut [u8], n: usize, found: bool)
+pub fn include(tally: &mut [u8], n: usize, found: bool)
     requires { ⌜ length (now tally) ≡ tallyLength ⌝ }
     requires { ⌜ n < tallyLength ⌝ }
-    ensures { λ _. ⌜ now (tally .exit) ≡ marked found n (now (tally .entry)) ⌝ }
+    ensures { λ _. ⌜ now (tally .exit) ≡ included found n (now (tally .entry)) ⌝ }
 {
     if found {
         tally[n] = INSIDE_EQUAL;

@@ -40,8 +40,8 @@ put-verdict-requires c κs = begun (c .before .before .before .before) .pre .1 .
 is-eq-requires : tie.Need-is-eq-requires
 is-eq-requires c κs = search needs
 
-mark-fragment-requires : tie.Need-mark-fragment-requires
-mark-fragment-requires c κs =
+include-fragment-requires : tie.Need-include-fragment-requires
+include-fragment-requires c κs =
     let answered = c .before .before .before .before .before .before in
     let compared = answered .before .before .before in
     let s = begun compared in
@@ -59,8 +59,8 @@ same-length-4 c = search needs
 
 returns-2 : tie.Need-returns-2
 returns-2 c =
-    let marked = c .before .before in
-    let found = marked .before in
+    let included = c .before .before in
+    let found = included .before in
     let printed = found .before .before .before .before in
     let answered = printed .before .before in
     let compared = answered .before .before .before in
@@ -68,8 +68,8 @@ returns-2 c =
     let a = s .args in
     let put = printed .put-verdict in
     let told = compared .compare in
-    let after = marked .mark-fragment .last .1 .0 in
-    let counted = subst (λ (t : Bool). Tallied (storeIn (a .store .now)) (sortOf (a .query .sort)) (a .query .right) t (a .tally .now) after) (found .is-eq .ensures) (marked .mark-fragment .ensures) in (
+    let after = included .include-fragment .last .1 .0 in
+    let counted = subst (λ (t : Bool). Tallied (storeIn (a .store .now)) (sortOf (a .query .sort)) (a .query .right) t (a .tally .now) after) (found .is-eq .ensures) (included .include-fragment .ensures) in (
       twins-goes (a .store .now) (a .tally .now) (a .query) after (told .result) counted (a .out .now) (put .last .0) (a .at) (put .result) (told .ensures .same) (answered .match .keys2) (put .ensures),
       told .ensures .empty,
     )
@@ -84,7 +84,7 @@ twins-does-spec =
     returns
     put-verdict-requires
     is-eq-requires
-    mark-fragment-requires
+    include-fragment-requires
     same-length-2
     same-length-3
     same-length-4
