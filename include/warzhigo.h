@@ -82,6 +82,9 @@ typedef struct {
     uint32_t past;
 } wz_entries;
 
+/* Whether an attribute is inherent: one that is inherent is never ignored. Any number but 0 is taken as yes. */
+typedef enum { WZ_INHERENT_NO, WZ_INHERENT_YES } wz_inherent;
+
 /* The words of a store. */
 size_t wz_store_words(void);
 
@@ -135,12 +138,14 @@ wz_outcome wz_new_block(uint32_t *store, size_t words, uint32_t region, uint32_t
 wz_outcome wz_known_new_block(uint32_t *store, size_t words, uint32_t region, uint32_t label, uint32_t location,
                               const uint32_t *types, size_t type_count);
 
-/* Sets an attribute of operation n, or of block n where `blocks` is true; a key that is there is replaced. While a mark is set, refused by
- * 17 where that can't be remembered. */
-wz_outcome wz_set_attribute(uint32_t *store, size_t words, bool blocks, uint32_t n, uint32_t key, uint32_t kind, uint32_t content);
+/* Sets an attribute of operation n, or of block n where `blocks` is true; a key that is there is replaced, with its kind, its content and
+ * whether it is inherent. While a mark is set, refused by 17 where that can't be remembered. */
+wz_outcome wz_set_attribute(uint32_t *store, size_t words, bool blocks, uint32_t n, uint32_t key, uint32_t kind, uint32_t content,
+                            wz_inherent inherent);
 
 /* The same, on a store known to be sound. */
-wz_outcome wz_known_set_attribute(uint32_t *store, size_t words, bool blocks, uint32_t n, uint32_t key, uint32_t kind, uint32_t content);
+wz_outcome wz_known_set_attribute(uint32_t *store, size_t words, bool blocks, uint32_t n, uint32_t key, uint32_t kind, uint32_t content,
+                                  wz_inherent inherent);
 
 /* Sets operand i of operation n to value v. While a mark is set, refused by 17 where that can't be remembered. */
 wz_outcome wz_set_operand(uint32_t *store, size_t words, uint32_t n, uint32_t i, uint32_t v);
@@ -163,7 +168,7 @@ wz_outcome wz_go_back(uint32_t *store, size_t words, uint32_t mark);
 wz_outcome wz_known_go_back(uint32_t *store, size_t words, uint32_t mark);
 
 /* Compares operations lhs and rhs, each with all inside it; locations are ignored where `locations` is true, and attributes whose kind's bit
- * is set in `bits`. What corresponds is entered into the mapping; entries made before a difference stay. */
+ * is set in `bits` and that are not inherent. What corresponds is entered into the mapping; entries made before a difference stay. */
 wz_verdict wz_operation_eq(const uint32_t *store, size_t words, const uint32_t *types, size_t type_words, uint32_t *mapping,
                            size_t entries, uint32_t lhs, uint32_t rhs, bool locations, uint64_t bits);
 

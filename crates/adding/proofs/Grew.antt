@@ -10,7 +10,7 @@ use lib.ListN.{getD}
 use Rattle.rules.specs.Store.{Owner, ofOp, ofBlock}
 use Rattle.rules.proofs.Basics.Tests.{and-left, and-right, and-both}
 use Rattle.layout.specs.Columns.{Cols, at, opKind, opParent, opLocation, opDepth, opRegionFirst, opRegionEnd, opResultFirst, opResultEnd, opOperandFirst, opOperandEnd, opSuccessorFirst, opSuccessorEnd, opAttributes, regionOp, regionBlockFirst, regionBlockEnd, blockRegion, blockLabel, blockLocation, blockArgumentFirst, blockArgumentEnd, blockOpFirst, blockOpEnd, blockAttributes, valueType, valueOwner, operandWords, successorWords, slotKey, slotKind, slotContent}
-use Rattle.layout.specs.Reading.{tabulate, slice, opCount, blockCount, regionCount, valueCount, operandCount, successorCount, around, parentFrom, ownerFrom, slotsOf, attributeAt, attributesFrom, opOf, blockOf, valueOf}
+use Rattle.layout.specs.Reading.{tabulate, slice, opCount, blockCount, regionCount, valueCount, operandCount, successorCount, around, parentFrom, ownerFrom, slotsOf, attributeRead, attributeAt, attributesFrom, opOf, blockOf, valueOf}
 use Rattle.layout.specs.Soundness.{within, placed, endBefore, inOwner, valueLaid}
 use Rattle.layout.proofs.Laid.{InRange, Owned, Tiled, OpLaid, BlockLaid, RegionLaid, Laid, within-facts, within-of}
 use Rattle.layout.proofs.Nesting.{placed-facts, placed-of}
@@ -84,7 +84,7 @@ module _ (C D : Cols) (h : Laid C) (g : Grew C D) where
 
   attributes-same : (first n : ℕ) → attributesFrom D first n ≡ attributesFrom C first n
   unfolding attributesFrom attributeAt at
-  attributes-same first n = λ i. tabulate n (λ (j : ℕ). record { key = getD (g .slotKeys i) (first + j) 0; kind = getD (g .slotKinds i) (first + j) 0; content = getD (g .slotContents i) (first + j) 0 })
+  attributes-same first n = λ i. tabulate n (λ (j : ℕ). attributeRead (getD (g .slotKeys i) (first + j) 0) (getD (g .slotKinds i) (first + j) 0) (getD (g .slotContents i) (first + j) 0))
 
   pub op-same : (n : ℕ) → n < opCount C → opOf D n ≡ opOf C n
   unfolding opOf

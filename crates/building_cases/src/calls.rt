@@ -15,8 +15,9 @@ pub enum Call {
     Op(Parent, u32, u32, usize, usize, usize),
     // A new block: its region and number of arguments.
     Block(u32, usize),
-    // An owner, a key and a kind.
+    // An owner, a key and a kind; and the same of an inherent attribute.
     Attribute(Owner, u32, u32),
+    Inherent(Owner, u32, u32),
     // An operation, an index and a value.
     Operand(u32, u32, u32),
     // A mark set, and one gone back to.
@@ -62,21 +63,27 @@ fn block(store: &mut [u32], region: u32, arguments: usize) -> Built {
     new_block(store, region, 0, 2, first(&words, arguments))
 }
 
+fn attribute(store: &mut [u32], owner: Owner, key: u32, kind: u32, inherent: bool) -> Built {
+    set_attribute(
+        store,
+        owner,
+        Attribute {
+            key,
+            kind,
+            content: 0,
+            inherent,
+        },
+    )
+}
+
 pub fn make(store: &mut [u32], call: Call) -> Built {
     match call {
         Call::Op(parent, regions, word, a, b, c) => {
             operation(store, parent, regions, word, a, b, c)
         }
         Call::Block(region, arguments) => block(store, region, arguments),
-        Call::Attribute(owner, key, kind) => set_attribute(
-            store,
-            owner,
-            Attribute {
-                key,
-                kind,
-                content: 0,
-            },
-        ),
+        Call::Attribute(owner, key, kind) => attribute(store, owner, key, kind, false),
+        Call::Inherent(owner, key, kind) => attribute(store, owner, key, kind, true),
         Call::Operand(n, index, value) => set_operand(store, n, index, value),
         Call::SetMark(mark) => set_mark(store, mark),
         Call::GoBack(mark) => go_back(store, mark),

@@ -68,6 +68,7 @@ fn describe_field(store: &mut Store, n: u32) -> bool {
             key: CAPTION,
             kind: 0,
             content: 70,
+            inherent: false,
         },
     )) {
         return false;
@@ -79,6 +80,7 @@ fn describe_field(store: &mut Store, n: u32) -> bool {
             key: WIDTH,
             kind: 63,
             content: 9,
+            inherent: false,
         },
     ))
 }
@@ -103,17 +105,24 @@ pub fn build_form(store: &mut Store) -> bool {
     accepted(set_operand(store, 2, 0, 0))
 }
 
-// A block takes an attribute, a key already there is replaced, and an operand may be a value made later.
+// A block takes an attribute, a key already there is replaced by an inherent one of the last kind, and an operand may be a value made later.
 pub fn amend_form(store: &mut Store) -> bool {
     let mark = Attribute {
         key: CAPTION,
         kind: 1,
         content: 71,
+        inherent: false,
     };
     if !accepted(set_attribute(store, Owner::Block(0), mark)) {
         return false;
     }
-    if !accepted(set_attribute(store, Owner::Block(0), mark)) {
+    let title = Attribute {
+        key: CAPTION,
+        kind: 63,
+        content: 71,
+        inherent: true,
+    };
+    if !accepted(set_attribute(store, Owner::Block(0), title)) {
         return false;
     }
     if !accepted(set_operand(store, 1, 0, 3)) {

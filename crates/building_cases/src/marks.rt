@@ -15,12 +15,13 @@ fn takes(store: &mut Store, call: Call) -> bool {
     accepted(make(store, call))
 }
 
-// Operation 3, an operand set and a key that comes new and is replaced.
+// Operation 3, an operand set and a key that comes new and is replaced, at last by an inherent attribute.
 fn change(store: &mut Store) -> bool {
     made(make(store, Call::Op(Parent::Block(0), 0, 3, 1, 0, 0)), 3)
         && takes(store, Call::Operand(1, 0, 4))
         && takes(store, Call::Attribute(Owner::Op(1), 77, 2))
         && takes(store, Call::Attribute(Owner::Op(1), 77, 3))
+        && takes(store, Call::Inherent(Owner::Op(1), 77, 63))
 }
 
 // Going back and back again: numbers are given again, and the mark that was set after the one gone back to is void.

@@ -70,10 +70,11 @@ pub fn too_many(store: &mut Store, kept: &Store) -> bool {
         && refuses(store, kept, Call::Block(0, 17), 4)
 }
 
-// Cause 6: attribute kind 64.
+// Cause 6: attribute kind 64, inherent or not.
 pub fn unknown_kind(store: &mut Store, kept: &Store) -> bool {
     refuses(store, kept, Call::Attribute(Owner::Op(1), 1, 64), 6)
         && refuses(store, kept, Call::Attribute(Owner::Block(0), 1, 64), 6)
+        && refuses(store, kept, Call::Inherent(Owner::Op(1), 1, 64), 6)
 }
 
 // Cause 7: operation 1 has one operand, operation 0 none.

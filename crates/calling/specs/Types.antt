@@ -29,7 +29,7 @@ operationOf f types operands successors =
     }
 
 unfoldable pub attributeOf : Attribute → store.Attribute
-attributeOf a = record { key = a .key; kind = a .kind; content = a .content }
+attributeOf a = record { key = a .key; kind = a .kind; content = a .content; inherent = a .inherent }
 
 -- "Accepted, the first two return the new number, the other two only that they were accepted", and a refusal its number
 unfoldable pub builtOf : Built → rules.Built

@@ -17,10 +17,12 @@ pub struct OpFields {
 // What an attribute is set on.
 pub type Owner = layout::owners::Owner;
 
+// An attribute under its key. An inherent one is never ignored.
 pub struct Attribute {
     pub key: u32,
     pub kind: u32,
     pub content: u32,
+    pub inherent: bool,
 }
 
 // The answer of a building call: the new number, that it was accepted, or the cause of its refusal.

@@ -20,11 +20,10 @@ use Rattle.layout.proofs.Tabulate.{length-from, op-read, block-read}
 use Rattle.layout.proofs.Ranges.{range, length-range, regions-range, results-range, arguments-range}
 use Rattle.layout.proofs.Totals.{operands-length, successors-length}
 use Rattle.layout.proofs.Types.{types-read}
-use Rattle.fragments.specs.Ignoring.{keptFrom, Kinds}
+use Rattle.fragments.specs.Ignoring.{keptFrom}
 use Rattle.fragments.specs.Rows.{rowShell, RowOf, HeadOf}
 use Rattle.fragments.specs.declared.types.Row.{Row}
 use Rattle.fragments.specs.declared.types.Head.{Head}
-use Rattle.fragments.proofs.KindsFit.{op-kinds, block-kinds}
 
 slots-kept : (C : Cols) (ig : Ignore) (first n : ℕ) → unignored ig (attributesFrom C first n) ≡ keptFrom C ig first (first + n)
 unfolding keptFrom
@@ -71,18 +70,17 @@ module _ (b : List ℕ) (s : IsSound b) where
 
   -- the row of an owner: its location, and its values from a to e
   module _ (w : Owner) (l : ownerIn C w) (place a e : ℕ) (r : Ranged a e (valueCount C)) (own : valuesOf (storeOf C) w ≡ range a e) where
-    row-read : Kinds C (slotsOf w) (slotsOf w + keyCount C w) → ((ig : Ignore) → shellOf (storeOf C) ig w .location ≡ unignoredLocation ig place)
+    row-read : ((ig : Ignore) → shellOf (storeOf C) ig w .location ≡ unignoredLocation ig place)
         → ((ig : Ignore) → shellOf (storeOf C) ig w .attributes ≡ unignored ig (attributesFrom C (slotsOf w) (keyCount C w))) → {location slot keys first many : ℕ}
         → location ≡ place → slot ≡ slotsOf w → keys ≡ keyCount C w → first ≡ a → many ≡ e - a
         → RowOf C w (record { location = location; slot = slot; attributes = keys; value = first; values = many })
     unfolding rowShell shellRenamed
-    row-read kinds where-it-is its-keys p q k f m =
+    row-read where-it-is its-keys p q k f m =
         subst (RowOf C w) (λ i. record { location = sym p i; slot = sym q i; attributes = sym k i; value = sym f i; values = sym m i })
         (record {
           fits =
               record {
                 slots = omega (arith, slots-fit C w laid l, owner-keys C w laid l);
-                kinds = kinds;
                 values = omega (arith, r .rises, r .fits, laid .counts .values);
               };
           shell = λ o. shell-renamed (o .types) (storeOf C) (o .ignore) w ∙ (λ i. record {
@@ -99,7 +97,7 @@ module _ (b : List ℕ) (s : IsSound b) where
   unfolding shellOf opOf slotsOf keyCount countColumn ownerNumber
   op-row n l =
       let e = op-read C n l in
-      row-read (ofOp n) l (at C opLocation n) _ _ (laid .op n l .results .range) (results-range C laid n l) (op-kinds b s n l)
+      row-read (ofOp n) l (at C opLocation n) _ _ (laid .op n l .results .range) (results-range C laid n l)
       (λ ig. ap (λ (o : Op). unignoredLocation ig (o .location)) e) (λ ig. ap (λ (o : Op). unignored ig (o .attributes)) e)
 
   pub block-row : (n : ℕ) → n < blockCount C → {place slot keys first many : ℕ}
@@ -108,7 +106,7 @@ module _ (b : List ℕ) (s : IsSound b) where
   unfolding shellOf blockOf slotsOf keyCount countColumn ownerNumber
   block-row n l =
       let e = block-read C n l in
-      row-read (ofBlock n) l (at C blockLocation n) _ _ (laid .block n l .arguments .range) (arguments-range C laid n l) (block-kinds b s n l)
+      row-read (ofBlock n) l (at C blockLocation n) _ _ (laid .block n l .arguments .range) (arguments-range C laid n l)
       (λ ig. ap (λ (o : Block). unignoredLocation ig (o .location)) e) (λ ig. ap (λ (o : Block). unignored ig (o .attributes)) e)
 
   -- each count is the length of a range

@@ -5,7 +5,6 @@ pub mod Most
 pub mod Turns
 pub mod Told
 pub mod Kept
-pub mod KindsFit
 pub mod ByRows
 pub mod Ordered
 pub mod Below

@@ -7,7 +7,7 @@ use lib.Dec.{eqb}
 use Rattle.rules.specs.Store.{Attribute}
 use Rattle.rules.specs.Shells as rules
 use Rattle.rules.specs.Shells.{ignored, unignored}
-use Rattle.layout.specs.Columns.{Cols, at, slotKind}
+use Rattle.layout.specs.Columns.{Cols}
 use Rattle.layout.specs.Reading.{attributeAt, attributesFrom}
 use Rattle.fragments.specs.declared.ignoring.Ignore.{Ignore}
 
@@ -22,10 +22,6 @@ bitSet bits kind = eqb ((bits / 2 ^ kind) % 2) 1
 -- the unignored attributes of the slots from a on, up to e
 unfoldable pub keptFrom : Cols → rules.Ignore → ℕ → ℕ → List Attribute
 keptFrom C ig a e = unignored ig (attributesFrom C a (e - a))
-
--- the attribute kinds in the slots from a on, up to e, are at most 63, as every kind is
-abbrev pub Kinds : Cols → ℕ → ℕ → Type 0
-Kinds C a e = (k : ℕ) → a ≤ k → k < e → at C slotKind k < 64
 
 -- slot i is the first from a on that is not ignored, or e where there is none
 pub record Skipped (C : Cols) (ig : rules.Ignore) (a e i : ℕ) : Type 0 where

@@ -8,15 +8,14 @@ use Rattle.rules.specs.Shells.{Shell, shellOf, unignoredLocation}
 use Rattle.rules.specs.Types.{present}
 use Rattle.layout.specs.Columns.{Cols, valueType, slotCount}
 use Rattle.layout.specs.Reading.{slice, storeOf, consecutive}
-use Rattle.fragments.specs.Ignoring.{keptFrom, Kinds}
+use Rattle.fragments.specs.Ignoring.{keptFrom}
 use Rattle.fragments.specs.Options.{Options, under}
 use Rattle.fragments.specs.declared.types.Row.{Row}
 use Rattle.fragments.specs.declared.types.Head.{Head}
 
--- its slots and values are in the columns, and its attribute kinds are at most 63
+-- its slots and values are in the columns
 pub record RowFits (C : Cols) (r : Row) : Type 0 where
   pub slots : r .slot + r .attributes ≤ slotCount
-  pub kinds : Kinds C (r .slot) (r .slot + r .attributes)
   pub values : r .value + r .values ≤ maxValues
 
 -- the types of its values, as the store has them

@@ -1,13 +1,14 @@
 // The ignore rule, and the attribute slots that it does not ignore.
 use layout::columns::SLOT_KIND;
 use layout::columns::at;
+use layout::kinds::inherent_from;
 ghost use mathlib.Core.Path.{_≡_};
 ghost use Prim.Native.Nat.{_<_, _≤_};
 ghost use lib.ListN.{length};
 ghost use Rattle.rules.specs.Shells.{ignored};
-ghost use Rattle.layout.specs.Columns.{bufferLength, columns, slotKind, slotCount};
+ghost use Rattle.layout.specs.Columns.{bufferLength, columns, slotCount};
 ghost use Rattle.layout.specs.Reading.{attributeAt};
-ghost use Rattle.fragments.specs.Ignoring.{ignoreOf, bitSet, keptFrom, Kinds, Skipped};
+ghost use Rattle.fragments.specs.Ignoring.{ignoreOf, bitSet, keptFrom, Skipped};
 
 // An ignore rule: a yes or no for locations, and a bit for each attribute kind.
 pub struct Ignore {
@@ -23,14 +24,17 @@ fn bit_set(bits: u64, kind: u32) -> bool
     (bits >> kind) % 2 == 1
 }
 
-// The attribute at a slot is ignored.
+// The attribute at a slot is ignored: it is not inherent, so that its kind alone is in the slot's word, and the bit of its kind is set.
 fn slot_ignored(store: &[u32], ignore: Ignore, slot: usize) -> bool
     requires { ⌜ length (now store) ≡ bufferLength ⌝ }
     requires { ⌜ slot < slotCount ⌝ }
-    requires { ⌜ Rattle.layout.specs.Columns.at (columns (now store)) slotKind slot < 64 ⌝ }
     ensures { λ q. ⌜ q ≡ ignored (ignoreOf ignore) (attributeAt (columns (now (store .entry))) slot) ⌝ }
 {
-    bit_set(ignore.bits, at(store, SLOT_KIND, slot))
+    let kind = at(store, SLOT_KIND, slot);
+    if inherent_from(kind) {
+        return false;
+    }
+    bit_set(ignore.bits, kind)
 }
 
 // The first slot from `from` on that is not ignored, or `end`.
@@ -38,7 +42,6 @@ pub fn next_kept(store: &[u32], ignore: Ignore, from: usize, end: usize) -> usiz
     requires { ⌜ length (now store) ≡ bufferLength ⌝ }
     requires { ⌜ end ≤ slotCount ⌝ }
     requires { ⌜ from ≤ end ⌝ }
-    requires { ⌜ Kinds (columns (now store)) from end ⌝ }
     ensures { λ i. ⌜ Skipped (columns (now (store .entry))) (ignoreOf ignore) from end i ⌝ }
 {
     let mut i = from;
@@ -56,7 +59,6 @@ pub fn count_kept(store: &[u32], ignore: Ignore, first: usize, end: usize) -> u3
     requires { ⌜ length (now store) ≡ bufferLength ⌝ }
     requires { ⌜ end ≤ slotCount ⌝ }
     requires { ⌜ first ≤ end ⌝ }
-    requires { ⌜ Kinds (columns (now store)) first end ⌝ }
     ensures { λ r. ⌜ r ≡ length (keptFrom (columns (now (store .entry))) (ignoreOf ignore) first end) ⌝ }
 {
     let mut kept = 0;

@@ -11,7 +11,7 @@ use lib.Seq.{drop-cons}
 use Rattle.rules.specs.Lists.{concatMap}
 use Rattle.rules.specs.Store.{Attribute}
 use Rattle.rules.specs.Shells.{Ignore, Shell, unignoredLocation}
-use Rattle.rules.specs.Hash.{fnvFrom, leaf, count, locationBytes, attributeBytes, uncounted, listBytes, shellBytes}
+use Rattle.rules.specs.Hash.{fnvFrom, leaf, count, flag, locationBytes, attributeBytes, uncounted, listBytes, shellBytes}
 use Rattle.rules.proofs.Form.Hashes.{fnv-append}
 
 pub fed-after : (word : ℕ) (xs ys : List ℕ) {fed r : ℕ} → fed ≡ fnvFrom word xs → r ≡ fnvFrom fed ys → r ≡ fnvFrom word (xs ++ ys)
@@ -36,10 +36,12 @@ module _ (ig : Ignore) (l word : ℕ) where
 
 -- ---- an attribute, and a shell
 
-pub attribute-fed : (a : Attribute) (word : ℕ) {key kind content r : ℕ} → key ≡ a .key → kind ≡ a .kind → content ≡ a .content
-    → r ≡ fnvFrom word (leaf key ++ leaf kind ++ leaf content) → r ≡ fnvFrom word (attributeBytes a)
+pub attribute-fed : (a : Attribute) (word : ℕ) {key kind content fed r : ℕ} {yes : Bool}
+    → key ≡ a .key → kind ≡ a .kind → content ≡ a .content → yes ≡ a .inherent
+    → fed ≡ fnvFrom word (leaf key ++ leaf kind ++ leaf content) → r ≡ fnvFrom fed (flag yes) → r ≡ fnvFrom word (attributeBytes a)
 unfolding attributeBytes
-attribute-fed a word k m c e = e ∙ (λ i. fnvFrom word (leaf (k i) ++ leaf (m i) ++ leaf (c i)))
+attribute-fed a word {fed = fed} k m c y e f =
+    fed-after word (leaf (a .key) ++ leaf (a .kind) ++ leaf (a .content)) (flag (a .inherent)) (e ∙ (λ i. fnvFrom word (leaf (k i) ++ leaf (m i) ++ leaf (c i)))) (f ∙ ap (λ (b : Bool). fnvFrom fed (flag b)) y)
 
 pub shell-fed : (sh : Shell) (word : ℕ) {f g r : ℕ}
     → f ≡ fnvFrom word (locationBytes (sh .location)) → g ≡ fnvFrom f (count (length (sh .attributes)) ++ concatMap attributeBytes (sh .attributes))

@@ -7,7 +7,7 @@ use crate::fnv::feed_leaf;
 use crate::fnv::feed_tag;
 ghost use mathlib.Core.List.{_++_};
 ghost use mathlib.Core.Path.{_≡_};
-ghost use Rattle.rules.specs.Hash.{fnvFrom, tag, leaf, count, walkNumber, storeNumber, nameBytes};
+ghost use Rattle.rules.specs.Hash.{fnvFrom, tag, leaf, count, flag, walkNumber, storeNumber, nameBytes};
 
 pub struct RunningHash {
     pub word: u64,
@@ -34,7 +34,16 @@ pub fn hash_count(state: &mut RunningHash, n: u32)
     state.word = feed_count(state.word, n);
 }
 
-// The word after a leaf by itself, a location or a type.
+// The word after a tag by itself.
+fn with_tag(word: u64, n: u8) -> u64
+    ensures { λ r. ⌜ r ≡ fnvFrom word (tag n) ⌝ }
+{
+    let mut state = RunningHash { word: word };
+    hash_tag(&mut state, n);
+    state.word
+}
+
+// After a leaf by itself, a location or a type.
 pub fn with_leaf(word: u64, n: u32) -> u64
     ensures { λ r. ⌜ r ≡ fnvFrom word (leaf n) ⌝ }
 {
@@ -82,7 +91,17 @@ pub fn with_head(word: u64, kind: u32, regions: u32) -> u64
     state.word
 }
 
-// After an attribute: its key, its kind, its content.
+// After a flag: a byte, 1 for yes and 0 for no.
+pub fn with_flag(word: u64, yes: bool) -> u64
+    ensures { λ r. ⌜ r ≡ fnvFrom word (flag yes) ⌝ }
+{
+    if yes {
+        return with_tag(word, 1);
+    }
+    with_tag(word, 0)
+}
+
+// After an attribute, but for its flag: its key, its kind, its content.
 pub fn with_attribute(word: u64, key: u32, kind: u32, content: u32) -> u64
     ensures { λ r. ⌜ r ≡ fnvFrom word (leaf key ++ leaf kind ++ leaf content) ⌝ }
 {

@@ -5,10 +5,10 @@ use mathlib.Core.List.{List, [], _∷_}
 use mathlib.Core.Path.{_≡_}
 use lib.Dec.{eqb, leb}
 use Rattle.rules.specs.Lists.{every, allBelow}
-use Rattle.rules.specs.Store.{Store, Attribute, operandTotal, successorTotal, attributeTotal}
+use Rattle.rules.specs.Store.{Store, operandTotal, successorTotal, attributeTotal}
 use Rattle.rules.specs.Marks.{MarkedStore, maxMarks}
 use Rattle.layout.specs.Columns.{Cols, columns, at, counts, opRegionEnd, opResultEnd, blockArgumentEnd, markNumber, markPlace, markCounts, journalCounts, journalSort, journalOwner, journalKey, journalKind, journalContent}
-use Rattle.layout.specs.Reading.{tabulate, storeOf, ownerFrom}
+use Rattle.layout.specs.Reading.{tabulate, storeOf, ownerFrom, attributeRead}
 use Rattle.layout.specs.Soundness.{soundBuffer}
 use Rattle.journal.specs.Journal.{Entry, operandWas, attributeWas, keyWasNone, Counts, MarkRow, Journaled, replacedIn, snapshotOf, markedOf, journalSound}
 
@@ -17,7 +17,7 @@ use Rattle.journal.specs.Journal.{Entry, operandWas, attributeWas, keyWa
 -- sort 0 is an operand, 1 an attribute; any other is a new key
 unfoldable pub entryFrom : ℕ → ℕ → ℕ → ℕ → ℕ → Entry
 entryFrom zero owner key kind content = operandWas owner key kind
-entryFrom (suc zero) owner key kind content = attributeWas (ownerFrom owner) (record { key = key; kind = kind; content = content })
+entryFrom (suc zero) owner key kind content = attributeWas (ownerFrom owner) (attributeRead key kind content)
 entryFrom (suc (suc n)) owner key kind content = keyWasNone (ownerFrom owner) key
 
 unfoldable pub entryAt : Cols → ℕ → Entry

@@ -10,7 +10,7 @@ use Rattle.rules.specs.Lists.{concatMap, filter}
 use Rattle.rules.specs.Store.{Attribute, maxValues}
 use Rattle.rules.specs.Shells.{Ignore, ignored, unignored, unignoredLocation}
 use Rattle.rules.specs.Types.{present}
-use Rattle.rules.specs.Hash.{bytes, leaf, count, locationBytes, attributeBytes, listBytes, shellBytes}
+use Rattle.rules.specs.Hash.{bytes, leaf, count, flag, locationBytes, attributeBytes, listBytes, shellBytes}
 use Rattle.layout.specs.Columns.{Cols, slotCount, valueType}
 use Rattle.layout.specs.Reading.{tabulate, attributeAt, attributesFrom, slice}
 use Rattle.layout.proofs.Tabulate.{length-tabulate}
@@ -35,13 +35,13 @@ pub leaves : (xs : List ℕ) → length (listBytes count leaf xs) ≡ 8 + 4 * le
 unfolding listBytes bytes leaf count
 leaves xs = omega (arith, length-append (count (length xs)) (concatMap leaf xs), times leaf 4 (λ n. refl) xs)
 
-pub attributes-long : (xs : List Attribute) → length (count (length xs) ++ concatMap attributeBytes xs) ≡ 8 + 12 * length xs
-unfolding bytes leaf count attributeBytes
-attributes-long xs = omega (arith, length-append (count (length xs)) (concatMap attributeBytes xs), times attributeBytes 12 (λ a. refl) xs)
+pub attributes-long : (xs : List Attribute) → length (count (length xs) ++ concatMap attributeBytes xs) ≡ 8 + 13 * length xs
+unfolding bytes leaf count flag attributeBytes
+attributes-long xs = omega (arith, length-append (count (length xs)) (concatMap attributeBytes xs), times attributeBytes 13 (λ a. refl) xs)
 
-pub attributes-alone : (xs : List Attribute) → length (concatMap attributeBytes xs) ≡ 12 * length xs
-unfolding bytes leaf attributeBytes
-attributes-alone xs = times attributeBytes 12 (λ a. refl) xs
+pub attributes-alone : (xs : List Attribute) → length (concatMap attributeBytes xs) ≡ 13 * length xs
+unfolding bytes leaf flag attributeBytes
+attributes-alone xs = times attributeBytes 13 (λ a. refl) xs
 
 pub location-few : (o : Option ℕ) → length (locationBytes o) ≤ 4
 unfolding locationBytes bytes leaf
@@ -67,7 +67,7 @@ kept-few C ig a e =
 
 -- ---- a row
 
-pub place-few : (C : Cols) (ig : Ignore) (r : Row) → RowFits C r → length (placeBytes C ig r) ≤ 12 + 12 * slotCount
+pub place-few : (C : Cols) (ig : Ignore) (r : Row) → RowFits C r → length (placeBytes C ig r) ≤ 12 + 13 * slotCount
 unfolding placeBytes
 place-few C ig r f =
     let place : List ℕ = locationBytes (unignoredLocation ig (r .location)) in
@@ -85,7 +85,7 @@ pub types-few : (C : Cols) (r : Row) → RowFits C r → length (rowTypes C r) �
 unfolding slice
 types-few C r f = omega (arith, length-take (r .value + r .values - r .value) (drop (r .value) (C valueType)), f .values)
 
-pub row-few : (C : Cols) (o : Options) (r : Row) → RowFits C r → length (shellBytes count (rowShell C o r)) ≤ 20 + 12 * slotCount + 4 * maxValues
+pub row-few : (C : Cols) (o : Options) (r : Row) → RowFits C r → length (shellBytes count (rowShell C o r)) ≤ 20 + 13 * slotCount + 4 * maxValues
 unfolding rowShell
 row-few C o r f =
     let types : List ℕ = map (present (o .types)) (rowTypes C r) in

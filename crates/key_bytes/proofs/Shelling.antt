@@ -9,7 +9,7 @@ use Rattle.rules.specs.Lists.{concatMap}
 use Rattle.rules.specs.Store.{Op, Owner, ofOp, Attribute, opAt, regionsOf}
 use Rattle.rules.specs.Shells.{Ignore, Shell, unignoredLocation}
 use Rattle.rules.specs.Types.{renamed}
-use Rattle.rules.specs.Hash.{leaf, count, locationBytes, attributeBytes, headBytes, listBytes, shellBytes}
+use Rattle.rules.specs.Hash.{bytes, leaf, count, flag, locationBytes, attributeBytes, headBytes, listBytes, shellBytes}
 use Rattle.layout.specs.Columns.{Cols, at, opKind}
 use Rattle.layout.specs.Reading.{opCount, opOf, storeOf}
 use Rattle.layout.proofs.Tabulate.{op-read}
@@ -34,9 +34,10 @@ module _ (ig : Ignore) (l : ℕ) where
 
 -- ---- an attribute, and a shell
 
-pub attribute-bytes : (a : Attribute) {key kind content : ℕ} → key ≡ a .key → kind ≡ a .kind → content ≡ a .content → leaf key ++ leaf kind ++ leaf content ≡ attributeBytes a
-unfolding attributeBytes
-attribute-bytes a k m c = (λ i. leaf (k i) ++ leaf (m i) ++ leaf (c i))
+pub attribute-bytes : (a : Attribute) {key kind content : ℕ} {yes : Bool} → key ≡ a .key → kind ≡ a .kind → content ≡ a .content → yes ≡ a .inherent
+    → (leaf key ++ leaf kind ++ leaf content) ++ flag yes ≡ attributeBytes a
+unfolding bytes leaf attributeBytes
+attribute-bytes a k m c y = λ i. leaf (k i) ++ leaf (m i) ++ leaf (c i) ++ flag (y i)
 
 pub shell-bytes : (C : Cols) (o : Options) (r : Row) → placeBytes C (o .ignore) r ++ listBytes count leaf (rowShell C o r .types) ≡ shellBytes count (rowShell C o r)
 unfolding placeBytes rowShell shellBytes

@@ -20,10 +20,10 @@ module _ (C : Cols) (ig : Ignore) (first end : ℕ) where
   abbrev left : ℕ → List ℕ
   left i = concatMap attributeBytes (keptFrom C ig i end)
 
-  -- at slot i; an attribute has 12 bytes
+  -- at slot i; an attribute has 13 bytes
   pub record KeptPutting (k₀ : List ℕ) (i : ℕ) (k : List ℕ) (at : ℕ) : Type 0 where
     pub stop : KeptSlot C ig first end i
-    pub few : at ≤ 12 * i
+    pub few : at ≤ 13 * i
     pub long : length k ≡ length k₀
     pub done : List ℕ
     pub put : Put done k₀ 0 k at
@@ -42,7 +42,7 @@ module _ (C : Cols) (ig : Ignore) (first end : ℕ) where
         }
 
     module _ (i : ℕ) (k : List ℕ) (at : ℕ) (f : KeptPutting k₀ i k at) where
-      pub kept-goes-on : (j p : ℕ) → Least at (length k) p → {c : List ℕ} {r : ℕ} → i < end → r ≤ 12 → length (back k p c) ≡ length k
+      pub kept-goes-on : (j p : ℕ) → Least at (length k) p → {c : List ℕ} {r : ℕ} → i < end → r ≤ 13 → length (back k p c) ≡ length k
           → Put (attributeBytes (attributeAt C i)) (take (length k - p) (drop p k)) 0 c r → Skipped C ig (i + 1) end j → KeptPutting k₀ j (back k p c) (at + r)
       unfolding concatMap
       kept-goes-on j p w {c} {r} l small long one h =

@@ -1,7 +1,7 @@
 // Numbers of 1, 4 and 8 bytes, lowest byte first, at the begin of the rest of a lent key. Where one does not fit nothing is written, and
 // the answer is its length all the same.
 ghost use mathlib.Core.List.{_++_};
-ghost use Rattle.rules.specs.Hash.{tag, leaf, count, walkNumber, storeNumber, nameBytes};
+ghost use Rattle.rules.specs.Hash.{tag, leaf, count, flag, walkNumber, storeNumber, nameBytes};
 ghost use Rattle.key_bytes.specs.Put.{Put, Least};
 
 // Where the rest begins: at `at`, or, if that is past the end, at the end.
@@ -103,7 +103,17 @@ fn put_pair(key: &mut [u8], a: u32, b: u32) -> usize
     at + put_leaf(&mut key[rest..], b)
 }
 
-// An attribute: its key, its kind, its content.
+// A flag: a byte, 1 for yes and 0 for no.
+pub fn put_flag(key: &mut [u8], yes: bool) -> usize
+    ensures { λ r. ⌜ Put (flag yes) (now (key .entry)) 0 (now (key .exit)) r ⌝ }
+{
+    if yes {
+        return put_tag(key, 1);
+    }
+    put_tag(key, 0)
+}
+
+// An attribute, but for its flag: its key, its kind, its content.
 pub fn put_attribute(key: &mut [u8], name: u32, kind: u32, content: u32) -> usize
     ensures { λ r. ⌜ Put (leaf name ++ leaf kind ++ leaf content) (now (key .entry)) 0 (now (key .exit)) r ⌝ }
 {

@@ -35,12 +35,13 @@ pub fn begin(store: &mut Store) -> bool {
     )
 }
 
-// Operation 0 gets an attribute: key 2, kind 63, content 300.
-pub fn attribute(store: &mut Store) -> bool {
+// Operation 0 gets an attribute: key 2, kind 63, content 300, and inherent or not.
+pub fn attribute(store: &mut Store, inherent: bool) -> bool {
     let rule = Attribute {
         key: 2,
         kind: 63,
         content: 300,
+        inherent,
     };
     match set_attribute(store, Owner::Op(0), rule) {
         Built::Made(_) => false,

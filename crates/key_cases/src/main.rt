@@ -87,7 +87,10 @@ fn main() {
     exact(&store);
     renamed(&store);
     causes(&store);
-    built(form::attribute(&mut store));
+    built(form::attribute(&mut store, true));
+    key_line(b"inherent attribute", &store, Sort::Op, 0, nothing());
+    key_line(b"not ignored", &store, Sort::Op, 0, unruled);
+    built(form::attribute(&mut store, false));
     key_line(b"attribute", &store, Sort::Op, 0, nothing());
     key_line(b"attribute ignored", &store, Sort::Op, 0, unruled);
     built(form::fill(&mut store));

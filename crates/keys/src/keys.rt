@@ -32,7 +32,7 @@ ghost use Rattle.keys.specs.Written.{from, upTo, Wrote, KeyFits};
 ghost use Rattle.keys.specs.Calls.{Answered};
 
 // No key is longer.
-pub const LONGEST_KEY: usize = 77320;
+pub const LONGEST_KEY: usize = 78344;
 
 // An operation: its shell, then its operands, successors and nested regions.
 fn put_op(

@@ -1,11 +1,14 @@
 -- The filer's law over the code. By its contract a key call has written the rules' key, and `compare_keys` compares as the rules do; by
 -- theirs, what a comparison answers is the rules' answer; and of those the filer's law is proved. A field of a store is one of the words
 -- that it is read from. Assumes nothing.
-use Prim.Native.Nat.{ℕ, zero, suc, _+_}
-use mathlib.Core.Bool.{Bool, true}
+use Prim.Native.Nat.{ℕ, zero, suc, _+_, _-_, _^_}
+use native.Mathlib.Omega.{arith}
+use mathlib.Core.Bool.{Bool, true, false, cond}
 use mathlib.Core.List.{List, [], _∷_}
 use mathlib.Core.Option.{Option, none, some}
 use mathlib.Core.Path.{_≡_, refl, sym, ap, subst, _∙_}
+use borrow.Author.Tests.{ltb-true, lt-ltb}
+use lib.Dec.{leb}
 use lib.ListN.{length, take, drop}
 use lib.Seq.{take-append-seam}
 use Rattle.rules.specs.Lists.{all}
@@ -23,7 +26,7 @@ use Rattle.rules.proofs.Keys.Filed.{filers-law}
 use Rattle.rules.proofs.Keys.Fitting.{all-getD}
 use Rattle.rules.proofs.Marks.Kept.{after-marked-fits}
 use Rattle.layout.specs.Columns.{columns, columnSize, base, at}
-use Rattle.layout.specs.Reading.{tabulateFrom, tabulate, attributeAt, attributesFrom, opOf, blockOf, valueOf, opCount, blockCount, valueCount, storeOf, storeIn}
+use Rattle.layout.specs.Reading.{tabulateFrom, tabulate, kindFrom, attributeAt, attributesFrom, opOf, blockOf, valueOf, opCount, blockCount, valueCount, storeOf, storeIn}
 use Rattle.journal.specs.Journal.{markedOf}
 use Rattle.journal.specs.Words.{journaledOf, soundLent}
 use Rattle.building.specs.Calls.{AfterCalls}
@@ -103,9 +106,18 @@ module _ (words : List ℕ) (h : all fits words ≡ true) where
   unfolding at columns
   word-fits column n = all-getD fits (columns words column) n 0 (all-take fits (columnSize column) (drop (base column) words) (all-drop fits (base column) words h)) refl
 
+  -- a kind is at most its word
+  kind-fits : (w : ℕ) → fits w ≡ true → fits (kindFrom w) ≡ true
+  unfolding kindFrom
+  kind-fits w f = go (leb 64 w)
+    where
+      go : (b : Bool) → fits (cond b (w - 64) w) ≡ true
+      go true = let l = ltb-true w (2 ^ 32) f in lt-ltb (w - 64) (2 ^ 32) (omega arith)
+      go false = f
+
   attributes-fit : (first n : ℕ) → all attributeFits (attributesFrom (columns words) first n) ≡ true
   unfolding attributesFrom attributeAt attributeFits
-  attributes-fit first n = all-tabulated attributeFits n _ (λ k. every-of _ (word-fits _ (first + k), (word-fits _ (first + k), (word-fits _ (first + k), tt))))
+  attributes-fit first n = all-tabulated attributeFits n _ (λ k. every-of _ (word-fits _ (first + k), (kind-fits _ (word-fits _ (first + k)), (word-fits _ (first + k), tt))))
 
   op-fits : (n : ℕ) → opFits (opOf (columns words) n) ≡ true
   unfolding opOf opFits

@@ -21,3 +21,4 @@ pub mod Seeking
 pub mod Slots
 pub mod Empty
 pub mod OwnerKeys
+pub mod KindWords

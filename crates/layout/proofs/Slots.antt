@@ -1,9 +1,10 @@
 -- The attributes of an owner, slot by slot: what a key that was looked at leaves to look at, and the kinds as a slice of their column. Assumes nothing.
 use Prim.Native.Nat.{ℕ, zero, suc, _+_, _-_, _<_, _≤_}
+use native.Mathlib.Decide.{decLe}
 use native.Mathlib.Omega.{arith}
-use mathlib.Core.Bool.{Bool, true, false, _&&_}
+use mathlib.Core.Bool.{Bool, true, false, cond, _&&_}
 use mathlib.Core.Path.{_≡_, refl, sym, ap, subst, _∙_}
-use borrow.Author.Tests.{leb-true, le-leb, ltb-true, lt-ltb, le-ltb}
+use borrow.Author.Tests.{leb-true, le-leb, lt-leb, ltb-true, lt-ltb, le-ltb}
 use lib.Dec.{leb, ltb}
 use lib.ListN.{length}
 use Rattle.rules.specs.Lists.{all, allBelow}
@@ -11,7 +12,7 @@ use Rattle.rules.specs.Store.{Attribute, keysRise, keysRiseAfter, maxOwnKeys, m
 use Rattle.rules.proofs.Basics.Tests.{all-at, allBelow-at, allBelow-of}
 use Rattle.rules.proofs.Basics.Appended.{mem-getD}
 use Rattle.layout.specs.Columns.{Cols, at, slotKey, slotKind}
-use Rattle.layout.specs.Reading.{tabulateFrom, tabulate, slice, parentFrom, attributeAt, attributesFrom}
+use Rattle.layout.specs.Reading.{tabulateFrom, tabulate, slice, parentFrom, kindFrom, attributeAt, attributesFrom}
 use Rattle.layout.proofs.Tabulate.{length-tabulate, getD-tabulate}
 use Rattle.layout.proofs.Scans.{At, same-tests, all-below, below-cong, slice-length, slice-at}
 use Rattle.layout.proofs.Rules.{all-tabulate}
@@ -63,17 +64,23 @@ module _ {A : Type 0} (p : A → Bool) (f : ℕ → A) where
       (λ h. allBelow-of n _ (λ k l. subst (λ (x : A). p x ≡ true) (getD-tabulate n f k (f 0) l) (all-at p (tabulate n f) h (mem-getD (tabulate n f) k (f 0) (omega (arith, length-tabulate n f))))))
       (λ h. all-tabulate p f n (allBelow-at n _ h))
 
-pub kinds-slice : (C : Cols) (first count : ℕ) → first + count ≤ length (C slotKind) → all (λ (x : ℕ). ltb x 64) (slice (C slotKind) first (first + count)) ≡ all (λ (a : Attribute). leb (a .kind) maxAttributeKind) (attributesFrom C first count)
+-- a word below 128 has a kind of at most 63, and no other word has
+kind-test : (w : ℕ) → ltb w 128 ≡ leb (kindFrom w) maxAttributeKind
+unfolding kindFrom
+kind-test w = go (decLe 64 w)
+  where
+    go : Dec (64 ≤ w) → ltb w 128 ≡ leb (cond (leb 64 w) (w - 64) w) 63
+    go (yes l) = rw (le-leb 64 w l) (same-tests (ltb w 128) (leb (w - 64) 63) (λ t. let m = ltb-true w 128 t in le-leb (w - 64) 63 (omega arith)) (λ t. let m = leb-true (w - 64) 63 t in lt-ltb w 128 (omega arith)))
+    go (no n) = rw (lt-leb 64 w (omega arith)) (lt-ltb w 128 (omega arith) ∙ sym (le-leb w 63 (omega arith)))
+
+pub kinds-slice : (C : Cols) (first count : ℕ) → first + count ≤ length (C slotKind) → all (λ (x : ℕ). ltb x 128) (slice (C slotKind) first (first + count)) ≡ all (λ (a : Attribute). leb (a .kind) maxAttributeKind) (attributesFrom C first count)
 unfolding attributesFrom attributeAt at
 kinds-slice C first count h =
     let e : (first + count) - first ≡ count = omega arith in
-    all-below (λ (x : ℕ). ltb x 64) (slice (C slotKind) first (first + count))
-    ∙ ap (λ (n : ℕ). allBelow n (At (λ (x : ℕ). ltb x 64) (slice (C slotKind) first (first + count)))) (slice-length (C slotKind) first (first + count) h ∙ e)
-    ∙ below-cong count _ _ (λ i l. ap (λ (x : ℕ). ltb x 64) (slice-at (C slotKind) first (first + count) i (omega arith)) ∙ kind-test (at C slotKind (first + i)))
+    all-below (λ (x : ℕ). ltb x 128) (slice (C slotKind) first (first + count))
+    ∙ ap (λ (n : ℕ). allBelow n (At (λ (x : ℕ). ltb x 128) (slice (C slotKind) first (first + count)))) (slice-length (C slotKind) first (first + count) h ∙ e)
+    ∙ below-cong count _ _ (λ i l. ap (λ (x : ℕ). ltb x 128) (slice-at (C slotKind) first (first + count) i (omega arith)) ∙ kind-test (at C slotKind (first + i)))
     ∙ sym (tabulate-tests (λ (a : Attribute). leb (a .kind) maxAttributeKind) (λ (i : ℕ). attributeAt C (first + i)) count)
-  where
-    kind-test : (x : ℕ) → ltb x 64 ≡ leb x 63
-    kind-test x = same-tests (ltb x 64) (leb x 63) (λ t. let l = ltb-true x 64 t in le-leb x 63 (omega arith)) (λ t. let l = leb-true x 63 t in lt-ltb x 64 (omega arith))
 
 -- ---- a block around a block
 

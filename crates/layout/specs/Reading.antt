@@ -1,10 +1,10 @@
 -- What the words are read as: the rules' store. The columns of depth and of links, and the ranges that children lie in, are not read: they
 -- only help to find things, and soundness holds them to what is read.
 use Prim.Native.Nat.{ℕ, zero, suc, _+_, _*_, _-_, _/_, _%_}
-use mathlib.Core.Bool.{cond}
+use mathlib.Core.Bool.{Bool, cond}
 use mathlib.Core.Option.{Option, none, some}
 use mathlib.Core.List.{List, [], _∷_}
-use lib.Dec.{eqb}
+use lib.Dec.{eqb, leb}
 use lib.ListN.{take, drop}
 use Rattle.rules.specs.Store.{Store, Op, Block, Value, Attribute, Owner, ofOp, ofBlock}
 use Rattle.layout.specs.Columns.{Cols, columns, at, counts, opKind, opParent, opLocation, opOperandFirst, opOperandEnd, opSuccessorFirst, opSuccessorEnd, opAttributes, regionOp, blockRegion, blockLabel, blockLocation, blockAttributes, valueType, valueOwner, operandWords, successorWords, slotKey, slotKind, slotContent, firstBlockSlot}
@@ -70,8 +70,22 @@ unfoldable pub slotsOf : Owner → ℕ
 slotsOf (ofOp n) = 8 * n
 slotsOf (ofBlock b) = firstBlockSlot + 8 * b
 
+-- an attribute's kind and its flag share a word: the kind, and 64 more where the attribute is inherent
+unfoldable pub kindCode : ℕ → Bool → ℕ
+kindCode kind inherent = cond inherent (kind + 64) kind
+
+unfoldable pub kindFrom : ℕ → ℕ
+kindFrom w = cond (leb 64 w) (w - 64) w
+
+abbrev pub inherentFrom : ℕ → Bool
+inherentFrom w = leb 64 w
+
+-- an attribute by its key, by the word of its kind and flag, and by its content
+abbrev pub attributeRead : ℕ → ℕ → ℕ → Attribute
+attributeRead key w content = record { key = key; kind = kindFrom w; content = content; inherent = inherentFrom w }
+
 unfoldable pub attributeAt : Cols → ℕ → Attribute
-attributeAt C i = record { key = at C slotKey i; kind = at C slotKind i; content = at C slotContent i }
+attributeAt C i = attributeRead (at C slotKey i) (at C slotKind i) (at C slotContent i)
 
 -- so many attributes from a slot on
 unfoldable pub attributesFrom : Cols → ℕ → ℕ → List Attribute

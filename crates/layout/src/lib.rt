@@ -4,6 +4,7 @@ pub mod checks;
 pub mod children;
 pub mod columns;
 pub mod existing;
+pub mod kinds;
 pub mod links;
 pub mod lists;
 pub mod owners;

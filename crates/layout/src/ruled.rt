@@ -57,14 +57,14 @@ fn keys_rise(store: &[u32], first: usize, count: usize) -> bool
     true
 }
 
-// The attribute kinds of these slots are at most 63, as every kind is.
+// The attribute kinds of these slots are at most 63, as every kind is: with a flag in the same word, the word is below 128.
 fn kinds_fit(store: &[u32], first: usize, count: usize) -> bool
     requires { ⌜ length (now store) ≡ bufferLength ⌝ }
     requires { ⌜ count ≤ 8 ⌝ }
     requires { ⌜ first + 8 ≤ slotCount ⌝ }
     ensures { λ r. ⌜ r ≡ all (λ a. leb (a .kind) maxAttributeKind) (attributesFrom (columns (now (store .entry))) first count) ⌝ }
 {
-    all_below(words(store, SLOT_KIND, first, first + count), 64)
+    all_below(words(store, SLOT_KIND, first, first + count), 128)
 }
 
 // The attributes in these slots keep the rules.

@@ -155,7 +155,7 @@ module _ (fs : List (List ℕ)) where
 -- ---- the line of an attribute
 
 abbrev attributeWith : Owner → ℕ → ℕ → ℕ → Reader Line
-attributeWith w key kind content = giving (building (setAttribute w (record { key = key; kind = kind; content = content })))
+attributeWith w key kind content = giving (building (setAttribute w (record { key = key; kind = kind; content = content; inherent = false })))
 
 abbrev owned : Owner → Reader Line
 owned w = number >>= λ key. number >>= λ kind. number >>= λ content. attributeWith w key kind content
@@ -173,7 +173,7 @@ module _ (fs : List (List ℕ)) where
     attribute-bad k = attribute-parts ∙ goes owned h (three-bad (attributeWith w) gs k)
 
     pub attribute-read : {key kind content : ℕ} {hs : List (List ℕ)} → numbers 3 gs ≡ some (key ∷ kind ∷ content ∷ [], hs)
-        → attributeLine fs ≡ some (building (setAttribute w (record { key = key; kind = kind; content = content })), hs)
+        → attributeLine fs ≡ some (building (setAttribute w (record { key = key; kind = kind; content = content; inherent = false })), hs)
     attribute-read k = attribute-parts ∙ goes owned h (three-good (attributeWith w) gs k refl)
 
 -- ---- the line of an operand

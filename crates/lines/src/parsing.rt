@@ -200,7 +200,7 @@ pub fn block_line(line: &[u8], at: usize, types: &mut [u32]) -> BlockLine
     BlockLine::Is(region, label, location, count)
 }
 
-// `a` o or b, number, key, kind, content.
+// `a` o or b, number, key, kind, content. The attribute is not inherent.
 pub fn attribute_line(line: &[u8], at: usize) -> AttributeLine
     ensures { λ r. ⌜ attributeLineOf r ≡ wholly (attributeLine (fieldsLeft (now (line .entry)) at)) ⌝ }
 {
@@ -213,7 +213,12 @@ pub fn attribute_line(line: &[u8], at: usize) -> AttributeLine
     if !ended_at(line, next) {
         return AttributeLine::Bad;
     }
-    let attribute = Attribute { key, kind, content };
+    let attribute = Attribute {
+        key,
+        kind,
+        content,
+        inherent: false,
+    };
     AttributeLine::Is(owner, attribute)
 }
 

@@ -1,6 +1,6 @@
 -- What the numbers that cross to another language mean: the answers of the calls, and two of their arguments.
 use Prim.Native.Nat.{ℕ}
-use mathlib.Core.Bool.{Bool, cond}
+use mathlib.Core.Bool.{Bool, cond, not}
 use mathlib.Core.Option.{Option, none, some}
 use lib.Dec.{eqb}
 use Rattle.rules.specs.Store as rules
@@ -82,5 +82,6 @@ parentFrom placed b = cond placed (some b) none
 unfoldable pub ownerFrom : Bool → ℕ → rules.Owner
 ownerFrom blocks n = cond blocks (rules.ofBlock n) (rules.ofOp n)
 
-unfoldable pub attributeFrom : ℕ → ℕ → ℕ → rules.Attribute
-attributeFrom key kind content = record { key = key; kind = kind; content = content }
+-- of the last number 0 is no, any other yes
+unfoldable pub attributeFrom : ℕ → ℕ → ℕ → ℕ → rules.Attribute
+attributeFrom key kind content inherent = record { key = key; kind = kind; content = content; inherent = not (eqb inherent 0) }

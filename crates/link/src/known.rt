@@ -166,14 +166,20 @@ pub extern "C" fn wz_known_set_attribute(
     key: u32,
     kind: u32,
     content: u32,
+    inherent: u32,
 ) -> Outcome
     requires { ⌜ IsLent (now store) ⌝ }
-    ensures { λ r. ⌜ DidMarked (now (store .entry)) (now (store .exit)) (build (setAttribute (ownerFrom blocks n) (attributeFrom key kind content))) (outcomeMeans r) ⌝ }
+    ensures { λ r. ⌜ DidMarked (now (store .entry)) (now (store .exit)) (build (setAttribute (ownerFrom blocks n) (attributeFrom key kind content inherent))) (outcomeMeans r) ⌝ }
 {
     of_built(remembering::attributes::set_attribute(
         store,
         owner(blocks, n),
-        Attribute { key, kind, content },
+        Attribute {
+            key,
+            kind,
+            content,
+            inherent: inherent != 0,
+        },
     ))
 }
 

@@ -95,13 +95,19 @@ pub extern "C" fn wz_set_attribute(
     key: u32,
     kind: u32,
     content: u32,
+    inherent: u32,
 ) -> Outcome
-    ensures { λ r. ⌜ building.Answered (now (store .entry)) (now (store .exit)) (build (setAttribute (ownerFrom blocks n) (attributeFrom key kind content))) (outcomeMeans r) ⌝ }
+    ensures { λ r. ⌜ building.Answered (now (store .entry)) (now (store .exit)) (build (setAttribute (ownerFrom blocks n) (attributeFrom key kind content inherent))) (outcomeMeans r) ⌝ }
 {
     of_built(building::calls::set_attribute(
         store,
         owner(blocks, n),
-        Attribute { key, kind, content },
+        Attribute {
+            key,
+            kind,
+            content,
+            inherent: inherent != 0,
+        },
     ))
 }
 

@@ -11,10 +11,10 @@ ghost use lib.ListN.{length};
 ghost use Rattle.rules.specs.Shells.{sameAttribute};
 ghost use Rattle.layout.specs.Columns.{bufferLength, columns, slotCount};
 ghost use Rattle.layout.specs.Reading.{attributeAt};
-ghost use Rattle.fragments.specs.Ignoring.{ignoreOf, Kinds};
+ghost use Rattle.fragments.specs.Ignoring.{ignoreOf};
 ghost use Rattle.pairing.specs.Slots.{sameKept};
 
-// The attributes at two slots are equal.
+// The attributes at two slots are equal. Kinds and flags are compared at once: they share a word.
 fn attribute_eq(store: &[u32], l: usize, r: usize) -> bool
     requires { ⌜ length (now store) ≡ bufferLength ⌝ }
     requires { ⌜ l < slotCount ⌝ }
@@ -42,10 +42,8 @@ pub fn attributes_eq(
     requires { ⌜ length (now store) ≡ bufferLength ⌝ }
     requires { ⌜ lend ≤ slotCount ⌝ }
     requires { ⌜ l ≤ lend ⌝ }
-    requires { ⌜ Kinds (columns (now store)) l lend ⌝ }
     requires { ⌜ rend ≤ slotCount ⌝ }
     requires { ⌜ r ≤ rend ⌝ }
-    requires { ⌜ Kinds (columns (now store)) r rend ⌝ }
     ensures { λ q. ⌜ q ≡ sameKept (columns (now (store .entry))) (ignoreOf ignore) l lend r rend ⌝ }
 {
     let mut i = next_kept(store, ignore, l, lend);

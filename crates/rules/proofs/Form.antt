@@ -11,3 +11,4 @@ pub mod LockStep
 pub mod Tokens
 pub mod Hashes
 pub mod Canonical
+pub mod Inherent

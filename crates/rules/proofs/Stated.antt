@@ -11,6 +11,7 @@ use Rattle.rules.proofs.Listings.Nearest as nearest
 use Rattle.rules.proofs.Listings.Counted as counting
 use Rattle.rules.proofs.Walking.Sizes as sizing
 use Rattle.rules.proofs.Form.Canonical as forms
+use Rattle.rules.proofs.Form.Inherent as inherent
 use Rattle.rules.proofs.Listings.Short as printing
 use Rattle.rules.proofs.Marks.Accepted as accepting
 use Rattle.rules.proofs.Marks.Kept as marking
@@ -120,3 +121,7 @@ went-back-whole = returning.went-back-whole
 pub first-uses : stated.FirstUses
 unfolding stated.FirstUses
 first-uses s ig b l r ls rs h i k = uses.first-uses s ig b l r ls rs h i k
+
+pub inherent-kept : stated.InherentKept
+unfolding stated.InherentKept
+inherent-kept s sd ig f a b ia e = inherent.inherent-kept s sd ig f a b ia e

@@ -3,10 +3,10 @@
 use Prim.Native.Nat.{ℕ}
 use mathlib.Core.Bool.{Bool, true, false}
 use mathlib.Core.Option.{none, some}
-use mathlib.Core.List.{List, [], _∷_, _++_}
+use mathlib.Core.List.{List, [], _∷_, _++_, map}
 use mathlib.Core.Path.{_≡_}
 use lib.ListN.{set, replicate}
-use Rattle.rules.specs.Store.{Attribute, ofOp, emptyStore, sound}
+use Rattle.rules.specs.Store.{Attribute, ofOp, ofBlock, emptyStore, sound}
 use Rattle.rules.specs.Fragments.{Sort, op, block, region}
 use Rattle.rules.specs.Building.{Call, newOperation, newBlock, setAttribute, setOperand, Built, made, accepted, refused, answer, after}
 use Rattle.rules.specs.Shells.{Ignore}
@@ -45,7 +45,10 @@ unfoldable pub ignoring : Bool → ℕ → Ignore
 ignoring locations bits = record { locations = locations; bits = bits }
 
 unfoldable pub attribute : ℕ → ℕ → ℕ → Attribute
-attribute key kind content = record { key = key; kind = kind; content = content }
+attribute key kind content = record { key = key; kind = kind; content = content; inherent = false }
+
+unfoldable pub inherentOne : ℕ → ℕ → ℕ → Attribute
+inherentOne key kind content = record { key = key; kind = kind; content = content; inherent = true }
 
 -- an operation of this kind with these result types and operands, in no block and without regions
 unfoldable pub operation : ℕ → List ℕ → List ℕ → Call
@@ -171,4 +174,39 @@ mistakes =
     ∷ builds twoOps (firstOperand 0 0) (refused 2)
     ∷ builds (twoUsers 0) (firstOperand 1 1) accepted
     ∷ builds (twoUsers 0) (setOperand (record { operation = 1; index = 1; value = 1 })) (refused 7)
+    ∷ []
+
+-- key 1 of both operations: on the left inherent, on the right of this attribute
+unfoldable pub inherentLeft : Attribute → List Call
+inherentLeft a = twoOps ++ (setAttribute (ofOp 0) (inherentOne 1 5 10) ∷ setAttribute (ofOp 1) a ∷ [])
+
+-- keys 1 to 8 of the first operation
+unfoldable pub eightKeys : List Call
+eightKeys = map (λ (k : ℕ). setAttribute (ofOp 0) (attribute k 5 10)) (1 ∷ 2 ∷ 3 ∷ 4 ∷ 5 ∷ 6 ∷ 7 ∷ 8 ∷ [])
+
+-- two blocks without arguments in one region, the first with an inherent attribute
+unfoldable pub inherentBlock : List Call
+inherentBlock = twoRegions 2 0 ++ (setAttribute (ofBlock 0) (inherentOne 1 5 10) ∷ [])
+
+-- order 9, attributes that can't be ignored
+unfoldable pub inherentCases : List Case
+inherentCases =
+    -- inherent on the left and not on the right: op, whether the kind is ignored or not
+    compares (inherentLeft (attribute 1 5 10)) (ignoring false 0) op 0 1 (neq (pairOf op 0 1) 0)
+    ∷ compares (inherentLeft (attribute 1 5 10)) (ignoring true 32) op 0 1 (neq (pairOf op 0 1) 0)
+    -- the same on both sides: eq, and other contents make them differ though the kind is ignored
+    ∷ compares (inherentLeft (inherentOne 1 5 10)) (ignoring true 32) op 0 1 (eq 1)
+    ∷ compares (inherentLeft (inherentOne 1 5 11)) (ignoring true 32) op 0 1 (neq (pairOf op 0 1) 0)
+    -- on the left alone, of an operation and of a block
+    ∷ compares (twoOps ++ (setAttribute (ofOp 0) (inherentOne 1 5 10) ∷ [])) (ignoring true 32) op 0 1 (neq (pairOf op 0 1) 0)
+    ∷ compares inherentBlock (ignoring true 32) block 0 1 (neq (pairOf block 0 1) 0)
+    -- replaced by one that is not inherent, it is one that is not, and can be ignored
+    ∷ compares (inherentLeft (attribute 1 5 11) ++ (setAttribute (ofOp 0) (attribute 1 5 10) ∷ [])) (ignoring false 32) op 0 1 (eq 1)
+    ∷ compares (inherentLeft (attribute 1 5 10) ++ (setAttribute (ofOp 0) (attribute 1 5 10) ∷ [])) (ignoring false 0) op 0 1 (eq 1)
+    -- its kind is at most 63 too
+    ∷ builds twoOps (setAttribute (ofOp 0) (inherentOne 1 63 10)) accepted
+    ∷ builds twoOps (setAttribute (ofOp 0) (inherentOne 1 64 10)) (refused 6)
+    -- and so is it one of at most eight
+    ∷ builds (twoOps ++ eightKeys) (setAttribute (ofOp 0) (inherentOne 9 5 10)) (refused 4)
+    ∷ builds (twoOps ++ eightKeys) (setAttribute (ofOp 0) (inherentOne 8 5 10)) accepted
     ∷ []

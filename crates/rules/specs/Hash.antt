@@ -1,6 +1,7 @@
 -- 01, "Hash": the bytes that each step of the walk feeds, and FNV-1a over them. The bytes have one parameter: what stands ahead of a
 -- list, given its length. In a hash that is nothing; in a key (`Keys`) it is the count.
 use Prim.Native.Nat.{ℕ, zero, suc, _*_, _/_, _%_, _^_}
+use mathlib.Core.Bool.{Bool, cond}
 use mathlib.Core.Option.{Option, none, some}
 use mathlib.Core.List.{List, [], _∷_, _++_}
 use lib.Bits.{bitXor}
@@ -59,9 +60,13 @@ unfoldable pub locationBytes : Option ℕ → List ℕ
 locationBytes none = []
 locationBytes (some l) = leaf l
 
--- "each by rising key as key, kind, content"
+-- "one byte, 1 for yes and 0 for no"
+unfoldable pub flag : Bool → List ℕ
+flag b = cond b 1 0 ∷ []
+
+-- "each by rising key as key, kind, content", and the flag "after the content"
 unfoldable pub attributeBytes : Attribute → List ℕ
-attributeBytes a = leaf (a .key) ++ leaf (a .kind) ++ leaf (a .content)
+attributeBytes a = leaf (a .key) ++ leaf (a .kind) ++ leaf (a .content) ++ flag (a .inherent)
 
 -- "location unless ignored, number of unignored attributes, each ...; result types"
 unfoldable pub shellBytes : (ℕ → List ℕ) → Shell → List ℕ

@@ -123,7 +123,7 @@ attributeLine = do
   key ← number
   kind ← number
   content ← number
-  giving (building (setAttribute (of n) (record { key = key; kind = kind; content = content })))
+  giving (building (setAttribute (of n) (record { key = key; kind = kind; content = content; inherent = false })))
 
 -- "`s` operation, index, value"
 unfoldable pub operandLine : Reader Line

@@ -1,6 +1,6 @@
 -- Tests and list functions that the rules are written with. Nothing here is particular to document 01.
 use Prim.Native.Nat.{ℕ, zero, suc, _+_}
-use mathlib.Core.Bool.{Bool, true, false, cond, _&&_, _||_}
+use mathlib.Core.Bool.{Bool, true, false, cond, not, _&&_, _||_}
 use mathlib.Core.Option.{Option, none, some}
 use mathlib.Core.List.{List, [], _∷_, _++_}
 use lib.Dec.{eqb}
@@ -9,6 +9,10 @@ use lib.Dec.{eqb}
 unfoldable pub every : List Bool → Bool
 every [] = true
 every (b ∷ bs) = b && every bs
+
+-- two answers of yes or no are the same
+unfoldable pub sameBool : Bool → Bool → Bool
+sameBool a b = cond a b (not b)
 
 -- the test passes at each number below n
 unfoldable pub allBelow : ℕ → (ℕ → Bool) → Bool

@@ -5,7 +5,7 @@ use mathlib.Core.Path.{_≡_}
 use Rattle.rules.specs.Store.{Attribute, ofOp, emptyStore, opAt}
 use Rattle.rules.specs.Building.{Call, setAttribute, Built, made, accepted, refused, attributesOf, after}
 use Rattle.rules.specs.Marks.{MarkedStore, unmarked, MarkedCall, build, setMark, goBack, remembered, markedAnswer, afterMarked}
-use Rattle.rules.specs.Cases.{attribute, operation, firstOperand}
+use Rattle.rules.specs.Cases.{attribute, inherentOne, operation, firstOperand}
 
 -- the answer of a call after these from the empty store
 abbrev pub answerTo : List MarkedCall → MarkedCall → Built
@@ -54,6 +54,8 @@ pub record MarkCases : Type 0 where
   pub moved : answerTo (setMark 1 ∷ setMark 2 ∷ setMark 1 ∷ goBack 2 ∷ []) (goBack 1) ≡ refused 16
   -- a key that was there is restored, though replaced twice, and so is an operand; a key that was not there is taken away
   pub keyRestored : attributesThen (content 10 ∷ setMark 1 ∷ content 20 ∷ content 30 ∷ goBack 1 ∷ []) ≡ attribute 1 5 10 ∷ []
+  pub flagRestored :
+      attributesThen (build (setAttribute (ofOp 1) (inherentOne 1 5 10)) ∷ setMark 1 ∷ content 20 ∷ goBack 1 ∷ []) ≡ inherentOne 1 5 10 ∷ []
   pub keyGone : attributesThen (setMark 1 ∷ content 20 ∷ content 30 ∷ goBack 1 ∷ []) ≡ []
   pub operandRestored : opAt (withTwo (setMark 1 ∷ build (operation 1 (3 ∷ []) []) ∷ operand 1 ∷ goBack 1 ∷ []) .store) 1 .operands ≡ 0 ∷ []
   -- numbers given since are given again

@@ -10,12 +10,12 @@ use mathlib.Core.Option.{Option, none, some}
 use mathlib.Core.List.{List, [], _∷_, _++_, map}
 use lib.Dec.{eqb, leb}
 use lib.ListN.{length, getD, set}
-use Rattle.rules.specs.Lists.{all, any, filter}
+use Rattle.rules.specs.Lists.{every, sameBool, all, any, filter}
 use Rattle.rules.specs.Store.{Store, Attribute, opAt, blockAt, typeOf, opsOf, blocksOf, regionsOf, resultsOf, argumentsOf}
 use Rattle.rules.specs.Fragments.{Sort, op, block, region, levels}
 use Rattle.rules.specs.Shells.{Ignore, ignored}
 use Rattle.rules.specs.Mapping.{Mapping, image}
-use Rattle.rules.specs.Hash.{fnvStart, fnvFrom, leaf, count, tag}
+use Rattle.rules.specs.Hash.{fnvStart, fnvFrom, leaf, count, tag, flag}
 
 -- ---- iterators
 
@@ -88,6 +88,7 @@ forEach f (p ∷ ps) m = andThen (f (p .0) (p .1) m) (forEach f ps)
 
 -- ---- attributes_eq
 
+-- `!(ignore_config.ignore_attr)(attr)`: "The oracle counts an inherent attribute as one of a kind that its ignore function never ignores."
 unfoldable pub isRelevant : Ignore → Attribute → Bool
 isRelevant ig a = not (ignored ig a)
 
@@ -96,10 +97,10 @@ unfoldable pub get : ℕ → List Attribute → Option Attribute
 get key [] = none
 get key (a ∷ as′) = cond (eqb key (a .key)) (some a) (get key as′)
 
--- `.is_some_and(|rhs_attr| lhs_attr == rhs_attr)`: an attribute "is its kind and content"
+-- `.is_some_and(|rhs_attr| lhs_attr == rhs_attr)`: an attribute "is its kind and content", and its flag
 unfoldable pub isSomeAndEqual : Attribute → Option Attribute → Bool
 isSomeAndEqual a none = false
-isSomeAndEqual a (some b) = eqb (a .kind) (b .kind) && eqb (a .content) (b .content)
+isSomeAndEqual a (some b) = every (eqb (a .kind) (b .kind) ∷ eqb (a .content) (b .content) ∷ sameBool (a .inherent) (b .inherent) ∷ [])
 
 unfoldable pub attributes-eq : Ignore → List Attribute → List Attribute → Bool
 attributes-eq ig lhs rhs =
@@ -313,7 +314,7 @@ sortByKey (a ∷ as′) = insertByKey a (sortByKey as′)
 
 -- `k.hash(state); attr.stable_hash(ctx, state);`
 unfoldable pub hash-attribute : Attribute → HashState → HashState
-hash-attribute a h = feed (leaf (a .kind) ++ leaf (a .content)) (feed (leaf (a .key)) h)
+hash-attribute a h = feed (leaf (a .kind) ++ leaf (a .content) ++ flag (a .inherent)) (feed (leaf (a .key)) h)
 
 unfoldable pub attributes-hash : Ignore → List Attribute → HashState → HashState
 attributes-hash ig attributes h =

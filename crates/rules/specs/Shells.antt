@@ -1,12 +1,12 @@
 -- 01, "Leaves": "Kinds, types, locations, keys and attributes are numbers and equal when the numbers are". The ignore rule, and the
 -- shell of an operation or a block: what two of them are compared by, apart from what they name, and what the hash feeds of them.
 use Prim.Native.Nat.{ℕ, _/_, _%_, _^_}
-use mathlib.Core.Bool.{Bool, true, false, cond, not}
+use mathlib.Core.Bool.{Bool, true, false, cond, not, _&&_}
 use mathlib.Core.Option.{Option, none, some}
 use mathlib.Core.List.{List, [], _∷_, map}
 use lib.Dec.{eqb}
 use lib.ListN.{length}
-use Rattle.rules.specs.Lists.{every, filter, sameList}
+use Rattle.rules.specs.Lists.{every, sameBool, filter, sameList}
 use Rattle.rules.specs.Store.{Store, Attribute, Owner, ofOp, ofBlock, opAt, blockAt, typeOf, regionsOf, valuesOf}
 
 -- "An ignore rule is a yes or no for locations and 64 bits"
@@ -14,9 +14,10 @@ pub record Ignore : Type 0 where
   pub locations : Bool
   pub bits : ℕ
 
--- "an attribute is ignored when the bit of its kind (bit 0 the lowest) is set, whatever its key"
+-- "an attribute is ignored when the bit of its kind (bit 0 the lowest) is set, whatever its key"; "An inherent one is always counted, compared
+-- and hashed."
 unfoldable pub ignored : Ignore → Attribute → Bool
-ignored ig a = eqb ((ig .bits / 2 ^ (a .kind)) % 2) 1
+ignored ig a = not (a .inherent) && eqb ((ig .bits / 2 ^ (a .kind)) % 2) 1
 
 -- "Ignored attributes are neither counted nor compared."
 unfoldable pub unignored : Ignore → List Attribute → List Attribute
@@ -55,8 +56,15 @@ countsOf s (ofOp n) =
     ∷ []
 countsOf s (ofBlock b) = length (valuesOf s (ofBlock b)) ∷ []
 
+-- "The flag takes part in equality"
 unfoldable pub sameAttribute : Attribute → Attribute → Bool
-sameAttribute a b = every (eqb (a .key) (b .key) ∷ eqb (a .kind) (b .kind) ∷ eqb (a .content) (b .content) ∷ [])
+sameAttribute a b =
+    every
+    (eqb (a .key) (b .key)
+    ∷ eqb (a .kind) (b .kind)
+    ∷ eqb (a .content) (b .content)
+    ∷ sameBool (a .inherent) (b .inherent)
+    ∷ [])
 
 unfoldable pub sameLocation : Option ℕ → Option ℕ → Bool
 sameLocation none none = true

@@ -10,9 +10,9 @@ use lib.Dec.{eqb}
 use lib.IntN.{pos}
 use lib.ListN.{length, getD, replicate}
 use Rattle.rules.specs.Lists.{every, all, any, filter, sameList, concatMap}
-use Rattle.rules.specs.Store.{Store, Attribute, emptyStore, opAt, opsOf, resultsOf, sound, keysRise, maxOps}
-use Rattle.rules.specs.Fragments.{Sort, op, block, NamesNothingOf, Premise, fragmentOps, fragmentSize}
-use Rattle.rules.specs.Building.{Call, tests, firstFailed, applied, built, after}
+use Rattle.rules.specs.Store.{Store, Attribute, Owner, emptyStore, opAt, opsOf, resultsOf, sound, keysRise, maxOps}
+use Rattle.rules.specs.Fragments.{Sort, op, block, NamesNothingOf, Premise, definesOwners, fragmentOps, fragmentSize}
+use Rattle.rules.specs.Building.{Call, attributesOf, tests, firstFailed, applied, built, after}
 use Rattle.rules.specs.Shells.{Ignore, unignored, sameAttribute}
 use Rattle.rules.specs.Mapping.{Mapping, emptyMapping, allowed}
 use Rattle.rules.specs.Types.{typesHold, present, renamed}
@@ -382,6 +382,17 @@ PerCentNearest =
     × (2 * apart (perCent part whole * whole) (100 * part) ≡ whole → perCent part whole % 2 ≡ 0)
 
 -- ---- attributes
+
+-- those of an operation or a block, by rising key
+unfoldable pub inherentOf : Store → Owner → List Attribute
+inherentOf s w = filter (λ (a : Attribute). a .inherent) (attributesOf s w)
+
+-- order 9: two equal fragments have the same inherent attributes, key by key, at each place of the walk, whatever is ignored: no ignore rule
+-- merges two that differ in one: `inherent-kept`
+unfoldable pub InherentKept : Type 0
+InherentKept =
+    (s : Store) → sound s ≡ true → (ig : Ignore) (f : Sort) (a b : ℕ) → In s f a → Equal s ig f a b
+    → map (inherentOf s) (definesOwners s f a) ≡ map (inherentOf s) (definesOwners s f b)
 
 -- 01's reading, and the Rust's: as many, and each of the one stands in the other
 unfoldable pub SameByKey : List Attribute → List Attribute → Type 0

@@ -10,11 +10,12 @@ use lib.Dec.{eqb, leb, ltb}
 use lib.ListN.{length, getD}
 use Rattle.rules.specs.Lists.{every, all, allBelow, sum, isSome, numbersWhere}
 
--- "an attribute is its kind and content"; it stands under a key
+-- "an attribute is its kind and content", and (order 9) "a yes or no, inherent"; it stands under a key
 pub record Attribute : Type 0 where
   pub key : ℕ
   pub kind : ℕ
   pub content : ℕ
+  pub inherent : Bool
 
 -- an operation or a block: what owns values and attributes
 pub data Owner : Type 0 where

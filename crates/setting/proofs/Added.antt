@@ -10,13 +10,14 @@ use lib.Dec.{eqb}
 use lib.ListN.{length, getD, set, length-set}
 use lib.Seq.{getD-set-same, getD-set-other}
 use Rattle.rules.specs.Lists.{any}
-use Rattle.rules.specs.Store.{Attribute, Owner, ofOp, ofBlock, maxOwnKeys, maxAttributes}
+use Rattle.rules.specs.Store.{Attribute, Owner, ofOp, ofBlock, maxOwnKeys, maxAttributes, maxAttributeKind}
 use Rattle.rules.specs.Building.{putAttribute}
 use Rattle.layout.specs.Columns.{Cols, at, write, writeRange, columnSize, counts, opAttributes, blockAttributes, operandWords, slotKey, slotKind, slotContent, slotCount}
-use Rattle.layout.specs.Reading.{slotsOf, attributeCount, attributeAt, attributesFrom}
+use Rattle.layout.specs.Reading.{slotsOf, kindCode, attributeRead, attributeCount, attributeAt, attributesFrom}
 use Rattle.layout.specs.Owners.{keyCount, countColumn, ownerNumber}
 use Rattle.layout.proofs.Laid.{Shaped, Laid}
 use Rattle.layout.proofs.Buffer.{write-other, writeRange-other}
+use Rattle.layout.proofs.KindWords.{attribute-read}
 use Rattle.layout.proofs.OwnerKeys.{ownerIn, slots-fit}
 use Rattle.setting.specs.Raw.{slotFor, keyThere, inserted, added}
 use Rattle.setting.proofs.Changed.{attribute-same}
@@ -30,11 +31,10 @@ use Rattle.setting.proofs.Written.{Written}
 -- an attribute that is grown into the slots
 abbrev grownAt : Cols → ℕ → ℕ → Attribute → ℕ → Attribute
 grownAt C s e a j =
-    record {
-      key = getD (grown (C slotKey) s e (a .key)) j 0;
-      kind = getD (grown (C slotKind) s e (a .kind)) j 0;
-      content = getD (grown (C slotContent) s e (a .content)) j 0;
-    }
+    attributeRead
+    (getD (grown (C slotKey) s e (a .key)) j 0)
+    (getD (grown (C slotKind) s e (kindCode (a .kind) (a .inherent))) j 0)
+    (getD (grown (C slotContent) s e (a .content)) j 0)
 
 column-touched : (w : Owner) → touched (countColumn w) ≡ true
 unfolding touched any countColumn
@@ -78,7 +78,7 @@ module _ (C : Cols) (s : ℕ) (a : Attribute) where
 
 -- ---- what they are read as
 
-module _ (C : Cols) (w : Owner) (a : Attribute) (sh : Shaped C) (h : Laid C) (l : ownerIn C w) (t : keyThere C w (a .key) ≡ false) (room : keyCount C w + 1 ≤ maxOwnKeys) where
+module _ (C : Cols) (w : Owner) (a : Attribute) (sh : Shaped C) (h : Laid C) (l : ownerIn C w) (fits : a .kind ≤ maxAttributeKind) (t : keyThere C w (a .key) ≡ false) (room : keyCount C w + 1 ≤ maxOwnKeys) where
   abbrev s : ℕ
   s = slotFor C w (a .key)
 
@@ -100,15 +100,16 @@ module _ (C : Cols) (w : Owner) (a : Attribute) (sh : Shaped C) (h : Laid C) (l 
       → ((xs : List ℕ) (v : ℕ) → e < length xs → getD (grown xs s e v) i 0 ≡ getD xs j 0)
       → attributeAt D i ≡ attributeAt C j
   unfolding attributeAt at
-  alike i j f = added-at C s a w i ∙ attribute-same (grownAt C s e a i) (attributeAt C j)
-      (f (C slotKey) (a .key) (high slotKey refl)) (f (C slotKind) (a .kind) (high slotKind refl)) (f (C slotContent) (a .content) (high slotContent refl))
+  alike i j f = added-at C s a w i ∙ attribute-same
+      (f (C slotKey) (a .key) (high slotKey refl)) (f (C slotKind) _ (high slotKind refl)) (f (C slotContent) (a .content) (high slotContent refl))
 
   slot-there : attributeAt D s ≡ a
   slot-there =
-      added-at C s a w s ∙ attribute-same (grownAt C s e a s) a
+      added-at C s a w s ∙ attribute-same
       (grown-there (C slotKey) s e (a .key) low (high slotKey refl))
-      (grown-there (C slotKind) s e (a .kind) low (high slotKind refl))
+      (grown-there (C slotKind) s e _ low (high slotKind refl))
       (grown-there (C slotContent) s e (a .content) low (high slotContent refl))
+      ∙ attribute-read a fits
 
   mine : attributesFrom D (slotsOf w) (keyCount D w) ≡ putAttribute a (own C w)
   unfolding attributesFrom

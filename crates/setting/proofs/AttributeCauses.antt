@@ -78,6 +78,10 @@ module _ (b : List ℕ) (h : IsSound b) (w : Owner) (a : Attribute) where
   -- ---- and where all pass
 
   module _ (e : failing ≡ none) where
+    pub kind-fits : a .kind ≤ maxAttributeKind
+    unfolding tests
+    kind-fits = leb-true (a .kind) maxAttributeKind (firstFailed-none _ e .0)
+
     pub owner-there : ownerExists (storeIn b) w ≡ true
     unfolding tests
     owner-there = firstFailed-none _ e .1 .0

@@ -11,7 +11,7 @@ use Rattle.rules.specs.Lists.{sum, updateAt}
 use Rattle.rules.specs.Store.{Op, Block, Attribute}
 use Rattle.rules.proofs.Basics.Appended.{length-update, getD-update, sum-update}
 use Rattle.rules.proofs.Soundness.Room.{update-there}
-use Rattle.layout.specs.Reading.{tabulate, slice}
+use Rattle.layout.specs.Reading.{tabulate, slice, attributeRead}
 use Rattle.layout.proofs.Tabulate.{length-tabulate, getD-tabulate}
 
 module _ {A : Type 0} where
@@ -52,8 +52,9 @@ opWith o xs bs = record { kind = o .kind; parent = o .parent; location = o .loca
 abbrev pub blockWith : Block → List Attribute → Block
 blockWith o bs = record { region = o .region; label = o .label; location = o .location; attributes = bs }
 
-pub attribute-same : (a b : Attribute) → a .key ≡ b .key → a .kind ≡ b .kind → a .content ≡ b .content → a ≡ b
-attribute-same a b p q r = λ i. record { key = p i; kind = q i; content = r i }
+-- the same three words are read as the same attribute
+pub attribute-same : {key key′ word word′ content content′ : ℕ} → key ≡ key′ → word ≡ word′ → content ≡ content′ → attributeRead key word content ≡ attributeRead key′ word′ content′
+attribute-same p q r = λ i. attributeRead (p i) (q i) (r i)
 
 -- ---- a slice of a list in which one word is written
 

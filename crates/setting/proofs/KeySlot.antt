@@ -147,7 +147,7 @@ module _ (C : Cols) (w : Owner) where
   key-there key rise = go (keyThere C w key) (hasKey key own) refl refl
     where
       a : Attribute
-      a = record { key = key; kind = 0; content = 0 }
+      a = record { key = key; kind = 0; content = 0; inherent = false }
 
       go : (x y : Bool) → keyThere C w key ≡ x → hasKey key own ≡ y → x ≡ y
       go true true t u = refl

@@ -7,7 +7,7 @@ use mathlib.Core.List.{List}
 use mathlib.Core.Option.{Option, none, some}
 use mathlib.Core.Path.{_≡_, refl, sym, ap, subst, _∙_}
 use lib.ListN.{length}
-use Rattle.rules.specs.Store.{Attribute, Owner, ownerExists, maxOwnKeys}
+use Rattle.rules.specs.Store.{Attribute, Owner, ownerExists, maxOwnKeys, maxAttributeKind}
 use Rattle.rules.specs.Building.{setAttribute, tests, firstFailed, acceptance}
 use Rattle.layout.specs.Columns.{Cols, columns, slotCount}
 use Rattle.layout.specs.Reading.{slotsOf, storeOf, storeIn}
@@ -25,18 +25,20 @@ use Rattle.calling.proofs.Doing.{did-work}
 use Rattle.setting.proofs.Owners.{reachable}
 use Rattle.setting.proofs.KeySlot.{slot-low, slot-among}
 use Rattle.setting.proofs.SetAttribute.{attribute-reads, attribute-behind, attribute-laid}
-use Rattle.setting.proofs.AttributeCauses.{owner-there, room-there}
+use Rattle.setting.proofs.AttributeCauses.{kind-fits, owner-there, room-there}
 
 abbrev failing : List ℕ → Owner → Attribute → Option ℕ
 failing b w a = firstFailed (tests (storeIn b) (setAttribute w a))
 
 pub record Replacing (b : List ℕ) (w : Owner) (a : Attribute) (slot : ℕ) : Type 0 where
   pub clear : failing b w a ≡ none
+  pub fits : a .kind ≤ maxAttributeKind
   pub reached : slot < slotCount
   pub written : replaced (columns b) slot a ≡ withAttribute (columns b) w a
 
 pub record Adding (b : List ℕ) (w : Owner) (a : Attribute) (slot : ℕ) : Type 0 where
   pub clear : failing b w a ≡ none
+  pub fits : a .kind ≤ maxAttributeKind
   pub owner : ownerExists (storeIn b) w ≡ true
   pub low : slot ≤ slotsOf w + keyCount (columns b) w
   pub room : keyCount (columns b) w < maxOwnKeys
@@ -60,12 +62,14 @@ module _ (b : List ℕ) (h : IsSound b) (w : Owner) (a : Attribute) where
       let r = reachable b h w (owner-there b h w a e) in
       record {
         clear = e;
+        fits = kind-fits b h w a e;
         reached = omega (arith, slot-among C w (a .key) k);
         written = sym (ap (λ (t : Bool). cond t (replaced C s a) (added C w s a)) k);
       }
   told-clear e false k =
       record {
         clear = e;
+        fits = kind-fits b h w a e;
         owner = owner-there b h w a e;
         low = slot-low C w (a .key);
         room = omega (arith, room-there b h w a e k .0);
@@ -85,9 +89,10 @@ module _ (b : List ℕ) (h : IsSound b) (w : Owner) (a : Attribute) where
   unfolding acceptance builtOf
   attribute-done exit e len q =
       let l = reachable b h w (owner-there b h w a e) .within in
+      let fits = kind-fits b h w a e in
       let room = room-there b h w a e in
       did-work b h (setAttribute w a) _ exit e len
-      (ap storeOf q ∙ attribute-reads C w a (shaped b h) (laid b h) l room)
-      (subst Laid (sym q) (attribute-laid C w a (shaped b h) (laid b h) l room))
-      (subst (Behind C) (sym q) (attribute-behind C w a (shaped b h) (laid b h) l room))
+      (ap storeOf q ∙ attribute-reads C w a (shaped b h) (laid b h) l fits room)
+      (subst Laid (sym q) (attribute-laid C w a (shaped b h) (laid b h) l fits room))
+      (subst (Behind C) (sym q) (attribute-behind C w a (shaped b h) (laid b h) l fits room))
       refl

@@ -6,7 +6,7 @@ use mathlib.Core.List.{List}
 use mathlib.Core.Logic.{_⊎_, inl, inr}
 use mathlib.Core.Path.{_≡_, refl, sym, ap, ap₂, subst, _∙_}
 use Rattle.rules.specs.Lists.{any, sum}
-use Rattle.rules.specs.Store.{Attribute, Owner, ofOp, ofBlock, maxOwnKeys, maxAttributes}
+use Rattle.rules.specs.Store.{Attribute, Owner, ofOp, ofBlock, maxOwnKeys, maxAttributes, maxAttributeKind}
 use Rattle.rules.specs.Building.{setAttribute, opWithAttribute, blockWithAttribute, applied}
 use Rattle.layout.specs.Columns.{Cols, at, opAttributes, opOperandFirst, opOperandEnd, blockAttributes}
 use Rattle.layout.specs.Reading.{slice, opCount, blockCount, regionCount, valueCount, attributeCount, slotsOf, attributeAt, attributesFrom, opOf, blockOf, valueOf, storeOf}
@@ -110,14 +110,14 @@ written-laid C D w a h l p =
 abbrev pub KeyRoom : Cols → Owner → ℕ → Type 0
 KeyRoom C w key = keyThere C w key ≡ false → (keyCount C w + 1 ≤ maxOwnKeys) × (attributeCount C + 1 ≤ maxAttributes)
 
-module _ (C : Cols) (w : Owner) (a : Attribute) (sh : Shaped C) (h : Laid C) (l : ownerIn C w) (room : KeyRoom C w (a .key)) where
+module _ (C : Cols) (w : Owner) (a : Attribute) (sh : Shaped C) (h : Laid C) (l : ownerIn C w) (fits : a .kind ≤ maxAttributeKind) (room : KeyRoom C w (a .key)) where
   attribute-written : Written C (withAttribute C w a) w a
   unfolding withAttribute
   attribute-written = go (keyThere C w (a .key)) refl
     where
       go : (b : Bool) → keyThere C w (a .key) ≡ b → Written C (cond b (replaced C (slotFor C w (a .key)) a) (added C w (slotFor C w (a .key)) a)) w a
-      go true t = replaced-written C w a sh h l t
-      go false t = added-written C w a sh h l t (room t .0) (room t .1)
+      go true t = replaced-written C w a sh h l fits t
+      go false t = added-written C w a sh h l fits t (room t .0) (room t .1)
 
   pub attribute-reads : storeOf (withAttribute C w a) ≡ applied (storeOf C) (setAttribute w a)
   attribute-reads = written-reads C (withAttribute C w a) w a h l attribute-written

@@ -6,7 +6,7 @@ use mathlib.Core.List.{_∷_}
 use lib.Dec.{eqb, ltb}
 use Rattle.rules.specs.Store.{Attribute, Owner}
 use Rattle.layout.specs.Columns.{Cols, at, write, writeRange, counts, opOperandFirst, operandWords, slotKey, slotKind, slotContent}
-use Rattle.layout.specs.Reading.{attributeCount, slotsOf, slice}
+use Rattle.layout.specs.Reading.{attributeCount, slotsOf, kindCode, slice}
 use Rattle.layout.specs.Owners.{countColumn, ownerNumber, keyCount}
 use Rattle.setting.specs.declared.attributes.AttributePlace.{AttributePlace}
 use Rattle.setting.specs.declared.attributes.AttributePlace.the-variants as Places
@@ -35,14 +35,14 @@ unfoldable pub inserted : Cols → ℕ → ℕ → ℕ → ℕ → Cols
 inserted C k i e v = writeRange C k i (v ∷ slice (C k) i e)
 
 unfoldable pub replaced : Cols → ℕ → Attribute → Cols
-replaced C i a = write (write C slotKind i (a .kind)) slotContent i (a .content)
+replaced C i a = write (write C slotKind i (kindCode (a .kind) (a .inherent))) slotContent i (a .content)
 
 unfoldable pub added : Cols → Owner → ℕ → Attribute → Cols
 added C w i a =
     write
     (write
     (inserted
-    (inserted (inserted C slotKey i (slotsOf w + keyCount C w) (a .key)) slotKind i (slotsOf w + keyCount C w) (a .kind))
+    (inserted (inserted C slotKey i (slotsOf w + keyCount C w) (a .key)) slotKind i (slotsOf w + keyCount C w) (kindCode (a .kind) (a .inherent)))
     slotContent i (slotsOf w + keyCount C w) (a .content))
     (countColumn w) (ownerNumber w) (keyCount C w + 1))
     counts 6 (attributeCount C + 1)

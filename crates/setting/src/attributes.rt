@@ -11,6 +11,7 @@ use layout::columns::at;
 use layout::columns::insert;
 use layout::columns::number;
 use layout::columns::put;
+use layout::kinds::kind_code;
 use layout::owners::count_column;
 use layout::owners::first_slot;
 use layout::owners::key_count;
@@ -20,7 +21,7 @@ ghost use mathlib.Core.Path.{_≡_};
 ghost use mathlib.Core.Bool.{true};
 ghost use Prim.Native.Nat.{_+_, _<_, _≤_};
 ghost use lib.ListN.{length};
-ghost use Rattle.rules.specs.Store.{ownerExists};
+ghost use Rattle.rules.specs.Store.{ownerExists, maxAttributeKind};
 ghost use Rattle.rules.specs.Building.{setAttribute, tests, firstFailed};
 ghost use Rattle.layout.specs.Columns.{bufferLength, columns, slotCount};
 ghost use Rattle.layout.specs.Reading.{slotsOf, storeIn};
@@ -100,13 +101,15 @@ pub fn place_for(store: &[u32], owner: Owner, attribute: Attribute) -> Attribute
     AttributePlace::Adds(slot)
 }
 
-// Replaces the kind and the content at a slot.
+// Replaces the attribute at a slot, where its key stands already.
 pub fn put_replaced(store: &mut [u32], slot: usize, attribute: Attribute)
     requires { ⌜ length (now store) ≡ bufferLength ⌝ }
     requires { ⌜ slot < slotCount ⌝ }
+    requires { ⌜ attribute .kind ≤ maxAttributeKind ⌝ }
     ensures { λ _. ⌜ columns (now (store .exit)) ≡ replaced (columns (now (store .entry))) slot (attributeOf attribute) ⌝ }
 {
-    put(store, SLOT_KIND, slot, attribute.kind);
+    let word = kind_code(attribute.kind, attribute.inherent);
+    put(store, SLOT_KIND, slot, word);
     put(store, SLOT_CONTENT, slot, attribute.content);
 }
 
@@ -116,13 +119,15 @@ pub fn put_added(store: &mut [u32], owner: Owner, slot: usize, attribute: Attrib
     requires { ⌜ ownerExists (storeIn (now store)) (ownerOf owner) ≡ true ⌝ }
     requires { ⌜ slot ≤ slotsOf (ownerOf owner) + keyCount (columns (now store)) (ownerOf owner) ⌝ }
     requires { ⌜ keyCount (columns (now store)) (ownerOf owner) < 8 ⌝ }
+    requires { ⌜ attribute .kind ≤ maxAttributeKind ⌝ }
     ensures { λ _. ⌜ columns (now (store .exit)) ≡ added (columns (now (store .entry))) (ownerOf owner) slot (attributeOf attribute) ⌝ }
 {
     let count = key_count(store, owner);
     let total = number(store, COUNTS, ATTRIBUTES);
     let end = first_slot(owner) + count;
+    let word = kind_code(attribute.kind, attribute.inherent);
     insert(store, SLOT_KEY, slot, end, attribute.key);
-    insert(store, SLOT_KIND, slot, end, attribute.kind);
+    insert(store, SLOT_KIND, slot, end, word);
     insert(store, SLOT_CONTENT, slot, end, attribute.content);
     put(
         store,

@@ -2,17 +2,17 @@
 use Prim.Native.Nat.{ℕ, zero, suc, _<_}
 use native.Mathlib.Nat.{not-suc-le-zero, le-of-suc-le-suc}
 use mathlib.Core.Path.{_≡_, refl, sym, ap, _∙_}
-use Rattle.rules.specs.Store.{Owner}
+use Rattle.rules.specs.Store.{Attribute, Owner}
 use Rattle.layout.specs.Columns.{Cols, at, journalSort, journalOwner, journalKey, journalKind, journalContent}
-use Rattle.layout.specs.Reading.{ownerFrom}
+use Rattle.layout.specs.Reading.{ownerFrom, attributeRead}
 use Rattle.journal.specs.Journal.{Entry, operandWas, attributeWas, keyWasNone}
 use Rattle.journal.specs.Words.{entryFrom, entryAt}
 
-module _ (C : Cols) (i owner key kind : ℕ) (o : owner ≡ at C journalOwner i) (k : key ≡ at C journalKey i) (d : kind ≡ at C journalKind i) where
+module _ (C : Cols) (i owner key word : ℕ) (o : owner ≡ at C journalOwner i) (k : key ≡ at C journalKey i) (d : word ≡ at C journalKind i) where
   abbrev entryOf : ℕ → Entry
   entryOf sort = entryFrom sort (at C journalOwner i) (at C journalKey i) (at C journalKind i) (at C journalContent i)
 
-  pub operand-entry : at C journalSort i ≡ 0 → operandWas owner key kind ≡ entryAt C i
+  pub operand-entry : at C journalSort i ≡ 0 → operandWas owner key word ≡ entryAt C i
   unfolding entryAt entryFrom
   operand-entry e = (λ j. operandWas (o j) (k j) (d j)) ∙ ap entryOf (sym e)
 
@@ -21,10 +21,10 @@ module _ (C : Cols) (i owner key kind : ℕ) (o : owner ≡ at C journalOwner i)
     named : w ≡ ownerFrom (at C journalOwner i)
     named = q ∙ ap ownerFrom o
 
-    pub attribute-entry : (content : ℕ) → content ≡ at C journalContent i → at C journalSort i ≡ 1
-        → attributeWas w (record { key = key; kind = kind; content = content }) ≡ entryAt C i
+    pub attribute-entry : (a : Attribute) (content : ℕ) → a ≡ attributeRead key word content → content ≡ at C journalContent i → at C journalSort i ≡ 1
+        → attributeWas w a ≡ entryAt C i
     unfolding entryAt entryFrom
-    attribute-entry content t e = (λ j. attributeWas (named j) (record { key = k j; kind = d j; content = t j })) ∙ ap entryOf (sym e)
+    attribute-entry a content r t e = ap (attributeWas w) r ∙ (λ j. attributeWas (named j) (attributeRead (k j) (d j) (t j))) ∙ ap entryOf (sym e)
 
     pub key-entry : 1 < at C journalSort i → keyWasNone w key ≡ entryAt C i
     unfolding entryAt entryFrom

@@ -12,7 +12,7 @@ use lib.Seq.{getD-set-same, getD-set-other}
 use Rattle.rules.specs.Lists.{any}
 use Rattle.rules.specs.Store.{Attribute, Owner, ofOp, ofBlock, keysRise, maxOwnKeys, maxAttributes}
 use Rattle.layout.specs.Columns.{Cols, at, write, writeRange, columnSize, counts, opAttributes, blockAttributes, operandWords, slotKey, slotKind, slotContent, slotCount}
-use Rattle.layout.specs.Reading.{slotsOf, attributeCount, attributeAt, attributesFrom}
+use Rattle.layout.specs.Reading.{slotsOf, attributeCount, attributeRead, attributeAt, attributesFrom}
 use Rattle.layout.specs.Owners.{keyCount, countColumn, ownerNumber}
 use Rattle.layout.proofs.Laid.{Shaped, Laid}
 use Rattle.layout.proofs.Buffer.{write-other, writeRange-other}
@@ -43,11 +43,7 @@ pub record Taken (C D : Cols) (w : Owner) (k : ℕ) : Type 0 where
 
 abbrev shrunkAt : Cols → ℕ → ℕ → ℕ → Attribute
 shrunkAt C s e j =
-    record {
-      key = getD (shrunk (C slotKey) s e) j 0;
-      kind = getD (shrunk (C slotKind) s e) j 0;
-      content = getD (shrunk (C slotContent) s e) j 0;
-    }
+    attributeRead (getD (shrunk (C slotKey) s e) j 0) (getD (shrunk (C slotKind) s e) j 0) (getD (shrunk (C slotContent) s e) j 0)
 
 column-touched : (w : Owner) → touched (countColumn w) ≡ true
 unfolding touched any countColumn
@@ -110,7 +106,7 @@ module _ (C : Cols) (w : Owner) (k : ℕ) (sh : Shaped C) (h : Laid C) (l : owne
   -- the three columns go alike
   alike : (i j : ℕ) → ((xs : List ℕ) → e ≤ length xs → getD (shrunk xs s e) i 0 ≡ getD xs j 0) → attributeAt D i ≡ attributeAt C j
   unfolding attributeAt at
-  alike i j f = removed-at C s w i ∙ attribute-same (shrunkAt C s e i) (attributeAt C j)
+  alike i j f = removed-at C s w i ∙ attribute-same
       (f (C slotKey) (high slotKey refl)) (f (C slotKind) (high slotKind refl)) (f (C slotContent) (high slotContent refl))
 
   own-there : withoutKey k (own C w) ≡ take (place C w k) (own C w) ++ drop (suc (place C w k)) (own C w)

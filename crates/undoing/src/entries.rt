@@ -9,6 +9,8 @@ use layout::columns::JOURNAL_KIND;
 use layout::columns::JOURNAL_OWNER;
 use layout::columns::JOURNAL_SORT;
 use layout::columns::at;
+use layout::kinds::inherent_from;
+use layout::kinds::kind_from;
 use layout::owners::owner_exists;
 use setting::attributes::key_there;
 use setting::attributes::set_attribute;
@@ -18,7 +20,7 @@ ghost use mathlib.Core.Path.{_≡_};
 ghost use Prim.Native.Nat.{_<_, _≤_};
 ghost use lib.ListN.{drop};
 ghost use Rattle.layout.specs.Columns.{columns};
-ghost use Rattle.layout.specs.Reading.{storeIn, ownerFrom, tabulate};
+ghost use Rattle.layout.specs.Reading.{storeIn, ownerFrom, attributeRead, tabulate};
 ghost use Rattle.layout.specs.Soundness.{IsSound};
 ghost use Rattle.layout.specs.Owners.{ownerOf};
 ghost use Rattle.calling.specs.Types.{attributeOf};
@@ -35,6 +37,18 @@ fn owner_from(code: u32) -> Owner
         return Owner::Op(n);
     }
     Owner::Block(n)
+}
+
+// The attribute of a key, by the word of its kind and flag, and by its content.
+fn attribute_from(key: u32, word: u32, content: u32) -> Attribute
+    ensures { λ r. ⌜ attributeOf r ≡ attributeRead key word content ⌝ }
+{
+    Attribute {
+        key,
+        kind: kind_from(word),
+        content,
+        inherent: inherent_from(word),
+    }
 }
 
 // The owner exists and has the key: so it can be taken out.
@@ -97,19 +111,11 @@ pub fn undo_entry(store: &mut [u32], i: usize) -> bool
 {
     let owner = at(store, JOURNAL_OWNER, i);
     let key = at(store, JOURNAL_KEY, i);
-    let kind = at(store, JOURNAL_KIND, i);
+    let word = at(store, JOURNAL_KIND, i);
     let content = at(store, JOURNAL_CONTENT, i);
     match at(store, JOURNAL_SORT, i) {
-        0 => undo_operand(store, owner, key, kind),
-        1 => undo_attribute(
-            store,
-            owner_from(owner),
-            Attribute {
-                key: key,
-                kind: kind,
-                content: content,
-            },
-        ),
+        0 => undo_operand(store, owner, key, word),
+        1 => undo_attribute(store, owner_from(owner), attribute_from(key, word, content)),
         _ => undo_new_key(store, owner_from(owner), key),
     }
 }

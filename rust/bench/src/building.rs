@@ -3,7 +3,7 @@
 use std::hint::black_box;
 use std::time::Instant;
 
-use warzhigo::MarkId;
+use warzhigo::{Inherent, MarkId};
 
 use crate::cases::{Shape, case, full};
 use crate::fragments::Times;
@@ -42,14 +42,15 @@ pub fn each_call(effort: Effort) -> Building {
     let measure = |calls: &Calls, effort| {
         race([section::<Inner>(calls, nothing), section::<Offered>(calls, nothing), section::<Pliron>(calls, nothing)], effort)
     };
-    let calls = [operations(), blocks(), attributes(), operands(511)].map(checked);
+    let inherent = attributes("an inherent attribute", Inherent::Yes);
+    let calls = [operations(), blocks(), plain_attributes(), inherent, operands(511)].map(checked);
     Series::new("building calls", calls.into(), effort, measure)
 }
 
 /// The same in a store known to be sound, without a mark and with one: up to as many replacements as are remembered.
 pub fn marked_calls(effort: Effort) -> Series<Calls, 2> {
     let measure = |calls: &Calls, effort| race([section::<Inner>(calls, nothing), section(calls, mark)], effort);
-    let calls = [operations(), blocks(), attributes(), replaced_attributes(), operands(256)];
+    let calls = [operations(), blocks(), plain_attributes(), replaced_attributes(), operands(256)];
     Series::new("building calls with a mark", calls.into(), effort, measure)
 }
 
@@ -148,21 +149,25 @@ fn blocks() -> Calls {
     Calls { name: "a block", calls: sketch.calls, timed: 1 }
 }
 
+fn plain_attributes() -> Calls {
+    attributes("an attribute", Inherent::No)
+}
+
 /// 8 attributes on each of 128 operations, by keys that neither rise nor fall.
-fn attributes() -> Calls {
+fn attributes(name: &'static str, inherent: Inherent) -> Calls {
     let mut sketch = Sketch::default();
     for _ in 0..128 {
         sketch.operation(NewOperation::default());
     }
     for op in 0..128 {
-        [0, 5, 2, 7, 4, 1, 6, 3].into_iter().for_each(|key| sketch.attribute(op, key, op));
+        [0, 5, 2, 7, 4, 1, 6, 3].into_iter().for_each(|key| sketch.attribute(op, key, op, inherent));
     }
-    Calls { name: "an attribute", calls: sketch.calls, timed: 128 }
+    Calls { name, calls: sketch.calls, timed: 128 }
 }
 
 /// The same attributes, set once more.
 fn replaced_attributes() -> Calls {
-    let Calls { mut calls, timed, .. } = attributes();
+    let Calls { mut calls, timed, .. } = plain_attributes();
     let again = calls[timed..].to_vec();
     let timed = calls.len();
     calls.extend(again);

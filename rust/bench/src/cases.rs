@@ -1,5 +1,7 @@
 //! What is compared and hashed: two fragments of a shape and a size, in one store.
 
+use warzhigo::Inherent;
+
 use crate::shapes::{self, Call, Each, NewOperation, PLAIN, Sketch};
 
 /// The sizes, in operations.
@@ -114,7 +116,7 @@ pub fn full() -> Vec<Call> {
             successors: vec![block, block],
             ..Default::default()
         });
-        (0..4).for_each(|key| sketch.attribute(inner.number, key, key + 100));
+        (0..4).for_each(|key| sketch.attribute(inner.number, key, key + 100, Inherent::No));
     }
     sketch.calls
 }

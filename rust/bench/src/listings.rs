@@ -2,6 +2,8 @@
 
 use std::fmt::Write;
 
+use warzhigo::{Attribute, Inherent};
+
 use crate::cases::{self, Shape};
 use crate::shapes::{self, Call, Each, NewOperation, PLAIN, Sketch};
 
@@ -40,7 +42,10 @@ fn line(text: &mut String, call: &Call) {
             writeln!(text, "o,{},{parent},{},{},{lists}", new.kind, new.location, new.regions)
         }
         Call::Block { region, location, types } => writeln!(text, "b,{region},0,{location},{}", list(types)),
-        Call::Attribute { op, key, kind, content } => writeln!(text, "a,o,{op},{key},{kind},{content}"),
+        Call::Attribute(op, Attribute { key, kind, content, inherent }) => {
+            assert_eq!(*inherent, Inherent::No, "a listing has no line for an inherent attribute");
+            writeln!(text, "a,o,{op},{key},{kind},{content}")
+        }
         Call::Operand { op, index, value } => writeln!(text, "s,{op},{index},{value}"),
     };
     written.expect("a string has room");

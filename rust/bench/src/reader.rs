@@ -1,7 +1,7 @@
 //! `twins` and `sums` over pliron's own text: from a listing's bytes to printed bytes, in plain Rust. It trusts the listing, and prints
 //! neither `paired` nor the share, which pliron hasn't.
 
-use oracle::{Lists, Mapping, Oracle, Owner, Sort, Verdict};
+use oracle::{Lists, Mapping, NumberAttr, Oracle, Owner, Sort, Verdict};
 
 /// What a line's `q` asks.
 struct Question {
@@ -76,7 +76,8 @@ impl Reader {
         let on_block = fields.next() == b"b";
         let number = fields.word();
         let owner = if on_block { Owner::Block(number) } else { Owner::Op(number) };
-        self.oracle.set_attribute(owner, fields.word(), fields.word(), fields.word());
+        let key = fields.word();
+        self.oracle.set_attribute(owner, key, NumberAttr { kind: fields.word(), content: fields.word(), inherent: false });
     }
 
     /// A line that builds; or else what it asks.

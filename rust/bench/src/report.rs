@@ -184,7 +184,7 @@ fn flat_keys(row: &keys::Row) -> Table {
     let rows: [(&str, fn(&keys::Times) -> f64); 6] = [
         ("hash, inner", |times| times.hash),
         ("key in lent bytes, inner", |times| times.inner),
-        ("key in 77,320 lent bytes, inner", |times| times.roomy),
+        ("key in 78,344 lent bytes, inner", |times| times.roomy),
         ("key in lent bytes, offered", |times| times.offered),
         ("key in bytes of its own", |times| times.allocated),
         ("two keys compared", |times| times.compared),

@@ -1,11 +1,13 @@
 //! Fragments as building calls, in plain data: each side makes its own store from them.
 
+use warzhigo::{Attribute, Inherent};
+
 /// A building call, by numbers.
 #[derive(Clone)]
 pub enum Call {
     Operation(NewOperation),
     Block { region: u32, location: u32, types: Vec<u32> },
-    Attribute { op: u32, key: u32, kind: u32, content: u32 },
+    Attribute(u32, Attribute),
     Operand { op: u32, index: u32, value: u32 },
 }
 
@@ -64,8 +66,8 @@ impl Sketch {
         made
     }
 
-    pub fn attribute(&mut self, op: u32, key: u32, content: u32) {
-        self.calls.push(Call::Attribute { op, key, kind: key, content });
+    pub fn attribute(&mut self, op: u32, key: u32, content: u32, inherent: Inherent) {
+        self.calls.push(Call::Attribute(op, Attribute { key, kind: key, content, inherent }));
     }
 
     /// An operation that holds one region.
@@ -122,7 +124,7 @@ pub fn flat(sketch: &mut Sketch, kind: u32, n: u32, each: Each) -> u32 {
 /// Sets the attributes of one operation, by keys that neither rise nor fall.
 fn describe(sketch: &mut Sketch, op: u32, i: u32, each: Each) {
     for key in [0, 5, 2, 7, 4, 1, 6, 3].into_iter().filter(|key| *key < each.attributes) {
-        sketch.attribute(op, key, i + key);
+        sketch.attribute(op, key, i + key, Inherent::No);
     }
 }
 

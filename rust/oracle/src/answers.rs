@@ -36,7 +36,8 @@ pub enum Verdict {
 
 impl Oracle {
     /// Compares two of one sort, from what the mapping holds; entries made stay in it, also after
-    /// a failure. An attribute is ignored when the bit of its kind is set, bit 0 being the lowest.
+    /// a failure. An attribute is ignored when the bit of its kind is set, bit 0 being the lowest,
+    /// unless it is inherent.
     #[inline]
     pub fn compare(&self, mapping: &mut Mapping, sort: Sort, lhs: u32, rhs: u32, ignore_locations: bool, ignore_bits: u64) -> Verdict {
         let (ctx, mapper) = (&self.ctx, &mut mapping.0);
@@ -67,8 +68,10 @@ impl Oracle {
     }
 }
 
+/// "The oracle counts an inherent attribute as one of a kind that its ignore function never
+/// ignores."
 fn ignore_attr(ctx: &Context, attr: &dyn Attribute) -> bool {
-    ctx.ignore_bits.get() >> attr.kind() & 1 == 1
+    !attr.inherent() && ctx.ignore_bits.get() >> attr.kind() & 1 == 1
 }
 
 fn ptr<T>(number: u32) -> Ptr<T> {

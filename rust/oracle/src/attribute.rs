@@ -1,5 +1,5 @@
-//! Stands in for pliron's attribute.rs: an attribute is its kind and content, two numbers, boxed
-//! as a trait object as in pliron.
+//! Stands in for pliron's attribute.rs: an attribute is its kind and content, two numbers, and
+//! whether it is inherent, boxed as a trait object as in pliron.
 
 use core::{any::Any, hash::Hash};
 
@@ -13,6 +13,7 @@ use crate::{
 pub trait Attribute: Any {
     fn kind(&self) -> u32;
     fn content(&self) -> u32;
+    fn inherent(&self) -> bool;
     fn as_any(&self) -> &dyn Any;
 }
 
@@ -25,7 +26,7 @@ impl dyn Attribute {
 
 impl PartialEq for dyn Attribute {
     fn eq(&self, other: &Self) -> bool {
-        self.kind() == other.kind() && self.content() == other.content()
+        self.kind() == other.kind() && self.content() == other.content() && self.inherent() == other.inherent()
     }
 }
 
@@ -35,13 +36,19 @@ impl StableHash for AttrObj {
     fn stable_hash(&self, _ctx: &Context, state: &mut FxHasher) {
         self.kind().hash(state);
         self.content().hash(state);
+        u8::from(self.inherent()).hash(state);
     }
 }
 
 /// The one attribute there is here.
+#[derive(Clone, Copy, Debug, PartialEq, Eq)]
 pub struct NumberAttr {
+    /// The bit by which it may be ignored.
     pub kind: u32,
+    /// Its content.
     pub content: u32,
+    /// It is never ignored.
+    pub inherent: bool,
 }
 
 impl Attribute for NumberAttr {
@@ -51,6 +58,10 @@ impl Attribute for NumberAttr {
 
     fn content(&self) -> u32 {
         self.content
+    }
+
+    fn inherent(&self) -> bool {
+        self.inherent
     }
 
     fn as_any(&self) -> &dyn Any {

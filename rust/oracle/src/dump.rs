@@ -14,7 +14,7 @@ use crate::{
 
 impl Oracle {
     /// The store, its lines parted by a vertical bar. Lists are parted by commas, attributes stand
-    /// by rising key as KEY:KIND:CONTENT, and PARENT is `-` for none:
+    /// by rising key as KEY:KIND:CONTENT with `:i` behind an inherent one, and PARENT is `-` for none:
     ///
     /// ```text
     /// op N KIND PARENT LOCATION r[REGIONS] v[RESULTS] u[OPERANDS] s[SUCCESSORS] a[ATTRIBUTES]
@@ -103,7 +103,10 @@ fn attributes(dict: &AttributeDict) -> String {
     let mut entries: Vec<_> = dict.0.iter().collect();
     entries.sort_by_key(|(key, _)| **key);
     let entries = entries.iter();
-    let entries = entries.map(|(key, attr)| format!("{}:{}:{}", key.0, attr.kind(), attr.content()));
+    let entries = entries.map(|(key, attr)| {
+        let flag = if attr.inherent() { ":i" } else { "" };
+        format!("{}:{}:{}{flag}", key.0, attr.kind(), attr.content())
+    });
     entries.collect::<Vec<_>>().join(",")
 }
 

@@ -4,8 +4,9 @@
 //! pliron's own text stands unchanged in `pliron/`. The rest of pliron, as far as that text names
 //! it, is stood in for by small modules of the same names, with the stand-ins of document 01:
 //! kinds, types, locations and keys are numbers and feed 4 bytes to a hash; an attribute is its
-//! kind and content; a store number stands where pliron hashes a `Value` or a `Ptr`; `FxHasher` is
-//! the published 64-bit FNV-1a; the ignore function reads 64 bits.
+//! kind and content, and whether it is inherent, which feeds 1 byte; a store number stands where
+//! pliron hashes a `Value` or a `Ptr`; `FxHasher` is the published 64-bit FNV-1a; the ignore
+//! function reads 64 bits, and never ignores an inherent attribute.
 //!
 //! The stand-ins work as pliron does where that costs time: hash maps are hashbrown's, attributes
 //! are boxed, and a value's type is searched for at its owner. FNV-1a is slower than rustc-hash's
@@ -57,5 +58,6 @@ mod value;
 mod linked_list;
 
 pub use answers::{Sort, Verdict};
+pub use attribute::NumberAttr;
 pub use mapping::Mapping;
 pub use oracle::{Counts, Lists, Oracle, Owner};

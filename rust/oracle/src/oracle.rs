@@ -85,9 +85,9 @@ impl Oracle {
     }
 
     /// Sets an attribute; a key already there is replaced.
-    pub fn set_attribute(&mut self, owner: Owner, key: u32, kind: u32, content: u32) {
+    pub fn set_attribute(&mut self, owner: Owner, key: u32, attr: NumberAttr) {
         let key = Identifier(key);
-        let attr = Box::new(NumberAttr { kind, content });
+        let attr = Box::new(attr);
         match owner {
             Owner::Op(number) => {
                 let op = Ptr::<Operation>::from_number(number);

@@ -2,7 +2,7 @@
 
 use core::hash::Hasher;
 
-use crate::{Counts, Lists, Mapping, Oracle, Owner, Sort, Verdict, utils::table::FxHasher};
+use crate::{Counts, Lists, Mapping, NumberAttr, Oracle, Owner, Sort, Verdict, utils::table::FxHasher};
 
 const NO_LISTS: Lists<'static> = Lists { result_types: &[], operands: &[], successors: &[] };
 
@@ -17,6 +17,10 @@ fn listing() -> Oracle {
         oracle.new_operation(8, Some(block), location, 0, lists);
     }
     oracle
+}
+
+fn plain(kind: u32, content: u32) -> NumberAttr {
+    NumberAttr { kind, content, inherent: false }
 }
 
 fn fnv(bytes: &[u8]) -> u64 {
@@ -122,23 +126,58 @@ fn attributes() {
     for order in [[1, 2], [2, 1]] {
         let op = oracle.new_operation(7, None, 5, 0, NO_LISTS);
         for key in order {
-            oracle.set_attribute(Owner::Op(op), key, 60 + key, 9);
+            oracle.set_attribute(Owner::Op(op), key, plain(60 + key, 9));
         }
     }
-    let compare = |oracle: &Oracle, bits| {
-        let verdict = oracle.compare(&mut Mapping::new(), Sort::Op, 0, 1, false, bits);
-        let hash = |number| oracle.hash(Sort::Op, number, false, bits);
-        assert_eq!(verdict == Verdict::Eq, hash(0) == hash(1));
-        verdict
-    };
-    assert_eq!(compare(&oracle, 0), Verdict::Eq);
-    oracle.set_attribute(Owner::Op(1), 2, 63, 9);
-    assert_eq!(compare(&oracle, 0), Verdict::FirstNEQOps(0, 1));
-    assert_eq!(compare(&oracle, 1 << 63), Verdict::FirstNEQOps(0, 1));
-    assert_eq!(compare(&oracle, 3 << 62), Verdict::Eq);
+    assert_eq!(compared(&oracle, Sort::Op, 0), Verdict::Eq);
+    oracle.set_attribute(Owner::Op(1), 2, plain(63, 9));
+    assert_eq!(compared(&oracle, Sort::Op, 0), Verdict::FirstNEQOps(0, 1));
+    assert_eq!(compared(&oracle, Sort::Op, 1 << 63), Verdict::FirstNEQOps(0, 1));
+    assert_eq!(compared(&oracle, Sort::Op, 3 << 62), Verdict::Eq);
     let lines = oracle.dump();
     assert!(lines.contains("a[1:61:9,2:62:9]|op 1 7 - 5 r[] v[] u[] s[] a[1:61:9,2:63:9]"));
     assert!(lines.ends_with("totals 0 0 4"));
+}
+
+/// Compares numbers 0 and 1; their hashes are equal exactly where they are.
+fn compared(oracle: &Oracle, sort: Sort, ignore_bits: u64) -> Verdict {
+    let verdict = oracle.compare(&mut Mapping::new(), sort, 0, 1, false, ignore_bits);
+    let hash = |number| oracle.hash(sort, number, false, ignore_bits);
+    assert_eq!(verdict == Verdict::Eq, hash(0) == hash(1));
+    verdict
+}
+
+/// An inherent attribute is never ignored, and is another than one that is not. Replaced by such a
+/// one it can be ignored again.
+#[test]
+fn inherent_attributes() {
+    let inherent = |content| NumberAttr { inherent: true, ..plain(5, content) };
+    let mut oracle = Oracle::new();
+    for _ in 0..2 {
+        oracle.new_operation(7, None, 5, 0, NO_LISTS);
+    }
+    oracle.set_attribute(Owner::Op(0), 1, inherent(10));
+    for right in [None, Some(plain(5, 10)), Some(inherent(11)), Some(inherent(10))] {
+        right.into_iter().for_each(|attr| oracle.set_attribute(Owner::Op(1), 1, attr));
+        let verdict = if right == Some(inherent(10)) { Verdict::Eq } else { Verdict::FirstNEQOps(0, 1) };
+        assert_eq!([0, 1 << 5, u64::MAX].map(|bits| compared(&oracle, Sort::Op, bits)), [verdict; 3], "{right:?}");
+    }
+    assert!(oracle.dump().starts_with("op 0 7 - 5 r[] v[] u[] s[] a[1:5:10:i]|op 1 7 - 5 r[] v[] u[] s[] a[1:5:10:i]|"));
+    oracle.set_attribute(Owner::Op(0), 1, plain(5, 10));
+    oracle.set_attribute(Owner::Op(1), 1, plain(5, 11));
+    assert_eq!(compared(&oracle, Sort::Op, 1 << 5), Verdict::Eq);
+}
+
+#[test]
+fn inherent_attributes_of_blocks() {
+    let mut oracle = Oracle::new();
+    oracle.new_operation(7, None, 5, 1, NO_LISTS);
+    for _ in 0..2 {
+        oracle.new_block(0, 0, 5, &[]);
+    }
+    oracle.set_attribute(Owner::Block(0), 1, NumberAttr { inherent: true, ..plain(5, 10) });
+    assert_eq!(compared(&oracle, Sort::Block, 1 << 5), Verdict::FirstNEQBlocks(0, 1));
+    assert!(oracle.dump().contains("block 0 0 5 v[] o[] a[1:5:10:i]|block 1 0 5 v[] o[] a[]"));
 }
 
 /// A comparison starts from the entries that it is lent.
@@ -172,7 +211,7 @@ fn fnv_vectors() {
     assert_eq!(fnv(b"foobar"), 0x85944171f73967e8);
 }
 
-/// Leaves feed 4 bytes, counts and walk numbers 8, tags 1, lowest byte first.
+/// Leaves feed 4 bytes, counts and walk numbers 8, tags and flags 1, lowest byte first.
 #[test]
 fn fed_bytes() {
     let mut oracle = Oracle::new();
@@ -181,18 +220,21 @@ fn fed_bytes() {
     let lists = Lists { result_types: &[0x01020304], operands: &[0, 0], successors: &[0] };
     oracle.new_operation(7, None, 5, 0, lists);
     oracle.set_operand(1, 1, 1);
-    oracle.set_attribute(Owner::Op(1), 10, 11, 12);
+    oracle.set_attribute(Owner::Op(1), 13, NumberAttr { inherent: true, ..plain(14, 15) });
+    oracle.set_attribute(Owner::Op(1), 10, plain(11, 12));
     let bytes = [
-        &[7, 0, 0, 0][..],            // kind
-        &[0; 8],                      // regions
-        &[5, 0, 0, 0],                // location
-        &[1, 0, 0, 0, 0, 0, 0, 0],    // attributes
-        &[10, 0, 0, 0],               // key
-        &[11, 0, 0, 0, 12, 0, 0, 0],  // attribute
-        &[4, 3, 2, 1],                // result type
-        &[1, 0, 0, 0, 0],             // an operand from outside, value 0
-        &[0, 0, 0, 0, 0, 0, 0, 0, 0], // an operand from inside, the first value
-        &[1, 0, 0, 0, 0],             // a successor from outside, block 0
+        &[7, 0, 0, 0][..],              // kind
+        &[0; 8],                        // regions
+        &[5, 0, 0, 0],                  // location
+        &[2, 0, 0, 0, 0, 0, 0, 0],      // attributes
+        &[10, 0, 0, 0],                 // key
+        &[11, 0, 0, 0, 12, 0, 0, 0, 0], // attribute
+        &[13, 0, 0, 0],                 // key
+        &[14, 0, 0, 0, 15, 0, 0, 0, 1], // inherent attribute
+        &[4, 3, 2, 1],                  // result type
+        &[1, 0, 0, 0, 0],               // an operand from outside, value 0
+        &[0, 0, 0, 0, 0, 0, 0, 0, 0],   // an operand from inside, the first value
+        &[1, 0, 0, 0, 0],               // a successor from outside, block 0
     ];
     assert_eq!(oracle.hash(Sort::Op, 1, false, 0), fnv(&bytes.concat()));
 }

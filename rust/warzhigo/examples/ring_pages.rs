@@ -1,4 +1,6 @@
-//! The ring pages of `examples/ring_pages`, by calls: the same form, the same questions and the same answers as its listing gives.
+//! The ring pages of `examples/ring_pages`, by calls: the same form and the same questions as in its listing. A listing's attributes are
+//! not inherent, so its last question ignores the length rules, and merges two pages that differ in them. Here the rules are inherent: the
+//! other answers are the same, and no ignore rule merges these two.
 //!
 //!     cargo run --offline --example ring_pages
 
@@ -12,12 +14,12 @@ const PRINTED: &str = include_str!("../../../examples/ring_pages/twins");
 fn main() -> Result<(), Refused> {
     let mut store = Store::new();
     let [new, seen_again, foreign] = form::ring_form(&mut store)?;
-    let without_lengths = Ignore::LOCATIONS.and_kind(form::LENGTH);
     let questions = [
         ("a new ring, a ring seen again; locations ignored", new, seen_again, Ignore::LOCATIONS),
         ("the same, and locations count", new, seen_again, Ignore::NOTHING),
         ("a new ring, a foreign ring; locations ignored", new, foreign, Ignore::LOCATIONS),
-        ("the same, and length rules ignored too: no rule to merge by", new, foreign, without_lengths),
+        ("the same, and attributes of the length rules' kind too", new, foreign, Ignore::LOCATIONS.and_kind(form::LENGTH)),
+        ("the same, and all else that can be ignored", new, foreign, Ignore { locations: true, bits: u64::MAX }),
     ];
     let mut mapping = Mapping::new();
     let mut answers = Vec::new();
@@ -29,6 +31,9 @@ fn main() -> Result<(), Refused> {
         mapping.clear();
     }
     assert_eq!(twins(LISTING), PRINTED.as_bytes());
-    assert!(PRINTED.lines().zip(&answers).all(|(line, answer)| line == answer));
+    let printed: Vec<&str> = PRINTED.lines().collect();
+    assert_eq!(answers[..3], printed[..3]);
+    assert_eq!(printed[3], "eq,-,-,4");
+    assert_eq!(answers[3..], ["op,3,9,3"; 2]);
     Ok(())
 }

@@ -43,6 +43,9 @@ pub(crate) const REPLACED: usize = 1;
 pub(crate) const SLOTS: usize = 8;
 pub(crate) const BLOCK_SLOTS: usize = 512 * SLOTS;
 
+/// What the word of `SlotKind` is more than the kind where the attribute is inherent. No kind is over 63.
+pub(crate) const INHERENT: u32 = 64;
+
 const COLUMNS: usize = 43;
 
 #[rustfmt::skip] // as the enum above; behind it the journal's entries, which the library alone reads

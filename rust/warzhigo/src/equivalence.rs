@@ -14,7 +14,7 @@ use crate::store::Store;
 pub struct Ignore {
     /// Are locations ignored?
     pub locations: bool,
-    /// An attribute is ignored when the bit of its kind is set; bit 0 is the lowest.
+    /// An attribute is ignored when the bit of its kind is set, unless it is [inherent](crate::Inherent); bit 0 is the lowest.
     pub bits: u64,
 }
 
@@ -25,7 +25,7 @@ impl Ignore {
     /// Locations are ignored, and everything else counts.
     pub const LOCATIONS: Ignore = Ignore { locations: true, bits: 0 };
 
-    /// The same, and attributes of this kind are ignored too. There is no kind over 63, and so nothing more to ignore.
+    /// The same, and attributes of this kind are ignored too, but for inherent ones. There is no kind over 63, so nothing more to ignore.
     #[must_use]
     pub fn and_kind(self, kind: u32) -> Ignore {
         Ignore { bits: self.bits | 1u64.checked_shl(kind).unwrap_or(0), ..self }

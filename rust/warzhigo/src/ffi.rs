@@ -2,11 +2,13 @@
 //! crate: [`lent`] has those that anything may be lent to, [`known`] those that ask for a sound store, an index of a list of types and an
 //! allowed mapping, whose words are in [`allowed`].
 //!
-//! A slice crosses as its pointer and its length, an answer as a struct of numbers.
+//! A slice crosses as its pointer and its length, an answer as a struct of numbers, and [`Inherent`] as its number.
 
 pub(crate) mod allowed;
 pub(crate) mod known;
 pub(crate) mod lent;
+
+use crate::store::Inherent;
 
 /// What a comparison answers. Code 0 is equal, 1 names operations, 2 blocks, 3 regions; 4 is a refusal, and its cause is `left`.
 #[repr(C)]
@@ -97,8 +99,8 @@ unsafe extern "C" {
         operands: *const u32, operand_count: usize, successors: *const u32, successor_count: usize) -> Outcome;
     fn wz_new_block(store: *mut u32, words: usize, region: u32, label: u32, location: u32, types: *const u32, type_count: usize) -> Outcome;
     fn wz_known_new_block(store: *mut u32, words: usize, region: u32, label: u32, location: u32, types: *const u32, type_count: usize) -> Outcome;
-    fn wz_set_attribute(store: *mut u32, words: usize, blocks: bool, n: u32, key: u32, kind: u32, content: u32) -> Outcome;
-    fn wz_known_set_attribute(store: *mut u32, words: usize, blocks: bool, n: u32, key: u32, kind: u32, content: u32) -> Outcome;
+    fn wz_set_attribute(store: *mut u32, words: usize, blocks: bool, n: u32, key: u32, kind: u32, content: u32, inherent: Inherent) -> Outcome;
+    fn wz_known_set_attribute(store: *mut u32, words: usize, blocks: bool, n: u32, key: u32, kind: u32, content: u32, inherent: Inherent) -> Outcome;
     fn wz_set_operand(store: *mut u32, words: usize, n: u32, i: u32, v: u32) -> Outcome;
     fn wz_known_set_operand(store: *mut u32, words: usize, n: u32, i: u32, v: u32) -> Outcome;
     fn wz_set_mark(store: *mut u32, words: usize, mark: u32) -> Outcome;

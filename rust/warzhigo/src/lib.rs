@@ -19,7 +19,8 @@
 //!
 //! - [`Store`] holds the IR: the four building calls make it, and views such as [`Operation`] read it.
 //! - [`operation_eq`], [`basic_block_eq`] and [`region_eq`] compare, [`operation_hash`], [`basic_block_hash`] and [`region_hash`] hash; names
-//!   and parameters are those of pliron's `irbuild::equivalence`. [`Ignore`] says what doesn't count, [`Mapping`] what corresponds.
+//!   and parameters are those of pliron's `irbuild::equivalence`. [`Ignore`] says what doesn't count, [`Inherent`] which attributes always
+//!   do, [`Mapping`] what corresponds.
 //! - [`Renamed`] is a list of types that have been renamed: calls that are asked under one compare, hash and file by present types.
 //! - [`operation_key`], [`basic_block_key`] and [`region_key`] give the bytes by which a fragment is filed, and [`compare_keys`] their order.
 //! - [`Store::repeated_run`] finds two equal runs of operations in one block.
@@ -67,7 +68,7 @@ pub use reading::{Block, Operation, Region, Totals, Value};
 pub use refused::Refused;
 pub use renamed::{Options, Renamed};
 pub use runs::Run;
-pub use store::{Attribute, NewOperation, Owner, Store};
+pub use store::{Attribute, Inherent, NewOperation, Owner, Store};
 
 /// The code in README.md.
 #[cfg(doctest)]

@@ -45,15 +45,16 @@ impl Store {
     /// is not set.
     ///
     /// ```
-    /// use warzhigo::{Attribute, MarkId, NewOperation, Store};
+    /// use warzhigo::{Attribute, Inherent, MarkId, NewOperation, Store};
     ///
     /// let mut store = Store::new();
     /// let title = store.new_operation(&NewOperation::default())?;
-    /// store.set_attribute(title, Attribute { key: 1, kind: 0, content: 20 })?;
+    /// let size = Attribute { key: 1, kind: 0, content: 20, inherent: Inherent::Yes };
+    /// store.set_attribute(title, size)?;
     /// store.mark(MarkId(1))?;
-    /// store.set_attribute(title, Attribute { key: 1, kind: 0, content: 24 })?;
+    /// store.set_attribute(title, Attribute { content: 24, inherent: Inherent::No, ..size })?;
     /// store.go_back(MarkId(1))?;
-    /// assert_eq!(store.operation(title)?.attributes().next().unwrap().content, 20);
+    /// assert_eq!(store.operation(title)?.attributes().next(), Some(size));
     /// assert_eq!(store.go_back(MarkId(2)).unwrap_err().number(), 16);
     /// # Ok::<(), warzhigo::Refused>(())
     /// ```
@@ -85,12 +86,12 @@ impl Store {
     /// nothing is remembered, and nothing refused.
     ///
     /// ```
-    /// use warzhigo::{Attribute, MarkId, NewOperation, Store};
+    /// use warzhigo::{Attribute, Inherent, MarkId, NewOperation, Store};
     ///
     /// let mut store = Store::new();
     /// let op = store.new_operation(&NewOperation::default())?;
     /// store.mark(MarkId(1))?;
-    /// let attribute = Attribute { key: 1, kind: 0, content: 7 };
+    /// let attribute = Attribute { key: 1, kind: 0, content: 7, inherent: Inherent::No };
     /// store.set_attribute(op, attribute)?;
     /// assert_eq!(store.remembered(), 0, "a new key replaces nothing");
     /// for _ in 0..1024 {

@@ -1,11 +1,11 @@
 //! What a store holds, read without its words: totals, ids by number, and a view of each operation, block, region and value.
 
 use crate::columns::Column::*;
-use crate::columns::{self, BLOCK_SLOTS, Column, Count, SLOTS, at, part};
+use crate::columns::{self, BLOCK_SLOTS, Column, Count, INHERENT, SLOTS, at, part};
 use crate::eras::Eras;
 use crate::ids::{BlockId, Id, OpId, RegionId, ValueId};
 use crate::refused::Refused;
-use crate::store::{Attribute, Owner, Store};
+use crate::store::{Attribute, Inherent, Owner, Store};
 
 /// How many there are of each thing in a store.
 #[derive(Clone, Copy, PartialEq, Eq, Debug)]
@@ -163,11 +163,14 @@ impl Store {
 
     /// The attributes in so many slots.
     fn attributes(&self, slot: usize, count: u32) -> impl ExactSizeIterator<Item = Attribute> + Clone + '_ {
-        (slot..slot + count as usize).map(|slot| Attribute {
-            key: self.at(SlotKey, slot),
-            kind: self.at(SlotKind, slot),
-            content: self.at(SlotContent, slot),
-        })
+        (slot..slot + count as usize).map(|slot| self.attribute(slot))
+    }
+
+    /// The attribute in a slot: its kind, and whether it is inherent, share a word.
+    fn attribute(&self, slot: usize) -> Attribute {
+        let word = self.at(SlotKind, slot);
+        let inherent = if word < INHERENT { Inherent::No } else { Inherent::Yes };
+        Attribute { key: self.at(SlotKey, slot), kind: word % INHERENT, content: self.at(SlotContent, slot), inherent }
     }
 }
 

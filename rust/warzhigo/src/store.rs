@@ -20,7 +20,7 @@ use crate::refused::Refused;
 /// A clone is a store of its own, with the same marks: ids of the one name nothing in the other, even where both have the number.
 ///
 /// ```
-/// use warzhigo::{Attribute, NewOperation, Store};
+/// use warzhigo::{Attribute, Inherent, NewOperation, Store};
 ///
 /// let mut store = Store::new();
 /// let form = store.new_operation(&NewOperation { kind: 7, location: 5, regions: 1, ..Default::default() })?;
@@ -28,8 +28,9 @@ use crate::refused::Refused;
 /// let page = store.new_block(region, 0, 5, &[3])?;
 /// let typed = store.block(page)?.arguments().next().unwrap();
 /// let check = store.new_operation(&NewOperation { kind: 8, parent: Some(page), operands: &[typed], ..Default::default() })?;
-/// store.set_attribute(check, Attribute { key: 2, kind: 63, content: 9 })?;
-/// assert_eq!(store.operation(check)?.attributes().next(), Some(Attribute { key: 2, kind: 63, content: 9 }));
+/// let length = Attribute { key: 2, kind: 63, content: 9, inherent: Inherent::Yes };
+/// store.set_attribute(check, length)?;
+/// assert_eq!(store.operation(check)?.attributes().next(), Some(length));
 /// # Ok::<(), warzhigo::Refused>(())
 /// ```
 pub struct Store {
@@ -61,15 +62,43 @@ impl<Block, Value> Default for NewOperation<'_, Block, Value> {
     }
 }
 
-/// An attribute: a key with its kind and content. Keys of one owner differ.
+/// An attribute: a key with its kind, its content, and whether it is inherent. Keys of one owner differ.
 #[derive(Clone, Copy, PartialEq, Eq, Debug)]
 pub struct Attribute {
     /// Its key.
     pub key: u32,
-    /// Its kind, 0 to 63: the bit by which it may be ignored.
+    /// Its kind, 0 to 63: the bit by which it may be ignored, unless it is inherent.
     pub kind: u32,
     /// Its content.
     pub content: u32,
+    /// Whether it is inherent.
+    pub inherent: Inherent,
+}
+
+/// Whether an attribute is inherent: one that is inherent is never ignored. Attributes that differ in this alone are unequal.
+///
+/// ```
+/// use warzhigo::{Attribute, Ignore, Inherent, Mapping, NewOperation, Store, operation_eq};
+///
+/// let mut store = Store::new();
+/// let [l, r] = [store.new_operation(&NewOperation::default())?, store.new_operation(&NewOperation::default())?];
+/// let ignore = Ignore::NOTHING.and_kind(63);
+/// for (inherent, equal) in [(Inherent::No, true), (Inherent::Yes, false)] {
+///     for (op, content) in [(l, 9), (r, 8)] {
+///         store.set_attribute(op, Attribute { key: 2, kind: 63, content, inherent })?;
+///     }
+///     assert_eq!(operation_eq(&store, &mut Mapping::new(), l, r, &ignore)?.is_eq(), equal);
+/// }
+/// # Ok::<(), warzhigo::Refused>(())
+/// ```
+#[repr(u32)]
+#[derive(Clone, Copy, PartialEq, Eq, Hash, Default, Debug)]
+pub enum Inherent {
+    /// It is ignored where its kind is.
+    #[default]
+    No = 0,
+    /// It always counts.
+    Yes = 1,
 }
 
 /// What has attributes and values: an operation or a block. They are ids, or plain numbers in [`lent`](crate::lent).
@@ -178,8 +207,8 @@ impl Store {
         outcome.accepted().map(|n| BlockId::existing(n, self.eras().newest()))
     }
 
-    /// Sets an attribute of an operation or a block; a key that is there is replaced. Refused by 6, 2, 4 or 3, or by 17 where a replacement
-    /// can't be [remembered](Store::remembered).
+    /// Sets an attribute of an operation or a block; a key that is there is replaced, with all that stands under it. Refused by 6, 2, 4 or
+    /// 3, or by 17 where a replacement can't be [remembered](Store::remembered).
     #[inline]
     pub fn set_attribute(&mut self, owner: impl Into<Owner>, attribute: Attribute) -> Result<(), Refused> {
         let store = self.eras();

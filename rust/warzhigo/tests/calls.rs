@@ -45,6 +45,15 @@ fn building_calls_answer_numbers_or_ok() {
     assert_eq!(answers(TWO), MADE);
     let more = "a,o,1,4,63,9\na,b,1,4,0,1\ns,1,0,3\na,o,1,4,64,9\ns,1,1,0\ns,9,0,0\no,1,9,0,0,0,0,0\nb,2,0,0,0\n";
     assert_eq!(answers(&format!("{TWO}{more}")), format!("{MADE}ok\nok\nok\nrefused,6\nrefused,7\nrefused,2\nrefused,2\nrefused,2\n"));
+    let inherent = "i,o,1,4,63,9\ni,b,1,4,0,1\ni,o,1,4,64,9\ni,o,4,4,63,9\ni,b,2,4,63,9\n";
+    assert_eq!(answers(&format!("{TWO}{inherent}")), format!("{MADE}ok\nok\nrefused,6\nrefused,2\nrefused,2\n"));
+}
+
+#[test]
+fn inherent_attributes_count_though_their_kind_is_ignored() {
+    // kind 5 is ignored: inherent on the left alone, then plain on the right, the same on both sides, and plain on both with other contents
+    let lines = "i,o,1,4,5,9\nQ\na,o,3,4,5,9\nQ\ni,o,3,4,5,9\nQ\na,o,1,4,5,9\na,o,3,4,5,8\nQ\n".replace('Q', "q,o,0,2,1,32");
+    assert_eq!(answers(&format!("{TWO}{lines}")), format!("{MADE}ok\nop,1,3,2\nok\nop,1,3,2\nok\neq,-,-,3\nok\nok\neq,-,-,3\n"));
 }
 
 #[test]
@@ -99,6 +108,13 @@ fn keys_in_lent_bytes() {
     // without the location, and with an attribute whose kind is ignored or not
     let ignored = format!("0\nok\nkey,52,{}{}\nrefused,13\n", &key[..24], &key[32..]);
     assert_eq!(answers(&format!("{operation}a,o,0,9,2,3\nK,o,0,1,4,52\nK,o,0,1,3,52\n")), ignored);
+    // a counted attribute has 13 bytes: key 9, kind 2, content 3, and whether it is inherent
+    for (line, counted, flag) in [("a", 3, "00"), ("i", 3, "01"), ("i", 4, "01")] {
+        let attribute = format!("0100000000000000090000000200000003000000{flag}");
+        let expected = format!("0\nok\nkey,65,{}{attribute}{}\nrefused,13\n", &key[..24], &key[48..]);
+        let lines = format!("{line},o,0,9,2,3\nK,o,0,1,{counted},65\nK,o,0,1,{counted},64\n");
+        assert_eq!(answers(&format!("{operation}{lines}")), expected, "{lines}");
+    }
 }
 
 #[test]
@@ -115,10 +131,10 @@ fn bytes_compared_as_keys() {
 
 #[test]
 fn the_store_as_text() {
-    let lines = format!("{TWO}a,o,1,9,3,4\na,o,1,2,63,5\na,b,1,0,1,1\no,1,1,2,0,0,0,2,1,0\nS\nD\n");
-    let store = "op 0 7 - 5 r[0] v[] u[] s[] a[]|op 1 8 0 5 r[] v[1] u[0] s[] a[2:63:5,9:3:4]|op 2 7 - 6 r[1] v[] u[] s[] a[]\
+    let lines = format!("{TWO}a,o,1,9,3,4\ni,o,1,2,63,5\ni,b,1,0,1,1\no,1,1,2,0,0,0,2,1,0\nS\nD\n");
+    let store = "op 0 7 - 5 r[0] v[] u[] s[] a[]|op 1 8 0 5 r[] v[1] u[0] s[] a[2:63:5:i,9:3:4]|op 2 7 - 6 r[1] v[] u[] s[] a[]\
         |op 3 8 1 6 r[] v[3] u[2] s[] a[]|op 4 1 1 2 r[] v[] u[] s[1,0] a[]\
-        |block 0 0 5 v[0] o[1] a[]|block 1 1 6 v[2] o[3,4] a[0:1:1]|region 0 0 b[0]|region 1 2 b[1]\
+        |block 0 0 5 v[0] o[1] a[]|block 1 1 6 v[2] o[3,4] a[0:1:1:i]|region 0 0 b[0]|region 1 2 b[1]\
         |value 0 3 b0.0|value 1 3 o1.0|value 2 3 b1.0|value 3 3 o3.0|totals 2 2 3|marks [] remembered 0";
     assert_eq!(answers(&lines), format!("{MADE}ok\nok\nok\n4\nsound\n{store}\n"));
     assert_eq!(answers("D\nS\n"), "totals 0 0 0|marks [] remembered 0\nsound\n");
@@ -135,7 +151,7 @@ fn marks_are_set_and_gone_back_to() {
     let lines = "M,1\nM,2\nM,1\nG,2\nG,1\nM,0\nM,9\nG,4294967295\nG,2\n";
     assert_eq!(answers(lines), "ok\nok\nok\nok\nrefused,16\nrefused,16\nrefused,16\nrefused,16\nok\n");
     marks("M,1\nM,2\nM,1\ns,1,0,3\na,o,1,4,1,9\na,o,1,4,1,9\ns,1,0,3\n", "totals 2 0 1|marks [2,1] remembered 3");
-    marks("M,1\nM,2\nM,1\ns,1,0,3\na,o,1,4,1,9\nG,1\n", "totals 2 0 0|marks [2,1] remembered 0");
+    marks("M,1\nM,2\nM,1\ns,1,0,3\ni,o,1,4,1,9\nG,1\n", "totals 2 0 0|marks [2,1] remembered 0");
     marks("M,8\no,1,-,0,1,1,7,1,0,1,0\nM,3\nb,2,0,0,0\nG,8\n", "value 3 3 o3.0|totals 2 0 0|marks [8] remembered 0");
     let again = "M,1\no,1,-,0,0,0,0,0\nG,1\nq,o,4,4,0,0\no,2,-,0,0,0,0,0\nE,o,4,4\nG,1\nq,o,0,0,0,0\n";
     assert_eq!(answers(&format!("{TWO}{again}")), format!("{MADE}ok\n4\nok\nrefused,2\n4\nok\nrefused,8\n"));
@@ -157,13 +173,13 @@ fn empty_lines_are_passed_over() {
 
 /// Lines that `calls` doesn't take.
 #[rustfmt::skip]
-const NOT_OF_THE_FORM: [&str; 52] = [
+const NOT_OF_THE_FORM: [&str; 57] = [
     "x", "o", "O,7,-,5,1,0,0,0", "o,7,-,5,1,0,0", "o,7,-,5,1,0,0,0,0", "o,7,-,5,1,2,3,0,0", "o,-,-,5,1,0,0,0", "o,+7,-,5,1,0,0,0",
     "o,07,-,5,1,0,0,0", "o,4294967296,-,5,1,0,0,0", "o, 7,-,5,1,0,0,0", "o,,-,5,1,0,0,0", "b,0,0,5", "b,0,-,5,0", "a,r,0,1,1,1",
-    "a,o,0,1,1", "s,0,0", "q,x,0,0,0,0", "q,o,0,0,2,0", "q,o,0,0,0", "q,o,0,0,0,18446744073709551616", "q,o,0,0,0,0,", "E,r,0,0", "E,v,0",
-    "P,1", "H,o,0,0", "D,0", "S,0", "S\r", " S", "o,7,-,5,1,0,0,0 ", "o,7,-,5,1,4294967295,0,0", "K,o,0,0,0", "K,v,0,0,0,9", "K,o,0,0,0,-",
-    "K,o,0,0,0,4294967296", "C,o,0,0,0", "C,o,0,0,2,0", "B,00", "B,0,00", "B,00,000", "B,0g,00", "B,00,00,00", "B,+1,00",
-    "M", "M,", "M,-", "M,01", "M,1,1", "G", "G,1,1", "m,1",
+    "a,o,0,1,1", "a,o,0,1,1,1,i", "i", "i,r,0,1,1,1", "i,o,0,1,1", "i,o,0,1,1,1,1", "s,0,0", "q,x,0,0,0,0", "q,o,0,0,2,0", "q,o,0,0,0",
+    "q,o,0,0,0,18446744073709551616", "q,o,0,0,0,0,", "E,r,0,0", "E,v,0", "P,1", "H,o,0,0", "D,0", "S,0", "S\r", " S", "o,7,-,5,1,0,0,0 ",
+    "o,7,-,5,1,4294967295,0,0", "K,o,0,0,0", "K,v,0,0,0,9", "K,o,0,0,0,-", "K,o,0,0,0,4294967296", "C,o,0,0,0", "C,o,0,0,2,0", "B,00",
+    "B,0,00", "B,00,000", "B,0g,00", "B,00,00,00", "B,+1,00", "M", "M,", "M,-", "M,01", "M,1,1", "G", "G,1,1", "m,1",
 ];
 
 #[test]

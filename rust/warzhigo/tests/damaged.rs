@@ -4,15 +4,15 @@
 mod common;
 
 use common::bytes_model;
-use common::call::apply;
-use common::layout::{OPERAND_END, OPERAND_FIRST, SUCCESSOR_END, SUCCESSOR_FIRST, dead_word, live_pair};
+use common::call::{Call, New, apply};
+use common::layout::{OPERAND_END, OPERAND_FIRST, SLOT_KIND, SUCCESSOR_END, SUCCESSOR_FIRST, dead_word, live_pair};
 use common::numbers::Random;
 use common::offered::{SORTS, all_refuse, building_calls, comparison_refused};
 use common::picture::Picture;
 use common::plan::Plan;
 use common::question::{ENTRIES, NONE, Question, Sort, hash_inner, hash_lent, ignore_rule, key_is, no_entries};
 use common::walk::{Entries, Longer, compared};
-use warzhigo::{Mapping, Refused, Store, lent};
+use warzhigo::{Inherent, Mapping, Refused, Store, lent};
 
 const STORES: u64 = 120;
 const DAMAGES: u32 = 40;
@@ -41,7 +41,8 @@ fn damage(random: &mut Random, words: &mut Vec<u32>) {
             0 => words[at] = words[at].wrapping_add(1),
             1 => words[at] = words[at].wrapping_sub(1),
             2 => words[at] ^= 1 << random.below(32),
-            3 | 4 => words[at] = random.below(64),
+            3 => words[at] = random.below(64),
+            4 => words[at] ^= 1 << random.below(9),
             5 => words[at] = random.word(),
             6 | 7 => words[at] = words[other],
             8..12 => words.swap(at, other),
@@ -93,6 +94,35 @@ fn damaged_stores() {
     println!("{sound} sound, {changed} of them another store than before, {unsound} unsound");
     let all = STORES as u32 * DAMAGES;
     assert!(sound > all / 10 && changed > all / 20 && unsound > all / 10);
+}
+
+/// The word of an attribute's kind is 64 more where the attribute is inherent. Below 128 it is sound, and read so.
+#[test]
+fn kinds_and_flags() {
+    let mut store = Store::new();
+    let form = Call::Operation(New { regions: 1, ..New::default() });
+    let block = Call::Block { region: 0, label: 0, location: 0, argument_types: vec![] };
+    for call in [form, block].iter().chain(&building_calls()[2..4]) {
+        assert!(apply(&mut store, call, "a store made by hand").is_ok(), "{call:?}");
+    }
+    for at in SLOT_KIND {
+        let damaged = |word| {
+            let mut words = store.words().to_vec();
+            words[at] = word;
+            words
+        };
+        for word in 0..128 {
+            let context = format!("word {at} is {word}");
+            let now = picture(&damaged(word), &context);
+            let attribute = if at == SLOT_KIND[0] { now.ops[0].attributes[0] } else { now.blocks[0].attributes[0] };
+            let inherent = if word < 64 { Inherent::No } else { Inherent::Yes };
+            assert_eq!((attribute.kind, attribute.inherent), (word % 64, inherent), "{context}");
+            runs(&mut Random::new(word as u64), Store::from_words(damaged(word)).expect(&context), &context);
+        }
+        for word in [128, 129, 191, 192, 255, 256, 1 << 31, u32::MAX - 64, u32::MAX] {
+            all_refuse(&damaged(word), &no_entries(), &format!("word {at} is {word}"));
+        }
+    }
 }
 
 /// Words behind the counts are without effect.

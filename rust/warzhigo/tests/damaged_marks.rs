@@ -4,7 +4,7 @@
 
 mod common;
 
-use common::call::Call;
+use common::call::{Call, New};
 use common::journal::{JOURNAL, JOURNAL_COUNTS, MARK_COUNTS, MARK_NUMBER, MARK_PLACE, MARKS, read};
 use common::marked::{Marked, Step};
 use common::numbers::Random;
@@ -12,7 +12,8 @@ use common::offered::{all_refuse, building_calls};
 use common::picture::Picture;
 use common::plan::Plan;
 use common::question::no_entries;
-use warzhigo::{Refused, Store, lent};
+use warzhigo::lent::Owner;
+use warzhigo::{Attribute, Inherent, Refused, Store, lent};
 
 const STORES: u64 = 120;
 const DAMAGES: u32 = 60;
@@ -57,11 +58,12 @@ fn place(random: &mut Random, words: &[u32]) -> [usize; 2] {
 
 /// Another word than the one that stands there.
 fn damaged(random: &mut Random, words: &[u32], [at, other]: [usize; 2]) -> u32 {
-    let word = match random.below(8) {
+    let word = match random.below(9) {
         0 | 1 => words[at].wrapping_add(1),
         2 | 3 => words[at].wrapping_sub(1),
         4 => random.below(10),
         5 => random.word(),
+        6 => words[at] ^ 1 << random.below(9),
         _ => words[other],
     };
     if word == words[at] { word ^ 1 } else { word }
@@ -161,5 +163,33 @@ fn each_word_once() {
         let mut words = store.words().to_vec();
         words[at] = u32::MAX;
         answers_as(&words, &model, &format!("word {at}, which is not read"));
+    }
+}
+
+/// The journal's word of a replaced attribute's kind is 64 more where that was inherent. Below 128 it is sound, and gone back to so.
+#[test]
+fn kinds_and_flags_in_the_journal() {
+    let (mut store, mut model) = (Store::new(), Marked::default());
+    let set = |inherent| Call::Attribute(Owner::Op(0), Attribute { key: 1, kind: 5, content: 9, inherent });
+    let before = [Call::Operation(New::default()), set(Inherent::Yes)].map(Step::Build);
+    for step in before.into_iter().chain([Step::Mark(1), Step::Build(set(Inherent::No))]) {
+        assert_eq!(step.apply(&mut store, "a store made by hand"), model.apply(&step), "{step:?}");
+    }
+    assert_eq!(store.words()[JOURNAL[3]], 64 + 5);
+    let damaged = |word| {
+        let mut words = store.words().to_vec();
+        words[JOURNAL[3]] = word;
+        words
+    };
+    for word in 0..128 {
+        let context = format!("the kind is {word}");
+        let now = read(&damaged(word), &model.picture).expect(&context);
+        let inherent = if word < 64 { Inherent::No } else { Inherent::Yes };
+        assert_eq!(now.marks[0].copy.ops[0].attributes, [Attribute { key: 1, kind: word % 64, content: 9, inherent }], "{context}");
+        answers_as(&damaged(word), &now, &context);
+    }
+    for word in [128, 129, 191, 192, 255, 256, 1 << 31, u32::MAX - 64, u32::MAX] {
+        assert!(read(&damaged(word), &model.picture).is_none(), "the kind is {word}");
+        all_refuse(&damaged(word), &no_entries(), &format!("the kind is {word}"));
     }
 }

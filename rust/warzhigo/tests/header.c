@@ -1,5 +1,5 @@
-/* The header from C: two operations built, compared, hashed and filed, types renamed, a mark gone back to, and a listing's question
- * answered. Gives the number of the first thing that isn't as it should be, or 0. */
+/* The header from C: two operations built, compared, hashed and filed, types renamed, a mark gone back to, attributes set, and a listing's
+ * question answered. Gives the number of the first thing that isn't as it should be, or 0. */
 #include "warzhigo.h"
 
 #include <stdlib.h>
@@ -65,13 +65,25 @@ int main(void) {
     wz_outcome marked = wz_set_mark(keyed, wz_store_words(), 1), moved = wz_known_set_mark(keyed, wz_store_words(), 1);
     if (marked.code != 1 || moved.code != 1) return 20;
     wz_outcome since = wz_known_new_operation(keyed, wz_store_words(), 9, false, 0, 1, 0, NULL, 0, NULL, 0, NULL, 0);
-    wz_outcome key_set = wz_set_attribute(keyed, wz_store_words(), false, 0, 1, 1, 1);
+    wz_outcome key_set = wz_set_attribute(keyed, wz_store_words(), false, 0, 1, 1, 1, WZ_INHERENT_NO);
     if (since.number != 2 || key_set.code != 1 || wz_known_go_back(keyed, wz_store_words(), 1).code != 1) return 21;
     if (wz_operation_hash(keyed, wz_store_words(), NULL, 0, 2, true, 0).cause != 2) return 22;
     if (wz_operation_hash(keyed, wz_store_words(), NULL, 0, 0, true, 0).word != left.word) return 23;
     wz_outcome unset = wz_go_back(keyed, wz_store_words(), 2), unnumbered = wz_set_mark(keyed, wz_store_words(), 9);
     if (unset.code != 2 || unset.number != 16 || unnumbered.code != 2 || unnumbered.number != 16) return 24;
     if (wz_go_back(keyed, 1, 1).number != 1 || !wz_is_sound(keyed, wz_store_words())) return 25;
+
+    memset(mapping, 0xff, wz_mapping_words() * sizeof *mapping);
+    wz_outcome plain = wz_set_attribute(keyed, wz_store_words(), false, 0, 1, 5, 9, WZ_INHERENT_NO);
+    wz_verdict ignored = wz_operation_eq(keyed, wz_store_words(), NULL, 0, mapping, wz_mapping_words(), 0, 1, true, 1 << 5);
+    if (sizeof(wz_inherent) != sizeof(uint32_t) || plain.code != 1 || ignored.code != 0) return 26;
+    wz_outcome inherent = wz_known_set_attribute(keyed, wz_store_words(), false, 0, 1, 5, 9, WZ_INHERENT_YES);
+    wz_verdict counted = wz_operation_eq(keyed, wz_store_words(), NULL, 0, mapping, wz_mapping_words(), 0, 1, true, UINT64_MAX);
+    if (inherent.code != 1 || counted.code != 1) return 27;
+    wz_outcome twin = wz_set_attribute(keyed, wz_store_words(), false, 1, 1, 5, 9, (wz_inherent)7);
+    wz_verdict same = wz_operation_eq(keyed, wz_store_words(), NULL, 0, mapping, wz_mapping_words(), 0, 1, true, UINT64_MAX);
+    if (twin.code != 1 || same.code != 0) return 28;
+    if (wz_set_attribute(keyed, wz_store_words(), false, 0, 1, 64, 9, WZ_INHERENT_YES).number != 6) return 29;
 
     free(index);
     free(keyed);

@@ -12,7 +12,7 @@ use common::picture::Picture;
 use common::question::{Question, Sort, key_inner, key_is};
 use oracle::Verdict;
 use warzhigo::lent::{self, Owner};
-use warzhigo::{Attribute, Ignore, Mapping, Store, compare_keys, operation_hash, operation_key};
+use warzhigo::{Attribute, Ignore, Inherent, Mapping, Store, compare_keys, operation_hash, operation_key};
 
 const BY_HAND: &str = "a store made by hand";
 
@@ -29,8 +29,8 @@ fn block(region: u32, location: u32, argument_types: &[u32]) -> Call {
     Call::Block { region, label: 0, location, argument_types: argument_types.to_vec() }
 }
 
-fn attribute(owner: Owner, key: u32, kind: u32, content: u32) -> Call {
-    Call::Attribute(owner, Attribute { key, kind, content })
+fn attribute(owner: Owner, key: u32, kind: u32, content: u32, inherent: Inherent) -> Call {
+    Call::Attribute(owner, Attribute { key, kind, content, inherent })
 }
 
 fn key(store: &Store, sort: Sort, n: u32, ignore: &Ignore) -> Vec<u8> {
@@ -41,6 +41,7 @@ fn key(store: &Store, sort: Sort, n: u32, ignore: &Ignore) -> Vec<u8> {
 enum Part {
     Leaf(u32),
     Count(u64),
+    Flag(u8),
     Inside(u64),
     Outside(u32),
 }
@@ -51,6 +52,7 @@ fn bytes(parts: &[Part]) -> Vec<u8> {
     let part = |part: &Part| match part {
         Leaf(n) => n.to_le_bytes().to_vec(),
         Count(n) => n.to_le_bytes().to_vec(),
+        Flag(n) => vec![*n],
         Inside(n) => [&[0], n.to_le_bytes().as_slice()].concat(),
         Outside(n) => [&[1], n.to_le_bytes().as_slice()].concat(),
     };
@@ -80,9 +82,10 @@ fn form() -> Store {
         block(1, 9, &[]),
         Call::Operation(New { kind: 256, parent: Some(1), operands: vec![3, 3], ..New::default() }),
         Call::Operation(New { kind: 9, parent: Some(2), successors: vec![2, 0], ..New::default() }),
-        attribute(Owner::Op(2), 11, 63, 12),
-        attribute(Owner::Op(2), 10, 1, u32::MAX),
-        attribute(Owner::Block(1), 1, 0, 0),
+        attribute(Owner::Op(2), 12, 63, 13, Inherent::Yes),
+        attribute(Owner::Op(2), 11, 63, 12, Inherent::No),
+        attribute(Owner::Op(2), 10, 1, u32::MAX, Inherent::No),
+        attribute(Owner::Block(1), 1, 0, 0, Inherent::No),
         Call::Operand { op: 2, index: 1, value: 3 },
     ])
 }
@@ -93,9 +96,11 @@ fn a_key_byte_by_byte() {
     let region = [
         Count(2),
         Leaf(3), Count(0), Count(2), Leaf(3), Leaf(4),
-        Leaf(0x01020304), Count(1), Leaf(1), Leaf(0), Leaf(0), Count(0),
+        Leaf(0x01020304), Count(1), Leaf(1), Leaf(0), Leaf(0), Flag(0), Count(0),
         Count(1),
-        Leaf(8), Count(1), Leaf(4), Count(2), Leaf(10), Leaf(1), Leaf(u32::MAX), Leaf(11), Leaf(63), Leaf(12), Count(1), Leaf(6),
+        Leaf(8), Count(1), Leaf(4), Count(3),
+        Leaf(10), Leaf(1), Leaf(u32::MAX), Flag(0), Leaf(11), Leaf(63), Leaf(12), Flag(0), Leaf(12), Leaf(63), Leaf(13), Flag(1),
+        Count(1), Leaf(6),
         Count(1),
         Leaf(256), Count(0), Leaf(0), Count(0), Count(0),
         Count(2), Outside(0), Inside(2), Count(1), Inside(1),
@@ -112,7 +117,7 @@ fn a_key_byte_by_byte() {
     key_is(&store, Sort::Op, 1, &Ignore::NOTHING, &[bytes(&shell), bytes(&region)].concat(), BY_HAND);
 }
 
-/// What is ignored isn't in the key, and attributes are counted without it.
+/// What is ignored isn't in the key, and attributes are counted without it. An inherent one is in it.
 #[test]
 fn a_key_without_what_is_ignored() {
     let ignore = Ignore::LOCATIONS.and_kind(63).and_kind(0);
@@ -121,7 +126,7 @@ fn a_key_without_what_is_ignored() {
         Count(1),
         Count(0), Count(2), Leaf(3), Leaf(4),
         Count(1),
-        Leaf(8), Count(1), Count(1), Leaf(10), Leaf(1), Leaf(u32::MAX), Count(1), Leaf(6),
+        Leaf(8), Count(1), Count(2), Leaf(10), Leaf(1), Leaf(u32::MAX), Flag(0), Leaf(12), Leaf(63), Leaf(13), Flag(1), Count(1), Leaf(6),
         Count(2), Outside(0), Inside(2), Count(1), Outside(1),
         Count(1),
         Count(0), Count(0),
@@ -214,7 +219,7 @@ fn fullest() -> Store {
         }));
     }
     calls.extend((1..256).map(|region| block(region, u32::MAX, &[])));
-    calls.extend((0..1024).map(|n| attribute(Owner::Op(n / 8), n % 8, 63, u32::MAX)));
+    calls.extend((0..1024).map(|n| attribute(Owner::Op(n / 8), n % 8, 63, u32::MAX, Inherent::Yes)));
     built(calls)
 }
 
@@ -223,8 +228,7 @@ fn the_longest_key() {
     let store = fullest();
     let picture = Picture::of(&store, BY_HAND);
     let longest = bytes_model::key(&picture, Sort::Op, 0, Ignore::NOTHING);
-    assert_eq!(longest.len(), 77_312);
-    assert!(longest.len() <= lent::key_bytes());
+    assert_eq!((longest.len(), lent::key_bytes()), (78_336, 78_344));
     for sort in SORTS {
         let key = bytes_model::key(&picture, sort, 0, Ignore::NOTHING);
         key_is(&store, sort, 0, &Ignore::NOTHING, &key, BY_HAND);

@@ -39,7 +39,7 @@ fn ids_of_another_store_are_nothing_there() {
     assert_eq!(cause(store.new_operation(&NewOperation { successors: &[other.block], ..new })), Some(2));
     assert_eq!(cause(store.new_operation(&NewOperation { operands: &[other.values[0]; 17], ..new })), Some(2));
     assert_eq!(cause(store.new_block(other.region, 0, 0, &[])), Some(2));
-    let attribute = Attribute { key: 1, kind: 1, content: 1 };
+    let attribute = Attribute { key: 1, kind: 1, content: 1, inherent: Inherent::No };
     assert_eq!(cause(store.set_attribute(other.ops[0], attribute)), Some(2));
     assert_eq!(cause(store.set_attribute(other.block, attribute)), Some(2));
     assert_eq!(cause(store.set_operand(other.ops[1], 0, form.values[0])), Some(2));
@@ -50,7 +50,7 @@ fn ids_of_another_store_are_nothing_there() {
 #[test]
 fn causes_keep_their_order() {
     let (mut form, other) = (form(), form());
-    let attribute = Attribute { key: 1, kind: 64, content: 1 };
+    let attribute = Attribute { key: 1, kind: 64, content: 1, inherent: Inherent::No };
     assert_eq!(cause(form.store.set_attribute(other.ops[0], attribute)), Some(6));
     assert_eq!(cause(form.store.set_operand(form.ops[1], 9, other.values[0])), Some(2));
     assert_eq!(cause(form.store.new_operation(&NewOperation { operands: &[form.values[0]; 17], ..Default::default() })), Some(4));

@@ -2,6 +2,8 @@
 
 use std::collections::BTreeMap;
 
+use warzhigo::Inherent;
+
 const HEADER: &str = include_str!("../../../include/warzhigo.h");
 const RUST: &str = include_str!("../src/ffi.rs");
 const RATTLE: [&str; 5] = [
@@ -70,8 +72,9 @@ fn from_rattle(word: &str) -> Vec<String> {
     vec![pointer.to_string(), "usize".to_string()]
 }
 
+/// Whether an attribute is inherent crosses as its number.
 fn from_rust(word: &str) -> Vec<String> {
-    vec![word.to_string()]
+    vec![word.replace("Inherent", "u32")]
 }
 
 /// What C declares: its type as in Rust, and its name.
@@ -79,7 +82,7 @@ fn from_c(declaration: &str) -> (String, String) {
     let (word, name) = declaration.rsplit_once([' ', '*']).expect("a type and a name");
     let plain = match word.trim_start_matches("const ").trim_end_matches([' ', '*']) {
         "uint8_t" => "u8",
-        "uint32_t" => "u32",
+        "uint32_t" | "wz_inherent" => "u32",
         "uint64_t" => "u64",
         "int32_t" => "i32",
         "size_t" => "usize",
@@ -151,6 +154,14 @@ fn functions_are_the_same() {
     assert!(rattle.contains_key("wz_twins") && rattle.keys().all(|name| name.starts_with("wz_")));
     assert_eq!(rattle, rust);
     assert_eq!(rattle, header_functions());
+}
+
+#[test]
+fn inherent_has_the_same_numbers() {
+    let (names, rest) = cut(HEADER, "typedef enum {", "}").unwrap();
+    assert_eq!(rest.split(';').next().unwrap().trim(), "wz_inherent");
+    assert_eq!(parts(names, ','), ["WZ_INHERENT_NO", "WZ_INHERENT_YES"]);
+    assert_eq!([Inherent::No as u32, Inherent::Yes as u32], [0, 1]);
 }
 
 #[test]

@@ -1,6 +1,6 @@
 //! Repeated runs inside a block.
 
-use warzhigo::{Attribute, BlockId, Ignore, NewOperation, OpId, Refused, Renamed, Run, Store, ValueId, lent};
+use warzhigo::{Attribute, BlockId, Ignore, Inherent, NewOperation, OpId, Refused, Renamed, Run, Store, ValueId, lent};
 
 const EVERYTHING: &Ignore = &Ignore::NOTHING;
 
@@ -131,13 +131,31 @@ fn nested_regions_count() {
     assert_eq!(page.runs(1), run(0, 2));
 }
 
+/// Operations that are alike, each with an attribute of kind 3.
+fn described(attributes: &[(u32, Inherent)]) -> Page {
+    let mut page = Page::new();
+    for (content, inherent) in attributes.iter().copied() {
+        let (op, _) = page.add(8, &[]);
+        page.store.set_attribute(op, Attribute { key: 1, kind: 3, content, inherent }).unwrap();
+    }
+    page
+}
+
+#[test]
+fn inherent_attributes_count() {
+    use Inherent::{No, Yes};
+    for ignore in [EVERYTHING, &Ignore::NOTHING.and_kind(3), &Ignore { locations: true, bits: u64::MAX }] {
+        assert_eq!(described(&[(1, Yes), (2, Yes)]).runs_under(1, ignore), None, "{ignore:?}");
+        assert_eq!(described(&[(1, Yes), (1, No)]).runs_under(1, ignore), None, "{ignore:?}");
+        assert_eq!(described(&[(1, No), (1, Yes), (1, Yes)]).runs_under(1, ignore), run(1, 2), "{ignore:?}");
+        let twice = described(&[(1, Yes), (2, Yes), (1, Yes), (2, Yes)]);
+        assert_eq!(twice.runs_under(2, ignore), run(0, 2), "{ignore:?}");
+    }
+}
+
 #[test]
 fn ignored_attributes_and_renamed_types_do_not_count() {
-    let mut page = Page::new();
-    for content in [1, 2] {
-        let (op, _) = page.add(8, &[]);
-        page.store.set_attribute(op, Attribute { key: 1, kind: 3, content }).unwrap();
-    }
+    let page = described(&[(1, Inherent::No), (2, Inherent::No)]);
     assert_eq!(page.runs(1), None);
     assert_eq!(page.runs_under(1, &Ignore::NOTHING.and_kind(3)), run(0, 1));
     let mut page = Page::new();

@@ -9,7 +9,7 @@ use mathlib.Core.Logic.{_↔_, _⊎_, inl, inr}
 use mathlib.Core.Path.{_≡_, refl, sym, subst, _∙_}
 use borrow.Author.Tests.{eqb-true, eq-eqb}
 use lib.Dec.{eqb}
-use Rattle.rules.specs.Lists.{every, all, allBelow, sameList}
+use Rattle.rules.specs.Lists.{every, sameBool, all, allBelow, sameList}
 
 pub and-left : (a b : Bool) → (a && b) ≡ true → a ≡ true
 and-left true b h = refl
@@ -52,6 +52,14 @@ not-or true b = refl
 not-or false b = refl
 
 -- a test passes or fails
+-- two answers of yes or no are the same
+pub bools-same : (a b : Bool) → (sameBool a b ≡ true) ↔ (a ≡ b)
+unfolding sameBool
+bools-same true true = (λ h. refl, λ e. refl)
+bools-same true false = (λ h. absurd (false≢true h), λ e. sym e)
+bools-same false true = (λ h. absurd (false≢true h), λ e. e)
+bools-same false false = (λ h. refl, λ e. refl)
+
 pub decided : (b : Bool) → (b ≡ true) ⊎ (b ≡ false)
 decided true = inl refl
 decided false = inr refl

@@ -47,15 +47,15 @@ empty-table n l =
 
 -- ---- what the events define and name is what the fragment does
 
-module _ (f : Event → List ℕ) (g : Step → List ℕ) (atStep : (x : Step) → f (step x) ≡ g x) (atMore : f more ≡ []) (atDone : f done ≡ []) where
+module _ {A : Type 0} (f : Event → List A) (g : Step → List A) (atStep : (x : Step) → f (step x) ≡ g x) (atMore : f more ≡ []) (atDone : f done ≡ []) where
   by-steps : (es : List Event) → concatMap f es ≡ concatMap g (bareSteps es)
   unfolding concatMap bareSteps
   by-steps [] = refl
   by-steps (step x ∷ es) = ap₂ _++_ (atStep x) (by-steps es)
-  by-steps (more ∷ es) = ap (λ (l : List ℕ). l ++ concatMap f es) atMore ∙ by-steps es
-  by-steps (done ∷ es) = ap (λ (l : List ℕ). l ++ concatMap f es) atDone ∙ by-steps es
+  by-steps (more ∷ es) = ap (λ (l : List A). l ++ concatMap f es) atMore ∙ by-steps es
+  by-steps (done ∷ es) = ap (λ (l : List A). l ++ concatMap f es) atDone ∙ by-steps es
 
-  in-fragment : (s : Store) (k : Sort) (n : ℕ) → concatMap f (events s k n) ≡ concatMap g (steps s k n)
+  pub in-fragment : (s : Store) (k : Sort) (n : ℕ) → concatMap f (events s k n) ≡ concatMap g (steps s k n)
   in-fragment s k n = by-steps (events s k n) ∙ ap (concatMap g) (bare-events s k n)
 
 module _ (s : Store) (f : Sort) (n : ℕ) where
@@ -141,13 +141,13 @@ module _ (s : Store) (sd : sound s ≡ true) where
     unfolding start noNumbers enterAll
     begun a b wa wb = record { values = record { made = refl; lengths = refl }; blocks = record { made = refl; lengths = refl } }
 
-    goes : (w : Walk) → succeeds w ≡ true → (st : State) × (w ≡ on st)
+    pub goes : (w : Walk) → succeeds w ≡ true → (st : State) × (w ≡ on st)
     unfolding succeeds
     goes (on st) h = (st, refl)
     goes (ended why st) h = clash h refl
 
     -- what the comparison comes to is what the lock-step pass comes to
-    pass : (a b : ℕ) → In s f a → going (compare s ig f a b emptyMapping) ≡ lock s ig (events s f a) (events s f b) (start emptyMapping)
+    pub pass : (a b : ℕ) → In s f a → going (compare s ig f a b emptyMapping) ≡ lock s ig (events s f a) (events s f b) (start emptyMapping)
     unfolding compare
     pass a b h = ⊎-elim (λ d. absurd (compare-not-deep s sd ig f a b h emptyMapping (d .0) (d .1))) (λ e. e) (lock-step s ig f a b (start emptyMapping))
 

@@ -13,7 +13,7 @@ use Rattle.rules.specs.Lists.{allPairs, sameList}
 use Rattle.rules.specs.Store.{Store, Attribute, Owner, ofOp, ofBlock, typeOf, valuesOf}
 use Rattle.rules.specs.Fragments.{blockOwner}
 use Rattle.rules.specs.Shells.{Ignore, Shell, shellOf, countsOf, sameAttribute, sameLocation, sameShells}
-use Rattle.rules.proofs.Basics.Tests.{and-left, and-right, and-both, passed, every-of, clash, list-same, numbers-same}
+use Rattle.rules.proofs.Basics.Tests.{bools-same, and-left, and-right, and-both, passed, every-of, clash, list-same, numbers-same}
 
 -- ---- equal shells
 
@@ -31,8 +31,12 @@ attribute-same a b = (
       let key : a .key ≡ b .key = eqb-true _ _ (p .0) in
       let kind : a .kind ≡ b .kind = eqb-true _ _ (p .1 .0) in
       let content : a .content ≡ b .content = eqb-true _ _ (p .1 .1 .0) in
-      λ i. record { key = key i; kind = kind i; content = content i },
-  λ e. every-of _ (eq-eqb _ _ (λ i. e i .key), (eq-eqb _ _ (λ i. e i .kind), (eq-eqb _ _ (λ i. e i .content), tt))),
+      let inherent : a .inherent ≡ b .inherent = bools-same _ _ .0 (p .1 .1 .1 .0) in
+      λ i. record { key = key i; kind = kind i; content = content i; inherent = inherent i },
+  λ e. every-of _ (
+    eq-eqb _ _ (λ i. e i .key),
+    (eq-eqb _ _ (λ i. e i .kind), (eq-eqb _ _ (λ i. e i .content), (bools-same _ _ .1 (λ i. e i .inherent), tt))),
+  ),
 )
 
 pub attributes-same : (xs ys : List Attribute) → (sameList sameAttribute xs ys ≡ true) ↔ (xs ≡ ys)

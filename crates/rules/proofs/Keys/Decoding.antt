@@ -2,7 +2,7 @@
 -- and a shell, each with what follows it. Assumes nothing.
 use Prim.Native.Nat.{ℕ, zero, suc, _+_, _*_, _/_, _%_, _^_, _<_, _≤_}
 use native.Mathlib.Omega.{arith}
-use mathlib.Core.Bool.{Bool, true}
+use mathlib.Core.Bool.{Bool, true, false}
 use mathlib.Core.List.{List, [], _∷_, _++_, append-assoc, head-eq-of-cons-eq, tail-eq-of-cons-eq}
 use mathlib.Core.Option.{Option, none, some}
 use mathlib.Core.Path.{_≡_, refl, sym, ap, ap₂, _∙_}
@@ -12,7 +12,7 @@ use lib.ListN.{length}
 use Rattle.rules.specs.Lists.{all, concatMap}
 use Rattle.rules.specs.Store.{Attribute}
 use Rattle.rules.specs.Shells.{Shell}
-use Rattle.rules.specs.Hash.{bytes, leaf, count, tag, listBytes, locationBytes, attributeBytes, shellBytes, Name, walkNumber, storeNumber, nameBytes}
+use Rattle.rules.specs.Hash.{bytes, leaf, count, tag, listBytes, locationBytes, flag, attributeBytes, shellBytes, Name, walkNumber, storeNumber, nameBytes}
 use Rattle.rules.specs.Keys.{fits, attributeFits}
 use Rattle.rules.proofs.Basics.Tests.{and-left, and-right, passed, impossible}
 
@@ -69,6 +69,16 @@ module _ {A : Type 0} (f : A → List ℕ) (ok : A → Bool) (read : (a b : A) (
 three : (a b c X : List ℕ) → ((a ++ b) ++ c) ++ X ≡ a ++ (b ++ (c ++ X))
 three a b c X = append-assoc (a ++ b) c X ∙ append-assoc a b (c ++ X)
 
+four : (a b c d X : List ℕ) → (((a ++ b) ++ c) ++ d) ++ X ≡ a ++ (b ++ (c ++ (d ++ X)))
+four a b c d X = append-assoc ((a ++ b) ++ c) d X ∙ three a b c (d ++ X)
+
+flag-read : (a b : Bool) {X Y : List ℕ} → flag a ++ X ≡ flag b ++ Y → (a ≡ b) × (X ≡ Y)
+unfolding flag
+flag-read true true e = (refl, tail-eq-of-cons-eq e)
+flag-read true false e = let f : _≡_ {A = ℕ} 1 0 = head-eq-of-cons-eq e in absurd (omega arith)
+flag-read false true e = let f : _≡_ {A = ℕ} 0 1 = head-eq-of-cons-eq e in absurd (omega arith)
+flag-read false false e = (refl, tail-eq-of-cons-eq e)
+
 pub attribute-read : (a b : Attribute) {X Y : List ℕ} → attributeFits a ≡ true → attributeFits b ≡ true
     → attributeBytes a ++ X ≡ attributeBytes b ++ Y → (a ≡ b) × (X ≡ Y)
 unfolding attributeBytes attributeFits
@@ -76,10 +86,13 @@ attribute-read a b {X} {Y} f g e =
     let p = passed _ f in
     let q = passed _ g in
     let key = leaf-read (a .key) (b .key) (p .0) (q .0)
-    (sym (three (leaf (a .key)) (leaf (a .kind)) (leaf (a .content)) X) ∙ e ∙ three (leaf (b .key)) (leaf (b .kind)) (leaf (b .content)) Y) in
+    (sym (four (leaf (a .key)) (leaf (a .kind)) (leaf (a .content)) (flag (a .inherent)) X)
+    ∙ e
+    ∙ four (leaf (b .key)) (leaf (b .kind)) (leaf (b .content)) (flag (b .inherent)) Y) in
     let kind = leaf-read (a .kind) (b .kind) (p .1 .0) (q .1 .0) (key .1) in
     let content = leaf-read (a .content) (b .content) (p .1 .1 .0) (q .1 .1 .0) (kind .1) in
-    (λ i. record { key = key .0 i; kind = kind .0 i; content = content .0 i }, content .1)
+    let inherent = flag-read (a .inherent) (b .inherent) (content .1) in
+    (λ i. record { key = key .0 i; kind = kind .0 i; content = content .0 i; inherent = inherent .0 i }, inherent .1)
 
 -- a name's number is told by its bytes
 unfoldable pub nameFits : Name → Bool

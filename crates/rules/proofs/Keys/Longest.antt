@@ -13,7 +13,7 @@ use Rattle.rules.specs.Lists.{sum, concatMap}
 use Rattle.rules.specs.Store.{Store, Op, Block, Attribute, Owner, ofOp, ofBlock, noOp, noBlock, opAt, blockAt, typeOf, opsOf, blocksOf, regionsOf, valuesOf, operandTotal, successorTotal, attributeTotal, sound}
 use Rattle.rules.specs.Fragments.{Sort, op, block, region, exists, levels, Step, shell, names, counted, fullOp, shells, listSteps, regionSteps, steps, stepDefines, blockOwner, definesOwners, definesValues, definesBlocks, opOwner}
 use Rattle.rules.specs.Shells.{Ignore, Shell, ignored, unignored, shellOf}
-use Rattle.rules.specs.Hash.{bytes, leaf, count, tag, listBytes, locationBytes, attributeBytes, shellBytes, headBytes, Numbering, noNumbers, numbered, Name, walkNumber, storeNumber, nameOf, nameBytes, feeds, allBytes}
+use Rattle.rules.specs.Hash.{bytes, leaf, count, tag, listBytes, locationBytes, flag, attributeBytes, shellBytes, headBytes, Numbering, noNumbers, numbered, Name, walkNumber, storeNumber, nameOf, nameBytes, feeds, allBytes}
 use Rattle.rules.specs.Keys.{key}
 use Rattle.rules.specs.Statements.{KeyLongest}
 use Rattle.rules.proofs.Basics.Distinct.{Distinct, distinct-concatMap, mem-concatMap, concatMap-append}
@@ -104,12 +104,20 @@ unfolding nameBytes tag
 name-most (walkNumber i) = omega (arith, length-append (bytes 1 0) (count i), bytes-length 1 0, count-length i)
 name-most (storeNumber n) = omega (arith, length-append (bytes 1 1) (leaf n), bytes-length 1 1, leaf-length n)
 
-attribute-length : (a : Attribute) → length (attributeBytes a) ≡ 12
-unfolding attributeBytes
+attribute-length : (a : Attribute) → length (attributeBytes a) ≡ 13
+unfolding attributeBytes flag
 attribute-length a =
-    omega (arith, length-append (leaf (a .key) ++ leaf (a .kind)) (leaf (a .content)), length-append (leaf (a .key)) (leaf (a .kind)), leaf-length (a .key), leaf-length (a .kind), leaf-length (a .content))
+    omega (
+      arith,
+      length-append (leaf (a .key) ++ leaf (a .kind) ++ leaf (a .content)) (flag (a .inherent)),
+      length-append (leaf (a .key) ++ leaf (a .kind)) (leaf (a .content)),
+      length-append (leaf (a .key)) (leaf (a .kind)),
+      leaf-length (a .key),
+      leaf-length (a .kind),
+      leaf-length (a .content),
+    )
 
-attributes-length : (xs : List Attribute) → length (concatMap attributeBytes xs) ≡ 12 * length xs
+attributes-length : (xs : List Attribute) → length (concatMap attributeBytes xs) ≡ 13 * length xs
 unfolding concatMap
 attributes-length [] = refl
 attributes-length (x ∷ xs) = omega (arith, length-append (attributeBytes x) (concatMap attributeBytes xs), attribute-length x, attributes-length xs)
@@ -133,7 +141,7 @@ unfolding locationBytes
 location-most none = omega arith
 location-most (some l) = omega (arith, leaf-length l)
 
-shell-most : (sh : Shell) → length (shellBytes count sh) ≤ 20 + 12 * length (sh .attributes) + 4 * length (sh .types)
+shell-most : (sh : Shell) → length (shellBytes count sh) ≤ 20 + 13 * length (sh .attributes) + 4 * length (sh .types)
 unfolding shellBytes listBytes
 shell-most sh =
     let L = locationBytes (sh .location) in
@@ -155,16 +163,16 @@ shell-most sh =
 
 -- what an operation, or a block, is charged for what it is and names
 unfoldable opCharge : Op → ℕ
-opCharge o = 48 + 12 * length (o .attributes) + 9 * length (o .operands) + 9 * length (o .successors)
+opCharge o = 48 + 13 * length (o .attributes) + 9 * length (o .operands) + 9 * length (o .successors)
 
 unfoldable blockCharge : Block → ℕ
-blockCharge b = 28 + 12 * length (b .attributes)
+blockCharge b = 28 + 13 * length (b .attributes)
 
 module _ (s : Store) where
   -- at most so many bytes come of a shell, and of a step
   unfoldable shellWeight : Owner → ℕ
-  shellWeight (ofOp n) = 32 + 12 * length (opAt s n .attributes) + 4 * length (valuesOf s (ofOp n))
-  shellWeight (ofBlock b) = 20 + 12 * length (blockAt s b .attributes) + 4 * length (valuesOf s (ofBlock b))
+  shellWeight (ofOp n) = 32 + 13 * length (opAt s n .attributes) + 4 * length (valuesOf s (ofOp n))
+  shellWeight (ofBlock b) = 20 + 13 * length (blockAt s b .attributes) + 4 * length (valuesOf s (ofBlock b))
 
   unfoldable weight : Step → ℕ
   weight (shell w) = shellWeight w
@@ -340,12 +348,12 @@ module _ (s : Store) where
 
 -- by what they are for
 ops-charge : (os : List Op)
-    → over opCharge os ≡ 48 * length os + 12 * over (λ (o : Op). length (o .attributes)) os + 9 * over (λ (o : Op). length (o .operands)) os + 9 * over (λ (o : Op). length (o .successors)) os
+    → over opCharge os ≡ 48 * length os + 13 * over (λ (o : Op). length (o .attributes)) os + 9 * over (λ (o : Op). length (o .operands)) os + 9 * over (λ (o : Op). length (o .successors)) os
 unfolding over sum opCharge
 ops-charge [] = refl
 ops-charge (o ∷ os) = omega (arith, ops-charge os)
 
-blocks-charge : (bs : List Block) → over blockCharge bs ≡ 28 * length bs + 12 * over (λ (b : Block). length (b .attributes)) bs
+blocks-charge : (bs : List Block) → over blockCharge bs ≡ 28 * length bs + 13 * over (λ (b : Block). length (b .attributes)) bs
 unfolding over sum blockCharge
 blocks-charge [] = refl
 blocks-charge (b ∷ bs) = omega (arith, blocks-charge bs)
@@ -389,7 +397,7 @@ module _ (s : Store) where
     unfolding blockAt definesBlocks
     blocks-charged = places-most blockCharge (s .blocks) noBlock (concatMap blockOwner ws) (blocks-once s so f n h) (blocks-here s so f n h)
 
-    all-charged : over (charge s) ws ≤ 77312
+    all-charged : over (charge s) ws ≤ 78336
     unfolding operandTotal successorTotal attributeTotal over definesValues
     all-charged =
         omega (

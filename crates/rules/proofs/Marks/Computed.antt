@@ -4,11 +4,11 @@ use Rattle.rules.specs.Lists.{all, any, every, filter, isSome, sum, upda
 use Rattle.rules.specs.Store.{attributeTotal, emptyStore, levelsLeft, nestingHolds, opAt, opExists, operandTotal, ownerExists, parentExists, successorTotal, valueExists}
 use Rattle.rules.specs.Building.{acceptance, after, applied, attributesOf, built, firstFailed, hasKey, opWithAttribute, opWithOperand, operationFits, operationNames, operationRoom, putAttribute, storeBy, tests, valuesFor}
 use Rattle.rules.specs.Marks.{unmarked, isMark, hasNumber, isSet, replaces, remembered, canRemember, markedTests, withSince, recounted, replacedOnce, without, upTo, markOr, newMark, goneBack, markedApplied, markedAcceptance, markedAnswerBy, markedBy, markedAnswer, marked, afterMarked}
-use Rattle.rules.specs.Cases.{attribute, firstOperand, operation}
+use Rattle.rules.specs.Cases.{attribute, inherentOne, firstOperand, operation}
 use Rattle.rules.specs.MarkCases.{MarkCases}
 
 pub mark-cases-hold : MarkCases
-unfolding all any every filter isSome sum updateAt attributeTotal emptyStore levelsLeft nestingHolds opAt opExists operandTotal ownerExists parentExists successorTotal valueExists acceptance after applied attributesOf built firstFailed hasKey opWithAttribute opWithOperand operationFits operationNames operationRoom putAttribute storeBy tests valuesFor unmarked isMark hasNumber isSet replaces remembered canRemember markedTests withSince recounted replacedOnce without upTo markOr newMark goneBack markedApplied markedAcceptance markedAnswerBy markedBy markedAnswer marked afterMarked attribute firstOperand operation
+unfolding all any every filter isSome sum updateAt attributeTotal emptyStore levelsLeft nestingHolds opAt opExists operandTotal ownerExists parentExists successorTotal valueExists acceptance after applied attributesOf built firstFailed hasKey opWithAttribute opWithOperand operationFits operationNames operationRoom putAttribute storeBy tests valuesFor unmarked isMark hasNumber isSet replaces remembered canRemember markedTests withSince recounted replacedOnce without upTo markOr newMark goneBack markedApplied markedAcceptance markedAnswerBy markedBy markedAnswer marked afterMarked attribute inherentOne firstOperand operation
 mark-cases-hold =
     record {
       lowest = refl;
@@ -23,6 +23,7 @@ mark-cases-hold =
       younger = refl;
       moved = refl;
       keyRestored = refl;
+      flagRestored = refl;
       keyGone = refl;
       operandRestored = refl;
       given = refl;

@@ -9,7 +9,7 @@ use mathlib.Core.Path.{_≡_, refl, sym, ap, _∙_}
 use borrow.Author.Tests.{eqb-true, eq-eqb, ltb-true, le-leb, ne-eqb}
 use lib.Dec.{eqb, ltb}
 use lib.ListN.{length}
-use Rattle.rules.specs.Lists.{every, all, any, sameList}
+use Rattle.rules.specs.Lists.{sameBool, every, all, any, sameList}
 use Rattle.rules.specs.Store.{Attribute, keysRise, keysRiseAfter}
 use Rattle.rules.specs.Shells.{Ignore, unignored, sameAttribute}
 use Rattle.rules.specs.Rust.{isRelevant, get, isSomeAndEqual, attributes-eq, insertByKey, sortByKey}
@@ -40,10 +40,9 @@ none-same a k (y ∷ ys) l h =
     let no : eqb (a .key) (y .key) ≡ false = ne-eqb _ _ (λ e. let f : a .key ≡ y .key = e in absurd (omega arith)) in
     rw no (none-same a (y .key) ys (omega arith) (and-right (ltb k (y .key)) _ h))
 
-found-same : (k c : Bool) → (k && c) ≡ ((true && (k && (c && true))) || false)
-found-same true true = refl
-found-same true false = refl
-found-same false c = refl
+found-same : (b : Bool) → b ≡ ((true && b) || false)
+found-same true = refl
+found-same false = refl
 
 lookup-same : (a : Attribute) (ys : List Attribute) → keysRise ys ≡ true → isSomeAndEqual a (get (a .key) ys) ≡ any (sameAttribute a) ys
 unfolding any get isSomeAndEqual sameAttribute every keysRise
@@ -51,10 +50,10 @@ lookup-same a [] h = refl
 lookup-same a (y ∷ ys) h = go (eqb (a .key) (y .key)) refl (lookup-same a ys (rises-behind (y .key) ys h))
   where
     go : (t : Bool) → eqb (a .key) (y .key) ≡ t → isSomeAndEqual a (get (a .key) ys) ≡ any (sameAttribute a) ys
-        → isSomeAndEqual a (cond t (some y) (get (a .key) ys)) ≡ ((t && every (eqb (a .kind) (y .kind) ∷ eqb (a .content) (y .content) ∷ [])) || any (sameAttribute a) ys)
+        → isSomeAndEqual a (cond t (some y) (get (a .key) ys)) ≡ ((t && every (eqb (a .kind) (y .kind) ∷ eqb (a .content) (y .content) ∷ sameBool (a .inherent) (y .inherent) ∷ [])) || any (sameAttribute a) ys)
     go true e rest =
         let k : a .key ≡ y .key = eqb-true (a .key) (y .key) e in
-        rw (none-same a (y .key) ys (omega arith) h) (found-same (eqb (a .kind) (y .kind)) (eqb (a .content) (y .content)))
+        rw (none-same a (y .key) ys (omega arith) h) (found-same (every (eqb (a .kind) (y .kind) ∷ eqb (a .content) (y .content) ∷ sameBool (a .inherent) (y .inherent) ∷ [])))
     go false e rest = rest
 
 -- ---- all of them

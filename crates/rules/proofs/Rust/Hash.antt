@@ -10,7 +10,7 @@ use Rattle.rules.specs.Lists.{concatMap, position}
 use Rattle.rules.specs.Store.{Store, Attribute, ofOp, ofBlock, opAt, blockAt, typeOf, opsOf, blocksOf, regionsOf, resultsOf, argumentsOf, valuesOf, keysRise}
 use Rattle.rules.specs.Fragments.{Sort, op, block, region, levels, Step, shell, names, counted, fullOp, shells, listSteps, regionSteps, steps, stepDefines, blockOwner, definesOwners, definesValues, definesBlocks}
 use Rattle.rules.specs.Shells.{Ignore, unignored, unignoredLocation, shellOf}
-use Rattle.rules.specs.Hash.{fnvFrom, fnvStart, fnv, leaf, count, locationBytes, attributeBytes, uncounted, listBytes, shellBytes, headBytes, Numbering, noNumbers, numbered, nameAt, nameOf, feeds, allBytes, hash}
+use Rattle.rules.specs.Hash.{fnvFrom, fnvStart, fnv, leaf, count, locationBytes, flag, attributeBytes, uncounted, listBytes, shellBytes, headBytes, Numbering, noNumbers, numbered, nameAt, nameOf, feeds, allBytes, hash}
 use Rattle.rules.specs.Hash as rules
 use Rattle.rules.specs.Rust.{countFrom, upTo, isRelevant, HashNumbering, HashState, feed, useBytes, hash-value, hash-block, forIn, lookup, hash-attribute, attributes-hash, hash-loc, hash-type, defining, hash-op-shell, hash-op-full, hash-block-shell, hash-blocks-full, newHashState, rustHash}
 use Rattle.rules.specs.Agreement.{HashesAsTheRust}
@@ -83,8 +83,12 @@ module _ (s : Store) (ig : Ignore) where
   attribute-fed : (a : Attribute) (h : HashState) → hash-attribute a h ≡ feed (attributeBytes a) h
   unfolding hash-attribute attributeBytes
   attribute-fed a h =
-      feed-feed (leaf (a .key)) (leaf (a .kind) ++ leaf (a .content)) h
-      ∙ ap (λ (bs : List ℕ). feed bs h) (sym (append-assoc (leaf (a .key)) (leaf (a .kind)) (leaf (a .content))))
+      let kind = leaf (a .kind) in
+      let content = leaf (a .content) in
+      let its = flag (a .inherent) in
+      feed-feed (leaf (a .key)) (kind ++ content ++ its) h
+      ∙ ap (λ (bs : List ℕ). feed bs h)
+      (sym (append-assoc (leaf (a .key)) (kind ++ content) its) ∙ ap (λ (bs : List ℕ). bs ++ its) (sym (append-assoc (leaf (a .key)) kind content)))
 
   attributes-fed : (as′ : List Attribute) → keysRise as′ ≡ true → (h : HashState)
       → attributes-hash ig as′ h ≡ feed (concatMap attributeBytes (unignored ig as′)) (feed (count (length (unignored ig as′))) h)

@@ -1,6 +1,6 @@
 -- The cases of renamed types, by computing. Assumes nothing.
 use mathlib.Core.Path.{refl}
-use Rattle.rules.specs.Lists.{all, allBelow, allPairs, any, concatMap, every, filter, isSome, later, numbersFrom, numbersWhere, position, sameList, sum, updateAt}
+use Rattle.rules.specs.Lists.{sameBool, all, allBelow, allPairs, any, concatMap, every, filter, isSome, later, numbersFrom, numbersWhere, position, sameList, sum, updateAt}
 use Rattle.rules.specs.Store.{argumentsOf, attributeTotal, attributesHold, blockAfter, blockAt, blockExists, blockHolds, blocksOf, emptyStore, isParent, keysRise, keysRiseAfter, levelsLeft, nestingHolds, noBlock, noOp, noValue, opAfter, opAround, opAt, opExists, opHolds, operandTotal, opsOf, ownerExists, parentExists, parentOf, regionExists, regionsOf, resultsOf, sameOwner, sound, successorTotal, totalsHold, typeOf, valueAt, valueExists, valuesOf}
 use Rattle.rules.specs.Fragments.{blockOwner, exists, fragmentSize, fullOp, listSteps, opSize, opsInBlocks, opsInside, outermost, ownSize, plus, regionSteps, shells, sizeWithin, sizes, steps}
 use Rattle.rules.specs.Building.{acceptance, after, answer, answerBy, applied, attributesOf, blockRoom, blockWithAttribute, built, firstFailed, hasKey, opWithAttribute, opWithOperand, operationFits, operationNames, operationRoom, putAttribute, storeBy, tests, valuesFor}
@@ -15,7 +15,7 @@ use Rattle.rules.specs.Keys.{compareBytes, key, keyTests, keyed, keyedBy
 use Rattle.rules.specs.TypeCases.{rowsFrom, twoTypes, TypeCases}
 
 pub type-cases-hold : TypeCases
-unfolding hashed hashedBy hashTests acceptance after all allBelow allBytes allPairs allowed answer answerBy any applied argumentsOf attributeTotal attributesHold attributesOf blockAfter blockAt blockExists blockHolds blockIn blockOwner blockRoom blockWithAttribute blocksOf built bytes checkNames checkOps compare compareBy compareBytes compareLists compareRegions compareTests comparison comparisonBy comparisonOf concatMap count countsOf eachOnce eachPair emptyMapping emptyStore enclosing enterAll enterBlocks enterOps entriesAllowed every exists expect feeds filter firstFailed firstOperand fragmentSize fullOp hasKey headBytes ignored ignoring image isParent isSome key keyTests keyed keyedBy keysRise keysRiseAfter later leaf levelsLeft listBytes listSteps locationBytes nameAt nameBytes nameOf nestingHolds noBlock noNumbers noOp noValue numbered numbersFrom numbersWhere oldTypes oneEntry opAfter opAround opAt opExists opHolds opSize opWithAttribute opWithOperand operandTotal operandsAgree operation operationFits operationNames operationRoom opsInBlocks opsInside opsOf orSelf outermost ownSize ownerExists pairBlocks pairOf pairOps pairwise parentExists parentOf pass1 pass2 pass3 plus position present presentTypes putAttribute regionExists regionSteps regionsOf renamed renamedValue resultsOf rowsFrom sameAttribute sameList sameLocation sameOwner sameShells shallow shellBytes shellOf shells sizeWithin sizes sound standsIn start steps storeBy successorTotal successorsAgree sum tableAllowed tag tests totalsHold twoTypes typeOf typesHold unignored unignoredLocation updateAt valueAt valueExists valuesFor valuesOf wholeRows written
+unfolding hashed hashedBy hashTests acceptance after all allBelow allBytes allPairs allowed answer answerBy any applied argumentsOf attributeTotal attributesHold attributesOf blockAfter blockAt blockExists blockHolds blockIn blockOwner blockRoom blockWithAttribute blocksOf built bytes checkNames checkOps compare compareBy compareBytes compareLists compareRegions compareTests comparison comparisonBy comparisonOf concatMap count countsOf eachOnce eachPair emptyMapping emptyStore enclosing enterAll enterBlocks enterOps entriesAllowed every exists expect feeds filter firstFailed firstOperand fragmentSize fullOp hasKey headBytes ignored ignoring image isParent isSome key keyTests keyed keyedBy keysRise keysRiseAfter later leaf levelsLeft listBytes listSteps locationBytes nameAt nameBytes nameOf nestingHolds noBlock noNumbers noOp noValue numbered numbersFrom numbersWhere oldTypes oneEntry opAfter opAround opAt opExists opHolds opSize opWithAttribute opWithOperand operandTotal operandsAgree operation operationFits operationNames operationRoom opsInBlocks opsInside opsOf orSelf outermost ownSize ownerExists pairBlocks pairOf pairOps pairwise parentExists parentOf pass1 pass2 pass3 plus position present presentTypes putAttribute regionExists regionSteps regionsOf renamed renamedValue resultsOf rowsFrom sameAttribute sameBool sameList sameLocation sameOwner sameShells shallow shellBytes shellOf shells sizeWithin sizes sound standsIn start steps storeBy successorTotal successorsAgree sum tableAllowed tag tests totalsHold twoTypes typeOf typesHold unignored unignoredLocation updateAt valueAt valueExists valuesFor valuesOf wholeRows written
 type-cases-hold =
     record {
       noRows = refl;

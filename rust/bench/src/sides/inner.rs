@@ -1,7 +1,7 @@
 //! The library on a store known to be sound.
 
 use oracle::Verdict;
-use warzhigo::{Attribute, BlockId, EqResult, Ignore, Mapping, OpId, Store, ValueId};
+use warzhigo::{BlockId, EqResult, Ignore, Mapping, OpId, Store, ValueId};
 
 use super::{Side, accepted};
 use crate::shapes::{Call, NewOperation};
@@ -61,10 +61,7 @@ impl Side for Inner {
                 let region = self.store.region_id(*region).expect("a region made before");
                 accepted(self.store.new_block(region, 0, *location, types));
             }
-            Call::Attribute { op, key, kind, content } => {
-                let attribute = Attribute { key: *key, kind: *kind, content: *content };
-                accepted(self.store.set_attribute(self.op(*op), attribute));
-            }
+            Call::Attribute(op, attribute) => accepted(self.store.set_attribute(self.op(*op), *attribute)),
             Call::Operand { op, index, value } => {
                 let value = self.store.value_id(*value).expect("a value made before");
                 accepted(self.store.set_operand(self.op(*op), *index, value));

@@ -1,7 +1,7 @@
 //! The library on lent words.
 
 use oracle::Verdict;
-use warzhigo::{Attribute, EqResult, Ignore, lent};
+use warzhigo::{EqResult, Ignore, lent};
 
 use super::{Side, accepted};
 use crate::shapes::{Call, NewOperation};
@@ -35,10 +35,7 @@ impl Side for Offered {
         match call {
             Call::Operation(new) => accepted(lent::new_operation(store, &lent_operation(new))),
             Call::Block { region, location, types } => accepted(lent::new_block(store, *region, 0, *location, types)),
-            Call::Attribute { op, key, kind, content } => {
-                let attribute = Attribute { key: *key, kind: *kind, content: *content };
-                accepted(lent::set_attribute(store, lent::Owner::Op(*op), attribute));
-            }
+            Call::Attribute(op, attribute) => accepted(lent::set_attribute(store, lent::Owner::Op(*op), *attribute)),
             Call::Operand { op, index, value } => accepted(lent::set_operand(store, *op, *index, *value)),
         }
     }

@@ -2,7 +2,8 @@
 
 use std::hint::black_box;
 
-use oracle::{Lists, Oracle, Sort, Verdict};
+use oracle::{Lists, NumberAttr, Oracle, Sort, Verdict};
+use warzhigo::{Attribute, Inherent};
 
 use super::Side;
 use crate::shapes::Call;
@@ -34,7 +35,10 @@ impl Side for Pliron {
             Call::Block { region, location, types } => {
                 black_box(oracle.new_block(*region, 0, *location, types));
             }
-            Call::Attribute { op, key, kind, content } => oracle.set_attribute(oracle::Owner::Op(*op), *key, *kind, *content),
+            Call::Attribute(op, Attribute { key, kind, content, inherent }) => {
+                let attr = NumberAttr { kind: *kind, content: *content, inherent: *inherent == Inherent::Yes };
+                oracle.set_attribute(oracle::Owner::Op(*op), *key, attr);
+            }
             Call::Operand { op, index, value } => oracle.set_operand(*op, *index, *value),
         }
     }

@@ -1,7 +1,8 @@
 //! A ring recorder's form: a page for a new ring, one for a ring that is seen again and one for a foreign ring. Each page has a field that
-//! gives what is typed and a check of it, whose length rule is an attribute of kind 63: 9, 9 and 8 characters.
+//! gives what is typed and a check of it, whose length rule is an inherent attribute of kind 63: 9, 9 and 8 characters. So no ignore rule
+//! merges pages with different length rules.
 
-use warzhigo::{Attribute, BlockId, NewOperation, OpId, Refused, Store, ValueId};
+use warzhigo::{Attribute, BlockId, Inherent, NewOperation, OpId, Refused, Store, ValueId};
 
 /// Kinds of operations.
 pub const FORM: u32 = 6;
@@ -41,6 +42,6 @@ pub fn page(store: &mut Store, parent: BlockId, keyboard: ValueId, location: u32
     let typed = store.operation(field)?.results().next().expect("its result");
     let check = NewOperation { kind: CHECK, parent: Some(inside), location: location + 2, operands: &[typed], ..Default::default() };
     let check = store.new_operation(&check)?;
-    store.set_attribute(check, Attribute { key: 2, kind: LENGTH, content: length })?;
+    store.set_attribute(check, Attribute { key: 2, kind: LENGTH, content: length, inherent: Inherent::Yes })?;
     Ok(page)
 }

@@ -91,9 +91,9 @@ impl SoundWords {
     #[inline]
     pub(crate) fn set_attribute(&mut self, owner: Owner<u32, u32>, attribute: Attribute) -> Outcome {
         let (blocks, n) = owner.code();
-        let Attribute { key, kind, content } = attribute;
+        let Attribute { key, kind, content, inherent } = attribute;
         // SAFETY: as above.
-        unsafe { wz_known_set_attribute(self.words.as_mut_ptr(), self.words.len(), blocks, n, key, kind, content) }
+        unsafe { wz_known_set_attribute(self.words.as_mut_ptr(), self.words.len(), blocks, n, key, kind, content, inherent) }
     }
 
     #[inline]

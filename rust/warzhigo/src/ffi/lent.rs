@@ -80,9 +80,9 @@ pub(crate) fn new_block(store: &mut [u32], region: u32, label: u32, location: u3
 #[inline]
 pub(crate) fn set_attribute(store: &mut [u32], owner: Owner<u32, u32>, attribute: Attribute) -> Outcome {
     let (blocks, n) = owner.code();
-    let Attribute { key, kind, content } = attribute;
+    let Attribute { key, kind, content, inherent } = attribute;
     // SAFETY: as above.
-    unsafe { wz_set_attribute(store.as_mut_ptr(), store.len(), blocks, n, key, kind, content) }
+    unsafe { wz_set_attribute(store.as_mut_ptr(), store.len(), blocks, n, key, kind, content, inherent) }
 }
 
 #[inline]

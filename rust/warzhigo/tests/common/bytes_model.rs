@@ -3,7 +3,7 @@
 
 use std::collections::HashMap;
 
-use warzhigo::{Attribute, Ignore};
+use warzhigo::{Attribute, Ignore, Inherent};
 
 use super::picture::Picture;
 use super::question::Sort;
@@ -71,10 +71,11 @@ impl Walked<'_> {
     fn attributes(&mut self, attributes: &[Attribute]) {
         let counted = counted(attributes, &self.ignore);
         self.count(counted.len() as u64);
-        for Attribute { key, kind, content } in counted {
+        for Attribute { key, kind, content, inherent } in counted {
             self.leaf(key);
             self.leaf(kind);
             self.leaf(content);
+            self.feed(&[(inherent == Inherent::Yes) as u8]);
         }
     }
 

@@ -1,8 +1,8 @@
 //! Building calls as data, by numbers, and each of the ways to make one.
 
-use oracle::{Lists, Oracle};
+use oracle::{Lists, NumberAttr, Oracle};
 use warzhigo::lent::{self, Owner};
-use warzhigo::{Attribute, BlockId, NewOperation, Refused, Store, ValueId};
+use warzhigo::{Attribute, BlockId, Inherent, NewOperation, Refused, Store, ValueId};
 
 #[derive(Clone, Debug)]
 pub enum Call {
@@ -65,12 +65,12 @@ impl Call {
                 Some(oracle.new_operation(*kind, *parent, *location, *regions, Lists { result_types, operands, successors }))
             }
             Call::Block { region, label, location, argument_types } => Some(oracle.new_block(*region, *label, *location, argument_types)),
-            Call::Attribute(owner, Attribute { key, kind, content }) => {
+            Call::Attribute(owner, Attribute { key, kind, content, inherent }) => {
                 let owner = match owner {
                     Owner::Op(n) => oracle::Owner::Op(*n),
                     Owner::Block(n) => oracle::Owner::Block(*n),
                 };
-                oracle.set_attribute(owner, *key, *kind, *content);
+                oracle.set_attribute(owner, *key, NumberAttr { kind: *kind, content: *content, inherent: *inherent == Inherent::Yes });
                 None
             }
             Call::Operand { op, index, value } => {

@@ -1,8 +1,8 @@
 //! What the words of marks and of their journal mean, as docs/STORE.md says: the tables at each mark are those of now with the journal
 //! undone, the newest entry first, and cut to the mark's counts. Read on plain data, by words alone.
 
-use warzhigo::Attribute;
 use warzhigo::lent::Owner;
+use warzhigo::{Attribute, Inherent};
 
 use super::marked::{Mark, Marked};
 use super::picture::Picture;
@@ -18,7 +18,7 @@ pub const JOURNAL_COUNTS: usize = 35416;
 const OP_REGION_END: usize = 2568;
 const OP_RESULT_END: usize = 3592;
 const BLOCK_ARGUMENT_END: usize = 8456;
-/// Sort, owner, key, kind and content of an entry.
+/// Sort, owner, key, kind and content of an entry. The word of the kind is 64 more where the attribute was inherent.
 pub const JOURNAL: [usize; 5] = [35424, 37472, 39520, 41568, 43616];
 
 /// The store with its marks that these words are, where `now` are its tables; none where a mark can't be gone back to.
@@ -70,8 +70,11 @@ fn undo(picture: &mut Picture, [sort, code, key, kind, content]: [u32; 5]) -> Op
     let attributes = attributes(picture, owner(code))?;
     let place = attributes.iter().position(|attribute| attribute.key == key)?;
     match sort {
-        1 if kind > 63 => return None,
-        1 => attributes[place] = Attribute { key, kind, content },
+        1 if kind > 127 => return None,
+        1 => {
+            let inherent = if kind > 63 { Inherent::Yes } else { Inherent::No };
+            attributes[place] = Attribute { key, kind: kind % 64, content, inherent };
+        }
         _ => drop(attributes.remove(place)),
     }
     Some(())

@@ -20,6 +20,9 @@ const COLUMNS: [(usize, usize, usize, usize); 6] =
 const SLOTS: [(usize, u32, usize); 2] = [(16136, 512, 0), (16136 + 4096, 256, 1)];
 const SLOT_COLUMN: usize = 6144;
 
+/// Where the words of an attribute's kind and flag begin: those of operations, and those of blocks.
+pub const SLOT_KIND: [usize; 2] = [SLOTS[0].0 + SLOT_COLUMN, SLOTS[1].0 + SLOT_COLUMN];
+
 /// Two entries of one column, or two of the counts, within what is filled. The counts may be damaged already.
 pub fn live_pair(random: &mut Random, words: &[u32]) -> [usize; 2] {
     let mut below = |count: u32| random.below(count.max(1)) as usize;

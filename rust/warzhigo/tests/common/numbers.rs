@@ -1,5 +1,7 @@
 //! Pseudo-random numbers (splitmix64): the same seed gives the same numbers everywhere.
 
+use warzhigo::Inherent;
+
 pub struct Random(u64);
 
 impl Random {
@@ -32,6 +34,11 @@ impl Random {
     /// An item, if there is one.
     pub fn any<T: Copy>(&mut self, items: &[T]) -> Option<T> {
         (!items.is_empty()).then(|| self.pick(items))
+    }
+
+    /// Whether an attribute is inherent, as often as not.
+    pub fn inherent(&mut self) -> Inherent {
+        if self.chance(50) { Inherent::Yes } else { Inherent::No }
     }
 
     /// A number of 32 bits that is often the largest, or stands at a boundary.

@@ -1,7 +1,7 @@
 //! Every offered call on the same words.
 
 use warzhigo::lent::{self, Owner};
-use warzhigo::{Attribute, Ignore, Refused, Store};
+use warzhigo::{Attribute, Ignore, Inherent, Refused, Store};
 
 use super::call::{Call, New};
 use super::marked::Step;
@@ -11,12 +11,12 @@ pub const SORTS: [Sort; 3] = [Sort::Op, Sort::Block, Sort::Region];
 
 /// One of each building call, with numbers that most stores have.
 pub fn building_calls() -> [Call; 5] {
-    let attribute = Attribute { key: 1, kind: 2, content: 3 };
+    let attribute = Attribute { key: 1, kind: 2, content: 3, inherent: Inherent::No };
     [
         Call::Operation(New::default()),
         Call::Block { region: 0, label: 0, location: 0, argument_types: vec![1] },
         Call::Attribute(Owner::Op(0), attribute),
-        Call::Attribute(Owner::Block(0), attribute),
+        Call::Attribute(Owner::Block(0), Attribute { inherent: Inherent::Yes, ..attribute }),
         Call::Operand { op: 0, index: 0, value: 0 },
     ]
 }

@@ -1,7 +1,7 @@
 //! A store as plain data, read through the accessors of the crate and never through words. The models work on it.
 
 use warzhigo::lent::Owner;
-use warzhigo::{Attribute, Store, Totals};
+use warzhigo::{Attribute, Inherent, Store, Totals};
 
 #[derive(Clone, PartialEq, Eq, Debug, Default)]
 pub struct Picture {
@@ -71,6 +71,15 @@ impl Picture {
             attributes: keys(&mut self.ops.iter().map(|op| op.attributes.len()))
                 + keys(&mut self.blocks.iter().map(|block| block.attributes.len())),
         }
+    }
+
+    /// The same, with no attribute inherent.
+    pub fn without_flags(&self) -> Picture {
+        let mut picture = self.clone();
+        let of_ops = picture.ops.iter_mut().flat_map(|op| &mut op.attributes);
+        let of_blocks = picture.blocks.iter_mut().flat_map(|block| &mut block.attributes);
+        of_ops.chain(of_blocks).for_each(|attribute| attribute.inherent = Inherent::No);
+        picture
     }
 
     /// The lines of `D` in the form for calls, parted by vertical bars, but for the one of marks.
@@ -157,6 +166,9 @@ fn list(items: &[u32]) -> String {
 }
 
 fn keys(items: &[Attribute]) -> String {
-    let items = items.iter().map(|Attribute { key, kind, content }| format!("{key}:{kind}:{content}"));
+    let items = items.iter().map(|Attribute { key, kind, content, inherent }| match inherent {
+        Inherent::No => format!("{key}:{kind}:{content}"),
+        Inherent::Yes => format!("{key}:{kind}:{content}:i"),
+    });
     format!("[{}]", items.collect::<Vec<_>>().join(","))
 }

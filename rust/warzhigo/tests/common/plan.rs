@@ -155,7 +155,7 @@ impl Plan {
             2 => {
                 let owner = if self.random.chance(50) { Owner::Op(self.number(ops)) } else { Owner::Block(self.number(blocks)) };
                 let (key, kind) = (self.random.word(), self.number(64));
-                Call::Attribute(owner, Attribute { key, kind, content: 0 })
+                Call::Attribute(owner, Attribute { key, kind, content: 0, inherent: self.random.inherent() })
             }
             _ => Call::Operand { op: self.number(ops), index: self.number(3), value: self.number(values) },
         }

@@ -140,7 +140,7 @@ impl<'a> Sketch<'a> {
         };
         let kind = if self.random.chance(50) { self.random.pick(&[0, 1, 31, 32, 62, 63]) } else { self.random.below(64) };
         let key = if self.random.chance(2) { self.random.word() } else { self.random.below(self.shape.keys) };
-        Call::Attribute(owner, Attribute { key, kind, content: self.letter() })
+        Call::Attribute(owner, Attribute { key, kind, content: self.letter(), inherent: self.random.inherent() })
     }
 
     /// Sets an operand that an operation has to any value, so also to a later one.

@@ -1,6 +1,6 @@
 //! Near twins: the calls of a fragment, twice, with at most one small change on one side.
 
-use warzhigo::Attribute;
+use warzhigo::{Attribute, Inherent};
 
 use super::call::{Call, New};
 use super::sketch::Sketch;
@@ -8,12 +8,13 @@ use super::sketch::Sketch;
 /// The calls of both sides.
 pub fn near_twins(sketch: &mut Sketch<'_>) -> [Vec<Call>; 2] {
     let [mut left, mut right] = [sketch.calls.clone(), sketch.calls.clone()];
-    match sketch.random.below(8) {
+    match sketch.random.below(9) {
         0..2 => {}
         2 => other_order(sketch, &mut right),
         3 | 4 => change(sketch, &mut right),
         5 | 6 => right.extend(one_more(sketch)),
-        _ => unlike_ends(sketch, &mut left, &mut right),
+        7 => unlike_ends(sketch, &mut left, &mut right),
+        _ => other_flag(sketch, &mut right),
     }
     if sketch.random.chance(50) { [left, right] } else { [right, left] }
 }
@@ -24,6 +25,26 @@ fn other_order(sketch: &mut Sketch<'_>, calls: &mut [Call]) {
     let places: Vec<usize> = (1..calls.len()).filter(|i| sets(&calls[*i]) && sets(&calls[i - 1])).collect();
     if let Some(place) = sketch.random.any(&places) {
         calls.swap(place - 1, place);
+    }
+}
+
+/// Changes whether one attribute is inherent, if there is an attribute.
+fn other_flag(sketch: &mut Sketch<'_>, calls: &mut [Call]) {
+    let flags = calls.iter_mut().filter_map(|call| match call {
+        Call::Attribute(_, attribute) => Some(&mut attribute.inherent),
+        _ => None,
+    });
+    let mut flags: Vec<&mut Inherent> = flags.collect();
+    let place = sketch.random.below(flags.len() as u32) as usize;
+    if let Some(inherent) = flags.get_mut(place) {
+        **inherent = other(**inherent);
+    }
+}
+
+fn other(inherent: Inherent) -> Inherent {
+    match inherent {
+        Inherent::No => Inherent::Yes,
+        Inherent::Yes => Inherent::No,
     }
 }
 
@@ -64,10 +85,11 @@ fn change(sketch: &mut Sketch<'_>, calls: &mut [Call]) {
             1 => *location ^= 1,
             _ => flip_one(sketch, argument_types),
         },
-        Call::Attribute(_, Attribute { key, kind, content }) => match sketch.random.below(3) {
+        Call::Attribute(_, Attribute { key, kind, content, inherent }) => match sketch.random.below(4) {
             0 => *key ^= 1,
             1 => *kind ^= 1,
-            _ => *content ^= 1,
+            2 => *content ^= 1,
+            _ => *inherent = other(*inherent),
         },
         Call::Operand { value, .. } => *value = sketch.value().unwrap_or(*value),
     }

@@ -3,7 +3,7 @@
 use std::collections::BTreeMap;
 
 use oracle::Verdict;
-use warzhigo::{Attribute, Ignore};
+use warzhigo::{Attribute, Ignore, Inherent};
 
 use super::picture::{Picture, Value};
 use super::question::{Question, Sort};
@@ -181,7 +181,8 @@ impl<'a> Walk<'a> {
 
 /// The attributes that aren't ignored, by rising key.
 pub fn counted(attributes: &[Attribute], ignore: &Ignore) -> Vec<Attribute> {
-    let mut counted: Vec<Attribute> = attributes.iter().copied().filter(|a| ignore.bits >> a.kind & 1 == 0).collect();
+    let counts = |a: &Attribute| a.inherent == Inherent::Yes || ignore.bits >> a.kind & 1 == 0;
+    let mut counted: Vec<Attribute> = attributes.iter().copied().filter(counts).collect();
     counted.sort_by_key(|attribute| attribute.key);
     counted
 }

@@ -45,7 +45,7 @@ fn replacements_take_no_id_away() {
     let form = form(&mut store);
     store.mark(ONE).unwrap();
     store.set_operand(form.ops[1], 0, form.values[1]).unwrap();
-    store.set_attribute(form.block, Attribute { key: 1, kind: 1, content: 1 }).unwrap();
+    store.set_attribute(form.block, Attribute { key: 1, kind: 1, content: 1, inherent: Inherent::No }).unwrap();
     let mut mapping = Mapping::new();
     assert!(operation_eq(&store, &mut mapping, form.ops[0], form.ops[0], &EVERYTHING).unwrap().is_eq());
     store.go_back(ONE).unwrap();

@@ -73,7 +73,7 @@ fn reading_calls(store: &Store, form: &Form, good: &Form) -> [Option<u32>; 19] {
 
 /// What every call answers that is given ids of a form, beside one that is good.
 fn all_calls(store: &mut Store, form: &Form, good: &Form) -> Vec<Option<u32>> {
-    let (new, some) = (NewOperation::default(), Attribute { key: 1, kind: 1, content: 1 });
+    let (new, some) = (NewOperation::default(), Attribute { key: 1, kind: 1, content: 1, inherent: Inherent::No });
     let mut answers = reading_calls(store, form, good).to_vec();
     answers.extend([
         cause(store.new_operation(&NewOperation { parent: Some(form.block), ..new })),

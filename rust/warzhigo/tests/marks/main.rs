@@ -11,7 +11,7 @@ mod setting;
 use common::call::{Answer, Call, New};
 use common::marked::{Marked, Step};
 use warzhigo::lent::Owner;
-use warzhigo::{Attribute, Store};
+use warzhigo::{Attribute, Inherent, Store};
 
 /// A store, and the model of it.
 #[derive(Default)]
@@ -23,7 +23,7 @@ struct Tried {
 const OK: Answer = Ok(None);
 
 fn attribute(owner: Owner, key: u32, content: u32) -> Step {
-    Step::Build(Call::Attribute(owner, Attribute { key, kind: 1, content }))
+    Step::Build(Call::Attribute(owner, Attribute { key, kind: 1, content, inherent: Inherent::No }))
 }
 
 fn operand(op: u32, index: u32, value: u32) -> Step {

@@ -1,7 +1,7 @@
 //! What is remembered, and cause 17.
 
-use warzhigo::Attribute;
 use warzhigo::lent::Owner;
+use warzhigo::{Attribute, Inherent};
 
 use crate::common::call::{Call, New};
 use crate::common::marked::Step;
@@ -98,7 +98,7 @@ fn order_of_17() {
     let mut tried = Tried::small();
     tried.mark(1).unwrap();
     tried.replace(1024);
-    let kind = |owner, kind| Step::Build(Call::Attribute(owner, Attribute { key: 7, kind, content: 0 }));
+    let kind = |owner, kind| Step::Build(Call::Attribute(owner, Attribute { key: 7, kind, content: 0, inherent: Inherent::Yes }));
     assert_eq!(tried.ask(kind(Owner::Op(1), 64)), Err(6), "6 before 17");
     assert_eq!(tried.ask(kind(Owner::Op(9), 63)), Err(2), "2 before 17");
     assert_eq!(tried.ask(operand(9, 0, 0)), Err(2), "2 before 17");

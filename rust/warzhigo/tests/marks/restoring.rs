@@ -1,7 +1,7 @@
 //! What going back restores.
 
 use warzhigo::lent::Owner;
-use warzhigo::{Attribute, Ignore};
+use warzhigo::{Attribute, Ignore, Inherent};
 
 use crate::common::call::{Call, New};
 use crate::common::marked::Step;
@@ -24,9 +24,26 @@ fn a_key_replaced_twice_is_as_at_the_mark() {
 fn a_kind_is_restored_too() {
     let mut tried = Tried::small();
     tried.mark(1).unwrap();
-    assert_eq!(tried.ask(Step::Build(Call::Attribute(Owner::Op(1), Attribute { key: 7, kind: 63, content: 7 }))), OK);
+    let other = Attribute { key: 7, kind: 63, content: 7, inherent: Inherent::No };
+    assert_eq!(tried.ask(Step::Build(Call::Attribute(Owner::Op(1), other))), OK);
     tried.back(1).unwrap();
     assert_eq!(tried.model.picture.ops[1].attributes[0].kind, 1);
+}
+
+/// Whether an attribute is inherent is restored with it: after one replacement or two, of either flag.
+#[test]
+fn a_flag_is_restored_too() {
+    use Inherent::{No, Yes};
+    for owner in [Owner::Op(0), Owner::Block(0)] {
+        for (inherent, replaced) in [(Yes, vec![No]), (No, vec![Yes]), (Yes, vec![No, Yes]), (No, vec![Yes, No]), (Yes, vec![Yes])] {
+            let mut tried = Tried::small();
+            let set = |inherent, content| Step::Build(Call::Attribute(owner, Attribute { key: 3, kind: 63, content, inherent }));
+            assert_eq!([tried.ask(set(inherent, 1)), tried.mark(1)], [OK; 2]);
+            let before = tried.model.picture.clone();
+            replaced.iter().for_each(|other| assert_eq!(tried.ask(set(*other, 2)), OK));
+            assert_eq!((tried.back(1), &tried.model.picture), (OK, &before), "{owner:?}, {inherent:?}, {replaced:?}");
+        }
+    }
 }
 
 #[test]

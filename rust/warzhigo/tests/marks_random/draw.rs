@@ -77,7 +77,8 @@ impl Nature {
             false => Owner::Block(number(random, picture.blocks.len())),
         };
         let kind = if random.chance(2) { 64 } else { random.below(64) };
-        Step::Build(Call::Attribute(owner, Attribute { key: random.below(self.keys), kind, content: random.below(3) }))
+        let (key, content, inherent) = (random.below(self.keys), random.below(3), random.inherent());
+        Step::Build(Call::Attribute(owner, Attribute { key, kind, content, inherent }))
     }
 }
 

@@ -3,8 +3,8 @@
 use std::io::Write;
 use std::process::{Command, Stdio};
 
-use warzhigo::Attribute;
 use warzhigo::lent::Owner;
+use warzhigo::{Attribute, Inherent};
 
 use crate::common::call::{Answer, Call, New};
 use crate::common::marked::Step;
@@ -30,12 +30,13 @@ fn line(step: &Step) -> String {
         Step::Build(Call::Block { region, label, location, argument_types }) => {
             format!("b,{region},{label},{location}{}", list(argument_types))
         }
-        Step::Build(Call::Attribute(owner, Attribute { key, kind, content })) => {
+        Step::Build(Call::Attribute(owner, Attribute { key, kind, content, inherent })) => {
             let owner = match owner {
                 Owner::Op(n) => format!("o,{n}"),
                 Owner::Block(n) => format!("b,{n}"),
             };
-            format!("a,{owner},{key},{kind},{content}")
+            let letter = if *inherent == Inherent::Yes { 'i' } else { 'a' };
+            format!("{letter},{owner},{key},{kind},{content}")
         }
         Step::Build(Call::Operand { op, index, value }) => format!("s,{op},{index},{value}"),
     }

@@ -83,5 +83,6 @@ impl Sides {
         counts.compared(question, ours);
         counts.outside_domain += met as u64;
         counts.by_entries(trial, question, ours, &before);
+        counts.by_flags(trial, question, ours, before);
     }
 }

@@ -27,6 +27,11 @@ pub struct Counts {
     pub lent_entries: u64,
     pub earlier_entries: u64,
     pub equal_by_entries: u64,
+    /// Comparisons that would be equal if no attribute were inherent; and pairs in equal fragments that have an inherent attribute, and
+    /// those of them whose kind is to be ignored.
+    pub unequal_by_flags: u64,
+    pub inherent_on_both: u64,
+    pub never_ignored: u64,
     pub hashes: u64,
     pub keys: u64,
     /// Stores with more than two keys that were put in order.
@@ -72,6 +77,14 @@ impl Counts {
         }
     }
 
+    /// Counts an unequal comparison that would be equal if no attribute were inherent.
+    pub fn by_flags(&mut self, trial: &Trial, question: &Question, ours: Found, mut before: Entries) {
+        if ours.verdict != Verdict::Eq {
+            let (plain, _) = compared(&trial.plain, &mut before, question, Longer::Rules);
+            self.unequal_by_flags += (plain.verdict == Verdict::Eq) as u64;
+        }
+    }
+
     /// That each thing was met often enough to mean something.
     pub fn often_enough(&self) {
         let all = self.comparisons;
@@ -91,6 +104,9 @@ impl Counts {
             ("lent entries", self.lent_entries, all / 10),
             ("earlier entries", self.earlier_entries, all / 10),
             ("equal by entries", self.equal_by_entries, all / 200),
+            ("unequal by flags", self.unequal_by_flags, all / 200),
+            ("inherent on both sides", self.inherent_on_both, self.stores),
+            ("never ignored", self.never_ignored, self.stores / 5),
             ("hashes", self.hashes, self.stores * 5),
             ("keys", self.keys, self.stores * 5),
             ("shelves", self.shelves, self.stores / 2),

@@ -1,13 +1,18 @@
 //! Hashes and keys in every way, and the laws.
 
 use oracle::Verdict;
-use warzhigo::{Ignore, Mapping, compare_keys};
+use warzhigo::{Attribute, BlockId, Ignore, Inherent, Mapping, OpId, compare_keys};
 
 use crate::common::bytes_model;
 use crate::common::premise;
 use crate::common::question::{Question, Sort, hash_inner, hash_lent, key_inner, key_is};
 use crate::counts::Counts;
 use crate::trial::Trial;
+
+/// Those that are inherent.
+fn inherent(attributes: &[Attribute]) -> Vec<Attribute> {
+    attributes.iter().copied().filter(|attribute| attribute.inherent == Inherent::Yes).collect()
+}
 
 impl Trial {
     /// The hash of one, which is the same in every way.
@@ -61,6 +66,18 @@ impl Trial {
         counts.shelves += (shelf.len() > 2) as u64;
     }
 
+    /// What corresponds in two equal fragments has the same inherent attributes, key by key, whatever is ignored.
+    fn same_inherent(&self, mapping: &Mapping, ignore: Ignore, context: &str, counts: &mut Counts) {
+        let op = |n: OpId| inherent(&self.picture.ops[n.number() as usize].attributes);
+        let block = |n: BlockId| inherent(&self.picture.blocks[n.number() as usize].attributes);
+        let ops = mapping.ops().map(|(l, r)| [op(l), op(r)]);
+        for [left, right] in ops.chain(mapping.blocks().map(|(l, r)| [block(l), block(r)])) {
+            assert_eq!(left, right, "{context}: equal, and other inherent attributes");
+            counts.inherent_on_both += !left.is_empty() as u64;
+            counts.never_ignored += left.iter().any(|attribute| ignore.bits >> attribute.kind & 1 == 1) as u64;
+        }
+    }
+
     /// Reflexive; and where the premise holds, equal gives symmetric and equal hashes.
     pub fn laws(&mut self, mapping: &mut Mapping, counts: &mut Counts) {
         let question = self.question();
@@ -68,12 +85,15 @@ impl Trial {
         let Question { sort, lhs, rhs, ignore } = question;
         let mut is_equal = |lhs, rhs| {
             let found = Question { lhs, rhs, ..question }.inner(&self.store, mapping).expect(&context);
+            if found.verdict == Verdict::Eq && lhs != rhs {
+                self.same_inherent(mapping, ignore, &context, counts);
+            }
             self.cleared(mapping);
             found.verdict == Verdict::Eq
         };
         assert!(is_equal(lhs, lhs) && is_equal(rhs, rhs), "{context}: not reflexive");
-        counts.reflexive += 2;
         let (equal, back) = (is_equal(lhs, rhs), is_equal(rhs, lhs));
+        counts.reflexive += 2;
         self.filed(&question, equal, counts);
         if !premise::holds(&self.picture, sort, lhs, rhs) {
             counts.equal_without_premise += equal as u64;

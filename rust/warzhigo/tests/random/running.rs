@@ -46,7 +46,8 @@ fn page(random: &mut Random) -> (Store, BlockId) {
             let op = store.new_operation(&new).expect("an operation");
             values.extend(store.operation(op).expect("it").results());
             if random.chance(10) {
-                store.set_attribute(op, Attribute { key: 1, kind: 5, content: random.below(2) }).expect("an attribute");
+                let attribute = Attribute { key: 1, kind: 5, content: random.below(2), inherent: random.inherent() };
+                store.set_attribute(op, attribute).expect("an attribute");
             }
         }
     }

@@ -18,6 +18,8 @@ pub struct Trial {
     pub store: Store,
     pub oracle: Oracle,
     pub picture: Picture,
+    /// The picture without flags.
+    pub plain: Picture,
     pub plan: Plan,
 }
 
@@ -43,7 +45,7 @@ impl Trial {
         assert_eq!(picture.dump(), oracle.dump(), "{context}");
         counts.stores += 1;
         counts.deepest_nesting = picture.ops.iter().map(|op| op.nesting).fold(counts.deepest_nesting, u32::max);
-        Trial { seed, random: Random::new(!seed), store, oracle, picture, plan }
+        Trial { seed, random: Random::new(!seed), store, oracle, plain: picture.without_flags(), picture, plan }
     }
 
     /// Two fragments to compare: of near twins, the two that correspond, or any two. There is an operation in every store of these.

@@ -1,6 +1,6 @@
 //! How a refusal presents itself. Causes 9, 10 and 11 are only printed, and 12 is never met: no call gives them as a value.
 
-use warzhigo::{Attribute, Ignore, Mapping, MarkId, NewOperation, Refused, Renamed, Store, operation_eq, operation_key_into};
+use warzhigo::{Attribute, Ignore, Inherent, Mapping, MarkId, NewOperation, Refused, Renamed, Store, operation_eq, operation_key_into};
 
 use crate::common::call::{Call, New};
 use crate::stores::{deep, filled, small};
@@ -29,7 +29,7 @@ fn refusals() -> [Option<Refused>; 13] {
         full.new_operation(&NewOperation::default()).err(),
         store.new_operation(&NewOperation { regions: 9, ..Default::default() }).err(),
         store.new_operation(&NewOperation { parent, ..Default::default() }).err(),
-        store.set_attribute(op, Attribute { key: 0, kind: 64, content: 0 }).err(),
+        store.set_attribute(op, Attribute { key: 0, kind: 64, content: 0, inherent: Inherent::No }).err(),
         store.set_operand(op, 0, value).err(),
         operation_eq(&store, &mut mapping, op, op, &Ignore::NOTHING).err(),
         operation_key_into(&store, op, &Ignore::NOTHING, &mut []).err(),

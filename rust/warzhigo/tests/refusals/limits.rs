@@ -8,7 +8,7 @@ use crate::common::call::{Call, New};
 use crate::common::offered::SORTS;
 use crate::common::picture::Picture;
 use crate::common::question::{Question, Sort, hash_lent, key_is};
-use crate::stores::{ask, attribute, block, deep, operation, results, small};
+use crate::stores::{ask, attribute, block, deep, inherent, operation, results, small};
 
 #[test]
 fn cause_4_lists_of_a_new_operation() {
@@ -40,7 +40,9 @@ fn cause_4_arguments_and_keys() {
         }
         assert_eq!(ask(&mut store, attribute(owner, 8, 0)), Err(4), "{owner:?}");
         assert_eq!(ask(&mut store, attribute(owner, u32::MAX, 0)), Err(4), "{owner:?}");
+        assert_eq!(ask(&mut store, inherent(owner, 8, 0)), Err(4), "{owner:?}");
         assert_eq!(ask(&mut store, attribute(owner, 7, 0)), Ok(None), "{owner:?}, a key that is there");
+        assert_eq!(ask(&mut store, inherent(owner, 7, 0)), Ok(None), "{owner:?}, a key that is there");
     }
 }
 
@@ -73,9 +75,11 @@ fn nesting_32_is_compared_hashed_and_filed() {
 #[test]
 fn cause_6_attribute_kind() {
     for owner in [Owner::Op(1), Owner::Block(0)] {
-        assert_eq!(ask(&mut small(), attribute(owner, 1, 63)), Ok(None));
-        for kind in [64, 65, u32::MAX] {
-            assert_eq!(ask(&mut small(), attribute(owner, 1, kind)), Err(6), "kind {kind}");
+        for set in [attribute, inherent] {
+            assert_eq!(ask(&mut small(), set(owner, 1, 63)), Ok(None));
+            for kind in [64, 65, 127, 128, u32::MAX - 63, u32::MAX] {
+                assert_eq!(ask(&mut small(), set(owner, 1, kind)), Err(6), "kind {kind}");
+            }
         }
     }
 }

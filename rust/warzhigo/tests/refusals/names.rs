@@ -1,7 +1,7 @@
 //! Cause 2: a named thing doesn't exist.
 
 use warzhigo::lent::Owner;
-use warzhigo::{Attribute, Ignore, Mapping, NewOperation, Refused};
+use warzhigo::{Attribute, Ignore, Inherent, Mapping, NewOperation, Refused};
 
 use crate::common::call::{Call, New};
 use crate::common::offered::{SORTS, key_refused};
@@ -70,7 +70,7 @@ fn cause_2_ids_of_another_store() {
     let (op, block) = (other.op_id(0).unwrap(), other.block_id(0).unwrap());
     let (region, value) = (other.region_id(0).unwrap(), other.value_id(0).unwrap());
     let own = store.op_id(1).unwrap();
-    let some = Attribute { key: 1, kind: 1, content: 1 };
+    let some = Attribute { key: 1, kind: 1, content: 1, inherent: Inherent::No };
     let mut mapping = Mapping::new();
     let answers = [
         store.new_operation(&NewOperation { parent: Some(block), ..Default::default() }).err(),

@@ -1,7 +1,7 @@
 //! Stores to ask of, and how they are asked.
 
 use warzhigo::lent::Owner;
-use warzhigo::{Attribute, Store};
+use warzhigo::{Attribute, Inherent, Store};
 
 use crate::common::call::{Answer, Call, New, apply};
 
@@ -25,7 +25,11 @@ pub fn block(region: u32, arguments: usize) -> Call {
 }
 
 pub fn attribute(owner: Owner, key: u32, kind: u32) -> Call {
-    Call::Attribute(owner, Attribute { key, kind, content: 0 })
+    Call::Attribute(owner, Attribute { key, kind, content: 0, inherent: Inherent::No })
+}
+
+pub fn inherent(owner: Owner, key: u32, kind: u32) -> Call {
+    Call::Attribute(owner, Attribute { key, kind, content: 0, inherent: Inherent::Yes })
 }
 
 pub fn results(count: usize) -> New {

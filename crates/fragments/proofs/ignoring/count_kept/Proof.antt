@@ -41,7 +41,7 @@ next-kept-requires-2 : tie.Need-next-kept-requires-2 Inv-loop μ-loop
 next-kept-requires-2 c κs =
     let s = c .before .before .before .before in
     let i = c .before .loop .inv in
-    (s .pre .0, (s .pre .1 .0, (omega (arith, c .loop-test .taken, s .pre .1 .0), λ k b e. s .pre .1 .1 .1 k (omega (arith, i .stop .from, b)) e)))
+    (s .pre .0, (s .pre .1 .0, omega (arith, c .loop-test .taken, s .pre .1 .0)))
 
 loop-less : tie.Need-loop-less Inv-loop μ-loop
 loop-less c = omega (arith, c .next-kept2 .ensures .from, c .before .loop-test .taken)

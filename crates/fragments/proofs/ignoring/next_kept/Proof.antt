@@ -18,7 +18,7 @@ abbrev μ-loop : tie.MeasureT-loop
 μ-loop store ignore from end i₀ i = end - i
 
 loop-holds : tie.Need-loop-holds Inv-loop μ-loop
-loop-holds c = (omega arith, (omega (arith, c .before .pre .1 .1 .0), refl))
+loop-holds c = (omega arith, (omega (arith, c .before .pre .1 .1), refl))
 
 slot-ignored-requires : tie.Need-slot-ignored-requires Inv-loop μ-loop
 slot-ignored-requires c κs =
@@ -26,7 +26,7 @@ slot-ignored-requires c κs =
     let i = c .before .loop .i in
     let v = c .before .loop .inv in
     let h = c .loop-test .taken in
-    (s .pre .0, (omega (arith, s .pre .1 .0), s .pre .1 .1 .1 i (v .0) h))
+    (s .pre .0, omega (arith, s .pre .1 .0))
 
 returns : tie.Need-returns Inv-loop μ-loop
 returns c =
@@ -61,7 +61,7 @@ returns-2 c =
     let h = c .loop-test .left in
     let z : a .end ≤ a .end = omega arith in
     record {
-      from = s .pre .1 .1 .0;
+      from = s .pre .1 .1;
       upTo = z;
       same = v .1 .1 ∙ kept-none C g i (a .end) (omega arith) ∙ sym (kept-none C g (a .end) (a .end) z);
       kept = λ l. absurd (not-suc-le-zero {n = 0} (omega (arith, l)));

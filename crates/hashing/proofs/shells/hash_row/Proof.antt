@@ -27,7 +27,7 @@ attributes-hash-requires : tie.Need-attributes-hash-requires
 attributes-hash-requires c κs =
     let s = c .before .before .before .before in
     let f = s .pre .1 .1 in
-    (s .pre .0, (f .slots, (omega arith, f .kinds)))
+    (s .pre .0, (f .slots, omega arith))
 
 add-words : tie.Need-add-words
 add-words c =

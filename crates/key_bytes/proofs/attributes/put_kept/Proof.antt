@@ -1,7 +1,7 @@
 -- `put_kept` meets its contract: it goes from one kept slot to the next and puts each. Assumes nothing.
 use Prim.Native.Nat.{_-_}
 use native.Mathlib.Omega.{arith}
-use Rattle.rules.specs.Hash.{bytes, leaf, attributeBytes}
+use Rattle.rules.specs.Hash.{bytes, leaf, flag, attributeBytes}
 use Rattle.layout.specs.Columns.{columns}
 use Rattle.layout.specs.Reading.{attributeAt}
 use Rattle.fragments.specs.Ignoring.{ignoreOf}
@@ -54,7 +54,7 @@ put-slot-requires c κs =
     (p .0, omega (arith, f .loop-test .taken, p .1 .0))
 
 add-at : tie.Need-add-at Inv-loop μ-loop
-unfolding bytes leaf attributeBytes
+unfolding bytes leaf flag attributeBytes
 add-at c =
     let f = round c in
     let i = f .before .loop .inv in
@@ -70,13 +70,13 @@ next-kept-requires-2 c κs =
     let f = round c in
     let p = begun f .pre in
     let i = f .before .loop .inv in
-    (p .0, (p .1 .0, (omega (arith, f .loop-test .taken, p .1 .0), λ k b e. p .1 .1 .1 k (omega (arith, i .stop .from, b)) e)))
+    (p .0, (p .1 .0, omega (arith, f .loop-test .taken, p .1 .0)))
 
 loop-less : tie.Need-loop-less Inv-loop μ-loop
 loop-less c = omega (arith, c .next-kept2 .ensures .from, round (c .before) .loop-test .taken)
 
 loop-again : tie.Need-loop-again Inv-loop μ-loop
-unfolding bytes leaf attributeBytes
+unfolding bytes leaf flag attributeBytes
 loop-again c =
     let f = round (c .before) in
     let least = c .before .before .before .before .before .least in

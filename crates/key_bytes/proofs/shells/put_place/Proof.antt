@@ -46,7 +46,7 @@ part-put-attributes-end c = search needs
 put-attributes-requires : tie.Need-put-attributes-requires
 put-attributes-requires c κs =
     let p = begun (c .before .before) .pre in
-    (p .0, (p .1 .slots, (omega arith, p .1 .kinds)))
+    (p .0, (p .1 .slots, omega arith))
 
 add-result : tie.Need-add-result
 add-result c =

@@ -25,7 +25,7 @@ returns c =
     let s = c .before .before .before in
     let C = columns (s .args .store .now) in
     c .all-below .ensures
-    ∙ ap (all (λ (x : ℕ). ltb x 64)) (c .before .words .ensures)
+    ∙ ap (all (λ (x : ℕ). ltb x 128)) (c .before .words .ensures)
     ∙ kinds-slice C (s .args .first) (s .args .count) (omega (arith, columns-shaped (s .args .store .now) (s .pre .0) slotKind))
 
 pub kinds-fit-spec : {M : Type 1} → statement M

@@ -18,12 +18,12 @@ abbrev μ-loop : tie.MeasureT-loop
 next-kept-requires : tie.Need-next-kept-requires Inv-loop μ-loop
 next-kept-requires c κs =
     let s = c .before in
-    (s .pre .0, (s .pre .1 .0, (s .pre .1 .1 .0, s .pre .1 .1 .1 .0)))
+    (s .pre .0, (s .pre .1 .0, s .pre .1 .1 .0))
 
 next-kept-requires-2 : tie.Need-next-kept-requires-2 Inv-loop μ-loop
 next-kept-requires-2 c κs =
     let s = c .before .before in
-    (s .pre .0, (s .pre .1 .1 .1 .1 .0, (s .pre .1 .1 .1 .1 .1 .0, s .pre .1 .1 .1 .1 .1 .1)))
+    (s .pre .0, (s .pre .1 .1 .1 .0, s .pre .1 .1 .1 .1))
 
 loop-holds : tie.Need-loop-holds Inv-loop μ-loop
 loop-holds c =
@@ -56,7 +56,7 @@ attribute-eq-requires c κs =
     let s = begun turn in
     let w = turn .before .loop .inv in
     let h = turn .loop-test .taken in
-    (s .pre .0, (omega (arith, s .pre .1 .0), omega (arith, s .pre .1 .1 .1 .1 .0, c .if1 .left)))
+    (s .pre .0, (omega (arith, s .pre .1 .0), omega (arith, s .pre .1 .1 .1 .0, c .if1 .left)))
 
 returns-2 : tie.Need-returns-2 Inv-loop μ-loop
 returns-2 c =
@@ -77,7 +77,7 @@ add-next-kept c =
     let turn = c .before .before .before in
     let s = begun turn in
     let w = turn .before .loop .inv in
-    omega (arith, s .pre .1 .0, s .pre .1 .1 .1 .1 .0, w .left .1, w .right .1)
+    omega (arith, s .pre .1 .0, s .pre .1 .1 .1 .0, w .left .1, w .right .1)
 
 next-kept-requires-3 : tie.Need-next-kept-requires-3 Inv-loop μ-loop
 next-kept-requires-3 c κs =
@@ -85,14 +85,14 @@ next-kept-requires-3 c κs =
     let s = begun turn in
     let w = turn .before .loop .inv in
     let h = turn .loop-test .taken in
-    (s .pre .0, (s .pre .1 .0, (omega arith, λ k b e. s .pre .1 .1 .1 .0 k (omega (arith, w .left .0, b)) e)))
+    (s .pre .0, (s .pre .1 .0, omega arith))
 
 add-next-kept-2 : tie.Need-add-next-kept-2 Inv-loop μ-loop
 add-next-kept-2 c =
     let turn = c .before .before .before .before in
     let s = begun turn in
     let w = turn .before .loop .inv in
-    omega (arith, s .pre .1 .0, s .pre .1 .1 .1 .1 .0, w .left .1, w .right .1)
+    omega (arith, s .pre .1 .0, s .pre .1 .1 .1 .0, w .left .1, w .right .1)
 
 next-kept-requires-4 : tie.Need-next-kept-requires-4 Inv-loop μ-loop
 next-kept-requires-4 c κs =
@@ -100,7 +100,7 @@ next-kept-requires-4 c κs =
     let s = begun turn in
     let w = turn .before .loop .inv in
     let h = c .before .before .before .if1 .left in
-    (s .pre .0, (s .pre .1 .1 .1 .1 .0, (omega arith, λ k b e. s .pre .1 .1 .1 .1 .1 .1 k (omega (arith, w .right .0, b)) e)))
+    (s .pre .0, (s .pre .1 .1 .1 .0, omega arith))
 
 loop-less : tie.Need-loop-less Inv-loop μ-loop
 loop-less c =

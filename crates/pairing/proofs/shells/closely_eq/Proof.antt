@@ -23,7 +23,7 @@ add-rend c = search needs
 attributes-eq-requires : tie.Need-attributes-eq-requires
 attributes-eq-requires c κs =
     let p = c .before .before .before .before .before .before .pre in
-    (p .0, (p .1 .1 .0 .slots, (omega arith, (p .1 .1 .0 .kinds, (p .1 .1 .1 .slots, (omega arith, p .1 .1 .1 .kinds))))))
+    (p .0, (p .1 .1 .0 .slots, (omega arith, (p .1 .1 .1 .slots, omega arith))))
 
 returns-2 : tie.Need-returns-2
 unfolding sameClosely

@@ -24,14 +24,14 @@ key-was-none-requires c κs =
     owner-small b t w (told b t w (attributeOf (a .attribute)) _ (s .pre .1 .1) .owner)
 
 put-added-requires : tie.Need-put-added-requires
-unfolding PlaceMeans
+unfolding PlaceMeans attributeOf
 put-added-requires c κs =
     let s = c .before .before .before in
     let a = s .args in
     let b = a .store .now in
     let t = lent-facts b (s .pre .0) .tables in
     let p = told b t (ownerOf (a .owner)) (attributeOf (a .attribute)) _ (s .pre .1 .1) in
-    (t, (p .owner, (p .low, p .room)))
+    (t, (p .owner, (p .low, (p .room, p .fits))))
 
 remember-requires : tie.Need-remember-requires
 unfolding PlaceMeans

@@ -50,13 +50,14 @@ attribute-was-requires c κs =
     (t .sized, (owner-small b t w (owner-there b t w x (p .clear)), p .reached))
 
 put-replaced-requires : tie.Need-put-replaced-requires
-unfolding PlaceMeans
+unfolding PlaceMeans attributeOf
 put-replaced-requires c κs =
     let s = c .before .before .before .before .before .before .before in
     let a = s .args in
     let b = a .store .now in
     let t = lent-facts b (s .pre .0) .tables in
-    (t .sized, told b t (ownerOf (a .owner)) (attributeOf (a .attribute)) _ (s .pre .1 .1) .reached)
+    let p = told b t (ownerOf (a .owner)) (attributeOf (a .attribute)) _ (s .pre .1 .1) in
+    (t .sized, (p .reached, p .fits))
 
 remember-requires : tie.Need-remember-requires
 unfolding PlaceMeans

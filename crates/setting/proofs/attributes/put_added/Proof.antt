@@ -3,7 +3,7 @@ use Prim.Native.Nat.{ℕ, _+_}
 use native.Mathlib.Omega.{arith}
 use mathlib.Core.Path.{ap, ap₂, _∙_}
 use Rattle.layout.specs.Columns.{Cols, columns, write}
-use Rattle.layout.specs.Reading.{slotsOf, attributeCount}
+use Rattle.layout.specs.Reading.{slotsOf, kindCode, attributeCount}
 use Rattle.layout.specs.Owners.{ownerOf, keyCount}
 use Rattle.layout.proofs.OwnerKeys.{count-reached}
 use Rattle.calling.specs.Types.{attributeOf}
@@ -32,9 +32,12 @@ add-end c =
     let r = reachable (a .store .now) (s .pre .0) (ownerOf (a .owner)) (s .pre .1 .0) in
     omega arith
 
+kind-code-requires : tie.Need-kind-code-requires
+kind-code-requires c κs = search needs
+
 insert-requires : tie.Need-insert-requires
 insert-requires c κs =
-    let s = c .before .before .before .before .before .before .before in
+    let s = c .before .before .before .before .before .before .before .before in
     let a = s .args in
     let r = reachable (a .store .now) (s .pre .0) (ownerOf (a .owner)) (s .pre .1 .0) in
     (omega (arith, s .pre .0 .sized), (omega arith, (omega arith, omega arith)))
@@ -42,7 +45,7 @@ insert-requires c κs =
 insert-requires-2 : tie.Need-insert-requires-2
 insert-requires-2 c κs =
     let first = c .before .before .before in
-    let slot-known = first .before .before in
+    let slot-known = first .before .before .before in
     let s = slot-known .before .before .before .before .before .before in
     let a = s .args in
     let r = reachable (a .store .now) (s .pre .0) (ownerOf (a .owner)) (s .pre .1 .0) in
@@ -52,7 +55,7 @@ insert-requires-3 : tie.Need-insert-requires-3
 insert-requires-3 c κs =
     let second = c .before .before .before in
     let first = second .before .before .before .before in
-    let slot-known = first .before .before in
+    let slot-known = first .before .before .before in
     let s = slot-known .before .before .before .before .before .before in
     let a = s .args in
     let r = reachable (a .store .now) (s .pre .0) (ownerOf (a .owner)) (s .pre .1 .0) in
@@ -63,7 +66,7 @@ abbrev started : tie.After-insert3 → tie.Start
 started c =
     let second = c .before .before .before .before in
     let first = second .before .before .before .before in
-    let slot-known = first .before .before in
+    let slot-known = first .before .before .before in
     slot-known .before .before .before .before .before .before
 
 -- and from where the owner's count is written back to that insertion
@@ -125,7 +128,8 @@ returns c =
     let i₃ = k .before .before .before .before in
     let i₂ = i₃ .before .before .before .before in
     let i₁ = i₂ .before .before .before .before in
-    let f = i₁ .before .before in
+    let v = i₁ .before .before in
+    let f = v .before in
     let t = f .before in
     let q = t .before .before in
     let s = q .before .before .before in
@@ -136,8 +140,8 @@ returns c =
     let count = q .key-count .ensures in
     let total = t .number .ensures in
     let e = f .first-slot .result + q .key-count .result in
-    let I : ℕ → Cols = λ (x : ℕ). inserted (inserted (inserted C 29 (a .slot) x (b .key)) 30 (a .slot) x (b .kind)) 31 (a .slot) x (b .content) in
-    let D : Cols = I (slotsOf w + keyCount C w) in
+    let I : ℕ → ℕ → Cols = λ (x y : ℕ). inserted (inserted (inserted C 29 (a .slot) x (b .key)) 30 (a .slot) x y) 31 (a .slot) x (b .content) in
+    let D : Cols = I (slotsOf w + keyCount C w) (kindCode (b .kind) (b .inherent)) in
     c .before .before .put2 .ensures
     ∙ ap₂ (λ (X : Cols) (x : ℕ). write X 0 6 (x + 1))
     (p .put .ensures
@@ -145,8 +149,8 @@ returns c =
     (i₃ .insert3 .ensures
     ∙ ap (λ (X : Cols). inserted X 31 (a .slot) e (b .content))
     (i₂ .insert2 .ensures
-    ∙ ap (λ (X : Cols). inserted X 30 (a .slot) e (b .kind)) (i₁ .insert .ensures))
-    ∙ ap I (ap₂ _+_ (f .first-slot .ensures) count))
+    ∙ ap (λ (X : Cols). inserted X 30 (a .slot) e (v .kind-code .result)) (i₁ .insert .ensures))
+    ∙ ap₂ I (ap₂ _+_ (f .first-slot .ensures) count) (v .kind-code .ensures))
     count
     ∙ ap₂ (λ (k n : ℕ). write D k n (keyCount C w + 1)) (k .count-column .ensures) (o .owner-number .ensures))
     total
@@ -159,6 +163,7 @@ put-added-spec =
     number-requires
     first-slot-requires
     add-end
+    kind-code-requires
     insert-requires
     insert-requires-2
     insert-requires-3

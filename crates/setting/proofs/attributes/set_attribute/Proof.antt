@@ -19,23 +19,23 @@ enum-known-slot : tie.Need-enum-known-slot
 enum-known-slot c = search needs
 
 put-replaced-requires : tie.Need-put-replaced-requires
-unfolding PlaceMeans
+unfolding PlaceMeans attributeOf
 put-replaced-requires c κs =
     let s = c .before .before .before .before .before .before .before in
     let a = s .args in
     let p = told (a .store .now) (s .pre) (ownerOf (a .owner)) (attributeOf (a .attribute)) _ (sym (c .before .before .slot .given .1) ∙ c .before .before .before .before .place-for .ensures) in
-    (s .pre .sized, p .reached)
+    (s .pre .sized, (p .reached, p .fits))
 
 enum-known-slot-2 : tie.Need-enum-known-slot-2
 enum-known-slot-2 c = search needs
 
 put-added-requires : tie.Need-put-added-requires
-unfolding PlaceMeans
+unfolding PlaceMeans attributeOf
 put-added-requires c κs =
     let s = c .before .before .before .before .before .before .before in
     let a = s .args in
     let p = told (a .store .now) (s .pre) (ownerOf (a .owner)) (attributeOf (a .attribute)) _ (sym (c .before .before .slot2 .given .1) ∙ c .before .before .before .before .place-for .ensures) in
-    (s .pre, (p .owner, (p .low, p .room)))
+    (s .pre, (p .owner, (p .low, (p .room, p .fits))))
 
 same-length : tie.Need-same-length
 same-length c = search needs

@@ -2,7 +2,6 @@
 use native.Mathlib.Omega.{arith}
 use mathlib.Core.Path.{subst}
 use Rattle.layout.specs.Columns.{columns}
-use Rattle.calling.specs.Types.{attributeOf}
 use Rattle.journal.specs.Journal.{Entry}
 use Rattle.undoing.specs.Undoing.{Undid}
 use Rattle.undoing.proofs.EntryRead.{operand-entry, attribute-entry, key-entry}
@@ -31,6 +30,9 @@ undo-operand-requires c κs = search needs
 owner-from-requires : tie.Need-owner-from-requires
 owner-from-requires c κs = search needs
 
+attribute-from-requires : tie.Need-attribute-from-requires
+attribute-from-requires c κs = search needs
+
 undo-attribute-requires : tie.Need-undo-attribute-requires
 undo-attribute-requires c κs = search needs
 
@@ -48,34 +50,34 @@ returns c =
     let done = c .before .before in
     let sort = done .before .before .before in
     let content = sort .before .before in
-    let kind = content .before .before in
-    let key = kind .before .before in
+    let word = content .before .before in
+    let key = word .before .before in
     let owner = key .before .before in
     let s = owner .before .before .before in
     let a = s .args in
     let C = columns (a .store .now) in
     subst (λ (e : Entry). Undid (a .store .now) (done .undo-operand .last .0) e (done .undo-operand .result))
-    (operand-entry C (a .i) _ _ _ (owner .at .ensures) (key .at2 .ensures) (kind .at3 .ensures) (omega arith))
+    (operand-entry C (a .i) _ _ _ (owner .at .ensures) (key .at2 .ensures) (word .at3 .ensures) (omega arith))
     (done .undo-operand .ensures)
 
 same-length-2 : tie.Need-same-length-2
 same-length-2 c = search needs
 
 returns-2 : tie.Need-returns-2
-unfolding attributeOf
 returns-2 c =
     let done = c .before .before in
-    let named = done .before in
+    let read = done .before in
+    let named = read .before in
     let sort = named .before .before .before in
     let content = sort .before .before in
-    let kind = content .before .before in
-    let key = kind .before .before in
+    let word = content .before .before in
+    let key = word .before .before in
     let owner = key .before .before in
     let s = owner .before .before .before in
     let a = s .args in
     let C = columns (a .store .now) in
     subst (λ (e : Entry). Undid (a .store .now) (done .undo-attribute .last .0) e (done .undo-attribute .result))
-    (attribute-entry C (a .i) _ _ _ (owner .at .ensures) (key .at2 .ensures) (kind .at3 .ensures) _ (named .owner-from .ensures) _ (content .at4 .ensures) (omega arith))
+    (attribute-entry C (a .i) _ _ _ (owner .at .ensures) (key .at2 .ensures) (word .at3 .ensures) _ (named .owner-from .ensures) _ _ (read .attribute-from .ensures) (content .at4 .ensures) (omega arith))
     (done .undo-attribute .ensures)
 
 same-length-3 : tie.Need-same-length-3
@@ -88,14 +90,14 @@ returns-3 c =
     let other = named .before .before in
     let sort = other .before in
     let content = sort .before .before in
-    let kind = content .before .before in
-    let key = kind .before .before in
+    let word = content .before .before in
+    let key = word .before .before in
     let owner = key .before .before in
     let s = owner .before .before .before in
     let a = s .args in
     let C = columns (a .store .now) in
     subst (λ (e : Entry). Undid (a .store .now) (done .undo-new-key .last .0) e (done .undo-new-key .result))
-    (key-entry C (a .i) _ _ _ (owner .at .ensures) (key .at2 .ensures) (kind .at3 .ensures) _ (named .owner-from2 .ensures) (omega (arith, other .match .rest .0 .1, other .match .rest .1)))
+    (key-entry C (a .i) _ _ _ (owner .at .ensures) (key .at2 .ensures) (word .at3 .ensures) _ (named .owner-from2 .ensures) (omega (arith, other .match .rest .0 .1, other .match .rest .1)))
     (done .undo-new-key .ensures)
 
 pub undo-entry-spec : {M : Type 1} → statement M
@@ -109,6 +111,7 @@ undo-entry-spec =
     at-requires-5
     undo-operand-requires
     owner-from-requires
+    attribute-from-requires
     undo-attribute-requires
     owner-from-requires-2
     undo-new-key-requires

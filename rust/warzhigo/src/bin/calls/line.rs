@@ -1,7 +1,7 @@
 //! What a line asks for.
 
 use warzhigo::lent::Owner;
-use warzhigo::{Attribute, Ignore};
+use warzhigo::{Attribute, Ignore, Inherent};
 
 use crate::fields::Fields;
 
@@ -93,7 +93,8 @@ impl Line {
         let line = match f.word()? {
             "o" => operation(f)?,
             "b" => Line::Block { region: f.number()?, label: f.number()?, location: f.number()?, argument_types: f.list()? },
-            "a" => Line::Attribute(owner(f)?, Attribute { key: f.number()?, kind: f.number()?, content: f.number()? }),
+            "a" => attribute(f, Inherent::No)?,
+            "i" => attribute(f, Inherent::Yes)?,
             "s" => Line::Operand { op: f.number()?, index: f.number()?, value: f.number()? },
             "M" => Line::Mark(f.number()?),
             "G" => Line::GoBack(f.number()?),
@@ -124,6 +125,10 @@ fn operation(f: &mut Fields) -> Option<Line> {
         operands: f.list()?,
         successors: f.list()?,
     })
+}
+
+fn attribute(f: &mut Fields, inherent: Inherent) -> Option<Line> {
+    Some(Line::Attribute(owner(f)?, Attribute { key: f.number()?, kind: f.number()?, content: f.number()?, inherent }))
 }
 
 fn owner(f: &mut Fields) -> Option<Owner> {

@@ -2,7 +2,7 @@
 
 use std::fmt::{Display, Write};
 
-use warzhigo::{Attribute, Owner, Run, Store};
+use warzhigo::{Attribute, Inherent, Owner, Run, Store};
 
 use crate::replay::ENTRIES;
 
@@ -34,8 +34,13 @@ fn list(items: impl Iterator<Item = impl Display>) -> String {
     format!("[{}]", joined(items, ","))
 }
 
+/// `[0:63:9,2:5:1:i]`, with `:i` behind an inherent one.
 fn attributes(items: impl Iterator<Item = Attribute>) -> String {
-    list(items.map(|Attribute { key, kind, content }| format!("{key}:{kind}:{content}")))
+    let flag = |inherent| match inherent {
+        Inherent::No => "",
+        Inherent::Yes => ":i",
+    };
+    list(items.map(|Attribute { key, kind, content, inherent }| format!("{key}:{kind}:{content}{}", flag(inherent))))
 }
 
 /// All that the store holds, a line for each thing, parted by vertical bars.
