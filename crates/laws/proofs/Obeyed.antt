@@ -23,6 +23,7 @@ use Rattle.marks.proofs.Lent.{lent-facts}
 use Rattle.building.specs.Calls.{AfterCalls}
 use Rattle.building.proofs.Answering.{after-calls}
 use Rattle.mapping.specs.MappingWords.{mappingOf, emptyWords}
+use Rattle.equivalence.specs.Calls as comparisons
 use Rattle.pairing.specs.Told.{answerOf}
 use Rattle.mapping.proofs.Unmapped.{empty-words}
 use Rattle.pairing.specs.declared.types.EqResult.{EqResult}
@@ -63,16 +64,21 @@ module _ (b : List ℕ) (sd : soundLent b ≡ true) (types : List ℕ) (th : typ
   unfolding RenamedPremise
   apart x y p = renamed-premise types (storeIn b) f x y .1 p
 
-  laws : Laws read ig f
+  pub laws : Laws read ig f
   unfolding LawsOfSound RenamedSound
   laws = laws-of-sound read (renamed-sound types (storeIn b) ruled) ig f
 
   module _ (x y : ℕ) (ix : In (storeIn b) f x) (iy : In (storeIn b) f y) where
+    -- the rules' comparison has this answer, and leaves what the words are read as
+    pub told : (q : EqResult) (words : List ℕ) → comparisons.Answered (soundLent b) b types emptyWords words ig f x y q
+        → comparison true (storeIn b) types emptyMapping ig f x y ≡ record { answer = answerOf q; mapping = mappingOf words }
+    told q words h =
+        subst (λ (m : Mapping). comparison true (storeIn b) types m ig f x y ≡ record { answer = answerOf q; mapping = mappingOf words }) empty-words
+        (subst (λ (t : Bool). comparison t (storeIn b) types (mappingOf emptyWords) ig f x y ≡ record { answer = answerOf q; mapping = mappingOf words }) sd (h .told))
+
     answered : (q : EqResult) → Compares b types ig f x y q → comparison true (storeIn b) types emptyMapping ig f x y .answer ≡ answerOf q
     unfolding Compares
-    answered q (after, h) =
-        subst (λ (m : Mapping). comparison true (storeIn b) types m ig f x y .answer ≡ answerOf q) empty-words
-        (subst (λ (t : Bool). comparison t (storeIn b) types (mappingOf emptyWords) ig f x y .answer ≡ answerOf q) sd (ap (λ (c : Comparison). c .answer) (h .told)))
+    answered q (words, h) = ap (λ (c : Comparison). c .answer) (told q words h)
 
     pub says : (q : EqResult) → Compares b types ig f x y q → Equal read ig f x y → SaysEqual q
     says q c e =

@@ -11,4 +11,7 @@ pub mod LockStep
 pub mod Tokens
 pub mod Hashes
 pub mod Canonical
+pub mod Passed
 pub mod Inherent
+pub mod SideBySide
+pub mod Beside

@@ -5,6 +5,7 @@ pub mod Types
 pub mod Walking
 pub mod Form
 pub mod Laws
+pub mod MappingLaws
 pub mod Keys
 pub mod Runs
 pub mod Attributes
@@ -13,5 +14,6 @@ pub mod Starred
 pub mod Listings
 pub mod Listed
 pub mod Needed
+pub mod MappingComputed
 pub mod Marks
 pub mod Stated

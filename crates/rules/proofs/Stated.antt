@@ -1,7 +1,8 @@
--- The statements of `specs/Statements`, each by the lemma that it is. (`accepted-exactly`, `unignored-same`, `premise-needed`,
--- `premise-needed-thrice` and those about keys are proved where they stand.) Assumes nothing.
+-- The statements of `specs/Statements` and `specs/MappingLaws`, each by the lemma that it is. (`accepted-exactly`, `unignored-same`,
+-- `premise-needed`, `premise-needed-thrice` and those about keys are proved where they stand.) Assumes nothing.
 use Rattle.rules.specs.Store.{emptyStore}
 use Rattle.rules.specs.Statements as stated
+use Rattle.rules.specs.MappingLaws as mapped
 use Rattle.rules.proofs.Soundness.Kept as kept
 use Rattle.rules.proofs.Walking.Answered as walking
 use Rattle.rules.proofs.Walking.Paired as pairing
@@ -12,6 +13,8 @@ use Rattle.rules.proofs.Listings.Counted as counting
 use Rattle.rules.proofs.Walking.Sizes as sizing
 use Rattle.rules.proofs.Form.Canonical as forms
 use Rattle.rules.proofs.Form.Inherent as inherent
+use Rattle.rules.proofs.Form.SideBySide as sides
+use Rattle.rules.proofs.MappingLaws as mapping
 use Rattle.rules.proofs.Listings.Short as printing
 use Rattle.rules.proofs.Marks.Accepted as accepting
 use Rattle.rules.proofs.Marks.Kept as marking
@@ -125,3 +128,12 @@ first-uses s ig b l r ls rs h i k = uses.first-uses s ig b l r ls rs h i k
 pub inherent-kept : stated.InherentKept
 unfolding stated.InherentKept
 inherent-kept s sd ig f a b ia e = inherent.inherent-kept s sd ig f a b ia e
+
+pub side-by-side : mapped.SideBySide
+side-by-side = sides.side-by-side
+
+pub mapping-laws-of-sound : mapped.MappingLawsOfSound
+mapping-laws-of-sound = mapping.mapping-laws-of-sound
+
+pub mapping-laws-after : mapped.MappingLawsAfter
+mapping-laws-after = mapping.mapping-laws-after

@@ -18,6 +18,7 @@ pub mod Asked
 pub mod Rust
 pub mod Agreement
 pub mod Laws
+pub mod MappingLaws
 pub mod Runs
 pub mod Marks
 pub mod Form
@@ -29,3 +30,4 @@ pub mod KeyCases
 pub mod TypeCases
 pub mod RunCases
 pub mod MarkCases
+pub mod MappingCases

@@ -37,9 +37,14 @@ impl Identity {
         count
     }
 
+    /// Is it a store's first, by which the store is known?
+    pub(crate) fn is_first(self) -> bool {
+        self.0 & LATER == 0
+    }
+
     /// May both be of one store? First eras of different stores are told apart without the store.
     pub(crate) fn may_be_of_one_store(self, other: Identity) -> bool {
-        self == other || (self.0 | other.0) & LATER != 0
+        self == other || !self.is_first() || !other.is_first()
     }
 }
 

@@ -21,6 +21,7 @@
 //! - [`operation_eq`], [`basic_block_eq`] and [`region_eq`] compare, [`operation_hash`], [`basic_block_hash`] and [`region_hash`] hash; names
 //!   and parameters are those of pliron's `irbuild::equivalence`. [`Ignore`] says what doesn't count, [`Inherent`] which attributes always
 //!   do, [`Mapping`] what corresponds.
+//! - [`Mapping::entries`] writes down what corresponds, [`Mapping::inverse`] reads it backwards, and [`Mapping::then`] puts two together.
 //! - [`Renamed`] is a list of types that have been renamed: calls that are asked under one compare, hash and file by present types.
 //! - [`operation_key`], [`basic_block_key`] and [`region_key`] give the bytes by which a fragment is filed, and [`compare_keys`] their order.
 //! - [`Store::repeated_run`] finds two equal runs of operations in one block.
@@ -39,6 +40,7 @@
 extern crate alloc;
 
 mod columns;
+mod entries;
 mod equivalence;
 mod eras;
 #[allow(unsafe_code)] // the only module that has any
@@ -56,6 +58,7 @@ mod runs;
 mod store;
 mod touched;
 
+pub use entries::Entry;
 pub use equivalence::{EqResult, Ignore, basic_block_eq, basic_block_hash, operation_eq, operation_hash, region_eq, region_hash};
 pub use ids::{BlockId, OpId, RegionId, ValueId};
 pub use keys::{

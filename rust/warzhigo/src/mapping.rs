@@ -16,6 +16,9 @@ use crate::touched::{Touched, entered};
 /// comparison in another store while it has any, it is refused by 8; so it is where an entry names what has gone since, when the store went
 /// [back to a mark](Store::go_back). After [`clear`](Mapping::clear) it can be lent anew, to any store.
 ///
+/// That of an equal comparison can be filed with a merge: [`entries`](Mapping::entries) lists it, [`inverse`](Mapping::inverse) reads it
+/// backwards, and [`then`](Mapping::then) puts two together. Mappings are equal where they have the same entries.
+///
 /// ```
 /// use warzhigo::{Ignore, Mapping, NewOperation, Store, operation_eq};
 ///
@@ -44,6 +47,12 @@ impl Mapping {
     pub fn from_words(store: &Store, words: impl Into<Box<[u32]>>) -> Result<Mapping, Refused> {
         let words = AllowedWords::tested(words.into(), &store.sound)?;
         Ok(Mapping { words, touched: Touched::all() })
+    }
+
+    /// The mapping that has these words.
+    pub(crate) fn of(words: AllowedWords) -> Mapping {
+        let touched = Touched::of(words.words());
+        Mapping { words, touched }
     }
 
     /// The words, laid out as docs/STORE.md says: to keep, copy or send.

@@ -20,6 +20,11 @@ impl Touched {
         Touched([all::<ValueId>(), all::<BlockId>(), all::<OpId>()])
     }
 
+    /// Where these words of a mapping have entries.
+    pub(crate) fn of(mapping: &[u32]) -> Touched {
+        Touched(Touched::all().0.map(|entries| span(mapping, entries)))
+    }
+
     #[inline]
     pub(crate) fn is_empty(&self) -> bool {
         self.0.iter().all(Range::is_empty)
@@ -44,6 +49,14 @@ impl Touched {
 /// All entries of one sort.
 fn all<I: Mapped>() -> Range<usize> {
     I::ENTRIES..I::ENTRIES + I::COUNT
+}
+
+/// From the first to the last of these entries that is set.
+fn span(mapping: &[u32], entries: Range<usize>) -> Range<usize> {
+    let is_set = |at: &usize| mapping[*at] != NONE;
+    let first = entries.clone().find(is_set);
+    let last = entries.clone().rfind(is_set);
+    first.zip(last).map_or(0..0, |(first, last)| first..last + 1)
 }
 
 /// Widens a range of entries so that it holds those of these numbers.

@@ -2,15 +2,13 @@
 -- fragments have equal tokens, if they are the same or the left names nothing that the right defines. Assumes nothing.
 use Prim.Native.Nat.{ℕ, _≤_, _<_}
 use native.Mathlib.Nat.{le-trans}
-use native.Mathlib.Decide.{decLt}
-use native.Mathlib.Omega.{arith}
 use mathlib.Core.Bool.{true}
 use mathlib.Core.List.{List, [], _∷_, _++_, append-nil, List·Memᴰ}
 use mathlib.Core.Logic.{_⊎_, inl, inr, ⊎-elim}
 use mathlib.Core.Option.{some, Option·none-ne-some}
 use mathlib.Core.Path.{_≡_, refl, sym, ap, ap₂, subst, _∙_}
 use lib.Dec.{lit≤}
-use lib.ListN.{length, getD, replicate, length-replicate, getD-replicate, List·getD-eq-default}
+use lib.ListN.{length, replicate, length-replicate}
 use Rattle.rules.specs.Lists.{concatMap}
 use Rattle.rules.specs.Store.{Store, valuesOf, sound, maxValues, maxBlocks}
 use Rattle.rules.specs.Fragments.{Sort, Step, shell, names, counted, steps, stepDefines, stepOperands, stepSuccessors, blockOwner, definesOwners, definesValues, definesBlocks, namesValues, namesBlocks, NamesNothingOf}
@@ -22,8 +20,9 @@ use Rattle.rules.specs.Laws.{succeeds, equal, Equal, In}
 use Rattle.rules.specs.Form.{Event, step, more, done, events, tokens, canonical}
 use Rattle.rules.proofs.Soundness.Sound.{facts}
 use Rattle.rules.proofs.Basics.Tests.{clash}
-use Rattle.rules.proofs.Basics.Distinct.{concatMap-concatMap}
-use Rattle.rules.proofs.Form.Images.{Empty}
+use Rattle.rules.proofs.Basics.Distinct.{Distinct, concatMap-concatMap}
+use Rattle.rules.proofs.Basics.Entries.{none-at}
+use Rattle.rules.proofs.Form.Images.{Empty, Once}
 use Rattle.rules.proofs.Form.Events.{bareSteps, bare-events, lock}
 use Rattle.rules.proofs.Form.LockStep.{going, lock-step}
 use Rattle.rules.proofs.Form.Tokens.{eventValues, eventBlocks, eventOperands, eventSuccessors, Rest, Whole, Related, Apart, tokens-equal, lock-goes-on}
@@ -33,17 +32,18 @@ use Rattle.rules.proofs.Walking.Deep.{compare-not-deep}
 
 -- ---- the empty mapping
 
-empty-table : (n : ℕ) → n ≤ noImage → Empty (replicate n noImage)
+pub empty-table : (n : ℕ) → n ≤ noImage → Empty (replicate n noImage)
 unfolding image orSelf
 empty-table n l =
     record {
-      self = λ v. ap (λ (e : ℕ). orSelf e v) (at-none v (decLt v n));
+      self = λ v. ap (λ (e : ℕ). orSelf e v) (none-at n v);
       small = subst (λ (k : ℕ). k ≤ noImage) (sym (length-replicate n noImage)) l;
     }
-  where
-    at-none : (v : ℕ) → Dec (v < n) → getD (replicate n noImage) v noImage ≡ noImage
-    at-none v (yes h) = getD-replicate n v noImage noImage h
-    at-none v (no h) = List·getD-eq-default (replicate n noImage) noImage (subst (λ (k : ℕ). k ≤ v) (sym (length-replicate n noImage)) (omega arith))
+
+-- numbers below a total that the table has room for
+pub within : (size total : ℕ) (D : List ℕ) → total ≤ size → Distinct D → ((v : ℕ) → List·Memᴰ v D → v < total) → Once (length (replicate size noImage)) D
+within size total D fits once here =
+    record { once = once; inside = λ v m. subst (λ (k : ℕ). v < k) (sym (length-replicate size noImage)) (le-trans (here v m) fits) }
 
 -- ---- what the events define and name is what the fragment does
 
@@ -109,30 +109,14 @@ empty-blocks : Empty EB
 unfolding emptyMapping
 empty-blocks = empty-table maxBlocks (lit≤ tt)
 
-values-size : length EV ≡ maxValues
-unfolding emptyMapping
-values-size = length-replicate maxValues noImage
-
-blocks-size : length EB ≡ maxBlocks
-unfolding emptyMapping
-blocks-size = length-replicate maxBlocks noImage
-
 module _ (s : Store) (sd : sound s ≡ true) where
   whole : (f : Sort) (n : ℕ) → In s f n → Whole EV EB (all-defined s f n)
-  unfolding all-defined
+  unfolding all-defined emptyMapping
   whole f n h =
       let so = facts s sd in
-      let v : length (s .values) ≤ maxValues = so .totals .values in
-      let b : length (s .blocks) ≤ maxBlocks = so .totals .blocks in
       record {
-        values = record {
-          once = values-once s so f n h;
-          inside = λ x m. subst (λ (k : ℕ). x < k) (sym values-size) (le-trans (values-here s so f n x m) v);
-        };
-        blocks = record {
-          once = blocks-once s so f n h;
-          inside = λ x m. subst (λ (k : ℕ). x < k) (sym blocks-size) (le-trans (blocks-here s so f n h x m) b);
-        };
+        values = within maxValues (length (s .values)) (definesValues s f n) (so .totals .values) (values-once s so f n h) (values-here s so f n);
+        blocks = within maxBlocks (length (s .blocks)) (definesBlocks s f n) (so .totals .blocks) (blocks-once s so f n h) (blocks-here s so f n h);
       }
 
   module _ (ig : Ignore) (f : Sort) where

@@ -10,13 +10,13 @@ use mathlib.Core.Option.{Option, none, some, Option·some-injective, Option·non
 use mathlib.Core.Path.{_≡_, refl, sym, ap, ap₂, subst, _∙_}
 use borrow.Author.Tests.{eqb-true, eqb-false, eq-eqb, ne-eqb}
 use lib.Dec.{eqb}
-use lib.ListN.{length, getD, set, length-set, length-append}
-use lib.Seq.{getD-set-same, getD-set-other}
+use lib.ListN.{length, getD, length-append}
 use Rattle.rules.specs.Lists.{position, later}
 use Rattle.rules.specs.Mapping.{noImage, orSelf, image, enterAll}
 use Rattle.rules.specs.Hash.{nameAt, nameOf}
 use Rattle.rules.proofs.Basics.Appended.{mem-getD}
 use Rattle.rules.proofs.Basics.Distinct.{Distinct, distinct-left}
+use Rattle.rules.proofs.Basics.Entries.{enter-other, enter-at, enter-append}
 
 -- ---- places
 
@@ -36,7 +36,7 @@ position-some v (x ∷ xs) i h = go (eqb v x) refl (position v xs) refl (λ j. p
         let r = rest j p in
         (omega (arith, r .0), ap (λ (n : ℕ). getD (x ∷ xs) n 0) z ∙ r .1)
 
-position-none : (v : ℕ) (xs : List ℕ) → position v xs ≡ none → List·Memᴰ v xs → ⊥
+pub position-none : (v : ℕ) (xs : List ℕ) → position v xs ≡ none → List·Memᴰ v xs → ⊥
 unfolding position later
 position-none v [] h m = List·Memᴰ·not-nil m
 position-none v (x ∷ xs) h m = go (eqb v x) refl (position v xs) refl (λ p k. position-none v xs p k) h
@@ -52,7 +52,7 @@ unfolding position later
 position-out v [] out = refl
 position-out v (x ∷ xs) out = rw (ne-eqb v x (λ e. out (List·Memᴰ·head e)), position-out v xs (λ m. out (List·Memᴰ·tail m)))
 
-position-at : (xs : List ℕ) → Distinct xs → (i : ℕ) → i < length xs → position (getD xs i 0) xs ≡ some i
+pub position-at : (xs : List ℕ) → Distinct xs → (i : ℕ) → i < length xs → position (getD xs i 0) xs ≡ some i
 unfolding position later
 position-at [] d i l = absurd (not-suc-le-zero l)
 position-at (x ∷ xs) d zero l = rw (eq-eqb x x refl)
@@ -91,24 +91,13 @@ position-other v x (y ∷ ys) ne = rw (position-other v x ys ne)
 
 -- ---- images
 
-image-set-other : (es : List ℕ) (x y v : ℕ) → v ≢ x → image (set es x y) v ≡ image es v
-unfolding image
-image-set-other es x y v ne = ap (λ (e : ℕ). orSelf e v) (getD-set-other es x v y noImage ne)
-
 orSelf-other : (e v : ℕ) → e ≢ noImage → orSelf e v ≡ e
 unfolding orSelf
 orSelf-other e v ne = rw (ne-eqb e noImage ne)
 
-image-set-same : (es : List ℕ) (x y : ℕ) → x < length es → y ≢ noImage → image (set es x y) x ≡ y
-unfolding image
-image-set-same es x y l ne = ap (λ (e : ℕ). orSelf e x) (getD-set-same es x y noImage l) ∙ orSelf-other y x ne
-
 image-outside : (xs ys es : List ℕ) (v : ℕ) → (List·Memᴰ v xs → ⊥) → image (enterAll xs ys es) v ≡ image es v
-unfolding enterAll
-image-outside [] ys es v out = refl
-image-outside (x ∷ xs) [] es v out = refl
-image-outside (x ∷ xs) (y ∷ ys) es v out =
-    image-outside xs ys (set es x y) v (λ m. out (List·Memᴰ·tail m)) ∙ image-set-other es x y v (λ e. out (List·Memᴰ·head e))
+unfolding image
+image-outside xs ys es v out = ap (λ (e : ℕ). orSelf e v) (enter-other xs ys es v out)
 
 -- entered at numbers of the table, with images that are not taken for none
 pub record Fits (size : ℕ) (xs ys : List ℕ) : Type 0 where
@@ -117,38 +106,10 @@ pub record Fits (size : ℕ) (xs ys : List ℕ) : Type 0 where
 
 image-inside : (xs ys es : List ℕ) (v i : ℕ) → Distinct xs → length xs ≡ length ys → Fits (length es) xs ys → position v xs ≡ some i
     → image (enterAll xs ys es) v ≡ getD ys i 0
-unfolding enterAll position later
-image-inside [] ys es v i d len fit h = absurd (Option·none-ne-some i h)
-image-inside (x ∷ xs) [] es v i d len fit h = absurd (omega arith)
-image-inside (x ∷ xs) (y ∷ ys) es v i d len fit h =
-    go (eqb v x) refl (position v xs) refl
-    (λ j p. image-inside xs ys (set es x y) v j (d .1) (omega arith)
-    (record {
-      inside = λ z m. subst (λ (n : ℕ). z < n) (sym (length-set es x y)) (fit .inside z (List·Memᴰ·tail m));
-      images = λ z m. fit .images z (List·Memᴰ·tail m);
-    }) p)
-    h
-  where
-    go : (b : Bool) → eqb v x ≡ b → (o : Option ℕ) → position v xs ≡ o
-        → ((j : ℕ) → position v xs ≡ some j → image (enterAll xs ys (set es x y)) v ≡ getD ys j 0)
-        → cond b (some 0) (later o) ≡ some i → image (enterAll xs ys (set es x y)) v ≡ getD (y ∷ ys) i 0
-    go true e o p rest k =
-        let z : 0 ≡ i = Option·some-injective 0 i k in
-        let q : v ≡ x = eqb-true v x e in
-        image-outside xs ys (set es x y) v (λ m. d .0 (subst (λ (n : ℕ). List·Memᴰ n xs) q m))
-        ∙ ap (image (set es x y)) q
-        ∙ image-set-same es x y (fit .inside x (List·Memᴰ·head refl)) (fit .images y (List·Memᴰ·head refl))
-        ∙ ap (λ (n : ℕ). getD (y ∷ ys) n 0) z
-    go false e none p rest k = absurd (Option·none-ne-some i k)
-    go false e (some j) p rest k = rest j p ∙ ap (λ (n : ℕ). getD (y ∷ ys) n 0) (Option·some-injective (suc j) i k)
-
--- entering goes on where it left off
-enterAll-append : (xs ys xs′ ys′ es : List ℕ) → length xs ≡ length ys → enterAll (xs ++ xs′) (ys ++ ys′) es ≡ enterAll xs′ ys′ (enterAll xs ys es)
-unfolding enterAll
-enterAll-append [] [] xs′ ys′ es len = refl
-enterAll-append [] (y ∷ ys) xs′ ys′ es len = absurd (omega arith)
-enterAll-append (x ∷ xs) [] xs′ ys′ es len = absurd (omega arith)
-enterAll-append (x ∷ xs) (y ∷ ys) xs′ ys′ es len = enterAll-append xs ys xs′ ys′ (set es x y) (omega arith)
+unfolding image
+image-inside xs ys es v i d len fit p =
+    let l : i < length ys = omega (arith, position-some v xs i p .0) in
+    ap (λ (e : ℕ). orSelf e v) (enter-at xs ys es v i d len (fit .inside) p) ∙ orSelf-other (getD ys i 0) v (fit .images (getD ys i 0) (mem-getD ys i 0 l))
 
 -- ---- names
 
@@ -203,7 +164,7 @@ pub record Entered (E m L R : List ℕ) : Type 0 where
 pub entered-more : (E m L R l r : List ℕ) → Entered E m L R → length l ≡ length r → Entered E (enterAll l r m) (L ++ l) (R ++ r)
 entered-more E m L R l r h len =
     record {
-      made = ap (enterAll l r) (h .made) ∙ sym (enterAll-append L R l r E (h .lengths));
+      made = ap (enterAll l r) (h .made) ∙ sym (enter-append L R l r E (h .lengths));
       lengths = length-append L l ∙ ap₂ _+_ (h .lengths) len ∙ sym (length-append R r);
     }
 

@@ -10,13 +10,38 @@ use borrow.Author.Tests.{ltb-true}
 use lib.ListN.{length, getD}
 use Rattle.rules.specs.Lists.{concatMap}
 use Rattle.rules.specs.Store.{Store, Owner, ofOp, ofBlock, blocksOf, regionsOf, valuesOf, blockAt, opAround, ownerExists, opExists, blockExists}
-use Rattle.rules.specs.Fragments.{Sort, op, block, region, exists, levels, Step, fullOp, regionSteps, steps, stepDefines, blockOwner, definesOwners, definesValues, definesBlocks}
+use Rattle.rules.specs.Fragments.{Sort, op, block, region, exists, levels, Step, fullOp, regionSteps, steps, stepDefines, opOwner, blockOwner, definesOwners, fragmentOps, definesValues, definesBlocks}
 use Rattle.rules.proofs.Soundness.Sound.{Sound}
 use Rattle.rules.proofs.Soundness.Grown.{owner-op}
 use Rattle.rules.proofs.Basics.Distinct.{Distinct, distinct-concatMap, mem-concatMap, concatMap-concatMap}
 use Rattle.rules.proofs.Soundness.Children.{blocks-in, regions-in, values-in, blocks-distinct, regions-distinct, values-distinct}
 use Rattle.rules.proofs.Form.Ancestors.{up, next, around-from, not-around-itself, same-from}
 use Rattle.rules.proofs.Form.OnceInLists.{defined, OpPart, BlocksPart, Blocks, list-part}
+
+-- ---- an owner that is an operation, or a block, by its number
+
+one-alone : (n : ℕ) → Distinct (n ∷ [])
+one-alone n = (λ m. List·Memᴰ·not-nil m, tt)
+
+op-owner : (w : Owner) (n : ℕ) → List·Memᴰ n (opOwner w) → w ≡ ofOp n
+unfolding opOwner
+op-owner (ofOp m) n k = ap ofOp (sym (List·Memᴰ·eq-of-singleton k))
+op-owner (ofBlock b) n k = absurd (List·Memᴰ·not-nil k)
+
+op-alone : (w : Owner) → Distinct (opOwner w)
+unfolding opOwner
+op-alone (ofOp m) = one-alone m
+op-alone (ofBlock b) = tt
+
+block-owner : (w : Owner) (b : ℕ) → List·Memᴰ b (blockOwner w) → w ≡ ofBlock b
+unfolding blockOwner
+block-owner (ofOp m) b k = absurd (List·Memᴰ·not-nil k)
+block-owner (ofBlock c) b k = ap ofBlock (sym (List·Memᴰ·eq-of-singleton k))
+
+block-alone : (w : Owner) → Distinct (blockOwner w)
+unfolding blockOwner
+block-alone (ofOp m) = tt
+block-alone (ofBlock b) = one-alone b
 
 module _ (s : Store) (sd : Sound s) where
   -- ---- a full operation
@@ -112,23 +137,30 @@ module _ (s : Store) (sd : Sound s) where
   unfolding definesValues
   values-here f n v m = let w = mem-concatMap (valuesOf s) (definesOwners s f n) m in values-in s (w .0) (w .2) .0
 
-  block-owner : (w : Owner) {b : ℕ} → List·Memᴰ b (blockOwner w) → w ≡ ofBlock b
-  unfolding blockOwner
-  block-owner (ofOp n) m = absurd (List·Memᴰ·not-nil m)
-  block-owner (ofBlock c) m = ap ofBlock (sym (List·Memᴰ·eq-of-singleton m))
+  -- ---- the operations alone, and the blocks: by a function that lists of an owner nothing, or its number
+
+  module _ (number : Owner → List ℕ) (of : ℕ → Owner) (owner : (w : Owner) (n : ℕ) → List·Memᴰ n (number w) → w ≡ of n) (alone : (w : Owner) → Distinct (number w)) where
+    numbers-once : (f : Sort) (n : ℕ) → exists s f n ≡ true → Distinct (concatMap number (definesOwners s f n))
+    numbers-once f n h =
+        distinct-concatMap number (definesOwners s f n) (owners-once f n h) (λ w m. alone w) (λ w x mw mx b k l. owner w b k ∙ sym (owner x b l))
+
+    numbers-here : (f : Sort) (n : ℕ) → exists s f n ≡ true → (m : ℕ) → List·Memᴰ m (concatMap number (definesOwners s f n)) → ownerExists s (of m) ≡ true
+    numbers-here f n h m k =
+        let w = mem-concatMap number (definesOwners s f n) k in
+        subst (λ (x : Owner). ownerExists s x ≡ true) (owner (w .0) m (w .2)) (owners-here f n h (w .0) (w .1))
+
+  pub ops-once : (f : Sort) (n : ℕ) → exists s f n ≡ true → Distinct (fragmentOps s f n)
+  unfolding fragmentOps
+  ops-once = numbers-once opOwner ofOp op-owner op-alone
+
+  pub ops-here : (f : Sort) (n : ℕ) → exists s f n ≡ true → (m : ℕ) → List·Memᴰ m (fragmentOps s f n) → m < length (s .ops)
+  unfolding fragmentOps ownerExists opExists
+  ops-here f n h m k = ltb-true _ _ (numbers-here opOwner ofOp op-owner op-alone f n h m k)
 
   pub blocks-once : (f : Sort) (n : ℕ) → exists s f n ≡ true → Distinct (definesBlocks s f n)
-  unfolding definesBlocks blockOwner
-  blocks-once f n h =
-      distinct-concatMap blockOwner (definesOwners s f n) (owners-once f n h) (λ w m. alone w)
-      (λ w x mw mx b k l. block-owner w k ∙ sym (block-owner x l))
-    where
-      alone : (w : Owner) → Distinct (blockOwner w)
-      alone (ofOp m) = tt
-      alone (ofBlock b) = (λ m. List·Memᴰ·not-nil m, tt)
+  unfolding definesBlocks
+  blocks-once = numbers-once blockOwner ofBlock block-owner block-alone
 
   pub blocks-here : (f : Sort) (n : ℕ) → exists s f n ≡ true → (b : ℕ) → List·Memᴰ b (definesBlocks s f n) → b < length (s .blocks)
   unfolding definesBlocks ownerExists blockExists
-  blocks-here f n h b m =
-      let w = mem-concatMap blockOwner (definesOwners s f n) m in
-      ltb-true _ _ (subst (λ (x : Owner). ownerExists s x ≡ true) (block-owner (w .0) (w .2)) (owners-here f n h (w .0) (w .1)))
+  blocks-here f n h b k = ltb-true _ _ (numbers-here blockOwner ofBlock block-owner block-alone f n h b k)

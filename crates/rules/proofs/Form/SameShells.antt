@@ -11,7 +11,7 @@ use borrow.Author.Tests.{eqb-true, eq-eqb}
 use lib.ListN.{length, length-map}
 use Rattle.rules.specs.Lists.{allPairs, sameList}
 use Rattle.rules.specs.Store.{Store, Attribute, Owner, ofOp, ofBlock, typeOf, valuesOf}
-use Rattle.rules.specs.Fragments.{blockOwner}
+use Rattle.rules.specs.Fragments.{blockOwner, opOwner}
 use Rattle.rules.specs.Shells.{Ignore, Shell, shellOf, countsOf, sameAttribute, sameLocation, sameShells}
 use Rattle.rules.proofs.Basics.Tests.{bools-same, and-left, and-right, and-both, passed, every-of, clash, list-same, numbers-same}
 
@@ -71,12 +71,21 @@ values-count s ig l r h = sym (len l) ∙ ap (λ (x : Shell). length (x .types))
     len (ofOp n) = length-map (valuesOf s (ofOp n)) (typeOf s)
     len (ofBlock b) = length-map (valuesOf s (ofBlock b)) (typeOf s)
 
+by-sort : (s : Store) (f : Owner → ℕ) → ((a b : ℕ) → f (ofOp a) ≡ f (ofOp b)) → ((a b : ℕ) → f (ofBlock a) ≡ f (ofBlock b))
+    → (l r : Owner) → countsOf s l ≡ countsOf s r → f l ≡ f r
+unfolding countsOf
+by-sort s f ops blocks (ofOp a) (ofOp b) h = ops a b
+by-sort s f ops blocks (ofOp a) (ofBlock b) h = let e : _≡_ {A = ℕ} 5 1 = ap length h in absurd (omega arith)
+by-sort s f ops blocks (ofBlock a) (ofOp b) h = let e : _≡_ {A = ℕ} 1 5 = ap length h in absurd (omega arith)
+by-sort s f ops blocks (ofBlock a) (ofBlock b) h = blocks a b
+
 pub blocks-count : (s : Store) (l r : Owner) → countsOf s l ≡ countsOf s r → length (blockOwner l) ≡ length (blockOwner r)
-unfolding countsOf blockOwner
-blocks-count s (ofOp a) (ofOp b) h = refl
-blocks-count s (ofOp a) (ofBlock b) h = let e : _≡_ {A = ℕ} 5 1 = ap length h in absurd (omega arith)
-blocks-count s (ofBlock a) (ofOp b) h = let e : _≡_ {A = ℕ} 1 5 = ap length h in absurd (omega arith)
-blocks-count s (ofBlock a) (ofBlock b) h = refl
+unfolding blockOwner
+blocks-count s = by-sort s (λ (w : Owner). length (blockOwner w)) (λ a b. refl) (λ a b. refl)
+
+pub ops-count : (s : Store) (l r : Owner) → countsOf s l ≡ countsOf s r → length (opOwner l) ≡ length (opOwner r)
+unfolding opOwner
+ops-count s = by-sort s (λ (w : Owner). length (opOwner w)) (λ a b. refl) (λ a b. refl)
 
 -- ---- lists of names, pair by pair
 

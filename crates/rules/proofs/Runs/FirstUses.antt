@@ -21,7 +21,7 @@ use Rattle.rules.specs.Laws.{succeeds}
 use Rattle.rules.specs.Runs.{compareRuns}
 use Rattle.rules.proofs.Basics.Tests.{and-left, and-right, clash, impossible}
 use Rattle.rules.proofs.Form.Tested.{Counts, gained, paired-counts}
-use Rattle.rules.proofs.Walking.Entered.{none-at}
+use Rattle.rules.proofs.Basics.Entries.{none-at}
 
 -- ---- lists
 

@@ -8,11 +8,13 @@ use borrow.Author.Tests.{eqb-true, eq-eqb, not-true}
 use lib.Dec.{eqb}
 use Rattle.rules.specs.Lists.{every, all, any, concatMap}
 use Rattle.rules.specs.Store.{Store, Value, Owner, emptyStore, valuesOf, opAt}
-use Rattle.rules.specs.Fragments.{Sort, Step, shell, names, counted, steps, stepDefines, stepOperands, stepSuccessors, blockOwner, definesOwners, definesValues, definesBlocks, namesValues, namesBlocks, Disjoint, NamesNothingOf, Premise}
+use Rattle.rules.specs.Fragments.{Sort, Step, shell, names, counted, steps, stepDefines, stepOperands, stepSuccessors, opOwner, blockOwner, definesOwners, definesValues, definesBlocks, fragmentOps, namesValues, namesBlocks, Disjoint, NamesNothingOf, Premise}
 use Rattle.rules.specs.Building.{after}
 use Rattle.rules.specs.Types.{wholeRows, oldTypes, presentTypes, standsIn, eachOnce, typesHold, present, renamedValue, renamed}
 use Rattle.rules.specs.Keys.{fits, valueFits, fieldsFit}
 use Rattle.rules.specs.Laws.{LawsOfSound}
+use Rattle.rules.specs.MappingLaws as tables
+use Rattle.rules.specs.MappingLaws.{Table, definesOf}
 use Rattle.rules.specs.Statements.{RenamedSound, RenamedIn, RenamedPremise, RenamedNone, PresentOnce, LawsRenamed, FilersLaw, FilersLawRenamed}
 use Rattle.rules.proofs.Basics.Tests.{and-left, and-right, and-both, or-left, or-right, or-cases, or-false-right, decided, clash, passed, every-of}
 use Rattle.rules.proofs.Soundness.Kept.{empty-sound, after-sound}
@@ -30,7 +32,7 @@ pub renamed-in : RenamedIn
 unfolding RenamedIn
 renamed-in types s f a = (λ h. sym (exists-renamed types s f a) ∙ h, λ h. exists-renamed types s f a ∙ h)
 
--- ---- the premise
+-- ---- what a fragment defines and names, and the premise
 
 module _ (types : List ℕ) (s : Store) where
   abbrev other : Store
@@ -60,6 +62,16 @@ module _ (types : List ℕ) (s : Store) where
     blocks : definesBlocks other f n ≡ definesBlocks s f n
     unfolding definesBlocks
     blocks = ap (concatMap blockOwner) owners
+
+    ops : fragmentOps other f n ≡ fragmentOps s f n
+    unfolding fragmentOps
+    ops = ap (concatMap opOwner) owners
+
+    pub defines-renamed : (t : Table) → definesOf other f n t ≡ definesOf s f n t
+    unfolding definesOf
+    defines-renamed tables.values = values
+    defines-renamed tables.blocks = blocks
+    defines-renamed tables.ops = ops
 
     named-values : namesValues other f n ≡ namesValues s f n
     unfolding namesValues

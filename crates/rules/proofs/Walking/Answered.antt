@@ -15,11 +15,12 @@ use Rattle.rules.specs.Fragments.{Sort, op, block, region, exists, plus,
 use Rattle.rules.specs.Building.{firstFailed}
 use Rattle.rules.specs.Shells.{Ignore}
 use Rattle.rules.specs.Mapping.{Mapping, noImage, emptyMapping, entriesAllowed, tableAllowed, allowed}
-use Rattle.rules.specs.Comparison.{unequal, oneLonger, tooDeep, Walk, on, ended, compare}
+use Rattle.rules.specs.Comparison.{unequal, oneLonger, tooDeep, Walk, on, ended, standing, compare}
 use Rattle.rules.specs.Hash.{hash}
 use Rattle.rules.specs.Types.{typesHold, renamed}
 use Rattle.rules.specs.Answers.{eq, neq, refused, shallow, compareTests, comparisonOf, comparisonBy, comparison, hashIs, hashTests, hashedBy, hashed}
 use Rattle.rules.specs.Laws.{succeeds, equal}
+use Rattle.rules.specs.MappingLaws.{filed}
 use Rattle.rules.proofs.Types.Renamed.{exists-renamed, renamed-sound}
 use Rattle.rules.proofs.Basics.Tests.{and-both, every-of, clash, impossible}
 use Rattle.rules.proofs.Soundness.Children.{ops-in}
@@ -134,3 +135,15 @@ pub equal-answered : (s : Store) → sound s ≡ true → (types : List ℕ) →
 unfolding equal
 equal-answered s sd types th ig f a b ea eb =
     rw (comparison-is s sd ig f types th emptyMapping (empty-allowed s) a b ea eb) (eq-answer (compare (renamed types s) ig f a b emptyMapping) emptyMapping)
+
+-- an equal comparison leaves the mapping that is filed
+left-standing : (w : Walk) (m : Mapping) → succeeds w ≡ true → comparisonOf w m .mapping ≡ standing w .mapping
+unfolding succeeds comparisonOf standing
+left-standing (on st) m h = refl
+left-standing (ended why st) m h = clash h refl
+
+pub filed-answered : (s : Store) → sound s ≡ true → (types : List ℕ) → typesHold types ≡ true → (ig : Ignore) (f : Sort) (a b : ℕ) → exists s f a ≡ true → exists s f b ≡ true
+    → equal (renamed types s) ig f a b ≡ true → comparison true s types emptyMapping ig f a b .mapping ≡ filed (renamed types s) ig f a b
+unfolding equal filed
+filed-answered s sd types th ig f a b ea eb h =
+    rw (comparison-is s sd ig f types th emptyMapping (empty-allowed s) a b ea eb) (left-standing (compare (renamed types s) ig f a b emptyMapping) emptyMapping h)

@@ -1,10 +1,10 @@
 -- A comparison that begins with an empty mapping enters at most one operation or block for each pair that it counts, and values only with
 -- their owner: so it is at the start, and each pair entered keeps it so. Assumes nothing.
-use Prim.Native.Nat.{ℕ, zero, suc, _+_, _<_, _≤_}
+use Prim.Native.Nat.{ℕ, _+_, _<_, _≤_}
 use native.Mathlib.Decide.{ℕ-discrete}
 use native.Mathlib.Omega.{arith}
 use mathlib.Core.Bool.{Bool, true, false, not}
-use mathlib.Core.List.{List, [], _∷_, List·Memᴰ, List·Memᴰ·head, List·Memᴰ·tail}
+use mathlib.Core.List.{List, List·Memᴰ}
 use mathlib.Core.Option.{Option, none, some}
 use mathlib.Core.Path.{_≡_, refl, sym, ap, subst, _∙_}
 use borrow.Author.Tests.{eq-eqb}
@@ -24,6 +24,7 @@ use Rattle.rules.specs.Runs.{compareRuns}
 use Rattle.rules.specs.Entered.{mapped, ownerEntry, EnteredBy, pairedIn}
 use Rattle.rules.proofs.Types.Renamed.{exists-renamed, entered-renamed, renamed-sound}
 use Rattle.rules.proofs.Basics.Counts.{count-more, count-zero}
+use Rattle.rules.proofs.Basics.Entries.{none-at, enter-other}
 use Rattle.rules.proofs.Basics.Tests.{and-left, and-right}
 use Rattle.rules.proofs.Soundness.Accepted.{firstFailed-none}
 use Rattle.rules.proofs.Soundness.Children.{values-in}
@@ -31,14 +32,6 @@ use Rattle.rules.proofs.Soundness.Sound.{Sound, facts}
 use Rattle.rules.proofs.Walking.Keeping.{keeps-fragments, keeps-runs}
 
 -- ---- entries made
-
--- what is not among the left numbers has the entry that it had
-enter-other : (ls rs es : List ℕ) (v : ℕ) → (List·Memᴰ v ls → ⊥) → getD (enterAll ls rs es) v noImage ≡ getD es v noImage
-unfolding enterAll
-enter-other [] rs es v h = refl
-enter-other (l ∷ ls) [] es v h = refl
-enter-other (l ∷ ls) (r ∷ rs) es v h =
-    enter-other ls rs (set es l r) v (λ m. h (List·Memᴰ·tail m)) ∙ getD-set-other es l v r noImage (λ e. h (List·Memᴰ·head e))
 
 -- at most one more has an image
 one-more : (size : ℕ) (es : List ℕ) (l r : ℕ) → countBelow size (mapped (set es l r)) ≤ countBelow size (mapped es) + 1
@@ -136,11 +129,6 @@ module _ (s : Store) (sd : Sound s) where
             other v (λ d. x .0 (let j : ofBlock b ≡ ofBlock l = sym e ∙ d in cc)) (rw e (x .1))
 
 -- ---- from the empty mapping
-
-pub none-at : (size v : ℕ) → getD (replicate size noImage) v noImage ≡ noImage
-none-at zero v = refl
-none-at (suc size) zero = refl
-none-at (suc size) (suc v) = none-at size v
 
 none-mapped : (size : ℕ) (k : ℕ) → mapped (replicate size noImage) k ≡ false
 unfolding mapped

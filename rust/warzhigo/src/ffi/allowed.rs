@@ -22,8 +22,8 @@ pub(crate) const NONE: u32 = u32::MAX;
 pub(crate) struct AllowedWords {
     words: Box<[u32]>,
     of: Option<Eras>,
-    /// Entries by hand, by their place among the words, with the eras of both ids: it is seen when the mapping is lent next whether the
-    /// ids are good.
+    /// Entries by hand, and those made of others that may be of what has gone, by their place among the words, with the eras of both ids:
+    /// it is seen when the mapping is lent next whether the ids are good.
     by_hand: BTreeMap<usize, [Identity; 2]>,
 }
 
@@ -114,26 +114,89 @@ impl AllowedWords {
     /// Enters the image `to` of `from`; refused by 8 where they are not of one store, or not of the mapping's, as far as that can be told
     /// from the ids.
     pub(crate) fn enter<I: Mapped>(&mut self, from: I, to: I) -> Result<(), Refused> {
-        let (at, eras) = (I::ENTRIES + from.number() as usize, [from.identity(), to.identity()]);
-        if self.of.as_ref().is_some_and(|of| of.has(from) && of.has(to)) {
-            self.by_hand.remove(&at);
-        } else if self.may_have(eras) {
-            self.by_hand.insert(at, eras);
-        } else {
+        if !self.has(from, to) && !self.may_have([from.identity(), to.identity()]) {
             return Err(Refused::MAPPING);
         }
-        self.words[at] = to.number();
+        self.put(from, to);
         Ok(())
+    }
+
+    /// Are both good for the store that the entries are of, by the eras that it had?
+    fn has<I: Mapped>(&self, from: I, to: I) -> bool {
+        self.of.as_ref().is_some_and(|of| of.has(from) && of.has(to))
+    }
+
+    /// Enters the image `to` of `from`: by hand, unless both are good.
+    fn put<I: Mapped>(&mut self, from: I, to: I) {
+        let at = I::ENTRIES + from.number() as usize;
+        if self.has(from, to) {
+            self.by_hand.remove(&at);
+        } else {
+            self.by_hand.insert(at, [from.identity(), to.identity()]);
+        }
+        self.words[at] = to.number();
     }
 
     /// May ids of these eras be of one store, and of that of the entries that there are?
     fn may_have(&mut self, eras: [Identity; 2]) -> bool {
-        if self.by_hand.is_empty() && self.words.iter().all(|image| *image == NONE) {
+        if self.is_empty() {
             self.of = None;
         }
         let of = self.of.iter().map(Eras::store);
         let others = of.chain(self.by_hand.values().flatten().copied().take(2)).chain([eras[0]]);
         others.into_iter().all(|other| eras.iter().all(|one| one.may_be_of_one_store(other)))
+    }
+
+    /// Has it no entries?
+    fn is_empty(&self) -> bool {
+        self.by_hand.is_empty() && self.words.iter().all(|image| *image == NONE)
+    }
+
+    /// The store that its entries are of, if it has any. Of entries by hand alone it can be told from ids of that store's first era.
+    fn store(&self) -> Option<Identity> {
+        let of = self.of.as_ref().map(Eras::store);
+        let told = of.or_else(|| self.by_hand.values().flatten().copied().find(|era| era.is_first()));
+        told.filter(|_| !self.is_empty())
+    }
+
+    /// The same entries backwards, unless two of a sort have the same number on the right.
+    pub(crate) fn inverse(&self) -> Option<AllowedWords> {
+        let mut inverse = AllowedWords { of: self.of.clone(), ..AllowedWords::empty() };
+        let all = inverse.turn::<ValueId>(self) && inverse.turn::<BlockId>(self) && inverse.turn::<OpId>(self);
+        all.then_some(inverse)
+    }
+
+    /// Enters those of one sort backwards, up to one whose place is taken. Gives whether there is none.
+    fn turn<I: Mapped>(&mut self, of: &AllowedWords) -> bool {
+        of.entries::<I>().all(|(from, to)| {
+            let free = self.words[I::ENTRIES + to.number() as usize] == NONE;
+            if free {
+                self.put(to, from);
+            }
+            free
+        })
+    }
+
+    /// These entries followed by others, by ids; refused by 8 where they are of two stores, as far as that can be told.
+    pub(crate) fn then(&self, other: &AllowedWords) -> Result<AllowedWords, Refused> {
+        if self.store().zip(other.store()).is_some_and(|(one, other)| one != other) {
+            return Err(Refused::MAPPING);
+        }
+        let of = self.of.as_ref().or(other.of.as_ref()).cloned();
+        let mut both = AllowedWords { of, ..AllowedWords::empty() };
+        both.follow::<ValueId>(self, other);
+        both.follow::<BlockId>(self, other);
+        both.follow::<OpId>(self, other);
+        Ok(both)
+    }
+
+    /// Enters the images, in the other, of the images of one sort.
+    fn follow<I: Mapped>(&mut self, one: &AllowedWords, other: &AllowedWords) {
+        one.entries::<I>().for_each(|(from, middle)| {
+            if let Some(to) = other.image(middle) {
+                self.put(from, to);
+            }
+        });
     }
 
     /// Takes entries out, and all that were made by hand.

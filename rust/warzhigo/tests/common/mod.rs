@@ -4,6 +4,8 @@
 pub mod building;
 pub mod bytes_model;
 pub mod call;
+pub mod defined;
+pub mod document;
 pub mod instance;
 pub mod journal;
 pub mod layout;

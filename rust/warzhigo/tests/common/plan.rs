@@ -30,8 +30,16 @@ impl Plan {
             0..8 => plan.single(shape::USUAL.as_slice()),
             8..16 => plan.nested(),
             16 => plan.single(&[shape::FULL]),
-            _ => plan.twins(),
+            _ => plan.several(|sketch| near_twins(sketch).into()),
         }
+        plan
+    }
+
+    /// Several fragments that are made of one sketch.
+    pub fn of_one_sketch(seed: u64, sides: impl FnOnce(&mut Sketch<'_>) -> Vec<Vec<Call>>) -> Plan {
+        let (random, picture) = (Random::new(seed), Picture::default());
+        let mut plan = Plan { random, calls: Vec::new(), picture, twins: Vec::new(), spoiled: 0 };
+        plan.several(sides);
         plan
     }
 
@@ -65,15 +73,15 @@ impl Plan {
         self.twins = self.build(&sides);
     }
 
-    /// Something outside, and near twins that may name it.
-    fn twins(&mut self) {
+    /// Something outside, and fragments of one sketch that may name it.
+    fn several(&mut self, sides: impl FnOnce(&mut Sketch<'_>) -> Vec<Vec<Call>>) {
         if self.random.chance(60) {
             self.single(&[shape::PLAIN]);
         }
         let (outside, shape) = (self.outside(), self.random.pick(&shape::USUAL));
         let mut sketch = Sketch::new(&mut self.random, shape, outside);
         sketch.draw();
-        let sides = near_twins(&mut sketch);
+        let sides = sides(&mut sketch);
         self.twins = self.build(&sides);
         if self.random.chance(25) {
             self.cross();

@@ -26,6 +26,12 @@ pub struct Counts {
     pub ids_given_again: u64,
     pub mappings_taken: u64,
     pub mappings_refused: u64,
+    /// Mappings with entries that were read backwards, and those that can't be; and such, and those put together of two, that have entries,
+    /// and that are refused since one names what has gone.
+    pub inverses: u64,
+    pub without_inverse: u64,
+    pub put_together: u64,
+    pub put_together_refused: u64,
     pub by_program: u64,
 }
 
@@ -55,6 +61,10 @@ impl Counts {
             ("ids of what was given again", self.ids_given_again, self.lists * 5),
             ("mappings taken", self.mappings_taken, self.lists),
             ("mappings refused", self.mappings_refused, self.lists / 2),
+            ("inverses", self.inverses, self.lists / 2),
+            ("mappings without inverse", self.without_inverse, self.lists / 50),
+            ("mappings put together", self.put_together, self.lists),
+            ("mappings put together and refused", self.put_together_refused, self.lists / 5),
         ];
         for (what, count, least) in at_least {
             assert!(count >= least, "{what}: {count}, which is below {least}");

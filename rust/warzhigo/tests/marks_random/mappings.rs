@@ -1,11 +1,16 @@
 //! Mappings that were kept from any time: entries by comparisons and by hand, of what is there and of what has gone.
 
-use warzhigo::{Ignore, Mapping, Refused, Store, operation_eq};
+use std::collections::BTreeSet;
+
+use warzhigo::{Entry, Ignore, Mapping, Refused, Store, operation_eq};
 
 use crate::common::question::{Question, Sort};
 use crate::counts::Counts;
 use crate::kept::{AnyId, Kept};
 use crate::trial::Trial;
+
+/// Every so many goings back, documents are made of mappings.
+const DOCUMENTS: u64 = 4;
 
 /// A mapping, and its entries: both ids, each with the time at which its number was given.
 #[derive(Clone, Default)]
@@ -19,9 +24,12 @@ pub struct Mappings(Vec<Lent>);
 
 /// The entries as ids.
 fn entries(mapping: &Mapping) -> Vec<[AnyId; 2]> {
-    let values = mapping.values().map(|(l, r)| [l, r].map(AnyId::Value));
-    let blocks = mapping.blocks().map(|(l, r)| [l, r].map(AnyId::Block));
-    values.chain(blocks).chain(mapping.ops().map(|(l, r)| [l, r].map(AnyId::Op))).collect()
+    let any = |entry| match entry {
+        Entry::Value(l, r) => [l, r].map(AnyId::Value),
+        Entry::Block(l, r) => [l, r].map(AnyId::Block),
+        Entry::Op(l, r) => [l, r].map(AnyId::Op),
+    };
+    mapping.entries().map(any).collect()
 }
 
 impl Lent {
@@ -73,6 +81,40 @@ impl Lent {
     }
 }
 
+/// As a document.
+impl Lent {
+    /// Read backwards, if no number stands twice on the right.
+    fn inverse(&self, context: &str) -> Option<Lent> {
+        let images: BTreeSet<(usize, u32)> = self.entries.iter().map(|[_, (image, _)]| (image.sort(), image.number())).collect();
+        let mapping = self.mapping.inverse();
+        assert_eq!(mapping.is_some(), images.len() == self.entries.len(), "{context}: {:?}", self.entries);
+        Some(Lent { mapping: mapping?, entries: self.entries.iter().map(|[left, image]| [*image, *left]).collect() })
+    }
+
+    /// Followed by another of the same store: by ids, so by what they name, and not by numbers.
+    fn then(&self, other: &Lent, context: &str) -> Lent {
+        let mapping = self.mapping.then(&other.mapping).expect(context);
+        let image = |id: &(AnyId, u64)| other.entries.iter().find(|[left, _]| left == id).map(|[_, image]| *image);
+        Lent { mapping, entries: self.entries.iter().filter_map(|[left, middle]| Some([*left, image(middle)?])).collect() }
+    }
+
+    /// Its inverse, and it followed by another and by its inverse: each with the entries that are due, and lent as any other mapping.
+    fn documents(&self, other: &Lent, trial: &Trial, kept: &Kept, question: &Question, context: &str, counts: &mut Counts) {
+        let inverse = self.inverse(context);
+        counts.inverses += inverse.as_ref().is_some_and(|inverse| !inverse.entries.is_empty()) as u64;
+        counts.without_inverse += inverse.is_none() as u64;
+        let there_and_back = inverse.as_ref().map(|inverse| self.then(inverse, context));
+        for mut made in [Some(self.then(other, context)), there_and_back, inverse].into_iter().flatten() {
+            counts.put_together += !made.entries.is_empty() as u64;
+            made.hold(context);
+            let taken = made.lend(&trial.store, kept, question, context);
+            counts.put_together_refused += !taken as u64;
+            made.mapping.clear();
+            assert!(made.mapping.is_empty() && made.mapping.words().iter().all(|image| *image == u32::MAX), "{context}: cleared");
+        }
+    }
+}
+
 /// Two operations to compare.
 fn question(trial: &mut Trial) -> Option<Question> {
     let count = trial.model.picture.ops.len() as u32;
@@ -107,10 +149,15 @@ impl Mappings {
         lent.hold(context);
     }
 
-    /// Lends all of them: as copies, and now and then itself.
+    /// Lends all of them: as copies, and now and then itself; and documents that are made of them.
     pub fn hold(&mut self, trial: &mut Trial, kept: &Kept, context: &str, counts: &mut Counts) {
-        for lent in &mut self.0 {
+        for place in 0..self.0.len() {
             let Some(question) = question(trial) else { return };
+            if counts.gone_back % DOCUMENTS == 0 {
+                let next = &self.0[(place + 1) % self.0.len()];
+                self.0[place].documents(next, trial, kept, &question, context, counts);
+            }
+            let lent = &mut self.0[place];
             let mut copy = lent.clone();
             let taken = copy.lend(&trial.store, kept, &question, context);
             copy.hold(context);

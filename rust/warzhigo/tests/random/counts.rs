@@ -51,6 +51,15 @@ pub struct Counts {
     pub reflexive: u64,
     pub premise_and_equal: u64,
     pub equal_without_premise: u64,
+    /// Mappings of equal comparisons, those of them under a list of renamed types, those of a comparison that is equal the other way too, and
+    /// those of one that is not.
+    pub documents: u64,
+    pub documents_renamed: u64,
+    pub backwards: u64,
+    pub one_way: u64,
+    /// Mappings followed by another, and those of them between three different fragments.
+    pub followed: u64,
+    pub followed_by_a_third: u64,
     pub deepest_nesting: u32,
     pub largest_paired: u32,
 }
@@ -121,6 +130,12 @@ impl Counts {
             ("runs of more than one operation", self.long_runs, self.runs / 100),
             ("premise and equal", self.premise_and_equal, self.stores),
             ("equal without premise", self.equal_without_premise, self.stores / 200),
+            ("documents", self.documents, self.stores / 2),
+            ("documents under a list", self.documents_renamed, self.documents / 5),
+            ("backwards", self.backwards, self.documents / 2),
+            ("one way", self.one_way, self.documents / 500),
+            ("followed", self.followed, self.documents / 5),
+            ("followed by a third", self.followed_by_a_third, self.documents / 50),
             ("deepest nesting", self.deepest_nesting as u64, 32),
             ("largest paired", self.largest_paired as u64, 64),
         ];

@@ -31,7 +31,7 @@ fn replaced(store: &Store, words: &[u32], mut picked: impl FnMut() -> bool) -> S
 
 impl Trial {
     /// A list of renamed types: most of them hold, and make types of the store one.
-    fn types(&mut self) -> Vec<u32> {
+    pub fn types(&mut self) -> Vec<u32> {
         let of_store: BTreeSet<u32> = self.picture.values.iter().map(|value| value.ty).collect();
         let extra = self.random.pick(&[0, 0, 0, 0, 0, 1, 60, 70]);
         let olds = of_store.into_iter().chain((0..extra).map(|row| 1_000_000 + row * 64));
