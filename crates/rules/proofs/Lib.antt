@@ -15,5 +15,7 @@ pub mod Listings
 pub mod Listed
 pub mod Needed
 pub mod MappingComputed
+pub mod CopyComputed
 pub mod Marks
+pub mod Copying
 pub mod Stated

@@ -1,8 +1,9 @@
--- The statements of `specs/Statements` and `specs/MappingLaws`, each by the lemma that it is. (`accepted-exactly`, `unignored-same`,
+-- The statements of `specs/Statements`, `specs/MappingLaws` and `specs/CopyLaws`, each by the lemma that it is. (`accepted-exactly`, `unignored-same`,
 -- `premise-needed`, `premise-needed-thrice` and those about keys are proved where they stand.) Assumes nothing.
 use Rattle.rules.specs.Store.{emptyStore}
 use Rattle.rules.specs.Statements as stated
 use Rattle.rules.specs.MappingLaws as mapped
+use Rattle.rules.specs.CopyLaws as copies
 use Rattle.rules.proofs.Soundness.Kept as kept
 use Rattle.rules.proofs.Walking.Answered as walking
 use Rattle.rules.proofs.Walking.Paired as pairing
@@ -21,6 +22,8 @@ use Rattle.rules.proofs.Marks.Kept as marking
 use Rattle.rules.proofs.Marks.Laws as lawful
 use Rattle.rules.proofs.Marks.WentBack as returning
 use Rattle.rules.proofs.Runs.FirstUses as uses
+use Rattle.rules.proofs.Copying.Kept as copied
+use Rattle.rules.proofs.Copying.Laws as copying
 
 pub canonical-equal : stated.CanonicalEqual
 unfolding stated.CanonicalEqual
@@ -137,3 +140,24 @@ mapping-laws-of-sound = mapping.mapping-laws-of-sound
 
 pub mapping-laws-after : mapped.MappingLawsAfter
 mapping-laws-after = mapping.mapping-laws-after
+
+pub copy-sound : copies.CopySound
+copy-sound = copied.copy-sound
+
+pub copy-accepted-exactly : copies.CopyAcceptedExactly
+copy-accepted-exactly = copied.copy-accepted-exactly
+
+pub copy-equal : copies.CopyEqual
+copy-equal = copying.copy-equal
+
+pub copy-alike : copies.CopyAlike
+copy-alike = copying.copy-alike
+
+pub copy-filed : copies.CopyFiled
+copy-filed = copying.copy-filed
+
+pub copy-premise : copies.CopyPremise
+copy-premise = copying.copy-premise
+
+pub early-unequal : copies.EarlyUnequal
+early-unequal = copying.early-unequal

@@ -19,6 +19,8 @@ pub mod Rust
 pub mod Agreement
 pub mod Laws
 pub mod MappingLaws
+pub mod Copying
+pub mod CopyLaws
 pub mod Runs
 pub mod Marks
 pub mod Form
@@ -31,3 +33,4 @@ pub mod TypeCases
 pub mod RunCases
 pub mod MarkCases
 pub mod MappingCases
+pub mod CopyCases

@@ -18,12 +18,12 @@ cond-append false n l x y e = e
 module _ {ℓ} {A : Type ℓ} where
   -- ---- one after the other
 
-  numbersFrom-append : (n : ℕ) (p : A → Bool) (xs ys : List A) → numbersFrom n p (xs ++ ys) ≡ numbersFrom n p xs ++ numbersFrom (n + length xs) p ys
+  pub numbersFrom-append : (n : ℕ) (p : A → Bool) (xs ys : List A) → numbersFrom n p (xs ++ ys) ≡ numbersFrom n p xs ++ numbersFrom (n + length xs) p ys
   unfolding numbersFrom
   numbersFrom-append n p [] ys = rw add-zero refl
   numbersFrom-append n p (x ∷ xs) ys = cond-append (p x) n _ _ _ (numbersFrom-append (suc n) p xs ys ∙ ap (λ (k : ℕ). numbersFrom (suc n) p xs ++ numbersFrom k p ys) (omega arith))
 
-  numbersFrom-none : (n : ℕ) (p : A → Bool) (xs : List A) → ((x : A) → List·Memᴰ x xs → p x ≡ false) → numbersFrom n p xs ≡ []
+  pub numbersFrom-none : (n : ℕ) (p : A → Bool) (xs : List A) → ((x : A) → List·Memᴰ x xs → p x ≡ false) → numbersFrom n p xs ≡ []
   unfolding numbersFrom
   numbersFrom-none n p [] h = refl
   numbersFrom-none n p (x ∷ xs) h = rw (h x (List·Memᴰ·head refl)) (numbersFrom-none (suc n) p xs (λ y m. h y (List·Memᴰ·tail m)))

@@ -85,11 +85,11 @@ module _ (s : Store) (f : Sort) (n : ℕ) where
       blocks-at (names m) = refl
       blocks-at (counted k) = refl
 
-  events-name-values : concatMap (eventOperands s) (events s f n) ≡ namesValues s f n
+  pub events-name-values : concatMap (eventOperands s) (events s f n) ≡ namesValues s f n
   unfolding namesValues eventOperands
   events-name-values = in-fragment (eventOperands s) (stepOperands s) (λ x. refl) refl refl s f n
 
-  events-name-blocks : concatMap (eventSuccessors s) (events s f n) ≡ namesBlocks s f n
+  pub events-name-blocks : concatMap (eventSuccessors s) (events s f n) ≡ namesBlocks s f n
   unfolding namesBlocks eventSuccessors
   events-name-blocks = in-fragment (eventSuccessors s) (stepSuccessors s) (λ x. refl) refl refl s f n
 

@@ -47,7 +47,7 @@ position-none v (x ∷ xs) h m = go (eqb v x) refl (position v xs) refl (λ p k.
     go false e none p rest k = ⊎-elim (eqb-false v x e) (rest p) (List·Memᴰ·cases-cons m)
     go false e (some j) p rest k = Option·some-ne-none (suc j) k
 
-position-out : (v : ℕ) (xs : List ℕ) → (List·Memᴰ v xs → ⊥) → position v xs ≡ none
+pub position-out : (v : ℕ) (xs : List ℕ) → (List·Memᴰ v xs → ⊥) → position v xs ≡ none
 unfolding position later
 position-out v [] out = refl
 position-out v (x ∷ xs) out = rw (ne-eqb v x (λ e. out (List·Memᴰ·head e)), position-out v xs (λ m. out (List·Memᴰ·tail m)))

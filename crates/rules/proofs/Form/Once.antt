@@ -23,7 +23,7 @@ use Rattle.rules.proofs.Form.OnceInLists.{defined, OpPart, BlocksPart, 
 one-alone : (n : ℕ) → Distinct (n ∷ [])
 one-alone n = (λ m. List·Memᴰ·not-nil m, tt)
 
-op-owner : (w : Owner) (n : ℕ) → List·Memᴰ n (opOwner w) → w ≡ ofOp n
+pub op-owner : (w : Owner) (n : ℕ) → List·Memᴰ n (opOwner w) → w ≡ ofOp n
 unfolding opOwner
 op-owner (ofOp m) n k = ap ofOp (sym (List·Memᴰ·eq-of-singleton k))
 op-owner (ofBlock b) n k = absurd (List·Memᴰ·not-nil k)
@@ -33,7 +33,7 @@ unfolding opOwner
 op-alone (ofOp m) = one-alone m
 op-alone (ofBlock b) = tt
 
-block-owner : (w : Owner) (b : ℕ) → List·Memᴰ b (blockOwner w) → w ≡ ofBlock b
+pub block-owner : (w : Owner) (b : ℕ) → List·Memᴰ b (blockOwner w) → w ≡ ofBlock b
 unfolding blockOwner
 block-owner (ofOp m) b k = absurd (List·Memᴰ·not-nil k)
 block-owner (ofBlock c) b k = ap ofBlock (sym (List·Memᴰ·eq-of-singleton k))

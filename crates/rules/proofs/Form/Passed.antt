@@ -18,7 +18,7 @@ use Rattle.rules.proofs.Form.LockStep.{going}
 use Rattle.rules.proofs.Form.Tested.{namesAgree}
 use Rattle.rules.proofs.Form.Canonical.{in-fragment, goes, pass}
 
-unfoldable eventOwners : Event → List Owner
+unfoldable pub eventOwners : Event → List Owner
 eventOwners (step x) = stepDefines x
 eventOwners more = []
 eventOwners done = []
@@ -78,7 +78,7 @@ module _ (s : Store) (ig : Ignore) where
 
 -- ---- the whole fragment
 
-in-walk : (s : Store) (f : Sort) (n : ℕ) → concatMap eventOwners (events s f n) ≡ definesOwners s f n
+pub in-walk : (s : Store) (f : Sort) (n : ℕ) → concatMap eventOwners (events s f n) ≡ definesOwners s f n
 unfolding definesOwners eventOwners
 in-walk s f n = in-fragment eventOwners stepDefines (λ x. refl) refl refl s f n
 

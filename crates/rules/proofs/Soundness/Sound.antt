@@ -89,7 +89,7 @@ block-holds : (s : Store) (m : ℕ) → BlockSound s m → blockHolds s m ≡ tr
 unfolding blockHolds
 block-holds s m p = every-of _ (p .regionIn, (p .later, (le-leb _ _ (p .argumentsFit), (p .attributesFit, tt))))
 
-totals-facts : (s : Store) → totalsHold s ≡ true → TotalsSound s
+pub totals-facts : (s : Store) → totalsHold s ≡ true → TotalsSound s
 unfolding totalsHold
 totals-facts s h =
     let p = passed _ h in
@@ -103,7 +103,7 @@ totals-facts s h =
       attributes = leb-true _ _ (p .1 .1 .1 .1 .1 .1 .0);
     }
 
-totals-hold : (s : Store) → TotalsSound s → totalsHold s ≡ true
+pub totals-hold : (s : Store) → TotalsSound s → totalsHold s ≡ true
 unfolding totalsHold
 totals-hold s p =
     every-of _ (

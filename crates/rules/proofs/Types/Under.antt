@@ -51,15 +51,15 @@ module _ (types : List ℕ) (s : Store) where
   successors-same (counted k) = refl
 
   module _ (f : Sort) (n : ℕ) where
-    owners : definesOwners other f n ≡ definesOwners s f n
+    pub owners : definesOwners other f n ≡ definesOwners s f n
     unfolding definesOwners
     owners = ap (concatMap stepDefines) (steps-renamed types s f n)
 
-    values : definesValues other f n ≡ definesValues s f n
+    pub values : definesValues other f n ≡ definesValues s f n
     unfolding definesValues
     values = λ i. concatMap (λ (w : Owner). values-renamed types s w i) (owners i)
 
-    blocks : definesBlocks other f n ≡ definesBlocks s f n
+    pub blocks : definesBlocks other f n ≡ definesBlocks s f n
     unfolding definesBlocks
     blocks = ap (concatMap blockOwner) owners
 
