@@ -59,8 +59,8 @@ typedef struct {
     uint32_t right;
 } wz_run_answer;
 
-/* What a building call answers, the copier among them, and one that sets a mark or goes back. 0: `number` is the new one's; 1: accepted; 2:
- * refused, and `number` is the cause. */
+/* What a building call answers, and likewise the copier, and a call that sets a mark or goes back. 0: `number` is the new one's; 1:
+ * accepted; 2: refused, and `number` is the cause. */
 typedef struct {
     uint32_t code;
     uint32_t number;

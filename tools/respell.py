@@ -7,6 +7,7 @@ FOLDER holds crates/. The rows of respelled.tsv beside this script (or of FILE) 
   old, tab, new             the name turns wherever it stands as a whole word
   old, tab, new, tab, lemma the name turns only in the .antt files that declare or import it, behind no dot: a Rust function,
                             a field or a label of the same spelling keeps it
+  old, tab, new, tab, type  the name turns, but where it is a label: behind `requires` or `ensures`, or before ` =`
 What turns: the code of .antt files; the code of .rt files outside strings; the lines of must-fail/*.edit; in comments and in .md files, names in camel case, and
 any name between backticks. What stays: names that Rattle makes of the source (a goal that an Answers or Invariants file answers, and
 what stands right behind `c.`, `l.`, `w.` or `goal.` there), names that a file imports from outside the repository, strings, and all of out/.
@@ -31,13 +32,13 @@ HEAD = re.compile(r'(?:^|[\s(){};,])(?:c|l|w|goal)\.$')
 
 
 def rows(path):
-    plain, lemmas = {}, {}
+    kinds = {"": {}, "lemma": {}, "type": {}}
     with open(path, encoding="utf-8") as f:
         for line in f:
             if line.strip() and not line.startswith("#"):
                 old, new, *rest = line.rstrip("\n").split("\t")
-                (lemmas if rest == ["lemma"] else plain)[old] = new
-    return plain, lemmas
+                kinds["".join(rest)][old] = new
+    return kinds.values()
 
 
 def between(pattern, text, inside, outside):
@@ -49,8 +50,8 @@ def between(pattern, text, inside, outside):
 
 
 class Respeller:
-    def __init__(self, plain, lemmas, own):
-        self.plain, self.lemmas, self.own, self.alike = plain, lemmas, own, []
+    def __init__(self, plain, lemmas, types, own):
+        self.plain, self.lemmas, self.types, self.own, self.alike = plain, lemmas, types, own, []
 
     def imported(self, code, ours):
         """The names that the file imports from this repository, or from outside it."""
@@ -77,8 +78,10 @@ class Respeller:
         here = (declared | self.imported(whole, True)) & set(self.lemmas) if where.endswith(".antt") else set()
         seen = {}
 
-        def turned(m, behind):
+        def turned(m, behind, ahead):
             name, dotted = m[0], behind.endswith(".")
+            if name in self.types and not re.search(r"(requires|ensures) $", behind) and not ahead.startswith(" = "):
+                return self.types[name]
             if name in goals or (made and dotted and "-" in name and HEAD.search(behind)):
                 return name
             if name in foreign and not dotted:
@@ -89,7 +92,7 @@ class Respeller:
             return new
 
         def code_turned(t, at):
-            return WORD.sub(lambda m: turned(m, t[max(0, m.start() - 8) : m.start()]), t)
+            return WORD.sub(lambda m: turned(m, t[max(0, m.start() - 10) : m.start()], t[m.end() : m.end() + 3]), t)
 
         quieted = lambda t: t if t[0] in "\"b'" else self.prose(t)
         result = between(quiet, text, quieted, code_turned)

@@ -13,7 +13,7 @@ use Rattle.layout.specs.Reading.{op_count, block_count, region_count, value_coun
 use Rattle.layout.proofs.Laid.{Shaped, InRange, Laid}
 use Rattle.calling.specs.Doing.{Behind}
 use Rattle.calling.proofs.Behind.{apart}
-use Rattle.adding.specs.Raw.{with_row, with_values, parent_code, parent_below, op_placed, with_regions, with_slice, op_row, op_written, with_operation}
+use Rattle.adding.specs.Raw.{with_row, with_values, parent_code, ParentBelow, op_placed, with_regions, with_slice, op_row, op_written, with_operation}
 use Rattle.adding.proofs.Entries.{Run, same}
 use Rattle.adding.proofs.Grew.{Grew}
 use Rattle.adding.proofs.Behind.{row_behind, count_behind, regions_behind, values_behind, slice_behind, grew_behind}
@@ -197,8 +197,8 @@ module _ (C : Cols) (new : NewOperation) (sh : Shaped C) (room : RoomFor C new) 
     unfolding with_operation op_written with_regions with_values with_slice op_row with_row write write_range
     block_next_column = unwritten block_next refl refl refl
 
-    op_put : parent_below (block_count C) new.parent → OpPut C D new.parent
-    unfolding with_operation op_written with_regions with_values with_slice op_row with_row write write_range at op_count parent_below
+    op_put : ParentBelow (block_count C) new.parent → OpPut C D new.parent
+    unfolding with_operation op_written with_regions with_values with_slice op_row with_row write write_range at op_count ParentBelow
     op_put below =
         let R = row C new in
         let k = h.counts.blocks in
@@ -215,7 +215,7 @@ module _ (C : Cols) (new : NewOperation) (sh : Shaped C) (room : RoomFor C new) 
               };
           count = ops_count C new sh room;
           link = λ b q. link_new R new.parent (op_count C) b (omega arith) q;
-          end = λ b q. let lb : b < block_count C = subst (parent_below (block_count C)) q below in end_new R new.parent (op_count C) b q (omega arith);
+          end = λ b q. let lb : b < block_count C = subst (ParentBelow (block_count C)) q below in end_new R new.parent (op_count C) b q (omega arith);
           ends = λ b l ne. end_under_law R new.parent (op_count C) b ne;
         }
 
@@ -240,6 +240,6 @@ module _ (C : Cols) (new : NewOperation) (sh : Shaped C) (room : RoomFor C new) 
     pub operation_reads : store_of (with_operation C new) ≡ applied (store_of C) (new_operation new)
     operation_reads = added_reads C D new h operation_added
 
-    pub operation_laid : parent_below (block_count C) new.parent → Laid (with_operation C new)
-    unfolding parent_below
-    operation_laid p = added_laid C D new h operation_added room (λ b e. range_place b e (subst (parent_below (block_count C)) e p)) p (op_put p) (λ i l. same C D block_next block_next_column i) ends.old
+    pub operation_laid : ParentBelow (block_count C) new.parent → Laid (with_operation C new)
+    unfolding ParentBelow
+    operation_laid p = added_laid C D new h operation_added room (λ b e. range_place b e (subst (ParentBelow (block_count C)) e p)) p (op_put p) (λ i l. same C D block_next block_next_column i) ends.old

@@ -1,5 +1,5 @@
--- What the tests of a new operation ask, read off the words of a sound buffer: nesting is told by the depth around its parent, and where no
--- test fails its parent is there and what it adds has room. Assumes nothing.
+-- What the tests of a new operation ask, read off the words of a laid out buffer: nesting is told by the depth around its parent, and where no
+-- test of a sound one fails its parent is there and what it adds has room. Assumes nothing.
 use Prim.Native.Nat.{ℕ, zero, suc, ◌+◌, ◌≤◌, ◌<◌}
 use native.Mathlib.Omega.{arith}
 use mathlib.Core.Bool.{true}
@@ -21,10 +21,10 @@ use Rattle.layout.proofs.Laid.{Laid, laid_facts}
 use Rattle.layout.proofs.Tabulate.{ops_length, regions_length, values_length, block_in_law}
 use Rattle.layout.proofs.Nesting.{placed_facts, nesting_under}
 use Rattle.calling.proofs.Facts.{laid, operands_counted, successors_counted}
-use Rattle.adding.specs.Raw.{parent_below, depth_under}
+use Rattle.adding.specs.Raw.{ParentBelow, depth_under}
 use Rattle.adding.proofs.OperationLaid.{RoomFor}
 
--- ---- what is around a block of a sound buffer
+-- ---- what is around a block of a laid out buffer
 
 pub record AroundBlock (C : Cols) (m : ℕ) : Type 0 where
   pub block : m < block_count C
@@ -81,13 +81,13 @@ fits_facts new h =
 -- ---- the parent, and room
 
 module _ (b : List ℕ) (h : Arranged b) where
-  pub parent_in_law : (p : Option ℕ) → parent_exists (store_in b) p ≡ true → parent_below (block_count (columns b)) p
-  unfolding parent_exists parent_below
+  pub parent_in_law : (p : Option ℕ) → parent_exists (store_in b) p ≡ true → ParentBelow (block_count (columns b)) p
+  unfolding parent_exists ParentBelow
   parent_in_law none e = tt
   parent_in_law (some m) e = (in_block b h m e).block
 
-  pub parent_below_law : (p : Option ℕ) → parent_exists (store_in b) p ≡ true → parent_below 256 p
-  unfolding parent_exists parent_below
+  pub parent_below_law : (p : Option ℕ) → parent_exists (store_in b) p ≡ true → ParentBelow 256 p
+  unfolding parent_exists ParentBelow
   parent_below_law none e = tt
   parent_below_law (some m) e = let l = (in_block b h m e).block in let k = (laid_facts (columns b) h.laid).counts.blocks in omega arith
 

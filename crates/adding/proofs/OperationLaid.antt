@@ -17,7 +17,7 @@ use Rattle.layout.specs.Reading.{op_count, block_count, region_count, value_coun
 use Rattle.layout.specs.Soundness.{end_before, placed, in_owner, attribute_sum}
 use Rattle.layout.proofs.Laid.{InRange, OpLaid, RegionLaid, Laid, within_of}
 use Rattle.calling.proofs.LinksKept.{EntriesKept, block_links_kept}
-use Rattle.adding.specs.Raw.{OpRoom, parent_below, depth_under}
+use Rattle.adding.specs.Raw.{OpRoom, ParentBelow, depth_under}
 use Rattle.adding.proofs.Grew.{placed_under, end_kept, op_kept, block_kept, region_kept}
 use Rattle.adding.proofs.Rows.{values_laid, new_owned, old_or_last, old_or_new, rows_last, rows_kept, sum_last}
 use Rattle.adding.proofs.OperationAdded.{OperationAdded, parent_read_law}
@@ -34,13 +34,13 @@ module _ (C D : Cols) (new : NewOperation) (h : Laid C) (a : OperationAdded C D 
   abbrev InBlockRange : Type 0
   InBlockRange = (b : ℕ) → new.parent ≡ some b → InRange (at D block_op_first b) (at D block_op_end b) (op_count C)
 
-  new_placed : InBlockRange → (p : Option ℕ) → new.parent ≡ p → parent_below (block_count C) p → placed D (op_count C) p ≡ true
-  unfolding placed depth_under parent_below
+  new_placed : InBlockRange → (p : Option ℕ) → new.parent ≡ p → ParentBelow (block_count C) p → placed D (op_count C) p ≡ true
+  unfolding placed depth_under ParentBelow
   new_placed place none e i = eq-eqb _ _ (a.depth_word ∙ ap (depth_under C) e)
   new_placed place (some b) e i =
       placed_under C D h a.grew (op_count C) b i (h.region _ (h.block b i).region_in).op_in (a.depth_word ∙ ap (depth_under C) e) (place b e)
 
-  new_op : InBlockRange → parent_below (block_count C) new.parent → OpLaid D (op_count C)
+  new_op : InBlockRange → ParentBelow (block_count C) new.parent → OpLaid D (op_count C)
   new_op place i =
       let g = a.grew in
       let er = a.region_counted in
@@ -62,7 +62,7 @@ module _ (C D : Cols) (new : NewOperation) (h : Laid C) (a : OperationAdded C D 
 
   -- ---- the rows
 
-  ops_laid : InBlockRange → parent_below (block_count C) new.parent → (n : ℕ) → n < op_count D → OpLaid D n
+  ops_laid : InBlockRange → ParentBelow (block_count C) new.parent → (n : ℕ) → n < op_count D → OpLaid D n
   ops_laid place p n l = go (old_or_last n (op_count C) (subst (λ (m : ℕ). n < m) a.op_counted l))
     where
       go : (n < op_count C) ⊎ (n ≡ op_count C) → OpLaid D n
@@ -107,7 +107,7 @@ module _ (C D : Cols) (new : NewOperation) (h : Laid C) (a : OperationAdded C D 
       (ap sum (rows_kept (block_count D) (block_count C) (at D block_attributes) (at C block_attributes) a.grew.block_keys a.block_counted))
       ∙ h.attributes ∙ sym a.attribute_counted
 
-  pub added_laid : RoomFor C new → InBlockRange → parent_below (block_count C) new.parent → OpPut C D new.parent → EntriesKept C D block_next (block_count C) → EntriesKept C D region_block_end (region_count C) → Laid D
+  pub added_laid : RoomFor C new → InBlockRange → ParentBelow (block_count C) new.parent → OpPut C D new.parent → EntriesKept C D block_next (block_count C) → EntriesKept C D region_block_end (region_count C) → Laid D
   added_laid room place p put links ends =
       let c = h.counts in
       let e1 = a.op_counted in

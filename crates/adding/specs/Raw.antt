@@ -31,9 +31,9 @@ parent_code none = 0
 parent_code (some b) = b + 1
 
 -- the parent, if there is one, is below n
-unfoldable pub parent_below : ℕ → Option ℕ → Type 0
-parent_below n none = Unit {0}
-parent_below n (some b) = b < n
+unfoldable pub ParentBelow : ℕ → Option ℕ → Type 0
+ParentBelow n none = Unit {0}
+ParentBelow n (some b) = b < n
 
 -- there is room for so many of each
 pub record OpRoom (C : Cols) (r v o s : ℕ) : Type 0 where

@@ -7,7 +7,7 @@ ghost use Rattle.layout.specs.Columns.{buffer_length, columns, op_kind, op_regio
 ghost use Rattle.layout.specs.Soundness.{IsSound, Arranged};
 ghost use Rattle.calling.specs.Types.{parent_of, operation_of};
 ghost use Rattle.layout.specs.Causes.{cause_of};
-ghost use Rattle.adding.specs.Raw.{OpRoom, with_row, parent_below, parent_code, op_head, op_ranges, op_slices, op_placed, op_written, with_operation};
+ghost use Rattle.adding.specs.Raw.{OpRoom, with_row, ParentBelow, parent_code, op_head, op_ranges, op_slices, op_placed, op_written, with_operation};
 ghost use Rattle.calling.specs.Doing.{Did};
 
 use crate::tests::{depth_under, nesting_holds, operation_fits, operation_names, operation_room};
@@ -105,7 +105,7 @@ fn put_op_slices(store: &mut [u32], n: usize, sizes: Sizes)
 // Operation n goes to the end of its block's range, if it has a block, and the one before it is linked to it.
 fn place_op(store: &mut [u32], parent: Parent, n: usize)
     requires store_len { length store.old ≡ buffer_length }
-    requires parent_below { parent_below 256 (parent_of parent) }
+    requires parent_below { ParentBelow 256 (parent_of parent) }
     requires n_bound { n < 512 }
     ensures { columns store.new ≡ op_placed (columns store.old) (parent_of parent) n }
 {
@@ -121,7 +121,7 @@ fn place_op(store: &mut [u32], parent: Parent, n: usize)
 
 // A parent as a word of the store: 0 for none, else the block's number and one.
 fn parent_word(parent: Parent) -> u32
-    requires { parent_below 256 (parent_of parent) }
+    requires { ParentBelow 256 (parent_of parent) }
     ensures { result ≡ parent_code (parent_of parent) }
 {
     match parent {

@@ -14,7 +14,7 @@ use Rattle.layout.specs.Columns.{columns}
 use Rattle.layout.specs.Reading.{op_count, block_count, value_count, store_in}
 use Rattle.layout.specs.Soundness.{IsSound}
 use Rattle.layout.proofs.Tabulate.{ops_length, blocks_length, values_length}
-use Rattle.layout.proofs.Scans.{Scanned, At, scan_starts, scan_on, entry_fails, entries_done}
+use Rattle.layout.proofs.Scans.{Scanned, passes_at, scan_starts, scan_on, entry_fails, entries_done}
 use Rattle.numbering.specs.Words.{Stands, rule_name}
 use Rattle.numbering.specs.Numbered.{numbered_all, values_in, blocks_in, Numbers, DefinitionsFit}
 use Rattle.numbering.specs.declared.words.Name.{Name}
@@ -50,7 +50,7 @@ comes_in_time inside sofar v = not (has_place inside v) || has_place sofar v
 
 -- those before name i come in time
 abbrev pub NamesPassed : List ℕ → List ℕ → List ℕ → ℕ → Type 0
-NamesPassed inside sofar ns i = Scanned (At (comes_in_time inside sofar) ns) (length ns) (length ns) i
+NamesPassed inside sofar ns i = Scanned (passes_at (comes_in_time inside sofar) ns) (length ns) (length ns) i
 
 has_come : (inside sofar : List ℕ) (v : ℕ) → has_place sofar v ≡ true → comes_in_time inside sofar v ≡ true
 has_come inside sofar v h = go (has_place inside v)

@@ -30,31 +30,31 @@ module _ (b : List ℕ) (sd : IsSound b) (n : ℕ) (l : n < op_count (columns b)
   ex = op_exists_law (columns b) n ∙ lt-ltb n _ l
 
   -- an operation inside n, or n itself
-  abbrev pub OpIn : ℕ → Bool
-  OpIn m = has_place (fragment_ops (store_in b) op n) m
+  abbrev pub holds_op : ℕ → Bool
+  holds_op m = has_place (fragment_ops (store_in b) op n) m
 
-  abbrev pub BlockIn : ℕ → Bool
-  BlockIn m = has_place (defines_blocks (store_in b) op n) m
+  abbrev pub holds_block : ℕ → Bool
+  holds_block m = has_place (defines_blocks (store_in b) op n) m
 
-  abbrev pub ValueIn : ℕ → Bool
-  ValueIn v = has_place (defines_values (store_in b) op n) v
+  abbrev pub holds_value : ℕ → Bool
+  holds_value v = has_place (defines_values (store_in b) op n) v
 
-  op_itself : (m : ℕ) → m ≡ n → OpIn m ≡ true
+  op_itself : (m : ℕ) → m ≡ n → holds_op m ≡ true
   op_itself m e = ap (λ (k : ℕ). has_place (fragment_ops (store_in b) op n) k) e ∙ climbed.place_itself (store_in b) sd.ruled n ex
 
-  op_before : (m : ℕ) → m < n → OpIn m ≡ false
+  op_before : (m : ℕ) → m < n → holds_op m ≡ false
   op_before m d = climbed.place_before (store_in b) sd.ruled n ex m d
 
   -- where one stops on the way up: there it is n, or lies before it
-  pub stopped : (m : ℕ) → m ≤ n → eqb m n ≡ OpIn m
+  pub stopped : (m : ℕ) → m ≤ n → eqb m n ≡ holds_op m
   stopped m d = go (ℕ_discrete m n)
     where
-      go : Dec (m ≡ n) → eqb m n ≡ OpIn m
+      go : Dec (m ≡ n) → eqb m n ≡ holds_op m
       go (yes e) = eq-eqb m n e ∙ sym (op_itself m e)
       go (no ne) = ne_eqb m n ne ∙ sym (op_before m (omega arith))
 
   -- without a parent
-  pub op_alone : (m : ℕ) → m < op_count (columns b) → n < m → at (columns b) op_parent m ≡ 0 → OpIn m ≡ false
+  pub op_alone : (m : ℕ) → m < op_count (columns b) → n < m → at (columns b) op_parent m ≡ 0 → holds_op m ≡ false
   unfolding parent_from
   op_alone m k d z =
       climbed.place_alone (store_in b) sd.ruled n ex m (λ e. let f : m ≡ n = e in omega arith) (parent_read_law (columns b) m k ∙ ap parent_from z)
@@ -63,7 +63,7 @@ module _ (b : List ℕ) (sd : IsSound b) (n : ℕ) (l : n < op_count (columns b)
   pub around_op : (c : ℕ) → c < block_count (columns b) → around (columns b) c < op_count (columns b)
   around_op c k = (h.region _ (h.block c k).region_in).op_in
 
-  pub block_in_law : (c : ℕ) → c < block_count (columns b) → BlockIn c ≡ OpIn (around (columns b) c)
+  pub block_in_law : (c : ℕ) → c < block_count (columns b) → holds_block c ≡ holds_op (around (columns b) c)
   block_in_law c k =
       climbed.place_block (store_in b) sd.ruled n ex c (subst (λ (z : ℕ). c < z) (sym (blocks_length (columns b))) k)
       ∙ ap (λ (m : ℕ). has_place (fragment_ops (store_in b) op n) m) (around_read (columns b) c k (h.block c k).region_in)
@@ -122,12 +122,12 @@ module _ (b : List ℕ) (sd : IsSound b) (n : ℕ) (l : n < op_count (columns b)
     unfolding in_owner
     result_op e = ltb-true _ _ (and_left _ _ (laid_in _ (owner_op e)))
 
-    pub result_in : w % 2 ≡ 0 → ValueIn v ≡ OpIn (w / 2)
+    pub result_in : w % 2 ≡ 0 → holds_value v ≡ holds_op (w / 2)
     result_in e = climbed.place_result (store_in b) sd.ruled n ex v _ (value_long v k) (owner_read_law v k ∙ sym (ap owner_from q) ∙ owner_op e)
 
     pub argument_block : (w % 2 ≡ 0 → ⊥) → w / 2 < block_count (columns b)
     unfolding in_owner
     argument_block ne = ltb-true _ _ (and_left _ _ (laid_in _ (owner_block ne)))
 
-    pub argument_in : (w % 2 ≡ 0 → ⊥) → ValueIn v ≡ BlockIn (w / 2)
+    pub argument_in : (w % 2 ≡ 0 → ⊥) → holds_value v ≡ holds_block (w / 2)
     argument_in ne = climbed.place_argument (store_in b) sd.ruled n ex v _ (value_long v k) (owner_read_law v k ∙ sym (ap owner_from q) ∙ owner_block ne)

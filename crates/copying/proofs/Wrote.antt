@@ -11,7 +11,7 @@ use Rattle.layout.specs.Owners.{key_count, count_column, owner_number}
 use Rattle.layout.proofs.Laid.{Shaped, Laid, laid_facts, laid_of}
 use Rattle.layout.proofs.Buffer.{columns_shaped}
 use Rattle.layout.proofs.Tabulate.{ops_length, blocks_length, op_read, block_read, length_tabulate, get_d_tabulate}
-use Rattle.layout.proofs.OwnerKeys.{owner_in, owner_in_law}
+use Rattle.layout.proofs.OwnerKeys.{OwnerIn, owner_in_law}
 use Rattle.calling.specs.Doing.{Behind}
 use Rattle.adding.specs.Raw.{with_operation, with_block}
 use Rattle.adding.proofs.Operating.{parent_in_law}
@@ -94,7 +94,7 @@ module _ (a b : List ℕ) (h : Arranged a) (len : length b ≡ length a) where
 
 -- ---- an attribute
 
-read_of_law : (C : Cols) (u : Owner) → owner_in C u → attributes_of (store_of C) u ≡ attributes_from C (slots_of u) (key_count C u)
+read_of_law : (C : Cols) (u : Owner) → OwnerIn C u → attributes_of (store_of C) u ≡ attributes_from C (slots_of u) (key_count C u)
 unfolding attributes_of key_count count_column owner_number op_of block_of
 read_of_law C (of_op n) l = ap (λ (o : Op). o.attributes) (op_read C n l)
 read_of_law C (of_block m) l = ap (λ (o : Block). o.attributes) (block_read C m l)

@@ -29,29 +29,29 @@ use Rattle.cutting.proofs.Taken.{Counted, taken, fewer}
 use Rattle.cutting.proofs.Cut.{columns_of, tables_cut_law, cut_counts, cut_written}
 
 -- the columns that are cut, as those of before but for five
-abbrev After : Cols → ℕ → Cols
-After C row = cut_by C (columns_of (tables_cut C row))
+abbrev columns_after : Cols → ℕ → Cols
+columns_after C row = cut_by C (columns_of (tables_cut C row))
 
 module _ (C : Cols) (row : ℕ) (shaped : Shaped C) where
   -- ---- the row's counts of operands, successors and attributes
 
-  cut_total : (i : ℕ) → i < 7 → at (After C row) counts i ≡ at C mark_counts (8 * row + i)
+  cut_total : (i : ℕ) → i < 7 → at (columns_after C row) counts i ≡ at C mark_counts (8 * row + i)
   unfolding at cut_by tables_cut blocks_cut ops_cut children_cut links_cut ends_made with_column write_range
   cut_total i l = taken C row shaped i l
 
-  module _ (s : Store) (read : store_of (After C row) ≡ s) where
-    totals_kept_law : Shaped (After C row) → Laid (After C row) → totals_kept C row s ≡ true
+  module _ (s : Store) (read : store_of (columns_after C row) ≡ s) where
+    totals_kept_law : Shaped (columns_after C row) → Laid (columns_after C row) → totals_kept C row s ≡ true
     unfolding totals_kept operand_count successor_count attribute_count
     totals_kept_law sh l =
         every_of _ (
-          eq-eqb _ _ (sym (cut_total 4 (omega arith)) ∙ sym (operand_total_law (After C row) sh l) ∙ ap operand_total read),
+          eq-eqb _ _ (sym (cut_total 4 (omega arith)) ∙ sym (operand_total_law (columns_after C row) sh l) ∙ ap operand_total read),
           (
-            eq-eqb _ _ (sym (cut_total 5 (omega arith)) ∙ sym (successor_total_law (After C row) sh l) ∙ ap successor_total read),
-            (eq-eqb _ _ (sym (cut_total 6 (omega arith)) ∙ sym (attribute_total_law (After C row) l) ∙ ap attribute_total read), tt),
+            eq-eqb _ _ (sym (cut_total 5 (omega arith)) ∙ sym (successor_total_law (columns_after C row) sh l) ∙ ap successor_total read),
+            (eq-eqb _ _ (sym (cut_total 6 (omega arith)) ∙ sym (attribute_total_law (columns_after C row) l) ∙ ap attribute_total read), tt),
           ),
         )
 
-    totals_are : totals_kept C row s ≡ true → TotalsAre (After C row)
+    totals_are : totals_kept C row s ≡ true → TotalsAre (columns_after C row)
     unfolding totals_kept operand_count successor_count attribute_count
     totals_are h =
         let p = passed _ h in
@@ -63,8 +63,8 @@ module _ (C : Cols) (row : ℕ) (shaped : Shaped C) where
 
   -- ---- where ranges end
 
-  module _ (k : Counts) (n : Counted k (After C row)) where
-    ranges_end_law : Laid (After C row) → ranges_end C k ≡ true
+  module _ (k : Counts) (n : Counted k (columns_after C row)) where
+    ranges_end_law : Laid (columns_after C row) → ranges_end C k ≡ true
     unfolding ranges_end at cut_by
     ranges_end_law l =
         every_of _ (
@@ -79,7 +79,7 @@ module _ (C : Cols) (row : ℕ) (shaped : Shaped C) where
           ),
         )
 
-    ends_within : ranges_end C k ≡ true → RangesEnd (After C row)
+    ends_within : ranges_end C k ≡ true → RangesEnd (columns_after C row)
     unfolding ranges_end at cut_by
     ends_within h =
         let p = passed _ h in
@@ -93,10 +93,10 @@ module _ (C : Cols) (row : ℕ) (shaped : Shaped C) where
 -- ---- the tables
 
 module _ (C : Cols) (row : ℕ) (shaped : Shaped C) (h : Laid C) (within : counts_within (row_counts C row) (counts_of (store_of C)) ≡ true) where
-  few : Fewer C (After C row)
-  few = fewer C (After C row) (row_counts C row) (cut_counts C row shaped) within
+  few : Fewer C (columns_after C row)
+  few = fewer C (columns_after C row) (row_counts C row) (cut_counts C row shaped) within
 
-  after_read : store_of (After C row) ≡ cut_to (row_counts C row) (store_of C)
+  after_read : store_of (columns_after C row) ≡ cut_to (row_counts C row) (store_of C)
   after_read =
       let n = cut_counts C row shaped in
       cut_read C (columns_of (tables_cut C row)) (row_counts C row) n.ops n.blocks n.regions n.values few
@@ -104,22 +104,22 @@ module _ (C : Cols) (row : ℕ) (shaped : Shaped C) (h : Laid C) (within : count
   pub tables_read : store_of (tables_cut C row) ≡ cut_to (row_counts C row) (store_of C)
   tables_read = ap store_of (tables_cut_law C row) ∙ after_read
 
-  after_sound : Shaped (After C row) → laid_out (After C row) ≡ true → sound (store_of (After C row)) ≡ true → back_sound C row ≡ true
+  after_sound : Shaped (columns_after C row) → laid_out (columns_after C row) ≡ true → sound (store_of (columns_after C row)) ≡ true → back_sound C row ≡ true
   unfolding back_sound
   after_sound sh l r =
-      let laid = laid_facts (After C row) l in
+      let laid = laid_facts (columns_after C row) l in
       every_of _ (
         ap sound (sym after_read) ∙ r,
         (totals_kept_law C row shaped _ after_read sh laid, (ranges_end_law C row shaped (row_counts C row) (cut_counts C row shaped) laid, tt)),
       )
 
-  sound_after : back_sound C row ≡ true → (laid_out (After C row) ≡ true) × (sound (store_of (After C row)) ≡ true)
+  sound_after : back_sound C row ≡ true → (laid_out (columns_after C row) ≡ true) × (sound (store_of (columns_after C row)) ≡ true)
   unfolding back_sound
   sound_after t =
       let p = passed _ t in
       let r = ap sound after_read ∙ p.0 in (
-        laid_of (After C row)
-            (laid_back C (columns_of (tables_cut C row)) h few (cut_written C row shaped h few) (facts (store_of (After C row)) r)
+        laid_of (columns_after C row)
+            (laid_back C (columns_of (tables_cut C row)) h few (cut_written C row shaped h few) (facts (store_of (columns_after C row)) r)
             (totals_are C row shaped _ after_read p.1.0)
             (ends_within C row shaped (row_counts C row) (cut_counts C row shaped) p.1.1.0)
             shaped),
@@ -129,7 +129,7 @@ module _ (C : Cols) (row : ℕ) (shaped : Shaped C) (h : Laid C) (within : count
   -- of a buffer with these columns
   pub tables_sound : (b : List ℕ) → length b ≡ buffer_length → columns b ≡ tables_cut C row → sound_buffer b ≡ back_sound C row
   tables_sound b long e =
-      let same : columns b ≡ After C row = e ∙ tables_cut_law C row in
+      let same : columns b ≡ columns_after C row = e ∙ tables_cut_law C row in
       same_tests (sound_buffer b) (back_sound C row)
       (λ t. let s = sound_facts b t in
       after_sound (subst Shaped same (columns_shaped b long)) (ap laid_out (sym same) ∙ s.laid) (ap (λ (X : Cols). sound (store_of X)) (sym same) ∙ s.ruled))

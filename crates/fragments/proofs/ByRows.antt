@@ -15,7 +15,7 @@ use Rattle.layout.specs.Owners.{count_column, owner_number, key_count}
 use Rattle.layout.specs.Soundness.{IsSound}
 use Rattle.layout.proofs.Laid.{Laid, Ranged, laid_facts}
 use Rattle.layout.proofs.Buffer.{columns_shaped}
-use Rattle.layout.proofs.OwnerKeys.{owner_in, owner_keys, slots_fit}
+use Rattle.layout.proofs.OwnerKeys.{OwnerIn, owner_keys, slots_fit}
 use Rattle.layout.proofs.Tabulate.{length_from, op_read, block_read}
 use Rattle.layout.proofs.Ranges.{range, length_range, regions_range, results_range, arguments_range}
 use Rattle.layout.proofs.Totals.{operands_length, successors_length}
@@ -69,7 +69,7 @@ module _ (b : List ℕ) (s : IsSound b) where
   shell_types ig (of_block m) = refl
 
   -- the row of an owner: its location, and its values from a to e
-  module _ (w : Owner) (l : owner_in C w) (place a e : ℕ) (r : Ranged a e (value_count C)) (own : values_of (store_of C) w ≡ range a e) where
+  module _ (w : Owner) (l : OwnerIn C w) (place a e : ℕ) (r : Ranged a e (value_count C)) (own : values_of (store_of C) w ≡ range a e) where
     row_read : ((ig : Ignore) → (shell_of (store_of C) ig w).location ≡ unignored_location ig place)
         → ((ig : Ignore) → (shell_of (store_of C) ig w).attributes ≡ unignored ig (attributes_from C (slots_of w) (key_count C w))) → {location slot keys first many : ℕ}
         → location ≡ place → slot ≡ slots_of w → keys ≡ key_count C w → first ≡ a → many ≡ e - a

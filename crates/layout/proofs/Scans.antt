@@ -75,10 +75,10 @@ below_cong (suc n) p q same = ap₂ ◌&&◌ (same n (omega arith)) (below_cong 
 
 -- ---- entries of a list
 
-abbrev pub At : (ℕ → Bool) → List ℕ → ℕ → Bool
-At p xs k = p (get_or xs k 0)
+abbrev pub passes_at : (ℕ → Bool) → List ℕ → ℕ → Bool
+passes_at p xs k = p (get_or xs k 0)
 
-pub all_passes : (p : ℕ → Bool) (xs : List ℕ) → Before (At p xs) (length xs) → all p xs ≡ true
+pub all_passes : (p : ℕ → Bool) (xs : List ℕ) → Before (passes_at p xs) (length xs) → all p xs ≡ true
 unfolding all
 all_passes p [] b = refl
 all_passes p (x ∷ xs) b = and_both (p x) (all p xs) (b 0 (omega arith)) (all_passes p xs (λ k h. b (suc k) (omega arith)))
@@ -130,15 +130,15 @@ same_tests true false f g = sym (f refl)
 same_tests false true f g = g refl
 same_tests false false f g = refl
 
-pub all_below_law : (p : ℕ → Bool) (xs : List ℕ) → all p xs ≡ all_below (length xs) (At p xs)
+pub all_below_law : (p : ℕ → Bool) (xs : List ℕ) → all p xs ≡ all_below (length xs) (passes_at p xs)
 all_below_law p xs =
-    same_tests (all p xs) (all_below (length xs) (At p xs))
-    (λ h. all_below_of (length xs) (At p xs) (λ i l. all_at p xs h (mem_get_d xs i 0 l)))
-    (λ h. all_passes p xs (all_below_at (length xs) (At p xs) h))
+    same_tests (all p xs) (all_below (length xs) (passes_at p xs))
+    (λ h. all_below_of (length xs) (passes_at p xs) (λ i l. all_at p xs h (mem_get_d xs i 0 l)))
+    (λ h. all_passes p xs (all_below_at (length xs) (passes_at p xs) h))
 
 -- a scan of the entries of a list
-module _ (p : ℕ → Bool) (xs : List ℕ) {i : ℕ} (g : Scanned (At p xs) (length xs) (length xs) i) where
-  pub entry_fails : i < length xs → At p xs i ≡ false → false ≡ all p xs
+module _ (p : ℕ → Bool) (xs : List ℕ) {i : ℕ} (g : Scanned (passes_at p xs) (length xs) (length xs) i) where
+  pub entry_fails : i < length xs → passes_at p xs i ≡ false → false ≡ all p xs
   entry_fails l h = scan_fails g l h ∙ sym (all_below_law p xs)
 
   pub entries_done : length xs ≤ i → true ≡ all p xs
@@ -157,7 +157,7 @@ pub owned_slice : (C : Cols) (k a e w : ℕ) → e ≤ length (C k) → all (λ 
 unfolding owned at
 owned_slice C k a e w h =
     all_below_law (λ (x : ℕ). eqb x w) (slice (C k) a e)
-    ∙ ap (λ (n : ℕ). all_below n (At (λ (x : ℕ). eqb x w) (slice (C k) a e))) (slice_length (C k) a e h)
+    ∙ ap (λ (n : ℕ). all_below n (passes_at (λ (x : ℕ). eqb x w) (slice (C k) a e))) (slice_length (C k) a e h)
     ∙ below_cong (e - a) _ _ (λ i m. ap (λ (x : ℕ). eqb x w) (slice_at (C k) a e i m))
 
 pub first_end_law : (C : Cols) (k n : ℕ) → n ≡ 0 → 0 ≡ end_before C k n
@@ -171,8 +171,8 @@ later_end C k zero h = absurd (h refl)
 later_end C k (suc n) h = ap (at C k) (let e : suc n - 1 ≡ n = omega arith in e)
 
 -- two lists, at one place
-abbrev pub AtBoth : (ℕ → ℕ → Bool) → List ℕ → List ℕ → ℕ → Bool
-AtBoth p xs ys i = p (get_or xs i 0) (get_or ys i 0)
+abbrev pub agree_at : (ℕ → ℕ → Bool) → List ℕ → List ℕ → ℕ → Bool
+agree_at p xs ys i = p (get_or xs i 0) (get_or ys i 0)
 
 -- ---- equal lists
 
@@ -190,5 +190,5 @@ same_fail xs ys i l r ne = not_same (same_list eqb xs ys) refl
     not_same true e = absurd (ne (ap (λ (zs : List ℕ). get_or zs i 0) ((numbers_same xs ys).0 e)))
     not_same false e = e
 
-pub same_pass : (xs ys : List ℕ) → length xs ≡ length ys → Before (AtBoth eqb xs ys) (length xs) → same_list eqb xs ys ≡ true
+pub same_pass : (xs ys : List ℕ) → length xs ≡ length ys → Before (agree_at eqb xs ys) (length xs) → same_list eqb xs ys ≡ true
 same_pass xs ys e b = (numbers_same xs ys).1 (ext_get_or 0 xs ys e (λ i l. eqb-true _ _ (b i l)))

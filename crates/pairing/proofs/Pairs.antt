@@ -13,10 +13,10 @@ use Rattle.rules.specs.Lists.{all, all_pairs}
 use Rattle.rules.specs.Mapping.{or_self, image, no_image}
 use Rattle.rules.proofs.Basics.Tests.{and_both, all_at}
 use Rattle.rules.proofs.Basics.Appended.{mem_get_d}
-use Rattle.layout.proofs.Scans.{Before, AtBoth, Scanned, and_false}
+use Rattle.layout.proofs.Scans.{Before, agree_at, Scanned, and_false}
 use Rattle.mapping.specs.MappingWords.{mapping_length, mapping_of}
 
-pairs_pass : (p : ℕ → ℕ → Bool) (xs ys : List ℕ) (n : ℕ) → min (length xs) (length ys) ≤ n → Before (AtBoth p xs ys) n → all_pairs p xs ys ≡ true
+pairs_pass : (p : ℕ → ℕ → Bool) (xs ys : List ℕ) (n : ℕ) → min (length xs) (length ys) ≤ n → Before (agree_at p xs ys) n → all_pairs p xs ys ≡ true
 unfolding all_pairs
 pairs_pass p [] ys n l b = refl
 pairs_pass p (x ∷ xs) [] n l b = refl
@@ -32,11 +32,11 @@ pairs_fail p (x ∷ xs) (y ∷ ys) (suc i) l r h =
     and_false (p x y) (all_pairs p xs ys) (pairs_fail p xs ys i (le_of_suc-le-suc l) (le_of_suc-le-suc r) h)
 
 -- a scan of the pairs, of which there are n
-module _ (p : ℕ → ℕ → Bool) (xs ys : List ℕ) {n i : ℕ} (g : Scanned (AtBoth p xs ys) (min (length xs) (length ys)) n i) where
+module _ (p : ℕ → ℕ → Bool) (xs ys : List ℕ) {n i : ℕ} (g : Scanned (agree_at p xs ys) (min (length xs) (length ys)) n i) where
   pub pair_in : i < n → (i < length xs) × (i < length ys)
   pair_in l = let e = g.counted in (omega arith, omega arith)
 
-  pub pair_fails : i < n → AtBoth p xs ys i ≡ false → false ≡ all_pairs p xs ys
+  pub pair_fails : i < n → agree_at p xs ys i ≡ false → false ≡ all_pairs p xs ys
   pair_fails l h = sym (pairs_fail p xs ys i (pair_in l).0 (pair_in l).1 h)
 
   pub pairs_done : n ≤ i → true ≡ all_pairs p xs ys

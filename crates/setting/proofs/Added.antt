@@ -18,7 +18,7 @@ use Rattle.layout.specs.Owners.{key_count, count_column, owner_number}
 use Rattle.layout.proofs.Laid.{Shaped, Laid}
 use Rattle.layout.proofs.Buffer.{write_other, write_range_other}
 use Rattle.layout.proofs.KindWords.{attribute_read_law}
-use Rattle.layout.proofs.OwnerKeys.{owner_in, slots_fit}
+use Rattle.layout.proofs.OwnerKeys.{OwnerIn, slots_fit}
 use Rattle.setting.specs.Raw.{slot_for, key_there, inserted, added}
 use Rattle.setting.proofs.Changed.{attribute_same}
 use Rattle.setting.proofs.Inserted.{insert_tabulate, grown, grown_before, grown_there, grown_behind, grown_past}
@@ -57,7 +57,7 @@ module _ (C : Cols) (s : ℕ) (a : Attribute) where
   added_operands (of_op n) = refl
   added_operands (of_block m) = refl
 
-  added_keys : (w : Owner) → Shaped C → Laid C → owner_in C w → key_count (added C w s a) w ≡ key_count C w + 1
+  added_keys : (w : Owner) → Shaped C → Laid C → OwnerIn C w → key_count (added C w s a) w ≡ key_count C w + 1
   unfolding key_count added inserted write write_range at count_column owner_number
   added_keys (of_op n) sh h l = get_or-set_same (C op_attributes) n _ 0 (omega (arith, sh op_attributes, h.counts.ops))
   added_keys (of_block m) sh h l = get_or-set_same (C block_attributes) m _ 0 (omega (arith, sh block_attributes, h.counts.blocks))
@@ -78,7 +78,7 @@ module _ (C : Cols) (s : ℕ) (a : Attribute) where
 
 -- ---- what they are read as
 
-module _ (C : Cols) (w : Owner) (a : Attribute) (sh : Shaped C) (h : Laid C) (l : owner_in C w) (fits : a.kind ≤ max_attribute_kind) (t : key_there C w a.key ≡ false) (room : key_count C w + 1 ≤ max_own_keys) where
+module _ (C : Cols) (w : Owner) (a : Attribute) (sh : Shaped C) (h : Laid C) (l : OwnerIn C w) (fits : a.kind ≤ max_attribute_kind) (t : key_there C w a.key ≡ false) (room : key_count C w + 1 ≤ max_own_keys) where
   abbrev s : ℕ
   s = slot_for C w a.key
 

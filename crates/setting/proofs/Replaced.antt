@@ -14,14 +14,14 @@ use Rattle.layout.specs.Owners.{key_count, count_column, owner_number}
 use Rattle.layout.proofs.Laid.{Shaped, Laid}
 use Rattle.layout.proofs.Buffer.{write_other}
 use Rattle.layout.proofs.KindWords.{attribute_read_law}
-use Rattle.layout.proofs.OwnerKeys.{owner_in, owner_keys, slots_fit}
+use Rattle.layout.proofs.OwnerKeys.{OwnerIn, owner_keys, slots_fit}
 use Rattle.setting.specs.Raw.{slot_for, key_there, replaced}
 use Rattle.setting.proofs.Changed.{update_tabulate, attribute_same, set_update}
 use Rattle.setting.proofs.Patched.{OnlyTouched, touched, untouched}
 use Rattle.setting.proofs.KeySlot.{own, place, slot_found, there_within, there_key, there_put}
 use Rattle.setting.proofs.Written.{Written}
 
-module _ (C : Cols) (w : Owner) (a : Attribute) (sh : Shaped C) (h : Laid C) (l : owner_in C w) (fits : a.kind ≤ max_attribute_kind) (t : key_there C w a.key ≡ true) where
+module _ (C : Cols) (w : Owner) (a : Attribute) (sh : Shaped C) (h : Laid C) (l : OwnerIn C w) (fits : a.kind ≤ max_attribute_kind) (t : key_there C w a.key ≡ true) where
   abbrev word : ℕ
   word = kind_code a.kind a.inherent
 

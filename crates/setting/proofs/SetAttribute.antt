@@ -14,7 +14,7 @@ use Rattle.layout.specs.Soundness.{attribute_sum}
 use Rattle.layout.specs.Owners.{key_count, count_column, owner_number}
 use Rattle.layout.proofs.Laid.{Shaped, Laid}
 use Rattle.layout.proofs.Tabulate.{tabulate_cong}
-use Rattle.layout.proofs.OwnerKeys.{owner_in, owner_keys}
+use Rattle.layout.proofs.OwnerKeys.{OwnerIn, owner_keys}
 use Rattle.setting.specs.Raw.{slot_for, key_there, replaced, added, with_attribute}
 use Rattle.calling.specs.Doing.{Behind}
 use Rattle.setting.proofs.Behind.{kept_behind}
@@ -24,9 +24,9 @@ use Rattle.setting.proofs.Written.{Written, op_block, owner_same, slots_apart}
 use Rattle.setting.proofs.Replaced.{replaced_written}
 use Rattle.setting.proofs.Added.{added_written}
 
-module _ (C D : Cols) (w : Owner) (a : Attribute) (h : Laid C) (l : owner_in C w) (p : Written C D w a) where
+module _ (C D : Cols) (w : Owner) (a : Attribute) (h : Laid C) (l : OwnerIn C w) (p : Written C D w a) where
   -- another owner's attributes
-  listed : (u : Owner) → owner_in C u → (u ≡ w → ⊥) → attributes_from D (slots_of u) (key_count D u) ≡ attributes_from C (slots_of u) (key_count C u)
+  listed : (u : Owner) → OwnerIn C u → (u ≡ w → ⊥) → attributes_from D (slots_of u) (key_count D u) ≡ attributes_from C (slots_of u) (key_count C u)
   unfolding attributes_from
   listed u b ne =
       ap (attributes_from D (slots_of u)) (p.others u ne)
@@ -44,7 +44,7 @@ module _ (C D : Cols) (w : Owner) (a : Attribute) (h : Laid C) (l : owner_in C w
   unfolding block_of patched touched any at attribute_at attributes_from key_count count_column owner_number
   block_same m b ne = ap (block_with (block_of C m)) (listed (of_block m) b ne)
 
-  keys_kept : (u : Owner) → owner_in C u → key_count D u ≤ max_own_keys
+  keys_kept : (u : Owner) → OwnerIn C u → key_count D u ≤ max_own_keys
   keys_kept u b = go (owner_same u w)
     where
       go : Dec (u ≡ w) → key_count D u ≤ max_own_keys
@@ -59,7 +59,7 @@ block_mine : (C D : Cols) (m : ℕ) (a : Attribute) → Written C D (of_block m)
 unfolding block_of block_with_attribute patched touched any at attribute_at attributes_from key_count count_column owner_number
 block_mine C D m a p = ap (block_with (block_of C m)) p.mine
 
-written_reads : (C D : Cols) (w : Owner) (a : Attribute) → Laid C → owner_in C w → Written C D w a → store_of D ≡ applied (store_of C) (set_attribute w a)
+written_reads : (C D : Cols) (w : Owner) (a : Attribute) → Laid C → OwnerIn C w → Written C D w a → store_of D ≡ applied (store_of C) (set_attribute w a)
 unfolding store_of applied patched patched_counts touched any op_count block_count region_count value_count value_of at
 written_reads C D (of_op n) a h l p =
     ap store_of (kept_path C D p.kept)
@@ -79,7 +79,7 @@ written_reads C D (of_block m) a h l p =
     }
 
 -- the owners' counts sum up to the total
-sum_kept : (C D : Cols) (w : Owner) (a : Attribute) → Laid C → owner_in C w → Written C D w a → attribute_sum (patched C D) ≡ attribute_count D
+sum_kept : (C D : Cols) (w : Owner) (a : Attribute) → Laid C → OwnerIn C w → Written C D w a → attribute_sum (patched C D) ≡ attribute_count D
 unfolding attribute_sum key_count count_column owner_number patched patched_counts touched any op_count block_count at
 sum_kept C D (of_op n) a h l p =
     omega (
@@ -98,7 +98,7 @@ sum_kept C D (of_block m) a h l p =
       ap sum (tabulate_cong (op_count C) (at D op_attributes) (at C op_attributes) (λ k b. p.others (of_op k) (op_block k m))),
     )
 
-written_laid : (C D : Cols) (w : Owner) (a : Attribute) → Laid C → owner_in C w → Written C D w a → Laid D
+written_laid : (C D : Cols) (w : Owner) (a : Attribute) → Laid C → OwnerIn C w → Written C D w a → Laid D
 unfolding key_count count_column owner_number
 written_laid C D w a h l p =
     subst Laid (sym (kept_path C D p.kept))
@@ -110,7 +110,7 @@ written_laid C D w a h l p =
 abbrev pub KeyRoom : Cols → Owner → ℕ → Type 0
 KeyRoom C w key = key_there C w key ≡ false → (key_count C w + 1 ≤ max_own_keys) × (attribute_count C + 1 ≤ max_attributes)
 
-module _ (C : Cols) (w : Owner) (a : Attribute) (sh : Shaped C) (h : Laid C) (l : owner_in C w) (fits : a.kind ≤ max_attribute_kind) (room : KeyRoom C w a.key) where
+module _ (C : Cols) (w : Owner) (a : Attribute) (sh : Shaped C) (h : Laid C) (l : OwnerIn C w) (fits : a.kind ≤ max_attribute_kind) (room : KeyRoom C w a.key) where
   attribute_written : Written C (with_attribute C w a) w a
   unfolding with_attribute
   attribute_written = go (key_there C w a.key) refl

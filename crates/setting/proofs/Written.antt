@@ -10,7 +10,7 @@ use Rattle.layout.specs.Columns.{Cols, operand_words, first_block_slot}
 use Rattle.layout.specs.Reading.{attribute_count, slots_of, attribute_at, attributes_from}
 use Rattle.layout.specs.Owners.{key_count}
 use Rattle.layout.proofs.Laid.{Laid}
-use Rattle.layout.proofs.OwnerKeys.{owner_in}
+use Rattle.layout.proofs.OwnerKeys.{OwnerIn}
 use Rattle.setting.proofs.Patched.{OnlyTouched}
 use Rattle.setting.proofs.KeySlot.{own}
 
@@ -44,7 +44,7 @@ owner_same (of_block n) (of_block m) = go (ℕ_discrete n m)
     go (no ne) = no (λ e. ne (cc))
 
 -- two owners' slots are apart
-pub slots_apart : (C : Cols) (u w : Owner) → Laid C → owner_in C u → owner_in C w → (u ≡ w → ⊥) → (slots_of u + 8 ≤ slots_of w) ⊎ (slots_of w + 8 ≤ slots_of u)
+pub slots_apart : (C : Cols) (u w : Owner) → Laid C → OwnerIn C u → OwnerIn C w → (u ≡ w → ⊥) → (slots_of u + 8 ≤ slots_of w) ⊎ (slots_of w + 8 ≤ slots_of u)
 unfolding slots_of
 slots_apart C (of_op n) (of_op m) h l k ne = go (dec_lt n m)
   where

@@ -1,5 +1,5 @@
 // What a program prints for a case is compared with what it must print.
-ghost use Rattle.std.specs.Prelude.{◌≤◌, length};
+ghost use Rattle.std.specs.Prelude.{◌≡◌, ◌≤◌, length, take};
 
 use crate::making::CaseLengths;
 use crate::text::{byte_at, clamp, next};
@@ -11,7 +11,8 @@ use std::io;
 
 // How many bytes of `out` are what the program prints, if it has room for all that may be.
 fn print(program: Program, listing: &[u8], out: &mut [u8]) -> usize
-    ensures { result ≤ length out.new }
+    ensures fits { result ≤ length out.new }
+    ensures counted { result ≡ length (take result out.new) }
 {
     if out.len() < ROOM {
         return 0;

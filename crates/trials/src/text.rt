@@ -1,5 +1,5 @@
 // Writing into a buffer and reading from it, at any position: what finds no room is dropped, and behind the end there is a 0.
-ghost use Rattle.std.specs.Prelude.{ℕ, ◌<◌, ◌≤◌, length};
+ghost use Rattle.std.specs.Prelude.{ℕ, ◌≡◌, ◌<◌, ◌≤◌, length, take};
 
 // The most digits of a number within 32 bits.
 const DIGITS: usize = 10;
@@ -23,7 +23,8 @@ pub fn put_decimal_if_room(to: &mut [u8], at: usize, n: u32) -> usize {
 
 // `n`, or the number of bytes where that is less.
 pub fn clamp(bytes: &[u8], n: usize) -> usize
-    ensures { result ≤ length bytes.now }
+    ensures fits { result ≤ length bytes.now }
+    ensures counted { result ≡ length (take result bytes.now) }
 {
     if n < bytes.len() {
         return n;

@@ -12,7 +12,7 @@ use Rattle.layout.specs.Soundness.{attribute_sum}
 use Rattle.layout.specs.Owners.{count_column, owner_number, key_count}
 use Rattle.layout.proofs.Laid.{Laid}
 use Rattle.layout.proofs.Sums.{sum_suc}
-use Rattle.layout.proofs.OwnerKeys.{owner_in}
+use Rattle.layout.proofs.OwnerKeys.{OwnerIn}
 
 entry_within : (n N : ℕ) (f : ℕ → ℕ) → n < N → f n ≤ sum (tabulate N f)
 entry_within n zero f l = absurd (not-suc-le-zero l)
@@ -22,7 +22,7 @@ entry_within n (suc N) f l = go (ℕ_discrete n N) (λ u. entry_within n N f u)
     go (yes e) rest = omega (arith, sum_suc N f, ap f e)
     go (no ne) rest = omega (arith, sum_suc N f, rest (omega arith))
 
-pub keys_within : (C : Cols) (w : Owner) → Laid C → owner_in C w → key_count C w ≤ attribute_count C
+pub keys_within : (C : Cols) (w : Owner) → Laid C → OwnerIn C w → key_count C w ≤ attribute_count C
 unfolding key_count count_column owner_number attribute_sum
 keys_within C (of_op n) h l = omega (arith, h.attributes, entry_within n (op_count C) (at C op_attributes) l)
 keys_within C (of_block m) h l = omega (arith, h.attributes, entry_within m (block_count C) (at C block_attributes) l)

@@ -16,7 +16,7 @@ use Rattle.layout.specs.Reading.{slots_of, attribute_count, attribute_read, attr
 use Rattle.layout.specs.Owners.{key_count, count_column, owner_number}
 use Rattle.layout.proofs.Laid.{Shaped, Laid}
 use Rattle.layout.proofs.Buffer.{write_other, write_range_other}
-use Rattle.layout.proofs.OwnerKeys.{owner_in, owner_keys, slots_fit}
+use Rattle.layout.proofs.OwnerKeys.{OwnerIn, owner_keys, slots_fit}
 use Rattle.layout.proofs.Tabulate.{length_tabulate, get_d_tabulate}
 use Rattle.journal.specs.Journal.{without_key}
 use Rattle.setting.specs.Raw.{slot_for, key_there}
@@ -66,7 +66,7 @@ module _ (C : Cols) (s : ℕ) where
   removed_operands (of_op n) = refl
   removed_operands (of_block m) = refl
 
-  removed_keys : (w : Owner) → Shaped C → Laid C → owner_in C w → key_count (without_slot C w s) w ≡ key_count C w - 1
+  removed_keys : (w : Owner) → Shaped C → Laid C → OwnerIn C w → key_count (without_slot C w s) w ≡ key_count C w - 1
   unfolding key_count without_slot removed write write_range at count_column owner_number
   removed_keys (of_op n) sh h l = get_or-set_same (C op_attributes) n _ 0 (omega (arith, sh op_attributes, h.counts.ops))
   removed_keys (of_block m) sh h l = get_or-set_same (C block_attributes) m _ 0 (omega (arith, sh block_attributes, h.counts.blocks))
@@ -87,7 +87,7 @@ module _ (C : Cols) (s : ℕ) where
 
 -- ---- what they are read as
 
-module _ (C : Cols) (w : Owner) (k : ℕ) (sh : Shaped C) (h : Laid C) (l : owner_in C w) (t : key_there C w k ≡ true) (rise : keys_rise (own C w) ≡ true) where
+module _ (C : Cols) (w : Owner) (k : ℕ) (sh : Shaped C) (h : Laid C) (l : OwnerIn C w) (t : key_there C w k ≡ true) (rise : keys_rise (own C w) ≡ true) where
   abbrev s : ℕ
   s = slot_for C w k
 

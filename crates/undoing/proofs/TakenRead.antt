@@ -13,16 +13,16 @@ use Rattle.layout.specs.Soundness.{attribute_sum}
 use Rattle.layout.specs.Owners.{key_count, count_column, owner_number}
 use Rattle.layout.proofs.Laid.{Laid}
 use Rattle.layout.proofs.Tabulate.{tabulate_cong}
-use Rattle.layout.proofs.OwnerKeys.{owner_in, owner_keys}
+use Rattle.layout.proofs.OwnerKeys.{OwnerIn, owner_keys}
 use Rattle.journal.specs.Journal.{op_without_key, block_without_key, key_taken}
 use Rattle.setting.proofs.Changed.{update_tabulate, op_with, block_with, sum_changed}
 use Rattle.setting.proofs.Patched.{touched, patched, patched_counts, kept_path, laid_patched}
 use Rattle.setting.proofs.Written.{op_block, owner_same, slots_apart}
 use Rattle.undoing.proofs.Taken.{Taken}
 
-module _ (C D : Cols) (w : Owner) (k : ℕ) (h : Laid C) (l : owner_in C w) (p : Taken C D w k) where
+module _ (C D : Cols) (w : Owner) (k : ℕ) (h : Laid C) (l : OwnerIn C w) (p : Taken C D w k) where
   -- another owner's attributes
-  listed : (u : Owner) → owner_in C u → (u ≡ w → ⊥) → attributes_from D (slots_of u) (key_count D u) ≡ attributes_from C (slots_of u) (key_count C u)
+  listed : (u : Owner) → OwnerIn C u → (u ≡ w → ⊥) → attributes_from D (slots_of u) (key_count D u) ≡ attributes_from C (slots_of u) (key_count C u)
   unfolding attributes_from
   listed u b ne =
       ap (attributes_from D (slots_of u)) (p.others u ne)
@@ -40,7 +40,7 @@ module _ (C D : Cols) (w : Owner) (k : ℕ) (h : Laid C) (l : owner_in C w) (p :
   unfolding block_of patched touched any at attribute_at attributes_from key_count count_column owner_number
   block_same m b ne = ap (block_with (block_of C m)) (listed (of_block m) b ne)
 
-  keys_kept : (u : Owner) → owner_in C u → key_count D u ≤ max_own_keys
+  keys_kept : (u : Owner) → OwnerIn C u → key_count D u ≤ max_own_keys
   keys_kept u b = go (owner_same u w)
     where
       go : Dec (u ≡ w) → key_count D u ≤ max_own_keys
@@ -55,7 +55,7 @@ block_mine : (C D : Cols) (m k : ℕ) → Taken C D (of_block m) k → block_of 
 unfolding block_of block_without_key patched touched any at attribute_at attributes_from key_count count_column owner_number
 block_mine C D m k p = ap (block_with (block_of C m)) p.mine
 
-pub taken_reads : (C D : Cols) (w : Owner) (k : ℕ) → Laid C → owner_in C w → Taken C D w k → store_of D ≡ key_taken (store_of C) w k
+pub taken_reads : (C D : Cols) (w : Owner) (k : ℕ) → Laid C → OwnerIn C w → Taken C D w k → store_of D ≡ key_taken (store_of C) w k
 unfolding store_of key_taken patched patched_counts touched any op_count block_count region_count value_count value_of at
 taken_reads C D (of_op n) k h l p =
     ap store_of (kept_path C D p.kept)
@@ -75,7 +75,7 @@ taken_reads C D (of_block m) k h l p =
     }
 
 -- the owners' counts sum up to the total
-sum_kept : (C D : Cols) (w : Owner) (k : ℕ) → Laid C → owner_in C w → Taken C D w k → attribute_sum (patched C D) ≡ attribute_count D
+sum_kept : (C D : Cols) (w : Owner) (k : ℕ) → Laid C → OwnerIn C w → Taken C D w k → attribute_sum (patched C D) ≡ attribute_count D
 unfolding attribute_sum key_count count_column owner_number patched patched_counts touched any op_count block_count at
 sum_kept C D (of_op n) k h l p =
     omega (
@@ -94,7 +94,7 @@ sum_kept C D (of_block m) k h l p =
       ap sum (tabulate_cong (op_count C) (at D op_attributes) (at C op_attributes) (λ i b. p.others (of_op i) (op_block i m))),
     )
 
-pub taken_laid : (C D : Cols) (w : Owner) (k : ℕ) → Laid C → owner_in C w → Taken C D w k → Laid D
+pub taken_laid : (C D : Cols) (w : Owner) (k : ℕ) → Laid C → OwnerIn C w → Taken C D w k → Laid D
 unfolding key_count count_column owner_number
 taken_laid C D w k h l p =
     subst Laid (sym (kept_path C D p.kept))

@@ -47,8 +47,8 @@ pub(crate) struct RunAnswer {
     pub(crate) right: u32,
 }
 
-/// What a building call answers, the copier among them, and one that sets a mark or goes back. Code 0 is a new number, `number`; 1 is
-/// accepted; 2 is a refusal, and its cause is `number`.
+/// What a building call answers, and likewise the copier, and a call that sets a mark or goes back. Code 0 is a new number, `number`; 1
+/// is accepted; 2 is a refusal, and its cause is `number`.
 #[repr(C)]
 #[derive(Clone, Copy)]
 pub(crate) struct Outcome {

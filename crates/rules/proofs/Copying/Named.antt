@@ -117,16 +117,16 @@ module _ (s t : Store) (vc bc : ℕ → ℕ) (wc : Owner → Owner) where
   mapped_next N N' e e' dones q = q
 
   -- the names of an event that have no number yet keep their own
-  unfoldable pub event_kept : Event → Numbering → Type 0
-  event_kept (step (shell w)) N = Unit {0}
-  event_kept (step (names m)) N = KeptNames vc N.values (op_at s m).operands × KeptNames bc N.blocks (op_at s m).successors
-  event_kept (step (counted k)) N = Unit {0}
-  event_kept more N = Unit {0}
-  event_kept done N = Unit {0}
+  unfoldable pub EventKept : Event → Numbering → Type 0
+  EventKept (step (shell w)) N = Unit {0}
+  EventKept (step (names m)) N = KeptNames vc N.values (op_at s m).operands × KeptNames bc N.blocks (op_at s m).successors
+  EventKept (step (counted k)) N = Unit {0}
+  EventKept more N = Unit {0}
+  EventKept done N = Unit {0}
 
   unfoldable pub Kept : List Event → Numbering → Type 0
   Kept [] N = Unit {0}
-  Kept (e ∷ es) N = event_kept e N × Kept es (numbered_by s e N)
+  Kept (e ∷ es) N = EventKept e N × Kept es (numbered_by s e N)
 
   -- ---- tokens
 
@@ -138,8 +138,8 @@ module _ (s t : Store) (vc bc : ℕ → ℕ) (wc : Owner → Owner) where
       block_once : (b : ℕ) → Memᴰ b (op_at s m).successors → (x : ℕ) → Memᴰ x N.blocks → bc b ≡ bc x → b ≡ x
       block_once b k x i = ren.blocks_once b x (p.successors_in b k) (q.blocks_in x i)
 
-      names_same : event_kept (step (names m)) N → token s ig (step (names m)) N ≡ token t ig (step (names m')) N'
-      unfolding event_kept token KeptNames
+      names_same : EventKept (step (names m)) N → token s ig (step (names m)) N ≡ token t ig (step (names m')) N'
+      unfolding EventKept token KeptNames
       names_same keeps = λ i. names_token (sym p.counts i) (operands i) (successors i)
         where
           operands : map (typed s N.values) (op_at s m).operands ≡ map (typed t N'.values) (op_at t m').operands
@@ -153,8 +153,8 @@ module _ (s t : Store) (vc bc : ℕ → ℕ) (wc : Owner → Owner) where
               map_through (name_of N.blocks) (name_of (map bc N.blocks)) bc (op_at s m).successors (λ b k. name_same bc b N.blocks (block_once b k) (keeps.1 b k))
               ∙ λ i. map (name_of (sym q.blocks i)) (sym p.successors i)
 
-      same_names : token s ig (step (names m)) N ≡ token t ig (step (names m')) N' → event_kept (step (names m)) N
-      unfolding event_kept token KeptNames
+      same_names : token s ig (step (names m)) N ≡ token t ig (step (names m')) N' → EventKept (step (names m)) N
+      unfolding EventKept token KeptNames
       same_names e = (
         λ v k. name_keeps vc v N.values (value_once v k) (λ i. (map_each (typed s N.values) (typed t (map vc N.values)) vc (op_at s m).operands operands v k i).0),
         λ b k. name_keeps bc b N.blocks (block_once b k) (map_each (name_of N.blocks) (name_of (map bc N.blocks)) bc (op_at s m).successors successors b k),
@@ -170,7 +170,7 @@ module _ (s t : Store) (vc bc : ℕ → ℕ) (wc : Owner → Owner) where
               let f : map (name_of N.blocks) (op_at s m).successors ≡ map (name_of N'.blocks) (op_at t m').successors = cc in
               f ∙ λ i. map (name_of (q.blocks i)) (p.successors i)
 
-    token_same : (N N' : Numbering) → Mapped N N' → (e e' : Event) → Carries e e' → event_kept e N → token s ig e N ≡ token t ig e' N'
+    token_same : (N N' : Numbering) → Mapped N N' → (e e' : Event) → Carries e e' → EventKept e N → token s ig e N ≡ token t ig e' N'
     unfolding token
     token_same N N' q e e' (shelled p) k = λ i. shell_token (sym p.counts i) (sym (p.shells ig) i)
     token_same N N' q e e' (named {m = m} {m' = m'} p) k = names_same N N' q m m' p k
@@ -178,8 +178,8 @@ module _ (s t : Store) (vc bc : ℕ → ℕ) (wc : Owner → Owner) where
     token_same N N' q e e' mores k = refl
     token_same N N' q e e' dones k = refl
 
-    same_kept_law : (N N' : Numbering) → Mapped N N' → (e e' : Event) → Carries e e' → token s ig e N ≡ token t ig e' N' → event_kept e N
-    unfolding event_kept
+    same_kept_law : (N N' : Numbering) → Mapped N N' → (e e' : Event) → Carries e e' → token s ig e N ≡ token t ig e' N' → EventKept e N
+    unfolding EventKept
     same_kept_law N N' q e e' (shelled p) k = tt
     same_kept_law N N' q e e' (named {m = m} {m' = m'} p) k = same_names N N' q m m' p k
     same_kept_law N N' q e e' begun k = tt

@@ -30,7 +30,7 @@ use Rattle.rules.proofs.Copying.Inside.{op_below, block_below, value_owner_law}
 use Rattle.rules.proofs.Copying.Tables.{old_op, new_op, old_block, new_block_law, old_value, new_value, values_length, block_once}
 use Rattle.rules.proofs.Copying.Children.{region_parent, owner_here, owner_apart, same_self, ops_old, ops_new, blocks_old, blocks_new, regions_old, regions_new, values_old, values_new}
 use Rattle.rules.proofs.Copying.Kept.{value_copied}
-use Rattle.rules.proofs.Copying.Named.{KeptNames, event_kept, Kept}
+use Rattle.rules.proofs.Copying.Named.{KeptNames, EventKept, Kept}
 use Rattle.rules.proofs.Copying.Early.{in_time_law}
 use Rattle.rules.proofs.Copying.Moved.{renamed_owner, Moved, moves, owners_moved, ops_moved, blocks_moved, values_moved, named_values_moved, named_blocks_moved, named_values_in, named_blocks_in, kept→same, same→kept}
 
@@ -70,8 +70,8 @@ abbrev same : ℕ → ℕ
 same x = x
 
 module _ (s t : Store) (wc : Owner → Owner) where
-  event_stays : (e : Event) (N : Numbering) → event_kept s t same same wc e N
-  unfolding event_kept KeptNames
+  event_stays : (e : Event) (N : Numbering) → EventKept s t same same wc e N
+  unfolding EventKept KeptNames
   event_stays (step (shell w)) N = tt
   event_stays (step (names m)) N = (λ v k p. refl, λ b k p. refl)
   event_stays (step (counted j)) N = tt

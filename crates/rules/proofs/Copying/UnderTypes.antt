@@ -10,7 +10,7 @@ use Rattle.rules.specs.Hash.{Numbering}
 use Rattle.rules.specs.Types.{present, renamed}
 use Rattle.rules.specs.Form.{Event, step, more, done, op_events, blocks_events, region_events, events, numbered_by}
 use Rattle.rules.proofs.Types.Renamed.{values_length, values_renamed, numbered_renamed, type_renamed, shell_renamed, shell_renamed_law}
-use Rattle.rules.proofs.Copying.Named.{OwnerPair, NamesPair, Carries, shelled, named, begun, mores, dones, Renaming, event_kept, Kept}
+use Rattle.rules.proofs.Copying.Named.{OwnerPair, NamesPair, Carries, shelled, named, begun, mores, dones, Renaming, EventKept, Kept}
 
 module _ (types : List ℕ) (s : Store) where
   abbrev other : Store
@@ -86,8 +86,8 @@ module _ (types : List ℕ) (s t : Store) (vc bc : ℕ → ℕ) (wc : Owner → 
         blocks_once = r.blocks_once;
       }
 
-  event_under : (e : Event) (N : Numbering) → event_kept s t vc bc wc e N → event_kept s' t' vc bc wc e N
-  unfolding event_kept renamed op_at
+  event_under : (e : Event) (N : Numbering) → EventKept s t vc bc wc e N → EventKept s' t' vc bc wc e N
+  unfolding EventKept renamed op_at
   event_under (step (shell w)) N k = tt
   event_under (step (names m)) N k = k
   event_under (step (counted j)) N k = tt

@@ -3,13 +3,13 @@ use Prim.Native.Nat.{◌<◌}
 use native.Mathlib.Omega.{arith}
 use mathlib.Core.Path.{sym, ap, subst}
 use Rattle.calling.specs.Types.{parent_of}
-use Rattle.adding.specs.Raw.{parent_below, parent_code}
+use Rattle.adding.specs.Raw.{ParentBelow, parent_code}
 use Rattle.adding.proofs.operations.parent_word.Goals as goal
 
 pub overflow_add-result : goal.overflow_add-result
-unfolding parent_below parent_of
+unfolding ParentBelow parent_of
 overflow_add-result c =
-    let l : c.in-Block.b < 256 = subst (λ p. parent_below 256 (parent_of p)) c.in-Block.is c.requires in
+    let l : c.in-Block.b < 256 = subst (λ p. ParentBelow 256 (parent_of p)) c.in-Block.is c.requires in
     omega arith
 
 pub returns-in-None : goal.returns-in-None

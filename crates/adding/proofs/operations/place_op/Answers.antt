@@ -4,25 +4,25 @@ use native.Mathlib.Omega.{arith}
 use mathlib.Core.Path.{sym, ap, subst, ◌∙◌}
 use Rattle.layout.specs.Columns.{Cols, columns, op_parent, op_next, block_op_first, block_op_end}
 use Rattle.calling.specs.Types.{parent_of}
-use Rattle.adding.specs.Raw.{parent_below, extended, child_linked, child_placed, op_placed}
+use Rattle.adding.specs.Raw.{ParentBelow, extended, child_linked, child_placed, op_placed}
 use Rattle.adding.proofs.operations.place_op.Goals as goal
 
 pub number-end-requires : goal.number-end-requires
-unfolding parent_below parent_of
+unfolding ParentBelow parent_of
 number-end-requires c =
-    let l : c.in-Block.b < 256 = subst (λ p. parent_below 256 (parent_of p)) c.in-Block.is c.requires.parent_below in
+    let l : c.in-Block.b < 256 = subst (λ p. ParentBelow 256 (parent_of p)) c.in-Block.is c.requires.ParentBelow in
     record { store_len = c.requires.store_len; column_lt_column_count = omega arith; n_bound = omega arith }
 
 pub overflow_add-b : goal.overflow_add-b
-unfolding parent_below parent_of
+unfolding ParentBelow parent_of
 overflow_add-b c =
-    let l : c.in-Block.b < 256 = subst (λ p. parent_below 256 (parent_of p)) c.in-Block.is c.requires.parent_below in
+    let l : c.in-Block.b < 256 = subst (λ p. ParentBelow 256 (parent_of p)) c.in-Block.is c.requires.ParentBelow in
     record { fits = omega arith }
 
 pub extend-requires : goal.extend-requires
-unfolding parent_below parent_of
+unfolding ParentBelow parent_of
 extend-requires c =
-    let l : c.in-Block.b < 256 = subst (λ p. parent_below 256 (parent_of p)) c.in-Block.is c.requires.parent_below in
+    let l : c.in-Block.b < 256 = subst (λ p. ParentBelow 256 (parent_of p)) c.in-Block.is c.requires.ParentBelow in
     record {
       store_len = omega arith;
       first_lt_column_count = omega arith;

@@ -1,4 +1,4 @@
--- `depth_in` meets its contract: a block of a sound buffer stands in a region of an operation. Assumes nothing.
+-- `depth_in` meets its contract: a block of a laid out buffer stands in a region of an operation. Assumes nothing.
 use Prim.Native.Nat.{ℕ, ◌+◌}
 use native.Mathlib.Omega.{arith}
 use mathlib.Core.Path.{ap, ◌∙◌}

@@ -2,11 +2,11 @@
 use Prim.Native.Nat.{ℕ, ◌-◌}
 use lib.Dec.{ltb}
 use lib.ListN.{length}
-use Rattle.layout.proofs.Scans.{At, Scanned}
+use Rattle.layout.proofs.Scans.{passes_at, Scanned}
 use Rattle.layout.proofs.lists.all_below.Given as goal
 
 abbrev pub invariant-loop-i : goal.invariant-loop-i
-invariant-loop-i l = Scanned (At (λ (x : ℕ). ltb x l.n) l.list) (length l.list) (length l.list) l.i
+invariant-loop-i l = Scanned (passes_at (λ (x : ℕ). ltb x l.n) l.list) (length l.list) (length l.list) l.i
 
 abbrev pub decreases-loop-i : goal.decreases-loop-i
 decreases-loop-i l = length l.list - l.i

@@ -3,7 +3,7 @@ use native.Mathlib.Omega.{arith}
 use mathlib.Core.Path.{sym}
 use borrow.Author.Tests.{eq-eqb}
 use lib.Dec.{eqb}
-use Rattle.layout.proofs.Scans.{AtBoth, before_zero, before_next, same_length, same_fail, same_pass}
+use Rattle.layout.proofs.Scans.{agree_at, before_zero, before_next, same_length, same_fail, same_pass}
 use Rattle.layout.proofs.lists.words_eq.Goals as goal
 
 pub returns-then-l-r : goal.returns-then-l-r
@@ -25,7 +25,7 @@ pub loop-i-preserved : goal.loop-i-preserved
 loop-i-preserved c =
     let a = c.args in
     let i = c.loop-i.i in
-    (omega arith, before_next (AtBoth eqb a.l.now a.r.now) i c.loop-i.invariant.1 (eq-eqb _ _ c.if-l-i.false))
+    (omega arith, before_next (agree_at eqb a.l.now a.r.now) i c.loop-i.invariant.1 (eq-eqb _ _ c.if-l-i.false))
 
 pub returns : goal.returns
 returns c =

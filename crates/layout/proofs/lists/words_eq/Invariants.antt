@@ -2,11 +2,11 @@
 use Prim.Native.Nat.{◌-◌, ◌≤◌}
 use lib.ListN.{length}
 use lib.Dec.{eqb}
-use Rattle.layout.proofs.Scans.{Before, AtBoth}
+use Rattle.layout.proofs.Scans.{Before, agree_at}
 use Rattle.layout.proofs.lists.words_eq.Given as goal
 
 abbrev pub invariant-loop-i : goal.invariant-loop-i
-invariant-loop-i l = (l.i ≤ length l.l) × Before (AtBoth eqb l.l l.r) l.i
+invariant-loop-i l = (l.i ≤ length l.l) × Before (agree_at eqb l.l l.r) l.i
 
 abbrev pub decreases-loop-i : goal.decreases-loop-i
 decreases-loop-i l = length l.l - l.i

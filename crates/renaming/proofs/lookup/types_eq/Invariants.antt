@@ -4,11 +4,11 @@ use lib.ListN.{length}
 use Rattle.rules.specs.Types.{present}
 use Rattle.layout.proofs.Scans.{Before}
 use Rattle.renaming.specs.Index.{list_in}
-use Rattle.renaming.proofs.Mapped.{AtBothBy}
+use Rattle.renaming.proofs.Mapped.{agree_at_by}
 use Rattle.renaming.proofs.lookup.types_eq.Given as goal
 
 abbrev pub invariant-loop-i : goal.invariant-loop-i
-invariant-loop-i l = (l.i ≤ length l.l) × Before (AtBothBy (present (list_in l.index)) l.l l.r) l.i
+invariant-loop-i l = (l.i ≤ length l.l) × Before (agree_at_by (present (list_in l.index)) l.l l.r) l.i
 
 abbrev pub decreases-loop-i : goal.decreases-loop-i
 decreases-loop-i l = length l.l - l.i
