@@ -7,7 +7,7 @@ FOLDER holds crates/. The rows of respelled.tsv beside this script (or of FILE) 
   old, tab, new             the name turns wherever it stands as a whole word
   old, tab, new, tab, lemma the name turns only in the .antt files that declare or import it, behind no dot: a Rust function,
                             a field or a label of the same spelling keeps it
-  old, tab, new, tab, type  the name turns, but where it is a label: behind `requires` or `ensures`, or before ` =`
+  old, tab, new, tab, type  the name turns, but where it is a label: behind `requires`, `ensures` or a dot, or before ` =`
 What turns: the code of .antt files; the code of .rt files outside strings; the lines of must-fail/*.edit; in comments and in .md files, names in camel case, and
 any name between backticks. What stays: names that Rattle makes of the source (a goal that an Answers or Invariants file answers, and
 what stands right behind `c.`, `l.`, `w.` or `goal.` there), names that a file imports from outside the repository, strings, and all of out/.
@@ -80,7 +80,7 @@ class Respeller:
 
         def turned(m, behind, ahead):
             name, dotted = m[0], behind.endswith(".")
-            if name in self.types and not re.search(r"(requires|ensures) $", behind) and not ahead.startswith(" = "):
+            if name in self.types and not re.search(r"((requires|ensures) |\.)$", behind) and not ahead.startswith(" = "):
                 return self.types[name]
             if name in goals or (made and dotted and "-" in name and HEAD.search(behind)):
                 return name

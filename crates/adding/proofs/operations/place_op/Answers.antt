@@ -10,19 +10,19 @@ use Rattle.adding.proofs.operations.place_op.Goals as goal
 pub number-end-requires : goal.number-end-requires
 unfolding ParentBelow parent_of
 number-end-requires c =
-    let l : c.in-Block.b < 256 = subst (λ p. ParentBelow 256 (parent_of p)) c.in-Block.is c.requires.ParentBelow in
+    let l : c.in-Block.b < 256 = subst (λ p. ParentBelow 256 (parent_of p)) c.in-Block.is c.requires.parent_below in
     record { store_len = c.requires.store_len; column_lt_column_count = omega arith; n_bound = omega arith }
 
 pub overflow_add-b : goal.overflow_add-b
 unfolding ParentBelow parent_of
 overflow_add-b c =
-    let l : c.in-Block.b < 256 = subst (λ p. ParentBelow 256 (parent_of p)) c.in-Block.is c.requires.ParentBelow in
+    let l : c.in-Block.b < 256 = subst (λ p. ParentBelow 256 (parent_of p)) c.in-Block.is c.requires.parent_below in
     record { fits = omega arith }
 
 pub extend-requires : goal.extend-requires
 unfolding ParentBelow parent_of
 extend-requires c =
-    let l : c.in-Block.b < 256 = subst (λ p. ParentBelow 256 (parent_of p)) c.in-Block.is c.requires.ParentBelow in
+    let l : c.in-Block.b < 256 = subst (λ p. ParentBelow 256 (parent_of p)) c.in-Block.is c.requires.parent_below in
     record {
       store_len = omega arith;
       first_lt_column_count = omega arith;
