@@ -8,10 +8,12 @@ FOLDER holds crates/. The rows of respelled.tsv beside this script (or of FILE) 
   old, tab, new, tab, lemma the name turns only in the .antt files that declare or import it, behind no dot: a Rust function,
                             a field or a label of the same spelling keeps it
   old, tab, new, tab, type  the name turns, but where it is a label: behind `requires`, `ensures` or a dot, or before ` =`
-What turns: the code of .antt files; the code of .rt files outside strings; the lines of must-fail/*.edit; in comments and in .md files, names in camel case, and
-any name between backticks. What stays: names that Rattle makes of the source (a goal that an Answers or Invariants file answers, and
-what stands right behind `c.`, `l.`, `w.` or `goal.` there), names that a file imports from outside the repository, strings, and all of out/.
-It prints how many files changed, and each file where two names would be spelled alike. Then `rt fmt` lays the crates out.
+What turns: the code of .antt files; the code of .rt files outside strings; the lines of must-fail/*.edit; in comments and in .md files, names in
+camel case, and any name between backticks. What stays: names that Rattle makes of the source (a goal that an Answers or Invariants file
+answers, and what stands right behind `c.`, `l.`, `w.` or `goal.` there), names that a file imports from outside the repository, strings, and
+all of out/.
+Run it once: a second run takes a definition that it has respelled for the lemma of the same spelling. It prints how many files changed, and each
+file where two names are spelled alike: a function and its definition may be. Then `rt fmt` lays the crates out.
 """
 
 import os
