@@ -68,8 +68,8 @@ module _ (C D : Cols) (new : NewBlock) (h : Laid C) (a : BlockAdded C D new) whe
   abbrev InRegionRange : Type 0
   InRegionRange = InRange (at D region_block_first new.region) (at D region_block_end new.region) (block_count C)
 
-  new_block_law : InRegionRange → new.region < region_count C → BlockLaid D (block_count C)
-  new_block_law place l =
+  new_block_lem : InRegionRange → new.region < region_count C → BlockLaid D (block_count C)
+  new_block_lem place l =
       let er = a.region_word in
       let ec = a.region_counted in
       let eo = a.opless in
@@ -87,7 +87,7 @@ module _ (C D : Cols) (new : NewBlock) (h : Laid C) (a : BlockAdded C D new) whe
     where
       go : (m < block_count C) ⊎ (m ≡ block_count C) → BlockLaid D m
       go (inl b) = block_kept C D h a.grew m b
-      go (inr e) = subst (BlockLaid D) (sym e) (new_block_law place r)
+      go (inr e) = subst (BlockLaid D) (sym e) (new_block_lem place r)
 
   new_value : (i : ℕ) → i < length new.types → in_owner D (value_count C + i) (of_block (block_count C)) ≡ true
   unfolding in_owner

@@ -15,7 +15,7 @@ use Rattle.layout.specs.Columns.{columns}
 use Rattle.layout.specs.Reading.{block_count, region_count, value_count, store_in}
 use Rattle.layout.specs.Soundness.{IsSound}
 use Rattle.layout.proofs.Scans.{stop, next, last}
-use Rattle.layout.proofs.Tabulate.{blocks_length, values_length, region_exists_law}
+use Rattle.layout.proofs.Tabulate.{blocks_length, values_length, region_exists_lem}
 use Rattle.calling.proofs.Causes.{none_fail, fails, passes}
 use Rattle.adding.proofs.BlockAdded.{BlockRoom}
 
@@ -32,8 +32,8 @@ module _ (b : List ℕ) (h : IsSound b) (new : NewBlock) where
   blocks_fit : leb (length (store_in b).blocks + 1) max_blocks ≡ leb (block_count (columns b) + 1) max_blocks
   blocks_fit = ap (λ (n : ℕ). leb (n + 1) max_blocks) (blocks_length (columns b))
 
-  values_fit_law : leb (length (store_in b).values + length new.types) max_values ≡ leb (value_count (columns b) + length new.types) max_values
-  values_fit_law = ap (λ (n : ℕ). leb (n + length new.types) max_values) (values_length (columns b))
+  values_fit_lem : leb (length (store_in b).values + length new.types) max_values ≡ leb (value_count (columns b) + length new.types) max_values
+  values_fit_lem = ap (λ (n : ℕ). leb (n + length new.types) max_values) (values_length (columns b))
 
   pub no_region : region_exists (store_in b) new.region ≡ false → failing_block ≡ some 2
   unfolding tests
@@ -53,15 +53,15 @@ module _ (b : List ℕ) (h : IsSound b) (new : NewBlock) where
     many_values m u w =
         passes _ 2 _ l
         (passes _ 4 _ (le-leb _ _ m)
-        (fails _ 3 _ (next _ (leb (length (store_in b).values + length new.types) max_values ∷ []) (blocks_fit ∙ le-leb _ _ u) (last _ (values_fit_law ∙ lt-leb _ _ w)))))
+        (fails _ 3 _ (next _ (leb (length (store_in b).values + length new.types) max_values ∷ []) (blocks_fit ∙ le-leb _ _ u) (last _ (values_fit_lem ∙ lt-leb _ _ w)))))
 
-    pub block_fits_law : length new.types ≤ max_own_values → BlockRoom (columns b) new.types → failing_block ≡ none
+    pub block_fits_lem : length new.types ≤ max_own_values → BlockRoom (columns b) new.types → failing_block ≡ none
     unfolding tests block_room
-    block_fits_law m room =
+    block_fits_lem m room =
         passes _ 2 _ l
         (passes _ 4 _ (le-leb _ _ m)
         (passes _ 3 _
-        (next _ (leb (length (store_in b).values + length new.types) max_values ∷ []) (blocks_fit ∙ le-leb _ _ room.blocks) (last _ (values_fit_law ∙ le-leb _ _ room.values)))
+        (next _ (leb (length (store_in b).values + length new.types) max_values ∷ []) (blocks_fit ∙ le-leb _ _ room.blocks) (last _ (values_fit_lem ∙ le-leb _ _ room.values)))
         none_fail))
 
   pub fits_block : failing_block ≡ none → BlockFits b new
@@ -70,11 +70,11 @@ module _ (b : List ℕ) (h : IsSound b) (new : NewBlock) where
       let p = first_failed_none _ e in
       let room = passed _ p.1.1.0 in
       record {
-        named = ltb-true new.region _ (sym (region_exists_law (columns b) new.region) ∙ p.0);
+        named = ltb-true new.region _ (sym (region_exists_lem (columns b) new.region) ∙ p.0);
         own = leb-true _ _ p.1.0;
         room =
             record {
               blocks = leb-true _ _ (sym blocks_fit ∙ room.0);
-              values = leb-true _ _ (sym values_fit_law ∙ room.1.0);
+              values = leb-true _ _ (sym values_fit_lem ∙ room.1.0);
             };
       }

@@ -12,7 +12,7 @@ use Rattle.layout.specs.Columns.{Cols, at, write}
 use Rattle.layout.specs.Children.{behind_child}
 use Rattle.layout.proofs.Laid.{Shaped, InRange}
 use Rattle.layout.proofs.Buffer.{write_at, write_other, write_shaped}
-use Rattle.layout.proofs.Linking.{behind_facts, behind_by_law}
+use Rattle.layout.proofs.Linking.{behind_facts, behind_by_lem}
 use Rattle.adding.specs.Raw.{extended, last_linked, child_linked, child_placed}
 use Rattle.adding.proofs.Extended.{Wider, extended_shaped, extended_other, extended_wider, extended_place, end_own, end_else}
 
@@ -67,7 +67,7 @@ module _ (C : Cols) (owners links end w n : ℕ) where
     unfolding at
     linked_last i l a e =
         let z : end - 1 ≡ i = omega arith in
-        let there : behind_child C owners n w end ≡ true = behind_by_law C owners n w end (λ q. omega arith) (omega arith) ∙ eq-eqb _ w (ap (at C owners) z ∙ a) in
+        let there : behind_child C owners n w end ≡ true = behind_by_lem C owners n w end (λ q. omega arith) (omega arith) ∙ eq-eqb _ w (ap (at C owners) z ∙ a) in
         ap (λ (xs : List ℕ). get_or xs i 0) (links_with true there)
         ∙ get_or-set_other (set (C links) (end - 1) n) n i 0 0 (λ q. omega arith)
         ∙ ap (λ (k : ℕ). get_or (set (C links) k n) i 0) z ∙ get_or-set_same (C links) i n 0 (omega arith)
@@ -104,9 +104,9 @@ module _ (C : Cols) (owners links first end owner w n : ℕ) (a : Apart owners l
   end_same : L end ≡ C end
   end_same = linked_other C owners links (at C end owner) w n end a.end_links
 
-  first_at_law : (m : ℕ) → at L first m ≡ at C first m
+  first_at_lem : (m : ℕ) → at L first m ≡ at C first m
   unfolding at
-  first_at_law m = ap (λ (xs : List ℕ). get_or xs m 0) first_same
+  first_at_lem m = ap (λ (xs : List ℕ). get_or xs m 0) first_same
 
   end_at : (m : ℕ) → at L end m ≡ at C end m
   unfolding at
@@ -117,7 +117,7 @@ module _ (C : Cols) (owners links first end owner w n : ℕ) (a : Apart owners l
   unfolding child_placed
   placed_wider m lf le l =
       let w = extended_wider L first end owner n a.first_end a.end_first m (subst (λ (xs : List ℕ). m < length xs) (sym first_same) lf) (subst (λ (xs : List ℕ). m < length xs) (sym end_same) le) (omega (arith, end_at m)) in
-      subst (λ (x : ℕ). Wider x (at C end m) (at (extended L first end owner n) first m) (at (extended L first end owner n) end m) n) (first_at_law m)
+      subst (λ (x : ℕ). Wider x (at C end m) (at (extended L first end owner n) first m) (at (extended L first end owner n) end m) n) (first_at_lem m)
       (subst (λ (y : ℕ). Wider (at L first m) y (at (extended L first end owner n) first m) (at (extended L first end owner n) end m) n) (end_at m) w)
 
   pub placed_place : owner < length (C first) → owner < length (C end) → at C end owner ≤ n

@@ -10,11 +10,11 @@ use Rattle.layout.specs.Reading.{op_count, block_count, parent_from}
 use Rattle.layout.specs.Soundness.{next_child, link_holds, parent_linked, op_linked, block_linked}
 use Rattle.layout.proofs.Laid.{Laid}
 use Rattle.layout.proofs.ChildList.{op_inside, block_inside}
-use Rattle.layout.proofs.Linking.{LinkHolds, link_of, op_link_law, block_link_law}
+use Rattle.layout.proofs.Linking.{LinkHolds, link_of, op_link_lem, block_link_lem}
 use Rattle.calling.proofs.LinksKept.{op_old}
 use Rattle.adding.specs.Raw.{parent_code}
 use Rattle.adding.proofs.Rows.{old_or_last}
-use Rattle.adding.proofs.OperationAdded.{parent_read_law}
+use Rattle.adding.proofs.OperationAdded.{parent_read_lem}
 use Rattle.adding.proofs.NextChild.{ChildPut, old_linked, new_linked}
 
 -- where the range of a parent ends, if there is one
@@ -34,7 +34,7 @@ pub record OpPut (C D : Cols) (parent : Option ℕ) : Type 0 where
 
 code_parent : (parent : Option ℕ) (b : ℕ) → suc b ≡ parent_code parent → parent ≡ some b
 unfolding parent_from
-code_parent parent b e = sym (parent_read_law parent) ∙ ap parent_from (sym e)
+code_parent parent b e = sym (parent_read_lem parent) ∙ ap parent_from (sym e)
 
 module _ (C D : Cols) (parent : Option ℕ) (h : Laid C) (p : OpPut C D parent) where
   old_op : (n b : ℕ) → n < op_count C → b < block_count C → at C op_parent n ≡ suc b → LinkHolds (next_child D op_parent (op_count C + 1) n) (at D op_next n) (at D block_op_end b) n
@@ -42,7 +42,7 @@ module _ (C D : Cols) (parent : Option ℕ) (h : Laid C) (p : OpPut C D parent) 
   old_op n b l lb e =
       old_linked C D op_parent op_next (op_count C) (parent_code parent) (end_under C parent) p.child n (at C block_op_end b) (at D block_op_end b) l
       (λ a i li q. subst (λ (x : ℕ). i < x) (range a) (op_inside C h b i li (q ∙ sym a ∙ e)).below)
-      (op_link_law C h b n l (e ∙ sym (add-one b)))
+      (op_link_lem C h b n l (e ∙ sym (add-one b)))
       range
       (λ ne. p.ends b lb (λ q. ne (e ∙ code b q)))
     where
@@ -70,7 +70,7 @@ module _ (C D : Cols) (parent : Option ℕ) (h : Laid C) (p : OpPut C D parent) 
       go (inr e) =
           subst (λ (x : ℕ). op_linked D x ≡ true) (sym e)
           (ap (λ (w : ℕ). parent_linked D (op_count C) (parent_from w) (next_child D op_parent (op_count D) (op_count C))) p.child.owner
-          ∙ ap (λ (q : Option ℕ). parent_linked D (op_count C) q (next_child D op_parent (op_count D) (op_count C))) (parent_read_law parent)
+          ∙ ap (λ (q : Option ℕ). parent_linked D (op_count C) q (next_child D op_parent (op_count D) (op_count C))) (parent_read_lem parent)
           ∙ ap (λ (x : ℕ). parent_linked D (op_count C) parent (next_child D op_parent x (op_count C))) p.count
           ∙ new_op parent refl)
 
@@ -90,7 +90,7 @@ module _ (C D : Cols) (region : ℕ) (h : Laid C) (p : BlockPut C D region) wher
       let r = at C block_region m in
       old_linked C D block_region block_next (block_count C) region (at C region_block_end region) p.child m (at C region_block_end r) (at D region_block_end r) l
       (λ a i li q. (block_inside C h region i li q).below)
-      (block_link_law C h r m l refl)
+      (block_link_lem C h r m l refl)
       (λ a. ap (at C region_block_end) a)
       (λ ne. p.ends r ne)
 

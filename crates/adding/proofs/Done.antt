@@ -16,10 +16,10 @@ use Rattle.calling.specs.Doing.{Behind, Did}
 use Rattle.calling.proofs.Facts.{shaped, laid}
 use Rattle.calling.proofs.Doing.{did_work}
 use Rattle.adding.specs.Raw.{with_operation, with_block}
-use Rattle.adding.proofs.Operating.{arranged_of, parent_in_law, allowed}
+use Rattle.adding.proofs.Operating.{arranged_of, parent_in_lem, allowed}
 use Rattle.adding.proofs.BlockCauses.{fits_block}
 use Rattle.adding.proofs.NewOperation.{operation_behind, operation_reads, operation_laid}
-use Rattle.adding.proofs.NewBlock.{block_behind, block_reads, block_laid_law}
+use Rattle.adding.proofs.NewBlock.{block_behind, block_reads, block_laid_lem}
 
 module _ (b : List ℕ) (h : IsSound b) (exit : List ℕ) (len : length exit ≡ length b) (r : Built) where
   abbrev C : Cols
@@ -31,7 +31,7 @@ module _ (b : List ℕ) (h : IsSound b) (exit : List ℕ) (len : length exit ≡
       let ok = allowed b h new clear in
       did_work b h (new_operation new) r exit clear len
       (ap store_of q ∙ operation_reads C new (shaped b h) ok.room (laid b h))
-      (subst Laid (sym q) (operation_laid C new (shaped b h) ok.room (laid b h) (parent_in_law b (arranged_of h) new.parent ok.parent)))
+      (subst Laid (sym q) (operation_laid C new (shaped b h) ok.room (laid b h) (parent_in_lem b (arranged_of h) new.parent ok.parent)))
       (subst (Behind C) (sym q) (operation_behind C new (shaped b h) ok.room (laid b h)))
       (e ∙ ap made (sym (ops_length C)))
 
@@ -41,6 +41,6 @@ module _ (b : List ℕ) (h : IsSound b) (exit : List ℕ) (len : length exit ≡
       let f = fits_block b h new clear in
       did_work b h (new_block new) r exit clear len
       (ap store_of q ∙ block_reads C new (shaped b h) f.room (laid b h))
-      (subst Laid (sym q) (block_laid_law C new (shaped b h) f.room (laid b h) f.named))
+      (subst Laid (sym q) (block_laid_lem C new (shaped b h) f.room (laid b h) f.named))
       (subst (Behind C) (sym q) (block_behind C new (shaped b h) f.room (laid b h)))
       (e ∙ ap made (sym (blocks_length C)))

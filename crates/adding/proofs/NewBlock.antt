@@ -135,9 +135,9 @@ module _ (C : Cols) (new : NewBlock) where
       unfolding with_block with_values block_placed block_written with_row write write_range
       first_put = row_put block_op_first 0 (sh block_op_first) (placed_other block_op_first refl refl refl)
 
-      end_put_law : Put C made block_op_end (block_count C) 0
+      end_put_lem : Put C made block_op_end (block_count C) 0
       unfolding with_block with_values block_placed block_written with_row write write_range
-      end_put_law = row_put block_op_end 0 (sh block_op_end) (placed_other block_op_end refl refl refl)
+      end_put_lem = row_put block_op_end 0 (sh block_op_end) (placed_other block_op_end refl refl refl)
 
       block_grew : Grew C made
       unfolding with_block with_values block_placed block_written with_row write write_range op_count block_count region_count value_count operand_count successor_count
@@ -182,9 +182,9 @@ module _ (C : Cols) (new : NewBlock) where
             slot_keys = placed_other slot_key refl refl refl;
             slot_kinds = placed_other slot_kind refl refl refl;
             slot_contents = placed_other slot_content refl refl refl;
-            ops_in = λ m n l w. let f = first_put.old m l in let e = end_put_law.old m l in record { from = omega arith; below = omega arith };
+            ops_in = λ m n l w. let f = first_put.old m l in let e = end_put_lem.old m l in record { from = omega arith; below = omega arith };
             blocks_in = λ r m l w. (range_wider r l).holds m w;
-            op_ends = λ m l. let e = end_put_law.old m l in let b = (h.block m l).ops in omega arith;
+            op_ends = λ m l. let e = end_put_lem.old m l in let b = (h.block m l).ops in omega arith;
             block_ends = λ r l. let w = (range_wider r l).ends in omega arith;
           }
 
@@ -263,7 +263,7 @@ module _ (C : Cols) (new : NewBlock) where
       pub block_reads : store_of (with_block C new) ≡ applied (store_of C) (new_block new)
       block_reads = added_reads C made new h block_added
 
-      pub block_laid_law : new.region < region_count C → Laid (with_block C new)
-      block_laid_law l =
+      pub block_laid_lem : new.region < region_count C → Laid (with_block C new)
+      block_laid_lem l =
           added_laid C made new h block_added room (range_place l) l (block_put l)
-          (λ i k. same C made op_next (op_next_column) i) end_put_law.old
+          (λ i k. same C made op_next (op_next_column) i) end_put_lem.old

@@ -21,7 +21,7 @@ use Rattle.adding.proofs.OperationAdded.{OperationAdded, added_reads}
 use Rattle.adding.proofs.OperationLaid.{RoomFor, added_laid}
 use Rattle.adding.proofs.Extended.{Wider, wider_same}
 use Rattle.adding.proofs.ChildPlaced.{placed_wider, placed_place, placed_end, placed_end_else, placed_new, placed_last, placed_else}
-use Rattle.adding.proofs.OperationColumns.{OpRowPut, row_puts, around_run, first_run_law, end_run, type_run, owner_run, operand_run, successor_run, values_added}
+use Rattle.adding.proofs.OperationColumns.{OpRowPut, row_puts, around_run, first_run_lem, end_run, type_run, owner_run, operand_run, successor_run, values_added}
 use Rattle.adding.proofs.OperationWritten.{ops_apart, row, placed, c₁, c₂, c₃, c₄, made, placed_other, counts_else, ops_count, regions_counted, values_counted, operands_counted, successors_counted}
 use Rattle.adding.proofs.ChildrenLinked.{end_under, OpPut}
 
@@ -40,10 +40,10 @@ place_under C parent n b e lf le l =
     subst (λ (p : Option ℕ). InRange (at (op_placed C p n) block_op_first b) (at (op_placed C p n) block_op_end b) n) (sym e)
     (placed_place C op_parent op_next block_op_first block_op_end b (b + 1) n ops_apart lf le l)
 
-end_under_law : (C : Cols) (parent : Option ℕ) (n b : ℕ) → (parent ≡ some b → ⊥) → at (op_placed C parent n) block_op_end b ≡ at C block_op_end b
+end_under_lem : (C : Cols) (parent : Option ℕ) (n b : ℕ) → (parent ≡ some b → ⊥) → at (op_placed C parent n) block_op_end b ≡ at C block_op_end b
 unfolding op_placed
-end_under_law C none n b ne = refl
-end_under_law C (some q) n b ne = placed_end_else C op_parent op_next block_op_first block_op_end q (q + 1) n ops_apart b (λ e. ne (ap {B = Option ℕ} some (sym e)))
+end_under_lem C none n b ne = refl
+end_under_lem C (some q) n b ne = placed_end_else C op_parent op_next block_op_first block_op_end q (q + 1) n ops_apart b (λ e. ne (ap {B = Option ℕ} some (sym e)))
 
 end_new : (C : Cols) (parent : Option ℕ) (n b : ℕ) → parent ≡ some b → b < length (C block_op_end) → at (op_placed C parent n) block_op_end b ≡ n + 1
 unfolding op_placed
@@ -145,7 +145,7 @@ module _ (C : Cols) (new : NewOperation) (sh : Shaped C) (room : RoomFor C new) 
           slot_kinds = unwritten slot_kind refl refl refl;
           slot_contents = unwritten slot_content refl refl refl;
           ops_in = λ m n l w. (range_wider m l).holds n w;
-          blocks_in = λ r m l w. let f = (first_run_law C new sh room).old r l in let e = ends.old r l in record { from = omega arith; below = omega arith };
+          blocks_in = λ r m l w. let f = (first_run_lem C new sh room).old r l in let e = ends.old r l in record { from = omega arith; below = omega arith };
           op_ends = λ m l. let w = (range_wider m l).ends in omega arith;
           block_ends = λ r l. let e = ends.old r l in let b = (h.region r l).blocks in omega arith;
         }
@@ -216,7 +216,7 @@ module _ (C : Cols) (new : NewOperation) (sh : Shaped C) (room : RoomFor C new) 
           count = ops_count C new sh room;
           link = λ b q. link_new R new.parent (op_count C) b (omega arith) q;
           end = λ b q. let lb : b < block_count C = subst (ParentBelow (block_count C)) q below in end_new R new.parent (op_count C) b q (omega arith);
-          ends = λ b l ne. end_under_law R new.parent (op_count C) b ne;
+          ends = λ b l ne. end_under_lem R new.parent (op_count C) b ne;
         }
 
     -- ---- what marks rest on

@@ -18,7 +18,7 @@ use Rattle.layout.specs.Columns.{columns, Cols, at, op_depth, op_parent, block_r
 use Rattle.layout.specs.Reading.{block_count, store_in, op_count, region_count, around, parent_from}
 use Rattle.layout.specs.Soundness.{IsSound, Arranged, placed}
 use Rattle.layout.proofs.Laid.{Laid, laid_facts}
-use Rattle.layout.proofs.Tabulate.{ops_length, regions_length, values_length, block_in_law}
+use Rattle.layout.proofs.Tabulate.{ops_length, regions_length, values_length, block_in_lem}
 use Rattle.layout.proofs.Nesting.{placed_facts, nesting_under}
 use Rattle.calling.proofs.Facts.{laid, operands_counted, successors_counted}
 use Rattle.adding.specs.Raw.{ParentBelow, depth_under}
@@ -53,7 +53,7 @@ pub in_block : (b : List ℕ) (h : Arranged b) (m : ℕ) → block_exists (store
 in_block b h m e =
     let C = columns b in
     let z = laid_facts C h.laid in
-    let l : m < block_count C = block_in_law C m e in
+    let l : m < block_count C = block_in_lem C m e in
     let r = (z.block m l).region_in in
     let n : ℕ = around C m in
     let o : n < op_count C = (z.region (at C block_region m) r).op_in in
@@ -81,15 +81,15 @@ fits_facts new h =
 -- ---- the parent, and room
 
 module _ (b : List ℕ) (h : Arranged b) where
-  pub parent_in_law : (p : Option ℕ) → parent_exists (store_in b) p ≡ true → ParentBelow (block_count (columns b)) p
+  pub parent_in_lem : (p : Option ℕ) → parent_exists (store_in b) p ≡ true → ParentBelow (block_count (columns b)) p
   unfolding parent_exists ParentBelow
-  parent_in_law none e = tt
-  parent_in_law (some m) e = (in_block b h m e).block
+  parent_in_lem none e = tt
+  parent_in_lem (some m) e = (in_block b h m e).block
 
-  pub parent_below_law : (p : Option ℕ) → parent_exists (store_in b) p ≡ true → ParentBelow 256 p
+  pub parent_below_lem : (p : Option ℕ) → parent_exists (store_in b) p ≡ true → ParentBelow 256 p
   unfolding parent_exists ParentBelow
-  parent_below_law none e = tt
-  parent_below_law (some m) e = let l = (in_block b h m e).block in let k = (laid_facts (columns b) h.laid).counts.blocks in omega arith
+  parent_below_lem none e = tt
+  parent_below_lem (some m) e = let l = (in_block b h m e).block in let k = (laid_facts (columns b) h.laid).counts.blocks in omega arith
 
 module _ (b : List ℕ) (h : IsSound b) where
   pub names_parent : (new : NewOperation) → operation_names (store_in b) new ≡ true → parent_exists (store_in b) new.parent ≡ true

@@ -43,10 +43,10 @@ pub record OperationAdded (C D : Cols) (new : NewOperation) : Type 0 where
   pub operand_part : slice (D operand_words) (operand_count C) (operand_count C + length new.operands) ≡ new.operands
   pub successor_part : slice (D successor_words) (successor_count C) (successor_count C + length new.successors) ≡ new.successors
 
-pub parent_read_law : (parent : Option ℕ) → parent_from (parent_code parent) ≡ parent
+pub parent_read_lem : (parent : Option ℕ) → parent_from (parent_code parent) ≡ parent
 unfolding parent_from parent_code
-parent_read_law none = refl
-parent_read_law (some b) = rw add-one refl
+parent_read_lem none = refl
+parent_read_lem (some b) = rw add-one refl
 
 module _ (C D : Cols) (new : NewOperation) (h : Laid C) (a : OperationAdded C D new) where
   row_read : ◌≡◌ {A = Op} (op_of D (op_count C)) (record { kind = new.kind; parent = new.parent; location = new.location; operands = new.operands; successors = new.successors; attributes = [] })
@@ -57,7 +57,7 @@ module _ (C D : Cols) (new : NewOperation) (h : Laid C) (a : OperationAdded C D 
       λ i.
       record {
         kind = a.kind_word i;
-        parent = (ap parent_from a.parent_word ∙ parent_read_law new.parent) i;
+        parent = (ap parent_from a.parent_word ∙ parent_read_lem new.parent) i;
         location = a.location_word i;
         operands = first i;
         successors = second i;

@@ -77,9 +77,9 @@ module _ (C : Cols) (new : NewOperation) (sh : Shaped C) (room : RoomFor C new) 
   unfolding with_operation op_written with_regions with_values with_slice op_row with_row write write_range
   around_run = region_run region_op (op_count C) (sh region_op) refl (other region_op refl refl refl)
 
-  pub first_run_law : Run C D region_block_first (region_count C) (replicate new.regions 0)
+  pub first_run_lem : Run C D region_block_first (region_count C) (replicate new.regions 0)
   unfolding with_operation op_written with_regions with_values with_slice op_row with_row write write_range
-  first_run_law = region_run region_block_first 0 (sh region_block_first) refl (other region_block_first refl refl refl)
+  first_run_lem = region_run region_block_first 0 (sh region_block_first) refl (other region_block_first refl refl refl)
 
   pub end_run : Run C D region_block_end (region_count C) (replicate new.regions 0)
   unfolding with_operation op_written with_regions with_values with_slice op_row with_row write write_range

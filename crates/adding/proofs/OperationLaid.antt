@@ -20,7 +20,7 @@ use Rattle.calling.proofs.LinksKept.{EntriesKept, block_links_kept}
 use Rattle.adding.specs.Raw.{OpRoom, ParentBelow, depth_under}
 use Rattle.adding.proofs.Grew.{placed_under, end_kept, op_kept, block_kept, region_kept}
 use Rattle.adding.proofs.Rows.{values_laid, new_owned, old_or_last, old_or_new, rows_last, rows_kept, sum_last}
-use Rattle.adding.proofs.OperationAdded.{OperationAdded, parent_read_law}
+use Rattle.adding.proofs.OperationAdded.{OperationAdded, parent_read_lem}
 use Rattle.adding.proofs.ChildrenLinked.{OpPut, ops_linked}
 
 -- there is room for this operation
@@ -52,7 +52,7 @@ module _ (C D : Cols) (new : NewOperation) (h : Laid C) (a : OperationAdded C D 
       let se = a.successor_end in
       let ek = a.keys in
       record {
-        place = subst (λ (p : Option ℕ). placed D (op_count C) p ≡ true) (sym (ap parent_from a.parent_word ∙ parent_read_law new.parent)) (new_placed place new.parent refl i);
+        place = subst (λ (p : Option ℕ). placed D (op_count C) p ≡ true) (sym (ap parent_from a.parent_word ∙ parent_read_lem new.parent)) (new_placed place new.parent refl i);
         regions = new_owned D _ _ _ (region_count C) new.regions _ _ a.region_first a.region_end (omega arith) a.around;
         results = new_owned D _ _ _ (value_count C) (length new.types) _ _ a.result_first a.result_end (omega arith) a.values.owner;
         operands = record { follows = of ∙ sym h.operand_end ∙ sym (end_kept C D op_operand_end (op_count C) (op_count C) (omega arith) g.operand_end); range = record { rises = omega arith; fits = omega arith } };

@@ -21,8 +21,8 @@ row_shaped C k n [] sh = sh
 row_shaped C k n (v ∷ vs) sh = row_shaped (write C k n v) (suc k) n vs (write_shaped C k n v sh)
 
 -- the columns of a row are long enough
-pub row_fits_law : (first count most n : ℕ) → all_below count (λ (j : ℕ). leb most (column_size (first + j))) ≡ true → n < most → (j : ℕ) → j < count → n < column_size (first + j)
-row_fits_law first count most n long l j b =
+pub row_fits_lem : (first count most n : ℕ) → all_below count (λ (j : ℕ). leb most (column_size (first + j))) ≡ true → n < most → (j : ℕ) → j < count → n < column_size (first + j)
+row_fits_lem first count most n long l j b =
     let m : most ≤ column_size (first + j) = leb-true most (column_size (first + j)) (all_below_at count (λ (i : ℕ). leb most (column_size (first + i))) long j b) in omega arith
 
 -- ---- turn by turn

@@ -19,7 +19,7 @@ use Rattle.layout.specs.Reading.{tabulate_from, tabulate, attributes_from, value
 use Rattle.layout.specs.Soundness.{in_owner, value_laid}
 use Rattle.layout.proofs.Laid.{Owned, Laid}
 use Rattle.layout.proofs.Sums.{sum_snoc}
-use Rattle.layout.proofs.Ranges.{owner_read_law}
+use Rattle.layout.proofs.Ranges.{owner_read_lem}
 use Rattle.layout.proofs.Tabulate.{length_tabulate, get_d_tabulate, tabulate_cong, tabulate_suc, tabulate_add}
 use Rattle.adding.proofs.Grew.{Grew, value_same, value_kept}
 
@@ -72,7 +72,7 @@ unfolding values_for value_of
 values_read C D w types h g a =
     rows_new (value_count D) (value_count C) (value_of D) (value_of C) (value_same C D h g) (map new types) (new 0) (rw length-map a.count)
     (λ i l. let b : i < length types = rw length-map at l in
-    sym (get_or-map new types i 0 ∙ (λ j. record { type = sym (a.type i b) j; owner = sym (ap owner_from (a.owner i b) ∙ owner_read_law w) j })))
+    sym (get_or-map new types i 0 ∙ (λ j. record { type = sym (a.type i b) j; owner = sym (ap owner_from (a.owner i b) ∙ owner_read_lem w) j })))
   where
     new : ℕ → Value
     new t = record { type = t; owner = w }
@@ -86,7 +86,7 @@ values_laid C D w types h g a owned v l = go (old_or_new v (value_count C) (leng
     go (inl b) = value_kept C D h g v b
     go (inr n) =
         subst (λ (u : ℕ). in_owner D u (owner_from (at D value_owner u)) ≡ true) (sym n.2)
-        (ap (λ (c : ℕ). in_owner D (value_count C + n.0) (owner_from c)) (a.owner n.0 n.1) ∙ ap (in_owner D (value_count C + n.0)) (owner_read_law w) ∙ owned n.0 n.1)
+        (ap (λ (c : ℕ). in_owner D (value_count C + n.0) (owner_from c)) (a.owner n.0 n.1) ∙ ap (in_owner D (value_count C + n.0)) (owner_read_lem w) ∙ owned n.0 n.1)
 
 -- an owner's range of new rows
 pub new_owned : (D : Cols) (k a e n count total w : ℕ) → a ≡ n → e ≡ n + count → n + count ≤ total → ((i : ℕ) → i < count → at D k (n + i) ≡ w) → Owned D k a e total w

@@ -22,7 +22,7 @@ use Rattle.layout.specs.Soundness.{Arranged, IsSound}
 use Rattle.layout.specs.Owners.{key_count}
 use Rattle.layout.proofs.Buffer.{columns_shaped}
 use Rattle.layout.proofs.Filled.{filled}
-use Rattle.layout.proofs.Tabulate.{ops_length, blocks_length, regions_length, op_in_law}
+use Rattle.layout.proofs.Tabulate.{ops_length, blocks_length, regions_length, op_in_lem}
 use Rattle.adding.specs.Raw.{with_operation, with_block}
 use Rattle.adding.proofs.OperationWritten.{made_shaped}
 use Rattle.adding.proofs.NewBlock.{block_shaped}
@@ -37,7 +37,7 @@ use Rattle.copying.proofs.Words.{owners_done}
 use Rattle.copying.proofs.Walking.{starts, ends, word_ready, goes_on}
 use Rattle.copying.proofs.Stepping.{word_op, word_block, word_none}
 use Rattle.copying.proofs.Wrote.{op_wrote, block_wrote, wrote_as, wrote_none}
-use Rattle.copying.proofs.Making.{op_room_law, op_set, op_done, block_room_law, block_set, block_done}
+use Rattle.copying.proofs.Making.{op_room_lem, op_set, op_done, block_room_lem, block_set, block_done}
 use Rattle.copying.proofs.Setting.{no_attribute, begun, ended, own_counted, to_slot, again, total_again}
 
 -- ---- the attributes of one owner, on another
@@ -78,7 +78,7 @@ module _ (a : List ℕ) (h : Arranged a) (M : Mapping) where
   unfolding op_asked
   op_there_made place m l ready p =
       let new = op_asked (store_in a) M place m in
-      let room = op_room_law a h m l ready M place in
+      let room = op_room_lem a h m l ready M place in
       let x = filled (with_operation C new) (made_shaped C new (columns_shaped a h.sized) room) in
       let b = x.0 in
       let w = op_wrote a b h (x.1 ∙ sym h.sized) new x.2 room p in
@@ -93,7 +93,7 @@ module _ (a : List ℕ) (h : Arranged a) (M : Mapping) where
   unfolding block_asked
   block_there_made m l ready =
       let new = block_asked (store_in a) M m in
-      let room = block_room_law a h M m l ready in
+      let room = block_room_lem a h M m l ready in
       let x = filled (with_block C new) (block_shaped C new (columns_shaped a h.sized) room) in
       let b = x.0 in
       let there : new.region < region_count C = omega (arith, ready.region, regions_length C) in
@@ -145,7 +145,7 @@ module _ (a : List ℕ) (sd : IsSound a) (n : ℕ) (place : Option ℕ) (passed 
 
   there : n < op_count (columns a)
   unfolding copy_tests
-  there = op_in_law (columns a) n (and_left (op_exists s n) (parent_exists s place) (first_failed_none _ passed).0)
+  there = op_in_lem (columns a) n (and_left (op_exists s n) (parent_exists s place) (first_failed_none _ passed).0)
 
   mapped : mapping_of w ≡ copy_mapping s n
   unfolding copy_mapping empty_mapping
@@ -157,9 +157,9 @@ module _ (a : List ℕ) (sd : IsSound a) (n : ℕ) (place : Option ℕ) (passed 
   abbrev Copied : ℕ → List ℕ → Type 0
   Copied i b = Partial a n place (owners_done (steps s op n) i) b
 
-  word_made_law : (i : ℕ) (b : List ℕ) → Copied i b → i < length ws
+  word_made_lem : (i : ℕ) (b : List ℕ) → Copied i b → i < length ws
       → (d : List ℕ) × Wrote b d (word_made (store_in b) (mapping_of w) n place (get_or ws i 0))
-  word_made_law i b h few = go (ℕ_discrete (get_or ws i 0 % 4) 0) (ℕ_discrete (get_or ws i 0 % 4) 2)
+  word_made_lem i b h few = go (ℕ_discrete (get_or ws i 0 % 4) 0) (ℕ_discrete (get_or ws i 0 % 4) 2)
     where
       word : ℕ
       word = get_or ws i 0
@@ -181,7 +181,7 @@ module _ (a : List ℕ) (sd : IsSound a) (n : ℕ) (place : Option ℕ) (passed 
   all_made zero i e b h = (b, ends a sd n there place passed ws are w mapped i b h (omega arith))
   all_made (suc k) i e b h =
       let few : i < length ws = omega arith in
-      let d = word_made_law i b h few in
+      let d = word_made_lem i b h few in
       all_made k (i + 1) (omega arith) d.0 (goes_on a sd n there place passed ws are w mapped i b h few d.0 d.1)
 
   pub copy_made : (d : List ℕ) × Written a d n place w

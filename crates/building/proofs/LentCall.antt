@@ -30,8 +30,8 @@ use Rattle.remembering.proofs.Done.{marked_refuse, marked_full}
 use Rattle.remembering.proofs.Unremembered.{unmarked_call, adding_call}
 use Rattle.remembering.proofs.Remembered.{remembered_call}
 use Rattle.remembering.proofs.Room.{new_fits, one_fits, none_fits}
-use Rattle.remembering.proofs.WasOperand.{operand_entry_law}
-use Rattle.remembering.proofs.WasAttribute.{key_replaced, attribute_entry_law, key_entry_law}
+use Rattle.remembering.proofs.WasOperand.{operand_entry_lem}
+use Rattle.remembering.proofs.WasAttribute.{key_replaced, attribute_entry_lem, key_entry_lem}
 use Rattle.building.proofs.Shapes.{entry_shaped}
 use Rattle.building.proofs.SoundCall.{doing}
 
@@ -56,8 +56,8 @@ module _ (b : List ℕ) (h : IsLent b) where
   adding c new empty = let d = doing b tables c in (d.0, d.1, adding_call b h d.0 c d.1 d.2 new empty)
 
   -- without a mark, or as it is done with one
-  with_mark_law : (c : Call) → (0 < mark_count C → DoingMarked b (build c)) → DoingMarked b (build c)
-  with_mark_law c f = go (mark_count C) refl
+  with_mark_lem : (c : Call) → (0 < mark_count C → DoingMarked b (build c)) → DoingMarked b (build c)
+  with_mark_lem c f = go (mark_count C) refl
     where
       go : (n : ℕ) → mark_count C ≡ n → DoingMarked b (build c)
       go zero e = let d = doing b tables c in (d.0, d.1, unmarked_call b h d.0 c d.1 d.2 e)
@@ -91,16 +91,16 @@ module _ (b : List ℕ) (h : IsLent b) where
     there : owner_exists (store_in b) w ≡ true
     there = owner_there b tables w a clear
 
-    set_attribute_law : DoingMarked b (build (set_attribute w a))
-    set_attribute_law = go (key_there C w a.key) refl
+    set_attribute_lem : DoingMarked b (build (set_attribute w a))
+    set_attribute_lem = go (key_there C w a.key) refl
       where
         go : (t : Bool) → key_there C w a.key ≡ t → DoingMarked b (build (set_attribute w a))
         go true k =
             let s = slot_for C w a.key in
-            replace (set_attribute w a) clear l (attribute_entry C w s) (attribute_entry_law b tables w there a s k refl)
+            replace (set_attribute w a) clear l (attribute_entry C w s) (attribute_entry_lem b tables w there a s k refl)
             (key_replaced b tables w there a true k)
         go false k =
-            remember (set_attribute w a) clear l (key_entry w a.key) (key_entry_law b tables w there a k)
+            remember (set_attribute w a) clear l (key_entry w a.key) (key_entry_lem b tables w there a k)
             (new_fits b h l (set_attribute w a) (key_replaced b tables w there a false k))
 
   -- ---- every call
@@ -109,11 +109,11 @@ module _ (b : List ℕ) (h : IsLent b) where
   unfolding replaces entries_for
   work (new_operation new) e = adding (new_operation new) refl refl
   work (new_block new) e = adding (new_block new) refl refl
-  work (set_attribute w a) e = with_mark_law (set_attribute w a) (set_attribute_law w a e)
+  work (set_attribute w a) e = with_mark_lem (set_attribute w a) (set_attribute_lem w a e)
   work (set_operand u) e =
       let n = u.operation in
       let i = u.index in
-      with_mark_law (set_operand u) (λ l. replace (set_operand u) e l (operand_entry C n i) (operand_entry_law b tables n i u.value e) refl)
+      with_mark_lem (set_operand u) (λ l. replace (set_operand u) e l (operand_entry C n i) (operand_entry_lem b tables n i u.value e) refl)
 
   pub building : (c : Call) → DoingMarked b (build c)
   building c = go (first_failed (tests (store_in b) c)) refl

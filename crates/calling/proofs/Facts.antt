@@ -9,7 +9,7 @@ use Rattle.layout.specs.Reading.{operand_count, successor_count, attribute_count
 use Rattle.layout.specs.Soundness.{IsSound}
 use Rattle.layout.proofs.Laid.{Shaped, Laid, Counts, laid_facts}
 use Rattle.layout.proofs.Buffer.{columns_shaped}
-use Rattle.layout.proofs.Totals.{operand_total_law, successor_total_law, attribute_total_law}
+use Rattle.layout.proofs.Totals.{operand_total_lem, successor_total_lem, attribute_total_lem}
 
 module _ (b : List ℕ) (h : IsSound b) where
   pub shaped : Shaped (columns b)
@@ -22,10 +22,10 @@ module _ (b : List ℕ) (h : IsSound b) where
   counts = laid.counts
 
   pub operands_counted : operand_total (store_in b) ≡ operand_count (columns b)
-  operands_counted = operand_total_law (columns b) shaped laid
+  operands_counted = operand_total_lem (columns b) shaped laid
 
   pub successors_counted : successor_total (store_in b) ≡ successor_count (columns b)
-  successors_counted = successor_total_law (columns b) shaped laid
+  successors_counted = successor_total_lem (columns b) shaped laid
 
   pub attributes_counted : attribute_total (store_in b) ≡ attribute_count (columns b)
-  attributes_counted = attribute_total_law (columns b) laid
+  attributes_counted = attribute_total_lem (columns b) laid

@@ -11,7 +11,7 @@ use Rattle.layout.specs.Reading.{op_count, block_count, region_count, parent_fro
 use Rattle.layout.specs.Children.{first_word, word_from}
 use Rattle.layout.specs.Soundness.{next_child, link_holds, parent_linked, op_linked, block_linked}
 use Rattle.layout.proofs.Laid.{Laid}
-use Rattle.layout.proofs.Linking.{link_of, op_link_law, parent_low}
+use Rattle.layout.proofs.Linking.{link_of, op_link_lem, parent_low}
 
 -- the entries of column k below n are those of before
 abbrev pub EntriesKept : Cols → Cols → ℕ → ℕ → Type 0
@@ -46,7 +46,7 @@ module _ (C D : Cols) (h : Laid C) where
       op_old n m (parents n m)
       (λ b lb e.
       let same : next_child D op_parent (op_count D) n ≡ next_child C op_parent (op_count C) n = ap (λ (N : ℕ). next_child D op_parent N n) count ∙ next_same C D op_parent (op_count C) n m parents in
-      (λ i. link_holds (same i) (links n m i) (ends b lb i) n) ∙ link_of _ _ _ n (op_link_law C h b n m (e ∙ sym (add-one b))))
+      (λ i. link_holds (same i) (links n m i) (ends b lb i) n) ∙ link_of _ _ _ n (op_link_lem C h b n m (e ∙ sym (add-one b))))
 
   pub block_links_kept : block_count D ≡ block_count C → EntriesKept C D block_region (block_count C) → EntriesKept C D block_next (block_count C) → EntriesKept C D region_block_end (region_count C)
       → (m : ℕ) → m < block_count D → block_linked D m ≡ true

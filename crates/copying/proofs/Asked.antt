@@ -16,7 +16,7 @@ use Rattle.mapping.specs.MappingWords.{mapping_length, mapping_of}
 use Rattle.copying.specs.Written.{Wrote, region_by, op_asked, block_asked, OpReady, BlockReady}
 use Rattle.copying.proofs.Wrote.{op_wrote, block_wrote}
 use Rattle.copying.proofs.Regions.{regions_counted}
-use Rattle.copying.proofs.Making.{values_named_law, blocks_named_law, result_types, op_room_law, argument_types, block_room_law}
+use Rattle.copying.proofs.Making.{values_named_lem, blocks_named_lem, result_types, op_room_lem, argument_types, block_room_lem}
 
 -- ---- an operation
 
@@ -47,10 +47,10 @@ module _ (a : List ℕ) (h : Arranged a) (w : List ℕ) (long : length w ≡ map
   types_asked = k.types ∙ result_types a h m l ready
 
   operands_asked : u ≡ map (image (mapping_of w).values) (op_at (store_in a) m).operands
-  operands_asked = k.operands ∙ values_named_law w long (op_at (store_in a) m).operands ready.values_named
+  operands_asked = k.operands ∙ values_named_lem w long (op_at (store_in a) m).operands ready.values_named
 
   successors_asked : t ≡ map (image (mapping_of w).blocks) (op_at (store_in a) m).successors
-  successors_asked = k.successors ∙ blocks_named_law w long (op_at (store_in a) m).successors ready.blocks_named
+  successors_asked = k.successors ∙ blocks_named_lem w long (op_at (store_in a) m).successors ready.blocks_named
 
   regions_asked : end - first ≡ length (regions_of (store_in a) m)
   regions_asked = ap₂ (λ (x y : ℕ). x - y) k.end_read k.first_read ∙ regions_counted (columns a) (laid_facts (columns a) h.laid) m l
@@ -59,12 +59,12 @@ module _ (a : List ℕ) (h : Arranged a) (w : List ℕ) (long : length w ≡ map
   unfolding op_asked
   op_asked_room =
       sized (columns a) (sym regions_asked) (sym (ap length types_asked)) (sym (ap length operands_asked)) (sym (ap length successors_asked))
-      (op_room_law a h m l ready (mapping_of w) (parent_of parent))
+      (op_room_lem a h m l ready (mapping_of w) (parent_of parent))
 
-  op_asked_law : operation_of (record { kind = kind; parent = parent; location = location; regions = end - first }) n u t
+  op_asked_lem : operation_of (record { kind = kind; parent = parent; location = location; regions = end - first }) n u t
       ≡ op_asked (store_in a) (mapping_of w) (parent_of parent) m
   unfolding op_asked op_of
-  op_asked_law =
+  op_asked_lem =
       let row = op_read (columns a) m l in
       λ i. record {
         kind = (k.kind_read ∙ sym (ap (λ (o : Op). o.kind) row)) i;
@@ -82,8 +82,8 @@ module _ (a : List ℕ) (h : Arranged a) (w : List ℕ) (long : length w ≡ map
       → Wrote a b (applied (store_in a) (new_operation (op_asked (store_in a) (mapping_of w) (parent_of parent) m)))
   unfolding op_asked
   op_row_wrote b len e p =
-      op_wrote a b h len (op_asked (store_in a) (mapping_of w) (parent_of parent) m) (e ∙ ap (with_operation (columns a)) op_asked_law)
-      (op_room_law a h m l ready (mapping_of w) (parent_of parent)) p
+      op_wrote a b h len (op_asked (store_in a) (mapping_of w) (parent_of parent) m) (e ∙ ap (with_operation (columns a)) op_asked_lem)
+      (op_room_lem a h m l ready (mapping_of w) (parent_of parent)) p
 
 -- ---- a block
 
@@ -101,9 +101,9 @@ module _ (a : List ℕ) (h : Arranged a) (w : List ℕ) (m : ℕ) (l : m < block
   pub region_there : region < region_count (columns a)
   region_there = omega (arith, k.region_read, ready.region, regions_length (columns a))
 
-  block_asked_law : record { region = region; label = label; location = location; types = n } ≡ block_asked (store_in a) (mapping_of w) m
+  block_asked_lem : record { region = region; label = label; location = location; types = n } ≡ block_asked (store_in a) (mapping_of w) m
   unfolding block_asked block_of
-  block_asked_law =
+  block_asked_lem =
       let row = block_read (columns a) m l in
       λ i. record {
         region = k.region_read i;
@@ -117,5 +117,5 @@ module _ (a : List ℕ) (h : Arranged a) (w : List ℕ) (m : ℕ) (l : m < block
       → Wrote a b (applied (store_in a) (new_block (block_asked (store_in a) (mapping_of w) m)))
   unfolding block_asked
   block_row_wrote b len e =
-      block_wrote a b h len (block_asked (store_in a) (mapping_of w) m) (e ∙ ap (with_block (columns a)) block_asked_law)
-      (block_room_law a h (mapping_of w) m l ready) (omega (arith, ready.region, regions_length (columns a)))
+      block_wrote a b h len (block_asked (store_in a) (mapping_of w) m) (e ∙ ap (with_block (columns a)) block_asked_lem)
+      (block_room_lem a h (mapping_of w) m l ready) (omega (arith, ready.region, regions_length (columns a)))

@@ -18,9 +18,9 @@ use Rattle.rules.proofs.Basics.Distinct.{Distinct, mem_concat_map, concat_map_ap
 use Rattle.rules.proofs.Basics.Appended.{numbers_before}
 use Rattle.rules.proofs.Form.Images.{position_next, position_out, position_kept}
 use Rattle.rules.proofs.Soundness.Sound.{Sound}
-use Rattle.rules.proofs.Soundness.Children.{regions_in_law, values_in_law}
-use Rattle.rules.proofs.Copying.Renumbered.{map_same, distinct_apart, numbers_old, old_entry, table_length_law, number_at, place_in}
-use Rattle.rules.proofs.Copying.Inside.{ops_distinct, op_below, owned_op, value_owner_law}
+use Rattle.rules.proofs.Soundness.Children.{regions_in_lem, values_in_lem}
+use Rattle.rules.proofs.Copying.Renumbered.{map_same, distinct_apart, numbers_old, old_entry, table_length_lem, number_at, place_in}
+use Rattle.rules.proofs.Copying.Inside.{ops_distinct, op_below, owned_op, value_owner_lem}
 use Rattle.rules.proofs.Copying.Tables.{op_new, op_once}
 use Rattle.rules.proofs.Copying.Children.{region_parent, regions_new, owner_apart}
 use Rattle.copying.specs.Partial.{copied_by}
@@ -93,9 +93,9 @@ module _ (s : Store) (n : ℕ) (ws rest : List Owner) (w : Owner) (split : ws ++
   region_of : {r : ℕ} → Memᴰ r (concat_map (regions_of s) (concat_map op_owner ws)) → Memᴰ r (copied_regions s n)
   region_of {r} k = subst (Memᴰ r) regions_split (Memᴰ.append_left _ k)
 
-  value_of_law : {v : ℕ} → Memᴰ v (concat_map (values_of s) ws) → Memᴰ v (defines_values s op n)
+  value_of_lem : {v : ℕ} → Memᴰ v (concat_map (values_of s) ws) → Memᴰ v (defines_values s op n)
   unfolding defines_values
-  value_of_law k = in_walk (values_of s) k
+  value_of_lem k = in_walk (values_of s) k
 
 -- ---- the images that a mapping gives are the copies
 
@@ -144,15 +144,15 @@ module _ (s : Store) (sd : Sound s) (n : ℕ) (ex : op_exists s n ≡ true) (pla
   values_between x h =
       numbers_old s.values (copied_value s n) (concat_map (values_of s) ws) (λ (o : Value). same_owner o.owner x)
       (λ v k. same_back x (owner_copy s n (value_at s v).owner)
-      (owner_apart s sd n ex place pe x (value_at s v).owner h (value_owner_law s sd n ex (value_of_law s n ws rest w split k)).1))
+      (owner_apart s sd n ex place pe x (value_at s v).owner h (value_owner_lem s sd n ex (value_of_lem s n ws rest w split k)).1))
 
   pub ops_length : length between.ops ≡ length s.ops + length (concat_map op_owner ws)
   unfolding copied_by
-  ops_length = table_length_law s.ops (copied_op s n place) (concat_map op_owner ws)
+  ops_length = table_length_lem s.ops (copied_op s n place) (concat_map op_owner ws)
 
   pub blocks_length : length between.blocks ≡ length s.blocks + length (concat_map block_owner ws)
   unfolding copied_by
-  blocks_length = table_length_law s.blocks (copied_block s n) (concat_map block_owner ws)
+  blocks_length = table_length_lem s.blocks (copied_block s n) (concat_map block_owner ws)
 
   -- the regions of an operation's copy, once it is there
   pub regions_copied : (m : ℕ) → Memᴰ m (concat_map op_owner ws) → regions_of between (op_copy s n m) ≡ map (region_copy s n) (regions_of s m)
@@ -186,7 +186,7 @@ module _ (s : Store) (sd : Sound s) (n : ℕ) (ex : op_exists s n ≡ true) (pla
       other r i e =
           let q = mem_concat_map (regions_of s) later_ops i in
           let j : Memᴰ q.0 (fragment_ops s op n) = subst (Memᴰ q.0) (ops_split s n ws rest w split) (Memᴰ.append_right (concat_map op_owner ws) q.1) in
-          let h : get_or s.regions r 0 ≡ q.0 = (regions_in_law s q.0 q.2).1 in
+          let h : get_or s.regions r 0 ≡ q.0 = (regions_in_lem s q.0 q.2).1 in
           let z : q.0 ≡ m = op_once s n place q.0 m (op_below s sd n ex j) (op_below s sd n ex inside) (ap (op_copy s n) (sym h) ∙ e) in
           distinct_apart (concat_map op_owner ws) later_ops once m k (subst (λ (x : ℕ). Memᴰ x later_ops) z q.1)
 
@@ -290,7 +290,7 @@ module _ (s : Store) (sd : Sound s) (n : ℕ) (ex : op_exists s n ≡ true) (pla
       let by : (xs : List Owner) → concat_map (regions_of s) (concat_map op_owner xs) ≡ concat_map f xs = λ xs. concat_map_concat_map (regions_of s) op_owner xs in
       ap (λ (l : List ℕ). now.regions ++ replicate (length l) (length now.ops)) (regions_between s sd n ex place pe ws rest (of_op m) split m op_known)
       ∙ ap (λ (k : ℕ). now.regions ++ replicate (length (regions_of s m)) k) next_op
-      ∙ ap (λ (l : List ℕ). now.regions ++ l) (sym (map_same_as g (op_copy s n m) (regions_of s m) (λ r k. ap (op_copy s n) (regions_in_law s m k).1)))
+      ∙ ap (λ (l : List ℕ). now.regions ++ l) (sym (map_same_as g (op_copy s n m) (regions_of s m) (λ r k. ap (op_copy s n) (regions_in_lem s m k).1)))
       ∙ ap (λ (l : List ℕ). (s.regions ++ map g l) ++ map g (regions_of s m)) (by ws)
       ∙ ap (λ (l : List ℕ). (s.regions ++ map g (concat_map f ws)) ++ map g l) (sym (append-nil (regions_of s m)))
       ∙ sym (grown_table s.regions g f ws (of_op m))
@@ -320,10 +320,10 @@ module _ (s : Store) (sd : Sound s) (n : ℕ) (ex : op_exists s n ≡ true) (pla
       ap (λ (l : List Value). now.values ++ l)
       (map_after (λ (t : ℕ). record { type = t; owner = of_op (length now.ops) }) (type_of now) (values_of now (of_op m))
       ∙ ap (map result_made) (values_between s sd n ex place pe ws rest (of_op m) split (of_op m) op_owner_known)
-      ∙ map_same result_made (copied_value s n) (values_of s (of_op m)) (λ v k. result_same v (values_in_law s (of_op m) k).0 (values_in_law s (of_op m) k).1))
+      ∙ map_same result_made (copied_value s n) (values_of s (of_op m)) (λ v k. result_same v (values_in_lem s (of_op m) k).0 (values_in_lem s (of_op m) k).1))
       ∙ values_grown
 
   -- what is written for it is its copy
-  pub op_made_law : op_made now M (parent_by now M n place m) m ≡ copied_by s n place (ws ++ (of_op m ∷ []))
+  pub op_made_lem : op_made now M (parent_by now M n place m) m ≡ copied_by s n place (ws ++ (of_op m ∷ []))
   unfolding op_made attributed applied op_asked
-  op_made_law i = record { ops = ops_made i; blocks = no_blocks i; regions = regions_made i; values = values_made i }
+  op_made_lem i = record { ops = ops_made i; blocks = no_blocks i; regions = regions_made i; values = values_made i }

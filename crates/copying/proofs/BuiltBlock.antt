@@ -13,9 +13,9 @@ use Rattle.rules.specs.Mapping.{Mapping, image}
 use Rattle.rules.specs.Copying.{renumbered, op_copy, block_copy, region_copy, owner_copy, copied_op, copied_block, copied_value}
 use Rattle.rules.proofs.Basics.Distinct.{Distinct, concat_map_append}
 use Rattle.rules.proofs.Soundness.Sound.{Sound}
-use Rattle.rules.proofs.Soundness.Children.{values_in_law}
+use Rattle.rules.proofs.Soundness.Children.{values_in_lem}
 use Rattle.rules.proofs.Copying.Renumbered.{map_same, entry_of}
-use Rattle.rules.proofs.Copying.Inside.{blocks_distinct, block_below, owned_block, op_around_law, op_below, region_listed}
+use Rattle.rules.proofs.Copying.Inside.{blocks_distinct, block_below, owned_block, op_around_lem, op_below, region_listed}
 use Rattle.copying.specs.Partial.{copied_by}
 use Rattle.copying.specs.Written.{block_attributed, attributed, region_by, block_asked, block_made}
 use Rattle.copying.proofs.Built.{grown_table, next_number, update_last, map_after, get_map, blocks_split, here, Images, Runs, block_between, value_between, region_between, regions_between, values_between, blocks_length, regions_copied, op_copied}
@@ -49,7 +49,7 @@ module _ (s : Store) (sd : Sound s) (n : ℕ) (ex : op_exists s n ≡ true) (pla
   region_known = ltb-true _ _ (sd.block b block_known).region_in
 
   pub around_known : op_around s b < length s.ops
-  around_known = op_below s sd n ex (op_around_law s sd n ex b block_inside)
+  around_known = op_below s sd n ex (op_around_lem s sd n ex b block_inside)
 
   module _ (before : Memᴰ (op_around s b) (concat_map op_owner ws)) where
     pub around_now : get_or now.regions (block_at now b).region 0 ≡ op_around s b
@@ -157,10 +157,10 @@ module _ (s : Store) (sd : Sound s) (n : ℕ) (ex : op_exists s n ≡ true) (pla
           ap (λ (l : List Value). now.values ++ l)
           (map_after (λ (t : ℕ). record { type = t; owner = of_block (length now.blocks) }) (type_of now) (values_of now (of_block b))
           ∙ ap (map argument_made) (values_between s sd n ex place pe ws rest (of_block b) split (of_block b) block_owner_known)
-          ∙ map_same argument_made (copied_value s n) (values_of s (of_block b)) (λ v k. argument_same v (values_in_law s (of_block b) k).0 (values_in_law s (of_block b) k).1))
+          ∙ map_same argument_made (copied_value s n) (values_of s (of_block b)) (λ v k. argument_same v (values_in_lem s (of_block b) k).0 (values_in_lem s (of_block b) k).1))
           ∙ values_grown
 
       -- what is written for it is its copy
-      pub block_made_law : block_made now M b ≡ copied_by s n place (ws ++ (of_block b ∷ []))
+      pub block_made_lem : block_made now M b ≡ copied_by s n place (ws ++ (of_block b ∷ []))
       unfolding block_made attributed applied block_asked
-      block_made_law i = record { ops = no_ops i; blocks = blocks_made i; regions = no_regions i; values = values_made i }
+      block_made_lem i = record { ops = no_ops i; blocks = blocks_made i; regions = no_regions i; values = values_made i }

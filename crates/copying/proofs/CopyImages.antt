@@ -13,8 +13,8 @@ use Rattle.rules.specs.Mapping.{no_image, empty_mapping, image, or_self, enter_a
 use Rattle.rules.specs.Copying.{renumbered, op_copy, block_copy, value_copy, copy_mapping, copied}
 use Rattle.rules.proofs.Basics.Distinct.{Distinct}
 use Rattle.rules.proofs.Soundness.Sound.{Sound, totals_facts}
-use Rattle.rules.proofs.Copying.Renumbered.{number_cases, number_below_law}
-use Rattle.rules.proofs.Copying.Inside.{ops_distinct, blocks_distinct, values_distinct, op_below, block_below, value_owner_law}
+use Rattle.rules.proofs.Copying.Renumbered.{number_cases, number_below_lem}
+use Rattle.rules.proofs.Copying.Inside.{ops_distinct, blocks_distinct, values_distinct, op_below, block_below, value_owner_lem}
 use Rattle.rules.proofs.Copying.Tables.{ops_length, blocks_length, values_length}
 use Rattle.copying.proofs.Built.{Images}
 
@@ -76,7 +76,7 @@ module _ (C : List ℕ) (next size : ℕ) (once : Distinct C) (fit : (c : ℕ) �
           let e : get_or entries v no_image ≡ renumbered C next v =
           enter_there (renumbered C next) C (replicate size no_image) v no_image once (λ l i. let b : l < size =
           fit l i in let z : length (replicate size no_image) ≡ size = length-replicate size no_image in omega arith) k in
-          let l : renumbered C next v < no_image = omega (arith, number_below_law C next k) in
+          let l : renumbered C next v < no_image = omega (arith, number_below_lem C next k) in
           ap (λ (x : ℕ). or_self x v) e ∙ other (renumbered C next v) l
 
       outside : (Memᴰ v C → ⊥) → renumbered C next v ≡ v → or_self (get_or entries v no_image) v ≡ renumbered C next v
@@ -92,7 +92,7 @@ module _ (s : Store) (sd : Sound s) (n : ℕ) (ex : op_exists s n ≡ true) (pla
       let t = totals_facts (copied s n place) totals in
       record {
         values = λ v l. image_there (defines_values s op n) (length s.values) max_values (values_distinct s sd n ex)
-            (λ c k. let b = (value_owner_law s sd n ex k).0 in let m = sd.totals.values in omega arith)
+            (λ c k. let b = (value_owner_lem s sd n ex k).0 in let m = sd.totals.values in omega arith)
             (let e = values_length s n place in let m = t.values in omega arith) v;
         blocks = λ b l. image_there (defines_blocks s op n) (length s.blocks) max_blocks (blocks_distinct s sd n ex)
             (λ c k. let b = block_below s sd n ex k in let m = sd.totals.blocks in omega arith)

@@ -21,7 +21,7 @@ use Rattle.layout.specs.Reading.{tabulate_from, consecutive}
 use Rattle.layout.proofs.Tabulate.{get_d_from}
 use Rattle.fragments.proofs.ByRows.{consecutive_length}
 use Rattle.mapping.specs.MappingWords.{mapping_length, mapping_of, empty_words, op_mapped, block_mapped, values_mapped}
-use Rattle.mapping.proofs.Unmapped.{empty_words_law}
+use Rattle.mapping.proofs.Unmapped.{empty_words_lem}
 use Rattle.copying.specs.declared.images.Copied.{Copied}
 use Rattle.copying.specs.Images.{next_entered, owners_entered, owners_copied, CopiesFit}
 use Rattle.copying.proofs.Words.{owners_left, all_owners_left}
@@ -153,10 +153,10 @@ module _ (s : Store) where
       ops = sym (entered_one m next.ops before.ops) i;
     }
 
-    pub op_counted_law : values_of s (of_op m) ≡ consecutive first count → ◌≡◌ {A = Copied}
+    pub op_counted_lem : values_of s (of_op m) ≡ consecutive first count → ◌≡◌ {A = Copied}
         (record { ops = next.ops + 1; blocks = next.blocks; values = next.values + count }) (owners_copied s (of_op m ∷ []) next)
     unfolding owners_copied concat_map op_owner block_owner
-    op_counted_law e =
+    op_counted_lem e =
         let same : next.blocks ≡ next.blocks + 0 = omega arith in
         λ i. record {
           ops = next.ops + 1;
@@ -173,10 +173,10 @@ module _ (s : Store) where
       ops = sym (entered_none next.ops before.ops) i;
     }
 
-    pub block_counted_law : values_of s (of_block m) ≡ consecutive first count → ◌≡◌ {A = Copied}
+    pub block_counted_lem : values_of s (of_block m) ≡ consecutive first count → ◌≡◌ {A = Copied}
         (record { ops = next.ops; blocks = next.blocks + 1; values = next.values + count }) (owners_copied s (of_block m ∷ []) next)
     unfolding owners_copied concat_map op_owner block_owner
-    block_counted_law e =
+    block_counted_lem e =
         let same : next.ops ≡ next.ops + 0 = omega arith in
         λ i. record {
           ops = same i;
@@ -219,10 +219,10 @@ module _ (s : Store) where
 pub emptied : (words : List ℕ) → length words ≡ mapping_length → mapping_of (pasted words 0 (replicate 2816 no_image)) ≡ empty_mapping
 unfolding empty_words
 emptied words e =
-    let none_set_law : List ℕ = replicate 2816 no_image in
-    let long : length none_set_law ≡ 2816 = length-replicate {A = ℕ} 2816 no_image in
-    let past : length words ≤ 0 + length none_set_law = omega arith in
-    ap mapping_of (ap (λ (rest : List ℕ). none_set_law ++ rest) (drop_of_length-le words past) ∙ append-nil none_set_law) ∙ empty_words_law
+    let none_set_lem : List ℕ = replicate 2816 no_image in
+    let long : length none_set_lem ≡ 2816 = length-replicate {A = ℕ} 2816 no_image in
+    let past : length words ≤ 0 + length none_set_lem = omega arith in
+    ap mapping_of (ap (λ (rest : List ℕ). none_set_lem ++ rest) (drop_of_length-le words past) ∙ append-nil none_set_lem) ∙ empty_words_lem
 
 -- ---- word by word
 
@@ -250,8 +250,8 @@ module _ (s : Store) (n : ℕ) where
     left_is : (ws : List Owner) → owners_left (steps s op n) i ≡ ws → copy_mapping s n ≡ owners_entered s ws next (mapping_of words)
     left_is ws e = h.mapped ∙ ap (λ (l : List Owner). owners_entered s l next (mapping_of words)) e
 
-    left_fits_law : (ws : List Owner) → owners_left (steps s op n) i ≡ ws → CopiesFit s ws next
-    left_fits_law ws e = subst (λ (l : List Owner). CopiesFit s l next) e h.fits
+    left_fits_lem : (ws : List Owner) → owners_left (steps s op n) i ≡ ws → CopiesFit s ws next
+    left_fits_lem ws e = subst (λ (l : List Owner). CopiesFit s l next) e h.fits
 
     pub entering_over : owners_left (steps s op n) i ≡ [] → mapping_of words ≡ copy_mapping s n
     entering_over e = sym (left_is [] e ∙ owners_none s next (mapping_of words))
@@ -262,13 +262,13 @@ module _ (s : Store) (n : ℕ) where
     entering_past e c m =
         record {
           mapped = left_is rest e ∙ ap₂ (λ (k : Copied) (b : List ℕ). owners_entered s rest k (mapping_of b)) (sym c) (sym m);
-          fits = subst (λ (k : Copied). CopiesFit s rest k) (sym c) (left_fits_law rest e);
+          fits = subst (λ (k : Copied). CopiesFit s rest k) (sym c) (left_fits_lem rest e);
         }
 
     -- one that tells of w
     module _ (w : Owner) (e : owners_left (steps s op n) i ≡ w ∷ rest) where
       pub entering_fits : CopiesFit s (w ∷ []) next
-      entering_fits = first_fits s w rest (left_fits_law (w ∷ rest) e)
+      entering_fits = first_fits s w rest (left_fits_lem (w ∷ rest) e)
 
       pub entering_next : {next' : Copied} {words' : List ℕ} → next' ≡ owners_copied s (w ∷ []) next
           → mapping_of words' ≡ owners_entered s (w ∷ []) next (mapping_of words) → Entering s n (i + 1) next' words'
@@ -278,5 +278,5 @@ module _ (s : Store) (n : ℕ) where
                 left_is (w ∷ rest) e
                 ∙ owner_then s w rest next (mapping_of words)
                 ∙ ap₂ (λ (k : Copied) (b : Mapping). owners_entered s rest k b) (sym c) (sym m);
-            fits = subst (λ (k : Copied). CopiesFit s rest k) (sym c) (rest_fits s w rest (left_fits_law (w ∷ rest) e));
+            fits = subst (λ (k : Copied). CopiesFit s rest k) (sym c) (rest_fits s w rest (left_fits_lem (w ∷ rest) e));
           }

@@ -19,7 +19,7 @@ use Rattle.layout.specs.Soundness.{Arranged}
 use Rattle.layout.proofs.Laid.{Laid, laid_facts}
 use Rattle.layout.proofs.Buffer.{columns_shaped}
 use Rattle.layout.proofs.Tabulate.{ops_length, blocks_length, regions_length, values_length}
-use Rattle.layout.proofs.Totals.{operand_total_law, successor_total_law}
+use Rattle.layout.proofs.Totals.{operand_total_lem, successor_total_lem}
 use Rattle.layout.proofs.Types.{types_read}
 use Rattle.layout.proofs.Ranges.{length_range, results_range, arguments_range}
 use Rattle.adding.proofs.OperationLaid.{RoomFor}
@@ -104,13 +104,13 @@ pub named_low : (n : ℕ) (names : List ℕ) → all (λ (v : ℕ). ltb v n) nam
 named_low n names h k l = ltb-true _ n (all_at (λ (v : ℕ). ltb v n) names h (mem_get_d names k 0 l))
 
 module _ (w : List ℕ) (len : length w ≡ mapping_length) (names : List ℕ) where
-  pub values_named_law : all (λ (v : ℕ). ltb v max_values) names ≡ true
+  pub values_named_lem : all (λ (v : ℕ). ltb v max_values) names ≡ true
       → map (λ (v : ℕ). or_self (get_or w (0 + v) 0) v) names ≡ map (image (mapping_of w).values) names
-  values_named_law h = map_same _ _ names (λ v k. value_image w len v (ltb-true v max_values (all_at (λ (x : ℕ). ltb x max_values) names h k)))
+  values_named_lem h = map_same _ _ names (λ v k. value_image w len v (ltb-true v max_values (all_at (λ (x : ℕ). ltb x max_values) names h k)))
 
-  pub blocks_named_law : all (λ (b : ℕ). ltb b max_blocks) names ≡ true
+  pub blocks_named_lem : all (λ (b : ℕ). ltb b max_blocks) names ≡ true
       → map (λ (b : ℕ). or_self (get_or w (2048 + b) 0) b) names ≡ map (image (mapping_of w).blocks) names
-  blocks_named_law h = map_same _ _ names (λ v k. block_image w len v (ltb-true v max_blocks (all_at (λ (x : ℕ). ltb x max_blocks) names h k)))
+  blocks_named_lem h = map_same _ _ names (λ v k. block_image w len v (ltb-true v max_blocks (all_at (λ (x : ℕ). ltb x max_blocks) names h k)))
 
 -- ---- an operation's row
 
@@ -127,11 +127,11 @@ module _ (a : List ℕ) (h : Arranged a) (m : ℕ) (l : m < op_count (columns a)
   pub results_rise : at C op_result_first m ≤ at C op_result_end m
   results_rise = (laid.op m l).results.range.rises
 
-  results_fit_law : at C op_result_end m ≤ value_count C
-  results_fit_law = (laid.op m l).results.range.fits
+  results_fit_lem : at C op_result_end m ≤ value_count C
+  results_fit_lem = (laid.op m l).results.range.fits
 
   pub results_end : at C op_result_end m ≤ 2048
-  results_end = omega (arith, results_fit_law, laid.counts.values)
+  results_end = omega (arith, results_fit_lem, laid.counts.values)
 
   results_many : length (results_of (store_in a) m) ≡ at C op_result_end m - at C op_result_first m
   unfolding results_of
@@ -143,12 +143,12 @@ module _ (a : List ℕ) (h : Arranged a) (m : ℕ) (l : m < op_count (columns a)
   pub result_types : slice (C value_type) (at C op_result_first m) (at C op_result_end m) ≡ map (type_of (store_in a)) (results_of (store_in a) m)
   unfolding results_of
   result_types =
-      sym (ap (map (type_of (store_in a))) (results_range C laid m l) ∙ types_read C (columns_shaped a h.sized) laid (at C op_result_first m) (at C op_result_end m) results_fit_law)
+      sym (ap (map (type_of (store_in a))) (results_range C laid m l) ∙ types_read C (columns_shaped a h.sized) laid (at C op_result_first m) (at C op_result_end m) results_fit_lem)
 
   module _ (M : Mapping) (place : Option ℕ) where
-    pub op_room_law : RoomFor C (op_asked (store_in a) M place m)
+    pub op_room_lem : RoomFor C (op_asked (store_in a) M place m)
     unfolding op_asked
-    op_room_law =
+    op_room_lem =
         let sh = columns_shaped a h.sized in
         let e₁ : length (map (type_of (store_in a)) (results_of (store_in a) m)) ≡ length (results_of (store_in a) m) = length-map _ _ in
         let e₂ : length (map (image M.values) (op_at (store_in a) m).operands) ≡ length (op_at (store_in a) m).operands = length-map _ _ in
@@ -157,8 +157,8 @@ module _ (a : List ℕ) (h : Arranged a) (m : ℕ) (l : m < op_count (columns a)
           ops = omega (arith, ready.op_room, ops_length C);
           regions = omega (arith, ready.region_room, regions_length C);
           values = omega (arith, e₁, ready.value_room, values_length C);
-          operands = omega (arith, e₂, ready.operand_room, operand_total_law C sh laid);
-          successors = omega (arith, e₃, ready.successor_room, successor_total_law C sh laid);
+          operands = omega (arith, e₂, ready.operand_room, operand_total_lem C sh laid);
+          successors = omega (arith, e₃, ready.successor_room, successor_total_lem C sh laid);
         }
 
     -- once the row is there
@@ -191,11 +191,11 @@ module _ (a : List ℕ) (h : Arranged a) (M : Mapping) (m : ℕ) (l : m < block_
   pub arguments_rise : at C₁ block_argument_first m ≤ at C₁ block_argument_end m
   arguments_rise = (laid₁.block m l).arguments.range.rises
 
-  arguments_fit_law : at C₁ block_argument_end m ≤ value_count C₁
-  arguments_fit_law = (laid₁.block m l).arguments.range.fits
+  arguments_fit_lem : at C₁ block_argument_end m ≤ value_count C₁
+  arguments_fit_lem = (laid₁.block m l).arguments.range.fits
 
   pub arguments_end : at C₁ block_argument_end m ≤ 2048
-  arguments_end = omega (arith, arguments_fit_law, laid₁.counts.values)
+  arguments_end = omega (arith, arguments_fit_lem, laid₁.counts.values)
 
   arguments_many : length (arguments_of (store_in a) m) ≡ at C₁ block_argument_end m - at C₁ block_argument_first m
   unfolding arguments_of
@@ -207,10 +207,10 @@ module _ (a : List ℕ) (h : Arranged a) (M : Mapping) (m : ℕ) (l : m < block_
   pub argument_types : slice (C₁ value_type) (at C₁ block_argument_first m) (at C₁ block_argument_end m) ≡ map (type_of (store_in a)) (arguments_of (store_in a) m)
   unfolding arguments_of
   argument_types =
-      sym (ap (map (type_of (store_in a))) (arguments_range C₁ laid₁ m l) ∙ types_read C₁ (columns_shaped a h.sized) laid₁ (at C₁ block_argument_first m) (at C₁ block_argument_end m) arguments_fit_law)
+      sym (ap (map (type_of (store_in a))) (arguments_range C₁ laid₁ m l) ∙ types_read C₁ (columns_shaped a h.sized) laid₁ (at C₁ block_argument_first m) (at C₁ block_argument_end m) arguments_fit_lem)
 
-  pub block_room_law : BlockRoom C₁ (map (type_of (store_in a)) (arguments_of (store_in a) m))
-  block_room_law =
+  pub block_room_lem : BlockRoom C₁ (map (type_of (store_in a)) (arguments_of (store_in a) m))
+  block_room_lem =
       let e₁ : length (map (type_of (store_in a)) (arguments_of (store_in a) m)) ≡ length (arguments_of (store_in a) m) = length-map _ _ in
       record {
         blocks = omega (arith, ready.block_room, blocks_length C₁);

@@ -8,7 +8,7 @@ use Rattle.rules.specs.Copying.{inner}
 use Rattle.layout.specs.Columns.{Cols, at, op_parent}
 use Rattle.layout.specs.Reading.{op_count, block_count, parent_from, store_of}
 use Rattle.layout.proofs.Laid.{Laid}
-use Rattle.layout.proofs.Tabulate.{parent_read_law}
+use Rattle.layout.proofs.Tabulate.{parent_read_lem}
 use Rattle.mapping.specs.MappingWords.{mapping_length, mapping_of}
 use Rattle.mapping.proofs.Searching.{read_as}
 use Rattle.rules.proofs.Basics.Tests.{passed}
@@ -44,7 +44,7 @@ parent_root s M n place m e = rw (eq-eqb m n e)
 module _ (C : Cols) (M : Mapping) (n : ℕ) (place : Option ℕ) (m : ℕ) (l : m < op_count C) where
   pub parent_inner : (m ≡ n → ⊥) → inner (image M.blocks) (parent_from (at C op_parent m)) ≡ parent_by (store_of C) M n place m
   unfolding parent_by
-  parent_inner ne = rw (ne_eqb m n ne) (ap (inner (image M.blocks)) (sym (parent_read_law C m l)))
+  parent_inner ne = rw (ne_eqb m n ne) (ap (inner (image M.blocks)) (sym (parent_read_lem C m l)))
 
   pub parent_none : (m ≡ n → ⊥) → at C op_parent m ≡ 0 → none ≡ parent_by (store_of C) M n place m
   unfolding inner parent_from

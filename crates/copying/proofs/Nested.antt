@@ -22,7 +22,7 @@ use Rattle.layout.specs.Reading.{op_count, around, store_in}
 use Rattle.layout.specs.Soundness.{IsSound, placed}
 use Rattle.layout.proofs.Laid.{Laid, laid_facts}
 use Rattle.layout.proofs.Nesting.{Placed, placed_facts, outermost, levels_under, depth_most}
-use Rattle.layout.proofs.Tabulate.{ops_length, op_exists_law, block_in_law, parent_read_law, around_read}
+use Rattle.layout.proofs.Tabulate.{ops_length, op_exists_lem, block_in_lem, parent_read_lem, around_read}
 use Rattle.adding.specs.Raw.{depth_under}
 use Rattle.copying.specs.Steps.{AreSteps}
 use Rattle.copying.proofs.Words.{owners_left, all_owners_left, no_owners_left, op_owner_left, block_owner_left, names_owners_left, are_words, op_inside}
@@ -55,7 +55,7 @@ module _ (b : List ℕ) (sd : IsSound b) where
       let l' : m < op_count (columns b) = subst (λ (k : ℕ). m < k) (ops_length (columns b)) l in
       let p : Placed (columns b) m c =
       placed_facts (columns b) m c
-      (subst (λ (q : Option ℕ). placed (columns b) m q ≡ true) (sym (parent_read_law (columns b) m l') ∙ e) (h.op m l').place) in
+      (subst (λ (q : Option ℕ). placed (columns b) m q ≡ true) (sym (parent_read_lem (columns b) m l') ∙ e) (h.op m l').place) in
       p.depth ∙ ap (λ (o : ℕ). at (columns b) op_depth o + 1) (sym (around_read (columns b) c p.block_in p.region_in))
 
   -- an operation in that place
@@ -63,13 +63,13 @@ module _ (b : List ℕ) (sd : IsSound b) where
       → is_some (levels_left k (store_in b) p) ≡ leb (depth_under (columns b) p) k
   unfolding depth_under parent_exists
   placed_levels none e k = outermost k (store_in b) ∙ sym (le-leb 0 k (omega arith))
-  placed_levels (some c) e k = levels_under (columns b) h k c (block_in_law (columns b) c e)
+  placed_levels (some c) e k = levels_under (columns b) h k c (block_in_lem (columns b) c e)
 
   pub under_most : (p : Option ℕ) → parent_exists (store_in b) p ≡ true → depth_under (columns b) p ≤ 33
   unfolding depth_under parent_exists
   under_most none e = omega arith
   under_most (some c) e =
-      let r = (h.block c (block_in_law (columns b) c e)).region_in in
+      let r = (h.block c (block_in_lem (columns b) c e)).region_in in
       let d : at (columns b) op_depth (around (columns b) c) ≤ max_nesting =
       depth_most (columns b) h sd.ruled (around (columns b) c) (h.region _ r).op_in in
       omega arith
@@ -79,7 +79,7 @@ module _ (b : List ℕ) (sd : IsSound b) where
 
   module _ (n : ℕ) (l : n < op_count (columns b)) (p : Option ℕ) (pe : parent_exists (store_in b) p ≡ true) where
     ex : op_exists (store_in b) n ≡ true
-    ex = op_exists_law (columns b) n ∙ lt-ltb n _ l
+    ex = op_exists_lem (columns b) n ∙ lt-ltb n _ l
 
     pub own_least : (m : ℕ) → Memᴰ (of_op m) (defines_owners (store_in b) op n) → at (columns b) op_depth n ≤ at (columns b) op_depth m
     unfolding depth
@@ -119,9 +119,9 @@ module _ (b : List ℕ) (sd : IsSound b) where
           pub own_below : at (columns b) op_depth n ≤ at (columns b) op_depth (get_or ws i 0 / 4)
           own_below = own_least _ (op_inside b sd n l ws a i d q)
 
-          pub too_deep_law : max_nesting < depth_under (columns b) p + (at (columns b) op_depth (get_or ws i 0 / 4) - at (columns b) op_depth n)
+          pub too_deep_lem : max_nesting < depth_under (columns b) p + (at (columns b) op_depth (get_or ws i 0 / 4) - at (columns b) op_depth n)
               → false ≡ copy_nests (store_in b) n p
-          too_deep_law t = sym (ap (λ (v : Bool). v && rest) (tested ∙ lt-leb _ max_nesting t)) ∙ after_op
+          too_deep_lem t = sym (ap (λ (v : Bool). v && rest) (tested ∙ lt-leb _ max_nesting t)) ∙ after_op
 
           pub not_too_deep : depth_under (columns b) p + (at (columns b) op_depth (get_or ws i 0 / 4) - at (columns b) op_depth n) ≤ max_nesting
               → NestsLeft b n p (i + 1)

@@ -34,8 +34,8 @@ module _ (b : List ℕ) where
           mapping = did.mapping;
         }
 
-    pub not_allowed_law : allowed (store_in b) (mapping_of m) ≡ false → Answered b b m m n place (Builts.Refused 8)
-    not_allowed_law e = answered false e b m (Builts.Refused 8) (refused_mapping b h m n place)
+    pub not_allowed_lem : allowed (store_in b) (mapping_of m) ≡ false → Answered b b m m n place (Builts.Refused 8)
+    not_allowed_lem e = answered false e b m (Builts.Refused 8) (refused_mapping b h m n place)
 
     pub done : allowed (store_in b) (mapping_of m) ≡ true → (exit after : List ℕ) (r : Built) → Cloned true b exit m after n place r
         → Answered b exit m after n place r

@@ -19,7 +19,7 @@ use Rattle.rules.proofs.Form.Ancestors.{up}
 use Rattle.rules.proofs.Form.Images.{position_kept}
 use Rattle.rules.proofs.Form.Once.{owners_once}
 use Rattle.rules.specs.Fragments.{exists}
-use Rattle.rules.proofs.Copying.Renumbered.{Before, here, there, second_in, number_at, place_in, in_concat_map, table_length_law}
+use Rattle.rules.proofs.Copying.Renumbered.{Before, here, there, second_in, number_at, place_in, in_concat_map, table_length_lem}
 use Rattle.rules.proofs.Copying.Walked.{around_before}
 use Rattle.copying.specs.Partial.{copied_by}
 use Rattle.copying.specs.Written.{op_attributed, block_attributed, attributed, op_asked, op_made, block_asked, block_made, region_by}
@@ -27,16 +27,16 @@ use Rattle.copying.proofs.Built.{update_last, here as stands, blocks_split, regi
 
 -- ---- what stands before one in the walk is among those before it
 
-behind_first_law : {x w y : Owner} {l : List Owner} → Before x w (y ∷ l) → Memᴰ w l
-behind_first_law (here k) = k
-behind_first_law (there k) = second_in k
+behind_first_lem : {x w y : Owner} {l : List Owner} → Before x w (y ∷ l) → Memᴰ w l
+behind_first_lem (here k) = k
+behind_first_lem (there k) = second_in k
 
 before_first : {x w y : Owner} {l : List Owner} → Before x w (y ∷ l) → (x ≡ y) ⊎ Before x w l
 before_first (here k) = inl refl
 before_first (there k) = inr k
 
 before_in : (x w : Owner) (ws rest : List Owner) → Distinct (ws ++ (w ∷ rest)) → Before x w (ws ++ (w ∷ rest)) → Memᴰ x ws
-before_in x w [] rest once h = absurd (once.0 (behind_first_law h))
+before_in x w [] rest once h = absurd (once.0 (behind_first_lem h))
 before_in x w (y ∷ ws) rest once h = among (before_first h) (λ k. before_in x w ws rest once.1 k)
   where
     among : (x ≡ y) ⊎ Before x w (ws ++ (w ∷ rest)) → (Before x w (ws ++ (w ∷ rest)) → Memᴰ x ws) → Memᴰ x (y ∷ ws)
@@ -95,7 +95,7 @@ module _ (s : Store) (sd : Sound s) (n : ℕ) (ex : op_exists s n ≡ true) (pla
 
   regions_length : length between.regions ≡ length s.regions + length (concat_map (regions_of s) (concat_map op_owner ws))
   unfolding copied_by
-  regions_length = table_length_law s.regions (λ (r : ℕ). op_copy s n (get_or s.regions r 0)) (concat_map (regions_of s) (concat_map op_owner ws))
+  regions_length = table_length_lem s.regions (λ (r : ℕ). op_copy s n (get_or s.regions r 0)) (concat_map (regions_of s) (concat_map op_owner ws))
 
   pub region_copied : (r : ℕ) → Memᴰ r (concat_map (regions_of s) (concat_map op_owner ws)) → region_copy s n r < length between.regions
   unfolding region_copy

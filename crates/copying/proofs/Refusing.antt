@@ -15,7 +15,7 @@ use Rattle.rules.proofs.Soundness.Accepted.{first_failed_none}
 use Rattle.layout.specs.Columns.{columns}
 use Rattle.layout.specs.Reading.{op_count, store_in}
 use Rattle.layout.specs.Soundness.{IsSound}
-use Rattle.layout.proofs.Tabulate.{op_exists_law}
+use Rattle.layout.proofs.Tabulate.{op_exists_lem}
 use Rattle.calling.proofs.Causes.{none_fail, fails, passes}
 use Rattle.copying.proofs.Totalled.{totals_with}
 
@@ -23,9 +23,9 @@ module _ (s : Store) (n : ℕ) (place : Option ℕ) where
   abbrev failing : Option ℕ
   failing = first_failed (copy_tests s n place)
 
-  pub no_op_law : op_exists s n ≡ false → failing ≡ some 2
+  pub no_op_lem : op_exists s n ≡ false → failing ≡ some 2
   unfolding copy_tests
-  no_op_law e = fails _ 2 _ (ap (λ b. b && parent_exists s place) e)
+  no_op_lem e = fails _ 2 _ (ap (λ b. b && parent_exists s place) e)
 
   module _ (e : op_exists s n ≡ true) where
     pub no_parent : parent_exists s place ≡ false → failing ≡ some 2
@@ -64,7 +64,7 @@ module _ (s : Store) (n : ℕ) (place : Option ℕ) where
   clear_totals e = (first_failed_none _ e).1.1.1.1.0
 
 pub exists_op : (b : List ℕ) (n : ℕ) → n < op_count (columns b) → op_exists (store_in b) n ≡ true
-exists_op b n l = op_exists_law (columns b) n ∙ lt-ltb n _ l
+exists_op b n l = op_exists_lem (columns b) n ∙ lt-ltb n _ l
 
 -- the totals are the same wherever the copy goes
 pub totals_anywhere : (b : List ℕ) → IsSound b → (n : ℕ) → n < op_count (columns b) → (place other : Option ℕ)

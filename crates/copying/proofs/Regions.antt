@@ -5,7 +5,7 @@ use Rattle.rules.specs.Mapping.{Mapping, image}
 use Rattle.layout.specs.Columns.{Cols, at, op_region_first, op_region_end, region_op}
 use Rattle.layout.specs.Reading.{op_count, region_count, store_of}
 use Rattle.layout.proofs.Laid.{Laid}
-use Rattle.layout.proofs.Tabulate.{ops_length, region_read_law, get_d_from}
+use Rattle.layout.proofs.Tabulate.{ops_length, region_read_lem, get_d_from}
 use Rattle.layout.proofs.Ranges.{range, length_range, regions_range}
 use Rattle.copying.specs.Written.{region_by}
 use Rattle.copying.proofs.Built.{Runs}
@@ -39,22 +39,22 @@ module _ (C : Cols) (h : Laid C) where
   -- where a region's copy is looked up
   module _ (M : Mapping) (r : ℕ) (l : r < region_count C) where
     pub around_read : get_or (store_of C).regions r 0 ≡ at C region_op r
-    around_read = region_read_law C r l
+    around_read = region_read_lem C r l
 
     pub around_low : at C region_op r < op_count C
     around_low = (h.region r l).op_in
 
-    pub behind_first_law : at C op_region_first (at C region_op r) ≤ r
-    behind_first_law = (h.region r l).place.from
+    pub behind_first_lem : at C op_region_first (at C region_op r) ≤ r
+    behind_first_lem = (h.region r l).place.from
 
     pub first_low : (m : ℕ) → m < op_count C → at C op_region_first m ≤ 256
     first_low m k = let o = (h.op m k).regions.range.rises in let f = (h.op m k).regions.range.fits in let t = h.counts.regions in omega arith
 
-    pub region_by_law : image M.ops (get_or (store_of C).regions r 0) < op_count C
+    pub region_by_lem : image M.ops (get_or (store_of C).regions r 0) < op_count C
         → 0 < length (regions_of (store_of C) (image M.ops (get_or (store_of C).regions r 0)))
         → at C op_region_first (image M.ops (at C region_op r)) + (r - at C op_region_first (at C region_op r)) ≡ region_by (store_of C) M r
     unfolding region_by
-    region_by_law k z =
+    region_by_lem k z =
         let p = (h.region r l).place.below in
         let q = (h.region r l).place.from in
         let m : ℕ = at C region_op r in

@@ -50,9 +50,9 @@ fewer s t h k =
 
 -- ---- all copies
 
-pub copied_by_law : (s : Store) (n : ℕ) (place : Option ℕ) → copied_by s n place (defines_owners s op n) ≡ copied s n place
+pub copied_by_lem : (s : Store) (n : ℕ) (place : Option ℕ) → copied_by s n place (defines_owners s op n) ≡ copied s n place
 unfolding copied_by copied fragment_ops defines_blocks copied_regions defines_values
-copied_by_law s n place = refl
+copied_by_lem s n place = refl
 
 pub none_copied : (s : Store) (n : ℕ) (place : Option ℕ) → copied_by s n place [] ≡ s
 unfolding copied_by concat_map

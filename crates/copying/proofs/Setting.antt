@@ -14,12 +14,12 @@ use Rattle.layout.specs.Reading.{store_in, slots_of, attribute_at, attribute_cou
 use Rattle.layout.specs.Soundness.{Arranged}
 use Rattle.layout.specs.Owners.{key_count}
 use Rattle.layout.proofs.Laid.{laid_facts}
-use Rattle.layout.proofs.OwnerKeys.{owner_in_law, owner_reached}
-use Rattle.layout.proofs.Totals.{attribute_total_law}
+use Rattle.layout.proofs.OwnerKeys.{owner_in_lem, owner_reached}
+use Rattle.layout.proofs.Totals.{attribute_total_lem}
 use Rattle.setting.specs.Raw.{added}
 use Rattle.copying.specs.Written.{Wrote, op_attributed, block_attributed, attributed}
 use Rattle.copying.proofs.Attributed.{AllBelow, OwnerHere, keys_below, attributed_none, attributed_more, attributes_there, attributes_else}
-use Rattle.copying.proofs.Wrote.{wrote_none, wrote_after, wrote_as, keys_counted, slot_read, attribute_wrote, attribute_counted_law}
+use Rattle.copying.proofs.Wrote.{wrote_none, wrote_after, wrote_as, keys_counted, slot_read, attribute_wrote, attribute_counted_lem}
 
 pub no_attribute : Attribute
 no_attribute = record { key = 0; kind = 0; content = 0; inherent = false }
@@ -97,18 +97,18 @@ module _ (a : List ℕ) (from to : Owner) (h : Arranged a) (fe : owner_exists (s
 
     pub from_slot : slots_of from + i < slot_count
     from_slot =
-        let r = owner_reached (columns a) from (laid_facts (columns a) h.laid) (owner_in_law (columns a) from fe) in
+        let r = owner_reached (columns a) from (laid_facts (columns a) h.laid) (owner_in_lem (columns a) from fe) in
         omega (arith, r.slots, r.keys)
 
     pub few_keys : key_count (columns b) to < 8
     few_keys =
-        let r = owner_reached (columns a) from (laid_facts (columns a) h.laid) (owner_in_law (columns a) from fe) in
+        let r = owner_reached (columns a) from (laid_facts (columns a) h.laid) (owner_in_lem (columns a) from fe) in
         omega (arith, r.keys, own_counted)
 
     pub to_slot : slots_of to + i < slot_count
     to_slot =
-        let r = owner_reached (columns a) to (laid_facts (columns a) h.laid) (owner_in_law (columns a) to te) in
-        let k = owner_reached (columns a) from (laid_facts (columns a) h.laid) (owner_in_law (columns a) from fe) in
+        let r = owner_reached (columns a) to (laid_facts (columns a) h.laid) (owner_in_lem (columns a) to te) in
+        let k = owner_reached (columns a) from (laid_facts (columns a) h.laid) (owner_in_lem (columns a) from fe) in
         omega (arith, r.slots, k.keys)
 
     pub next_kind : next.kind ≤ max_attribute_kind
@@ -124,7 +124,7 @@ module _ (a : List ℕ) (from to : Owner) (h : Arranged a) (fe : owner_exists (s
     above = subst (AllBelow next.key) (sym own) (keys_below whole i no_attribute rises inside)
 
     more_room : attribute_count (columns b) + 1 ≤ max_attributes
-    more_room = omega (arith, inside, total, attribute_total_law (columns a) (laid_facts (columns a) h.laid))
+    more_room = omega (arith, inside, total, attribute_total_lem (columns a) (laid_facts (columns a) h.laid))
 
     -- and with it
     module _ (d : List ℕ) (len : length d ≡ length b) (slot : ℕ) (at_last : slot ≡ slots_of to + i) (x : Attribute) (is_next : x ≡ next)
@@ -141,4 +141,4 @@ module _ (a : List ℕ) (from to : Owner) (h : Arranged a) (fe : owner_exists (s
           (wrote_as b d _ _ (ap (λ (s : Store). applied s (set_attribute to next)) w.reads) (attribute_wrote b d w.arranged len to next to_now above next_kind few_keys more_room put)))
 
       pub total_again : attribute_count (columns d) ≡ attribute_count (columns a) + (i + 1)
-      total_again = omega (arith, attribute_counted_law b d w.arranged len to next to_now above next_kind few_keys more_room put, total)
+      total_again = omega (arith, attribute_counted_lem b d w.arranged len to next to_now above next_kind few_keys more_room put, total)

@@ -23,7 +23,7 @@ use Rattle.marks.proofs.Lent.{Lent, lent_facts}
 use Rattle.marks.proofs.Holding.{Remembered}
 use Rattle.remembering.specs.Raw.{replaced_count}
 use Rattle.remembering.proofs.Lent.{held_facts, held_of, held_counted, journal_length}
-use Rattle.remembering.proofs.Kept.{Kept, row_kept_law, rows_kept, row_same, row_between}
+use Rattle.remembering.proofs.Kept.{Kept, row_kept_lem, rows_kept, row_same, row_between}
 use Rattle.remembering.proofs.Unremembered.{behind_kept, behind_journal, behind_replaced}
 use Rattle.copying.specs.Cloned.{Written}
 
@@ -74,7 +74,7 @@ module _ (b : List ℕ) (h : IsLent b) (n : ℕ) (place : Option ℕ) (clear : f
             let e : i < mark_count C = subst (λ (x : ℕ). i < x) kept.marks k in
             let at = row_between C D kept rising i e in
             row_same C D kept i
-            ((λ z. snapshot_of (w.reads z) (journal z) (row_kept_law C D kept i z)) ∙ copy_snapshot (store_of C) n place (journal_of C) (row_at C i) at.to at.fewer)
+            ((λ z. snapshot_of (w.reads z) (journal z) (row_kept_lem C D kept i z)) ∙ copy_snapshot (store_of C) n place (journal_of C) (row_at C i) at.to at.fewer)
             at.fewer
             ∙ was.rows i e;
       }

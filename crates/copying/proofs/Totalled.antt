@@ -24,8 +24,8 @@ use Rattle.layout.specs.Soundness.{IsSound}
 use Rattle.layout.proofs.Laid.{Shaped, Laid, Counts, laid_facts}
 use Rattle.layout.proofs.Buffer.{columns_shaped}
 use Rattle.layout.proofs.Ranges.{length_range, regions_range, results_range, arguments_range}
-use Rattle.layout.proofs.Tabulate.{ops_length, blocks_length, regions_length, values_length, op_exists_law, op_in_law, block_in_law, op_read, block_read}
-use Rattle.layout.proofs.Totals.{op_keys, block_keys_law, operands_length, successors_length, operand_total_law, successor_total_law, attribute_total_law}
+use Rattle.layout.proofs.Tabulate.{ops_length, blocks_length, regions_length, values_length, op_exists_lem, op_in_lem, block_in_lem, op_read, block_read}
+use Rattle.layout.proofs.Totals.{op_keys, block_keys_lem, operands_length, successors_length, operand_total_lem, successor_total_lem, attribute_total_lem}
 use Rattle.copying.specs.Steps.{AreSteps}
 use Rattle.copying.specs.declared.totals.Totals.{Totals}
 use Rattle.copying.specs.Totals.{TotalsFit, no_totals, span_of, op_totalled, block_totalled, owner_totalled, owners_totalled, totalled}
@@ -98,7 +98,7 @@ module _ (C : Cols) (shaped : Shaped C) (h : Laid C) where
   op_keys_read m l = ap (λ (o : Op). length o.attributes) (op_read C m l) ∙ op_keys C m
 
   block_keys_read : (b : ℕ) → b < block_count C → length (block_at (store_of C) b).attributes ≡ at C block_attributes b
-  block_keys_read b l = ap (λ (o : Block). length o.attributes) (block_read C b l) ∙ block_keys_law C b
+  block_keys_read b l = ap (λ (o : Block). length o.attributes) (block_read C b l) ∙ block_keys_lem C b
 
   together : (ws : List Owner) (t : Totals) → ((w : Owner) → Memᴰ w ws → owner_exists (store_of C) w ≡ true)
       → Together (store_of C) ws t (owners_totalled C t ws)
@@ -115,7 +115,7 @@ module _ (C : Cols) (shaped : Shaped C) (h : Laid C) where
       }
   together (of_op m ∷ ws) t k =
       let r = together ws (op_totalled C t m) (λ w i. k w (Memᴰ.tail i)) in
-      let l : m < op_count C = op_in_law C m (k (of_op m) (Memᴰ.head refl)) in
+      let l : m < op_count C = op_in_lem C m (k (of_op m) (Memᴰ.head refl)) in
       record {
         ops = omega (arith, r.ops);
         blocks = r.blocks;
@@ -132,7 +132,7 @@ module _ (C : Cols) (shaped : Shaped C) (h : Laid C) where
       }
   together (of_block b ∷ ws) t k =
       let r = together ws (block_totalled C t b) (λ w i. k w (Memᴰ.tail i)) in
-      let l : b < block_count C = block_in_law C b (k (of_block b) (Memᴰ.head refl)) in
+      let l : b < block_count C = block_in_lem C b (k (of_block b) (Memᴰ.head refl)) in
       record {
         ops = r.ops;
         blocks = omega (arith, r.blocks);
@@ -207,7 +207,7 @@ module _ (b : List ℕ) (sd : IsSound b) (n : ℕ) (l : n < op_count (columns b)
   shaped = columns_shaped b sd.sized
 
   ex : op_exists (store_in b) n ≡ true
-  ex = op_exists_law (columns b) n ∙ lt-ltb n _ l
+  ex = op_exists_lem (columns b) n ∙ lt-ltb n _ l
 
   so : Sound (store_in b)
   so = facts (store_in b) sd.ruled
@@ -262,15 +262,15 @@ module _ (b : List ℕ) (sd : IsSound b) (n : ℕ) (l : n < op_count (columns b)
 
     operands_with : operand_count C + u.operands ≡ operand_total with
     unfolding fragment_ops
-    operands_with = omega (arith, of_all.operands, operand_total_law C shaped laid, amounts.operands_with (store_in b) n place)
+    operands_with = omega (arith, of_all.operands, operand_total_lem C shaped laid, amounts.operands_with (store_in b) n place)
 
     successors_with : successor_count C + u.successors ≡ successor_total with
     unfolding fragment_ops
-    successors_with = omega (arith, of_all.successors, successor_total_law C shaped laid, amounts.successors_with (store_in b) n place)
+    successors_with = omega (arith, of_all.successors, successor_total_lem C shaped laid, amounts.successors_with (store_in b) n place)
 
     attributes_with : attribute_count C + u.attributes ≡ attribute_total with
     unfolding fragment_ops defines_blocks
-    attributes_with = omega (arith, of_all.attributes, attribute_total_law C laid, amounts.attributes_with (store_in b) n place)
+    attributes_with = omega (arith, of_all.attributes, attribute_total_lem C laid, amounts.attributes_with (store_in b) n place)
 
     pub totals_with : holds (op_count C + u.ops) (block_count C + u.blocks) (region_count C + u.regions) (value_count C + u.values) (operand_count C + u.operands)
         (successor_count C + u.successors) (attribute_count C + u.attributes)

@@ -20,14 +20,14 @@ use Rattle.layout.specs.Reading.{op_count, block_count, value_count, around, par
 use Rattle.layout.specs.Soundness.{IsSound, placed, in_owner, value_laid}
 use Rattle.layout.proofs.Laid.{Laid, laid_facts}
 use Rattle.layout.proofs.Nesting.{Placed, placed_facts}
-use Rattle.layout.proofs.Tabulate.{ops_length, blocks_length, values_length, op_exists_law, parent_read_law, around_read, value_read}
+use Rattle.layout.proofs.Tabulate.{ops_length, blocks_length, values_length, op_exists_lem, parent_read_lem, around_read, value_read}
 
 module _ (b : List ℕ) (sd : IsSound b) (n : ℕ) (l : n < op_count (columns b)) where
   h : Laid (columns b)
   h = laid_facts (columns b) sd.laid
 
   ex : op_exists (store_in b) n ≡ true
-  ex = op_exists_law (columns b) n ∙ lt-ltb n _ l
+  ex = op_exists_lem (columns b) n ∙ lt-ltb n _ l
 
   -- an operation inside n, or n itself
   abbrev pub holds_op : ℕ → Bool
@@ -57,14 +57,14 @@ module _ (b : List ℕ) (sd : IsSound b) (n : ℕ) (l : n < op_count (columns b)
   pub op_alone : (m : ℕ) → m < op_count (columns b) → n < m → at (columns b) op_parent m ≡ 0 → holds_op m ≡ false
   unfolding parent_from
   op_alone m k d z =
-      climbed.place_alone (store_in b) sd.ruled n ex m (λ e. let f : m ≡ n = e in omega arith) (parent_read_law (columns b) m k ∙ ap parent_from z)
+      climbed.place_alone (store_in b) sd.ruled n ex m (λ e. let f : m ≡ n = e in omega arith) (parent_read_lem (columns b) m k ∙ ap parent_from z)
 
   -- a block
   pub around_op : (c : ℕ) → c < block_count (columns b) → around (columns b) c < op_count (columns b)
   around_op c k = (h.region _ (h.block c k).region_in).op_in
 
-  pub block_in_law : (c : ℕ) → c < block_count (columns b) → holds_block c ≡ holds_op (around (columns b) c)
-  block_in_law c k =
+  pub block_in_lem : (c : ℕ) → c < block_count (columns b) → holds_block c ≡ holds_op (around (columns b) c)
+  block_in_lem c k =
       climbed.place_block (store_in b) sd.ruled n ex c (subst (λ (z : ℕ). c < z) (sym (blocks_length (columns b))) k)
       ∙ ap (λ (m : ℕ). has_place (fragment_ops (store_in b) op n) m) (around_read (columns b) c k (h.block c k).region_in)
 
@@ -75,9 +75,9 @@ module _ (b : List ℕ) (sd : IsSound b) (n : ℕ) (l : n < op_count (columns b)
     pub same : has_place (fragment_ops (store_in b) op n) m ≡ has_place (fragment_ops (store_in b) op n) (around (columns b) c)
 
   -- where w is the word of its parent
-  pub op_in_law : (m w : ℕ) → m < op_count (columns b) → n < m → w ≡ at (columns b) op_parent m → (w ≡ 0 → ⊥) → InBlock m (w - 1)
+  pub op_in_lem : (m w : ℕ) → m < op_count (columns b) → n < m → w ≡ at (columns b) op_parent m → (w ≡ 0 → ⊥) → InBlock m (w - 1)
   unfolding parent_from
-  op_in_law m w k d q ne = go w (sym q) ne
+  op_in_lem m w k d q ne = go w (sym q) ne
     where
       go : (w : ℕ) → at (columns b) op_parent m ≡ w → (w ≡ 0 → ⊥) → InBlock m (w - 1)
       go zero e ne = absurd (ne refl)
@@ -85,7 +85,7 @@ module _ (b : List ℕ) (sd : IsSound b) (n : ℕ) (l : n < op_count (columns b)
           let p : Placed (columns b) m c =
           placed_facts (columns b) m c
           (subst (λ (q : Option ℕ). placed (columns b) m q ≡ true) (ap parent_from e) (h.op m k).place) in
-          let f : parent_of (store_in b) m ≡ some c = parent_read_law (columns b) m k ∙ ap parent_from e in
+          let f : parent_of (store_in b) m ≡ some c = parent_read_lem (columns b) m k ∙ ap parent_from e in
           let z : c ≡ suc c - 1 = omega arith in
           let r : InBlock m c = record {
             block_in = p.block_in;
@@ -98,9 +98,9 @@ module _ (b : List ℕ) (sd : IsSound b) (n : ℕ) (l : n < op_count (columns b)
           subst (InBlock m) z r
 
   -- a value, whose owner's word is w
-  owner_read_law : (v : ℕ) → v < value_count (columns b) → (value_at (store_in b) v).owner ≡ owner_from (at (columns b) value_owner v)
+  owner_read_lem : (v : ℕ) → v < value_count (columns b) → (value_at (store_in b) v).owner ≡ owner_from (at (columns b) value_owner v)
   unfolding value_of
-  owner_read_law v k = ap (λ (x : Value). x.owner) (value_read (columns b) v k)
+  owner_read_lem v k = ap (λ (x : Value). x.owner) (value_read (columns b) v k)
 
   value_long : (v : ℕ) → v < value_count (columns b) → v < length (store_in b).values
   value_long v k = subst (λ (z : ℕ). v < z) (sym (values_length (columns b))) k
@@ -123,11 +123,11 @@ module _ (b : List ℕ) (sd : IsSound b) (n : ℕ) (l : n < op_count (columns b)
     result_op e = ltb-true _ _ (and_left _ _ (laid_in _ (owner_op e)))
 
     pub result_in : w % 2 ≡ 0 → holds_value v ≡ holds_op (w / 2)
-    result_in e = climbed.place_result (store_in b) sd.ruled n ex v _ (value_long v k) (owner_read_law v k ∙ sym (ap owner_from q) ∙ owner_op e)
+    result_in e = climbed.place_result (store_in b) sd.ruled n ex v _ (value_long v k) (owner_read_lem v k ∙ sym (ap owner_from q) ∙ owner_op e)
 
     pub argument_block : (w % 2 ≡ 0 → ⊥) → w / 2 < block_count (columns b)
     unfolding in_owner
     argument_block ne = ltb-true _ _ (and_left _ _ (laid_in _ (owner_block ne)))
 
     pub argument_in : (w % 2 ≡ 0 → ⊥) → holds_value v ≡ holds_block (w / 2)
-    argument_in ne = climbed.place_argument (store_in b) sd.ruled n ex v _ (value_long v k) (owner_read_law v k ∙ sym (ap owner_from q) ∙ owner_block ne)
+    argument_in ne = climbed.place_argument (store_in b) sd.ruled n ex v _ (value_long v k) (owner_read_lem v k ∙ sym (ap owner_from q) ∙ owner_block ne)

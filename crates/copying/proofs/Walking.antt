@@ -27,17 +27,17 @@ use Rattle.layout.specs.Columns.{columns}
 use Rattle.layout.specs.Reading.{op_count, store_in}
 use Rattle.layout.specs.Soundness.{IsSound}
 use Rattle.layout.proofs.Laid.{laid_facts}
-use Rattle.layout.proofs.Tabulate.{op_exists_law}
+use Rattle.layout.proofs.Tabulate.{op_exists_lem}
 use Rattle.mapping.specs.MappingWords.{mapping_of}
 use Rattle.copying.specs.Steps.{AreSteps}
 use Rattle.copying.specs.Partial.{Partial, copied_by}
 use Rattle.copying.specs.Written.{Wrote, block_made, parent_by, OpReady, BlockReady, WordReady, word_made}
 use Rattle.copying.specs.Cloned.{Written}
 use Rattle.copying.proofs.Words.{told, told_lists, done, left, owners_done, owners_left, no_owners_done, are_words, no_owners_left, op_owner_left, op_owner_done, block_owner_left, block_owner_done, names_owners_done}
-use Rattle.copying.proofs.Built.{here as stands, Images, Runs, op_between, block_between, values_between, ops_length, blocks_length, op_known, parent_same, op_made_law}
-use Rattle.copying.proofs.BuiltBlock.{block_known, region_known, copy_known, some_theirs, region_same, block_made_law}
+use Rattle.copying.proofs.Built.{here as stands, Images, Runs, op_between, block_between, values_between, ops_length, blocks_length, op_known, parent_same, op_made_lem}
+use Rattle.copying.proofs.BuiltBlock.{block_known, region_known, copy_known, some_theirs, region_same, block_made_lem}
 use Rattle.copying.proofs.CopyImages.{copies_imaged}
-use Rattle.copying.proofs.Rooms.{fewer, copied_by_law, none_copied, more_copied}
+use Rattle.copying.proofs.Rooms.{fewer, copied_by_lem, none_copied, more_copied}
 use Rattle.copying.proofs.Ready.{around_there, parent_there, block_copied, region_copied, op_rooms, block_rooms}
 use Rattle.copying.proofs.Regions.{runs}
 use Rattle.copying.proofs.Stepping.{word_op, word_block, word_none}
@@ -53,9 +53,9 @@ unfolding parent_exists block_exists
 parent_longer s t none l h = refl
 parent_longer s t (some b) l h = low b (length s.blocks) (length t.blocks) l h
 
-block_in_law : (t : Store) (b : ℕ) → b < length t.blocks → parent_exists t (some b) ≡ true
+block_in_lem : (t : Store) (b : ℕ) → b < length t.blocks → parent_exists t (some b) ≡ true
 unfolding parent_exists block_exists
-block_in_law t b l = lt-ltb b (length t.blocks) l
+block_in_lem t b l = lt-ltb b (length t.blocks) l
 
 ruled_as : {s t : Store} → s ≡ t → sound t ≡ true → sound s ≡ true
 ruled_as e h = ap sound e ∙ h
@@ -84,8 +84,8 @@ all_defined : (s : Store) (n : ℕ) → concat_map step_defines (told (steps s o
 unfolding defines_owners step_defines
 all_defined s n = told_lists step_defines (λ k. refl) (steps s op n)
 
-one_more_law : (done : List Owner) (o : Owner) (rest : List Owner) → (done ++ (o ∷ [])) ++ rest ≡ done ++ (o ∷ rest)
-one_more_law done o rest = append_assoc done (o ∷ []) rest
+one_more_lem : (done : List Owner) (o : Owner) (rest : List Owner) → (done ++ (o ∷ [])) ++ rest ≡ done ++ (o ∷ rest)
+one_more_lem done o rest = append_assoc done (o ∷ []) rest
 
 -- ---- an operation's step
 
@@ -107,8 +107,8 @@ module _ (s : Store) (sd : Sound s) (n : ℕ) (ex : op_exists s n ≡ true) (pla
   row : op_at now m ≡ op_at s m
   row = op_between s sd n ex place pe ws rest (of_op m) split m known
 
-  pub parent_in_law : parent_exists now under ≡ true
-  parent_in_law = ap (parent_exists now) (parent_same s sd n ex place pe ws rest m split M images) ∙ go (ℕ_discrete m n)
+  pub parent_in_lem : parent_exists now under ≡ true
+  parent_in_lem = ap (parent_exists now) (parent_same s sd n ex place pe ws rest m split M images) ∙ go (ℕ_discrete m n)
     where
       more : length s.blocks ≤ length now.blocks
       more = omega (arith, blocks_length s sd n ex place pe ws rest (of_op m) split)
@@ -120,7 +120,7 @@ module _ (s : Store) (sd : Sound s) (n : ℕ) (ex : op_exists s n ≡ true) (pla
       go (no ne) =
           let q = parent_copied s sd n ex place pe m (owned_op s sd n ex (stands s n ws rest (of_op m) split)) ne in
           let b = parent_there s sd n ex ws rest m q.0 split ne q.1 in
-          ap (parent_exists now) q.3 ∙ block_in_law now (block_copy s n q.0) (block_copied s sd n ex place pe ws rest (of_op m) split q.0 b)
+          ap (parent_exists now) q.3 ∙ block_in_lem now (block_copy s n q.0) (block_copied s sd n ex place pe ws rest (of_op m) split q.0 b)
 
   results : results_of now m ≡ results_of s m
   unfolding results_of
@@ -131,7 +131,7 @@ module _ (s : Store) (sd : Sound s) (n : ℕ) (ex : op_exists s n ≡ true) (pla
   op_ready =
       let o = sd.op m known in
       let t = sd.totals in
-      let r = op_rooms now M under m (subst TotalsSound (sym (op_made_law s sd n ex place pe ws rest m split M images)) totals) in
+      let r = op_rooms now M under m (subst TotalsSound (sym (op_made_lem s sd n ex place pe ws rest m split M images)) totals) in
       let few : (v : ℕ) → ltb v (length s.values) ≡ true → ltb v max_values ≡ true = λ v l. low v (length s.values) max_values t.values l in
       let fewer : (b : ℕ) → ltb b (length s.blocks) ≡ true → ltb b max_blocks ≡ true = λ b l. low b (length s.blocks) max_blocks t.blocks l in
       record {
@@ -176,7 +176,7 @@ module _ (s : Store) (sd : Sound s) (n : ℕ) (ex : op_exists s n ≡ true) (pla
   arguments = values_between s sd n ex place pe ws rest (of_block b) split (of_block b) (owner_block s sd b known_block)
 
   pub made_block : block_made present M b ≡ copied_by s n place (ws ++ (of_block b ∷ []))
-  made_block = block_made_law s sd n ex place pe ws rest b split M images before runs_in runs_now
+  made_block = block_made_lem s sd n ex place pe ws rest b split M images before runs_in runs_now
 
   region_there : region_copy s n (block_at s b).region < length present.regions
   unfolding op_around
@@ -214,11 +214,11 @@ module _ (a : List ℕ) (sd : IsSound a) (n : ℕ) (l : n < op_count (columns a)
   sound_in = facts s sd.ruled
 
   exists_in : op_exists s n ≡ true
-  exists_in = op_exists_law (columns a) n ∙ lt-ltb n _ l
+  exists_in = op_exists_lem (columns a) n ∙ lt-ltb n _ l
 
-  place_in_law : parent_exists s place ≡ true
+  place_in_lem : parent_exists s place ≡ true
   unfolding copy_tests
-  place_in_law = and_right (op_exists s n) (parent_exists s place) (first_failed_none _ passed).0
+  place_in_lem = and_right (op_exists s n) (parent_exists s place) (first_failed_none _ passed).0
 
   totals_in : totals_hold (copied s n place) ≡ true
   unfolding copy_tests
@@ -234,9 +234,9 @@ module _ (a : List ℕ) (sd : IsSound a) (n : ℕ) (l : n < op_count (columns a)
   room : (done : List Owner) (o : Owner) (rest : List Owner) → done ++ (o ∷ rest) ≡ defines_owners s op n
       → TotalsSound (copied_by s n place (done ++ (o ∷ [])))
   room done o rest e =
-      let t : TotalsSound (copied_by s n place (defines_owners s op n)) = subst TotalsSound (sym (copied_by_law s n place)) (totals_facts (copied s n place) totals_in) in
+      let t : TotalsSound (copied_by s n place (defines_owners s op n)) = subst TotalsSound (sym (copied_by_lem s n place)) (totals_facts (copied s n place) totals_in) in
       fewer (copied_by s n place (done ++ (o ∷ []))) (copied_by s n place ((done ++ (o ∷ [])) ++ rest)) (more_copied s n place (done ++ (o ∷ [])) rest)
-      (subst (λ (z : List Owner). TotalsSound (copied_by s n place z)) (sym (one_more_law done o rest ∙ e)) t)
+      (subst (λ (z : List Owner). TotalsSound (copied_by s n place z)) (sym (one_more_lem done o rest ∙ e)) t)
 
   -- nothing is written yet
   pub starts : Partial a n place (owners_done xs 0) a
@@ -257,7 +257,7 @@ module _ (a : List ℕ) (sd : IsSound a) (n : ℕ) (l : n < op_count (columns a)
         let none_left : owners_left xs i ≡ [] = no_owners_left xs ws (are_words a n ws are) i past in
         let all_done : owners_done xs i ≡ defines_owners s op n = sym (append-nil (owners_done xs i))
         ∙ ap (λ (z : List Owner). owners_done xs i ++ z) (sym none_left) ∙ whole i in
-        let reads : store_in b ≡ copied s n place = h.reads ∙ ap (copied_by s n place) all_done ∙ copied_by_law s n place in
+        let reads : store_in b ≡ copied s n place = h.reads ∙ ap (copied_by s n place) all_done ∙ copied_by_lem s n place in
         record {
           reads = reads;
           sound = record { sized = h.arranged.sized; laid = h.arranged.laid; ruled = ruled_as reads (sound_copied s sd.ruled n place passed) };
@@ -289,15 +289,15 @@ module _ (a : List ℕ) (sd : IsSound a) (n : ℕ) (l : n < op_count (columns a)
       ready_written =
           record {
             op_in =
-                λ q. op_there s sound_in n exists_in place place_in_law (owners_done xs i) (owners_left xs (i + 1)) (word / 4) (op_split q) M images_in (room _ _ _ (op_split q));
+                λ q. op_there s sound_in n exists_in place place_in_lem (owners_done xs i) (owners_left xs (i + 1)) (word / 4) (op_split q) M images_in (room _ _ _ (op_split q));
             parent_in =
-                λ q. parent_in_law s sound_in n exists_in place place_in_law (owners_done xs i) (owners_left xs (i + 1)) (word / 4) (op_split q) M images_in (room _ _ _ (op_split q));
+                λ q. parent_in_lem s sound_in n exists_in place place_in_lem (owners_done xs i) (owners_left xs (i + 1)) (word / 4) (op_split q) M images_in (room _ _ _ (op_split q));
             op =
-                λ q. op_ready s sound_in n exists_in place place_in_law (owners_done xs i) (owners_left xs (i + 1)) (word / 4) (op_split q) M images_in (room _ _ _ (op_split q));
+                λ q. op_ready s sound_in n exists_in place place_in_lem (owners_done xs i) (owners_left xs (i + 1)) (word / 4) (op_split q) M images_in (room _ _ _ (op_split q));
             block_in =
-                λ q. block_there s sound_in n exists_in place place_in_law (owners_done xs i) (owners_left xs (i + 1)) (word / 4) (block_split q) M images_in runs_entry runs_written (room _ _ _ (block_split q));
+                λ q. block_there s sound_in n exists_in place place_in_lem (owners_done xs i) (owners_left xs (i + 1)) (word / 4) (block_split q) M images_in runs_entry runs_written (room _ _ _ (block_split q));
             block =
-                λ q. block_ready s sound_in n exists_in place place_in_law (owners_done xs i) (owners_left xs (i + 1)) (word / 4) (block_split q) M images_in runs_entry runs_written (room _ _ _ (block_split q));
+                λ q. block_ready s sound_in n exists_in place place_in_lem (owners_done xs i) (owners_left xs (i + 1)) (word / 4) (block_split q) M images_in runs_entry runs_written (room _ _ _ (block_split q));
           }
 
       pub word_ready : WordReady (store_in b) M n place word
@@ -310,11 +310,11 @@ module _ (a : List ℕ) (sd : IsSound a) (n : ℕ) (l : n < op_count (columns a)
           go : Dec (word % 4 ≡ 0) → Dec (word % 4 ≡ 2) → word_made written M n place word ≡ copied_by s n place (owners_done xs (i + 1))
           go (yes q) other =
               sym (word_op written M n place word q)
-              ∙ op_made_law s sound_in n exists_in place place_in_law (owners_done xs i) (owners_left xs (i + 1)) (word / 4) (op_split q) M images_in
+              ∙ op_made_lem s sound_in n exists_in place place_in_lem (owners_done xs i) (owners_left xs (i + 1)) (word / 4) (op_split q) M images_in
               ∙ ap (copied_by s n place) (sym (op_owner_done xs ws (are_words a n ws are) i few q))
           go (no ne) (yes q) =
               sym (word_block written M n place word ne q)
-              ∙ made_block s sound_in n exists_in place place_in_law (owners_done xs i) (owners_left xs (i + 1)) (word / 4) (block_split q) M images_in runs_entry runs_written (room _ _ _ (block_split q))
+              ∙ made_block s sound_in n exists_in place place_in_lem (owners_done xs i) (owners_left xs (i + 1)) (word / 4) (block_split q) M images_in runs_entry runs_written (room _ _ _ (block_split q))
               ∙ ap (copied_by s n place) (sym (block_owner_done xs ws (are_words a n ws are) i few q))
           go (no ne) (no other) =
               let odd : word % 2 ≡ 1 = omega arith in

@@ -18,7 +18,7 @@ use Rattle.rules.proofs.Copying.Shelled.{shell_owner, names_owner}
 use Rattle.layout.specs.Columns.{columns}
 use Rattle.layout.specs.Reading.{owner_code, op_count, block_count, store_in}
 use Rattle.layout.specs.Soundness.{IsSound}
-use Rattle.layout.proofs.Tabulate.{op_exists_law, op_in_law, block_in_law}
+use Rattle.layout.proofs.Tabulate.{op_exists_lem, op_in_lem, block_in_lem}
 use Rattle.copying.specs.Steps.{step_word, step_words, AreSteps}
 
 -- ---- the steps that have a word: all but where a list of shells begins
@@ -58,15 +58,15 @@ told_at (one t h) zero l = t
 told_at (one t h) (suc i) l = told_at h i (omega arith)
 
 -- by what is left of the word
-op_of_law : {w : ℕ} {x : Step} → Tells w x → w % 4 ≡ 0 → x ≡ shell (of_op (w / 4))
-op_of_law (op_shell m) e = let f : m ≡ (2 * (2 * m)) / 4 = omega arith in ap (λ (k : ℕ). shell (of_op k)) f
-op_of_law (block_shell b) e = absurd (omega arith)
-op_of_law (op_names m) e = absurd (omega arith)
+op_of_lem : {w : ℕ} {x : Step} → Tells w x → w % 4 ≡ 0 → x ≡ shell (of_op (w / 4))
+op_of_lem (op_shell m) e = let f : m ≡ (2 * (2 * m)) / 4 = omega arith in ap (λ (k : ℕ). shell (of_op k)) f
+op_of_lem (block_shell b) e = absurd (omega arith)
+op_of_lem (op_names m) e = absurd (omega arith)
 
-block_of_law : {w : ℕ} {x : Step} → Tells w x → w % 4 ≡ 2 → x ≡ shell (of_block (w / 4))
-block_of_law (op_shell m) e = absurd (omega arith)
-block_of_law (block_shell b) e = let f : b ≡ (2 * (2 * b + 1)) / 4 = omega arith in ap (λ (k : ℕ). shell (of_block k)) f
-block_of_law (op_names m) e = absurd (omega arith)
+block_of_lem : {w : ℕ} {x : Step} → Tells w x → w % 4 ≡ 2 → x ≡ shell (of_block (w / 4))
+block_of_lem (op_shell m) e = absurd (omega arith)
+block_of_lem (block_shell b) e = let f : b ≡ (2 * (2 * b + 1)) / 4 = omega arith in ap (λ (k : ℕ). shell (of_block k)) f
+block_of_lem (op_names m) e = absurd (omega arith)
 
 names_of : {w : ℕ} {x : Step} → Tells w x → w % 2 ≡ 1 → x ≡ names (w / 2)
 names_of (op_shell m) e = absurd (omega arith)
@@ -176,13 +176,13 @@ module _ (xs : List Step) (ws : List ℕ) (e : ws ≡ step_words xs) where
             let b : i < length (told xs) = omega (arith, words_length) in
             ap (λ (k : ℕ). take k (told xs)) (add-one i) ∙ take-suc (told xs) i (counted 0) b ∙ ap (λ (y : Step). take i (told xs) ++ (y ∷ [])) f
 
-        owners_left_law : owners_left xs i ≡ step_defines x ++ owners_left xs (i + 1)
+        owners_left_lem : owners_left xs i ≡ step_defines x ++ owners_left xs (i + 1)
         unfolding owners_left concat_map
-        owners_left_law = ap (concat_map step_defines) left_is
+        owners_left_lem = ap (concat_map step_defines) left_is
 
-        owners_done_law : owners_done xs (i + 1) ≡ owners_done xs i ++ step_defines x
+        owners_done_lem : owners_done xs (i + 1) ≡ owners_done xs i ++ step_defines x
         unfolding owners_done concat_map
-        owners_done_law =
+        owners_done_lem =
             ap (concat_map step_defines) done_is ∙ concat_map_append step_defines (done xs i) (x ∷ [])
             ∙ ap (λ (l : List Owner). concat_map step_defines (done xs i) ++ l) (append-nil (step_defines x))
 
@@ -192,40 +192,40 @@ module _ (xs : List Step) (ws : List ℕ) (e : ws ≡ step_words xs) where
       -- an operation's shell
       module _ (q : get_or ws i 0 % 4 ≡ 0) where
         pub op_left : left xs i ≡ shell (of_op (get_or ws i 0 / 4)) ∷ left xs (i + 1)
-        op_left = left_is _ (op_of_law tells q)
+        op_left = left_is _ (op_of_lem tells q)
 
         pub op_done : done xs (i + 1) ≡ done xs i ++ (shell (of_op (get_or ws i 0 / 4)) ∷ [])
-        op_done = done_is _ (op_of_law tells q)
+        op_done = done_is _ (op_of_lem tells q)
 
         pub op_owner_left : owners_left xs i ≡ of_op (get_or ws i 0 / 4) ∷ owners_left xs (i + 1)
         unfolding step_defines
-        op_owner_left = owners_left_law _ (op_of_law tells q)
+        op_owner_left = owners_left_lem _ (op_of_lem tells q)
 
         pub op_owner_done : owners_done xs (i + 1) ≡ owners_done xs i ++ (of_op (get_or ws i 0 / 4) ∷ [])
         unfolding step_defines
-        op_owner_done = owners_done_law _ (op_of_law tells q)
+        op_owner_done = owners_done_lem _ (op_of_lem tells q)
 
         pub op_here : Memᴰ (shell (of_op (get_or ws i 0 / 4))) xs
-        op_here = here _ (op_of_law tells q)
+        op_here = here _ (op_of_lem tells q)
 
       -- a block's
       module _ (q : get_or ws i 0 % 4 ≡ 2) where
         pub block_left : left xs i ≡ shell (of_block (get_or ws i 0 / 4)) ∷ left xs (i + 1)
-        block_left = left_is _ (block_of_law tells q)
+        block_left = left_is _ (block_of_lem tells q)
 
         pub block_done : done xs (i + 1) ≡ done xs i ++ (shell (of_block (get_or ws i 0 / 4)) ∷ [])
-        block_done = done_is _ (block_of_law tells q)
+        block_done = done_is _ (block_of_lem tells q)
 
         pub block_owner_left : owners_left xs i ≡ of_block (get_or ws i 0 / 4) ∷ owners_left xs (i + 1)
         unfolding step_defines
-        block_owner_left = owners_left_law _ (block_of_law tells q)
+        block_owner_left = owners_left_lem _ (block_of_lem tells q)
 
         pub block_owner_done : owners_done xs (i + 1) ≡ owners_done xs i ++ (of_block (get_or ws i 0 / 4) ∷ [])
         unfolding step_defines
-        block_owner_done = owners_done_law _ (block_of_law tells q)
+        block_owner_done = owners_done_lem _ (block_of_lem tells q)
 
         pub block_here : Memᴰ (shell (of_block (get_or ws i 0 / 4))) xs
-        block_here = here _ (block_of_law tells q)
+        block_here = here _ (block_of_lem tells q)
 
       -- an operation's names
       module _ (q : get_or ws i 0 % 2 ≡ 1) where
@@ -237,11 +237,11 @@ module _ (xs : List Step) (ws : List ℕ) (e : ws ≡ step_words xs) where
 
         pub names_owners_left : owners_left xs i ≡ owners_left xs (i + 1)
         unfolding step_defines
-        names_owners_left = owners_left_law _ (names_of tells q)
+        names_owners_left = owners_left_lem _ (names_of tells q)
 
         pub names_owners_done : owners_done xs (i + 1) ≡ owners_done xs i
         unfolding step_defines
-        names_owners_done = owners_done_law _ (names_of tells q) ∙ append-nil (owners_done xs i)
+        names_owners_done = owners_done_lem _ (names_of tells q) ∙ append-nil (owners_done xs i)
 
         pub names_here : Memᴰ (names (get_or ws i 0 / 2)) xs
         names_here = here _ (names_of tells q)
@@ -254,7 +254,7 @@ are_words store n ws a = a
 
 module _ (store : List ℕ) (sd : IsSound store) (n : ℕ) (b : n < op_count (columns store)) where
   op_known : op_exists (store_in store) n ≡ true
-  op_known = op_exists_law (columns store) n ∙ lt-ltb n _ b
+  op_known = op_exists_lem (columns store) n ∙ lt-ltb n _ b
 
   owner_known : (w : Owner) → Memᴰ w (defines_owners (store_in store) op n) → owner_exists (store_in store) w ≡ true
   unfolding exists
@@ -262,11 +262,11 @@ module _ (store : List ℕ) (sd : IsSound store) (n : ℕ) (b : n < op_count (co
 
   pub op_bound : {m : ℕ} → Memᴰ (of_op m) (defines_owners (store_in store) op n) → m < op_count (columns store)
   unfolding owner_exists
-  op_bound {m} k = op_in_law (columns store) m (owner_known (of_op m) k)
+  op_bound {m} k = op_in_lem (columns store) m (owner_known (of_op m) k)
 
   pub block_bound : {m : ℕ} → Memᴰ (of_block m) (defines_owners (store_in store) op n) → m < block_count (columns store)
   unfolding owner_exists
-  block_bound {m} k = block_in_law (columns store) m (owner_known (of_block m) k)
+  block_bound {m} k = block_in_lem (columns store) m (owner_known (of_block m) k)
 
   module _ (ws : List ℕ) (a : AreSteps store n ws) (i : ℕ) (l : i < length ws) where
     words : ws ≡ step_words (steps (store_in store) op n)

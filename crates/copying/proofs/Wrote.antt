@@ -11,14 +11,14 @@ use Rattle.layout.specs.Owners.{key_count, count_column, owner_number}
 use Rattle.layout.proofs.Laid.{Shaped, Laid, laid_facts, laid_of}
 use Rattle.layout.proofs.Buffer.{columns_shaped}
 use Rattle.layout.proofs.Tabulate.{ops_length, blocks_length, op_read, block_read, length_tabulate, get_d_tabulate}
-use Rattle.layout.proofs.OwnerKeys.{OwnerIn, owner_in_law}
+use Rattle.layout.proofs.OwnerKeys.{OwnerIn, owner_in_lem}
 use Rattle.calling.specs.Doing.{Behind}
 use Rattle.adding.specs.Raw.{with_operation, with_block}
-use Rattle.adding.proofs.Operating.{parent_in_law}
+use Rattle.adding.proofs.Operating.{parent_in_lem}
 use Rattle.adding.proofs.OperationLaid.{RoomFor}
 use Rattle.adding.proofs.BlockAdded.{BlockRoom}
 use Rattle.adding.proofs.NewOperation.{operation_behind, operation_reads, operation_laid}
-use Rattle.adding.proofs.NewBlock.{block_behind, block_reads, block_laid_law}
+use Rattle.adding.proofs.NewBlock.{block_behind, block_reads, block_laid_lem}
 use Rattle.setting.specs.Raw.{slot_for, key_there, added, with_attribute}
 use Rattle.setting.proofs.KeySlot.{place, place_found, slot_found}
 use Rattle.setting.proofs.SetAttribute.{attribute_reads, attribute_behind, attribute_laid}
@@ -82,22 +82,22 @@ module _ (a b : List ℕ) (h : Arranged a) (len : length b ≡ length a) where
       → Wrote a b (applied (store_in a) (new_operation new))
   op_wrote new e room p =
       wrote_laid _ (ap store_of e ∙ operation_reads C new shaped room laid)
-      (subst Laid (sym e) (operation_laid C new shaped room laid (parent_in_law a h new.parent p)))
+      (subst Laid (sym e) (operation_laid C new shaped room laid (parent_in_lem a h new.parent p)))
       (subst (Behind C) (sym e) (operation_behind C new shaped room laid))
 
   pub block_wrote : (new : NewBlock) → columns b ≡ with_block C new → BlockRoom C new.types → new.region < region_count C
       → Wrote a b (applied (store_in a) (new_block new))
   block_wrote new e room r =
       wrote_laid _ (ap store_of e ∙ block_reads C new shaped room laid)
-      (subst Laid (sym e) (block_laid_law C new shaped room laid r))
+      (subst Laid (sym e) (block_laid_lem C new shaped room laid r))
       (subst (Behind C) (sym e) (block_behind C new shaped room laid))
 
 -- ---- an attribute
 
-read_of_law : (C : Cols) (u : Owner) → OwnerIn C u → attributes_of (store_of C) u ≡ attributes_from C (slots_of u) (key_count C u)
+read_of_lem : (C : Cols) (u : Owner) → OwnerIn C u → attributes_of (store_of C) u ≡ attributes_from C (slots_of u) (key_count C u)
 unfolding attributes_of key_count count_column owner_number op_of block_of
-read_of_law C (of_op n) l = ap (λ (o : Op). o.attributes) (op_read C n l)
-read_of_law C (of_block m) l = ap (λ (o : Block). o.attributes) (block_read C m l)
+read_of_lem C (of_op n) l = ap (λ (o : Op). o.attributes) (op_read C n l)
+read_of_lem C (of_block m) l = ap (λ (o : Block). o.attributes) (block_read C m l)
 
 last_count : (xs : List ℕ) (v : ℕ) (ys : List ℕ) → ys ≡ set xs 6 v → length ys ≡ 8 → get_or ys 6 0 ≡ v
 last_count xs v ys e l =
@@ -107,7 +107,7 @@ last_count xs v ys e l =
 
 module _ (a : List ℕ) (w : Owner) (ex : owner_exists (store_in a) w ≡ true) where
   pub attributes_read : attributes_of (store_in a) w ≡ attributes_from (columns a) (slots_of w) (key_count (columns a) w)
-  attributes_read = read_of_law (columns a) w (owner_in_law (columns a) w ex)
+  attributes_read = read_of_lem (columns a) w (owner_in_lem (columns a) w ex)
 
   pub keys_counted : length (attributes_of (store_in a) w) ≡ key_count (columns a) w
   unfolding attributes_from
@@ -154,15 +154,15 @@ module _ (a b : List ℕ) (h : Arranged a) (len : length b ≡ length a) (w : Ow
   attribute_wrote =
       let sh = columns_shaped a h.sized in
       let l = laid_facts C₁ h.laid in
-      let o = owner_in_law C₁ w ex in
+      let o = owner_in_lem C₁ w ex in
       let more : key_count C₁ w + 1 ≤ max_own_keys = omega arith in
       wrote_laid a b h len _ (ap store_of is_added ∙ attribute_reads C₁ w x sh l o fits (λ k. (more, room)))
       (subst Laid (sym is_added) (attribute_laid C₁ w x sh l o fits (λ k. (more, room))))
       (subst (Behind C₁) (sym is_added) (attribute_behind C₁ w x sh l o fits (λ k. (more, room))))
 
-  pub attribute_counted_law : attribute_count (columns b) ≡ attribute_count C₁ + 1
+  pub attribute_counted_lem : attribute_count (columns b) ≡ attribute_count C₁ + 1
   unfolding attribute_count at added write
-  attribute_counted_law =
+  attribute_counted_lem =
       let z : length (columns b counts) ≡ 8 = columns_shaped b (len ∙ h.sized) counts in
       let f = ap (λ (X : Cols). X counts) e in
       last_count _ (at C₁ counts 6 + 1) (columns b counts) f z

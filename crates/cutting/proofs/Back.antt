@@ -17,7 +17,7 @@ use Rattle.layout.specs.Soundness.{laid_out, sound_buffer}
 use Rattle.layout.proofs.Laid.{Laid, Shaped, laid_facts, laid_of}
 use Rattle.layout.proofs.Buffer.{columns_shaped}
 use Rattle.layout.proofs.Scans.{same_tests}
-use Rattle.layout.proofs.Totals.{operand_total_law, successor_total_law, attribute_total_law}
+use Rattle.layout.proofs.Totals.{operand_total_lem, successor_total_lem, attribute_total_lem}
 use Rattle.layout.proofs.Empty.{sound_facts, sound_of}
 use Rattle.journal.specs.Journal.{Counts, counts_of, cut_to, counts_within}
 use Rattle.journal.specs.Words.{row_counts, ranges_end, totals_kept}
@@ -26,7 +26,7 @@ use Rattle.cutting.specs.Back.{back_sound}
 use Rattle.cutting.proofs.Kept.{cut_by, Fewer, cut_read}
 use Rattle.cutting.proofs.LaidBack.{TotalsAre, RangesEnd, laid_back}
 use Rattle.cutting.proofs.Taken.{Counted, taken, fewer}
-use Rattle.cutting.proofs.Cut.{columns_of, tables_cut_law, cut_counts, cut_written}
+use Rattle.cutting.proofs.Cut.{columns_of, tables_cut_lem, cut_counts, cut_written}
 
 -- the columns that are cut, as those of before but for five
 abbrev columns_after : Cols → ℕ → Cols
@@ -40,14 +40,14 @@ module _ (C : Cols) (row : ℕ) (shaped : Shaped C) where
   cut_total i l = taken C row shaped i l
 
   module _ (s : Store) (read : store_of (columns_after C row) ≡ s) where
-    totals_kept_law : Shaped (columns_after C row) → Laid (columns_after C row) → totals_kept C row s ≡ true
+    totals_kept_lem : Shaped (columns_after C row) → Laid (columns_after C row) → totals_kept C row s ≡ true
     unfolding totals_kept operand_count successor_count attribute_count
-    totals_kept_law sh l =
+    totals_kept_lem sh l =
         every_of _ (
-          eq-eqb _ _ (sym (cut_total 4 (omega arith)) ∙ sym (operand_total_law (columns_after C row) sh l) ∙ ap operand_total read),
+          eq-eqb _ _ (sym (cut_total 4 (omega arith)) ∙ sym (operand_total_lem (columns_after C row) sh l) ∙ ap operand_total read),
           (
-            eq-eqb _ _ (sym (cut_total 5 (omega arith)) ∙ sym (successor_total_law (columns_after C row) sh l) ∙ ap successor_total read),
-            (eq-eqb _ _ (sym (cut_total 6 (omega arith)) ∙ sym (attribute_total_law (columns_after C row) l) ∙ ap attribute_total read), tt),
+            eq-eqb _ _ (sym (cut_total 5 (omega arith)) ∙ sym (successor_total_lem (columns_after C row) sh l) ∙ ap successor_total read),
+            (eq-eqb _ _ (sym (cut_total 6 (omega arith)) ∙ sym (attribute_total_lem (columns_after C row) l) ∙ ap attribute_total read), tt),
           ),
         )
 
@@ -64,9 +64,9 @@ module _ (C : Cols) (row : ℕ) (shaped : Shaped C) where
   -- ---- where ranges end
 
   module _ (k : Counts) (n : Counted k (columns_after C row)) where
-    ranges_end_law : Laid (columns_after C row) → ranges_end C k ≡ true
+    ranges_end_lem : Laid (columns_after C row) → ranges_end C k ≡ true
     unfolding ranges_end at cut_by
-    ranges_end_law l =
+    ranges_end_lem l =
         every_of _ (
           all_below_of _ _
               (λ i b. let o = l.op i (omega (arith, n.ops)) in
@@ -102,7 +102,7 @@ module _ (C : Cols) (row : ℕ) (shaped : Shaped C) (h : Laid C) (within : count
       cut_read C (columns_of (tables_cut C row)) (row_counts C row) n.ops n.blocks n.regions n.values few
 
   pub tables_read : store_of (tables_cut C row) ≡ cut_to (row_counts C row) (store_of C)
-  tables_read = ap store_of (tables_cut_law C row) ∙ after_read
+  tables_read = ap store_of (tables_cut_lem C row) ∙ after_read
 
   after_sound : Shaped (columns_after C row) → laid_out (columns_after C row) ≡ true → sound (store_of (columns_after C row)) ≡ true → back_sound C row ≡ true
   unfolding back_sound
@@ -110,7 +110,7 @@ module _ (C : Cols) (row : ℕ) (shaped : Shaped C) (h : Laid C) (within : count
       let laid = laid_facts (columns_after C row) l in
       every_of _ (
         ap sound (sym after_read) ∙ r,
-        (totals_kept_law C row shaped _ after_read sh laid, (ranges_end_law C row shaped (row_counts C row) (cut_counts C row shaped) laid, tt)),
+        (totals_kept_lem C row shaped _ after_read sh laid, (ranges_end_lem C row shaped (row_counts C row) (cut_counts C row shaped) laid, tt)),
       )
 
   sound_after : back_sound C row ≡ true → (laid_out (columns_after C row) ≡ true) × (sound (store_of (columns_after C row)) ≡ true)
@@ -129,7 +129,7 @@ module _ (C : Cols) (row : ℕ) (shaped : Shaped C) (h : Laid C) (within : count
   -- of a buffer with these columns
   pub tables_sound : (b : List ℕ) → length b ≡ buffer_length → columns b ≡ tables_cut C row → sound_buffer b ≡ back_sound C row
   tables_sound b long e =
-      let same : columns b ≡ columns_after C row = e ∙ tables_cut_law C row in
+      let same : columns b ≡ columns_after C row = e ∙ tables_cut_lem C row in
       same_tests (sound_buffer b) (back_sound C row)
       (λ t. let s = sound_facts b t in
       after_sound (subst Shaped same (columns_shaped b long)) (ap laid_out (sym same) ∙ s.laid) (ap (λ (X : Cols). sound (store_of X)) (sym same) ∙ s.ruled))

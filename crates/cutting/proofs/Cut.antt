@@ -15,7 +15,7 @@ use Rattle.layout.proofs.Empty.{zeros}
 use Rattle.journal.specs.Words.{row_counts}
 use Rattle.cutting.specs.Cutting.{with_column, first_by, counts_taken, link_cut, ends_of, links_cut, ends_made, children_cut, ops_cut, blocks_cut, tables_cut}
 use Rattle.cutting.specs.Back.{MarksKept}
-use Rattle.cutting.proofs.Written.{first_at_law}
+use Rattle.cutting.proofs.Written.{first_at_lem}
 use Rattle.cutting.proofs.Ends.{ends_low, ends_hold}
 use Rattle.cutting.proofs.Relinked.{Relinked}
 use Rattle.cutting.proofs.Kept.{Columns, cut_by, Fewer}
@@ -36,9 +36,9 @@ pub record Other (j : ℕ) : Type 0 where
   pub block_links : eqb j block_next ≡ false
 
 -- D is C but for the five
-cut_by_law : (C D : Cols) → ((j : ℕ) → Other j → D j ≡ C j) → D ≡ cut_by C (columns_of D)
+cut_by_lem : (C D : Cols) → ((j : ℕ) → Other j → D j ≡ C j) → D ≡ cut_by C (columns_of D)
 unfolding cut_by
-cut_by_law C D same =
+cut_by_lem C D same =
     fun_ext
     (λ (j : ℕ).
     pick j counts (eqb j counts) refl
@@ -56,8 +56,8 @@ cut_other : (C : Cols) (row j : ℕ) → Other j → tables_cut C row j ≡ C j
 unfolding tables_cut blocks_cut ops_cut children_cut counts_taken links_cut ends_made with_column write_range
 cut_other C row j o = rw (o.counts, o.block_ends, o.op_ends, o.op_links, o.block_links) refl
 
-pub tables_cut_law : (C : Cols) (row : ℕ) → tables_cut C row ≡ cut_by C (columns_of (tables_cut C row))
-tables_cut_law C row = cut_by_law C (tables_cut C row) (cut_other C row)
+pub tables_cut_lem : (C : Cols) (row : ℕ) → tables_cut C row ≡ cut_by C (columns_of (tables_cut C row))
+tables_cut_lem C row = cut_by_lem C (tables_cut C row) (cut_other C row)
 
 -- ---- links and ends
 
@@ -83,7 +83,7 @@ relinked owners links ends shift N most ll le lm =
     let fits : most ≤ length ends = omega arith in
     let long = zeroed_length ends most fits in
     record {
-      links = λ n l. first_at_law N (λ (i : ℕ). link_cut N (get_or links i 0)) links n l (omega arith);
+      links = λ n l. first_at_lem N (λ (i : ℕ). link_cut N (get_or links i 0)) links n l (omega arith);
       ends = λ b l. ends_hold shift owners N b (zeroed ends most) (omega arith);
       low = λ b l. ends_low shift owners N b (zeroed ends most) (omega arith) (zeroed_at ends most fits b l);
     }

@@ -16,10 +16,10 @@ use Rattle.layout.specs.Reading.{op_count, block_count, region_count, value_coun
 use Rattle.layout.specs.Soundness.{placed, in_owner, value_laid, next_child, link_holds, parent_linked, op_linked, block_linked}
 use Rattle.layout.proofs.Laid.{Laid, Shaped, Counts, OpLaid, BlockLaid, RegionLaid}
 use Rattle.layout.proofs.Nesting.{placed_facts, placed_of}
-use Rattle.layout.proofs.Linking.{link_of, op_link_law, block_link_law}
-use Rattle.layout.proofs.Tabulate.{ops_length, blocks_length, regions_length, values_length, op_in_law, block_in_law, region_exists_law, block_read, region_read_law, value_read, parent_read_law}
+use Rattle.layout.proofs.Linking.{link_of, op_link_lem, block_link_lem}
+use Rattle.layout.proofs.Tabulate.{ops_length, blocks_length, regions_length, values_length, op_in_lem, block_in_lem, region_exists_lem, block_read, region_read_lem, value_read, parent_read_lem}
 use Rattle.calling.proofs.LinksKept.{next_same}
-use Rattle.cutting.proofs.Relinked.{Relinked, child_linked_law}
+use Rattle.cutting.proofs.Relinked.{Relinked, child_linked_lem}
 use Rattle.cutting.proofs.Kept.{Columns, cut_by, Fewer}
 use Rattle.cutting.proofs.Taken.{parents_low, regions_low}
 use Rattle.cutting.proofs.Totals.{attributes_summed, operands_end, successors_end, end_same, tiled_back}
@@ -44,28 +44,28 @@ pub record RangesEnd (D : Cols) : Type 0 where
 -- ---- what a sound store says of the rows
 
 module _ (D : Cols) (sd : Sound (store_of D)) where
-  parent_in_law : (n b : ℕ) → n < op_count D → at D op_parent n ≡ suc b → b < block_count D
+  parent_in_lem : (n b : ℕ) → n < op_count D → at D op_parent n ≡ suc b → b < block_count D
   unfolding parent_from parent_exists
-  parent_in_law n b l e =
-      block_in_law D b
-      (ap (parent_exists (store_of D)) (sym (parent_read_law D n l ∙ ap parent_from e)) ∙ (sd.op n (omega (arith, ops_length D))).parent_in)
+  parent_in_lem n b l e =
+      block_in_lem D b
+      (ap (parent_exists (store_of D)) (sym (parent_read_lem D n l ∙ ap parent_from e)) ∙ (sd.op n (omega (arith, ops_length D))).parent_in)
 
-  region_in_law : (m : ℕ) → m < block_count D → at D block_region m < region_count D
+  region_in_lem : (m : ℕ) → m < block_count D → at D block_region m < region_count D
   unfolding block_of
-  region_in_law m l =
+  region_in_lem m l =
       ltb-true _ _
-      (sym (region_exists_law D (at D block_region m)) ∙ ap (λ (b : Block). region_exists (store_of D) b.region) (sym (block_read D m l))
+      (sym (region_exists_lem D (at D block_region m)) ∙ ap (λ (b : Block). region_exists (store_of D) b.region) (sym (block_read D m l))
       ∙ (sd.block m (omega (arith, blocks_length D))).region_in)
 
   op_in_region : (r : ℕ) → r < region_count D → at D region_op r < op_count D
   op_in_region r l =
-      op_in_law D _
-      (ap (op_exists (store_of D)) (sym (region_read_law D r l))
+      op_in_lem D _
+      (ap (op_exists (store_of D)) (sym (region_read_lem D r l))
       ∙ all_at _ (store_of D).regions sd.regions_in (mem_get_d (store_of D).regions r 0 (omega (arith, regions_length D))))
 
-  owner_in_law : (v : ℕ) → v < value_count D → owner_exists (store_of D) (owner_from (at D value_owner v)) ≡ true
+  owner_in_lem : (v : ℕ) → v < value_count D → owner_exists (store_of D) (owner_from (at D value_owner v)) ≡ true
   unfolding value_of value_at
-  owner_in_law v l =
+  owner_in_lem v l =
       ap (λ (u : Value). owner_exists (store_of D) u.owner) (sym (value_read D v l))
       ∙ all_at _ (store_of D).values sd.values_in (mem_get_d (store_of D).values v no_value (omega (arith, values_length D)))
 
@@ -85,9 +85,9 @@ module _ (C : Cols) (x : Columns) (h : Laid C) (few : Fewer C (cut_by C x)) (new
 
   -- ---- links
 
-  pub op_linked_law : (n : ℕ) → n < op_count (cut_by C x) → op_linked (cut_by C x) n ≡ true
+  pub op_linked_lem : (n : ℕ) → n < op_count (cut_by C x) → op_linked (cut_by C x) n ≡ true
   unfolding op_linked parent_linked parent_from at cut_by
-  op_linked_law n l = go (at C op_parent n) refl
+  op_linked_lem n l = go (at C op_parent n) refl
     where
       go : (w : ℕ) → at C op_parent n ≡ w → parent_linked (cut_by C x) n (parent_from w) (next_child (cut_by C x) op_parent (op_count (cut_by C x)) n) ≡ true
       go zero e = refl
@@ -95,17 +95,17 @@ module _ (C : Cols) (x : Columns) (h : Laid C) (few : Fewer C (cut_by C x)) (new
           ap (λ (next : ℕ). link_holds next (at (cut_by C x) op_next n) (at (cut_by C x) block_op_end b) n)
           (next_same C (cut_by C x) op_parent (op_count (cut_by C x)) n l (λ i m. refl))
           ∙ link_of _ _ _ n
-          (child_linked_law C op_parent op_next x.op_links x.op_ends 1 (op_count (cut_by C x)) _ 256 (op_count C) n b (at C block_op_end b)
-          new.ops l few.ops (parent_bound n b l e) (e ∙ sym (add-one b)) (op_link_law C h b n (omega (arith, few.ops)) (e ∙ sym (add-one b))))
+          (child_linked_lem C op_parent op_next x.op_links x.op_ends 1 (op_count (cut_by C x)) _ 256 (op_count C) n b (at C block_op_end b)
+          new.ops l few.ops (parent_bound n b l e) (e ∙ sym (add-one b)) (op_link_lem C h b n (omega (arith, few.ops)) (e ∙ sym (add-one b))))
 
-  pub block_linked_law : (m : ℕ) → m < block_count (cut_by C x) → block_linked (cut_by C x) m ≡ true
+  pub block_linked_lem : (m : ℕ) → m < block_count (cut_by C x) → block_linked (cut_by C x) m ≡ true
   unfolding block_linked at cut_by
-  block_linked_law m l =
+  block_linked_lem m l =
       ap (λ (next : ℕ). link_holds next (at (cut_by C x) block_next m) (at (cut_by C x) region_block_end (at C block_region m)) m)
       (next_same C (cut_by C x) block_region (block_count (cut_by C x)) m l (λ i k. refl))
       ∙ link_of _ _ _ m
-      (child_linked_law C block_region block_next x.block_links x.block_ends 0 (block_count (cut_by C x)) _ 256 (block_count C) m (at C block_region m) (at C region_block_end (at C block_region m))
-      new.blocks l few.blocks (regions_low C (cut_by C x) h few m l) (let e : at C block_region m ≡ at C block_region m + 0 = omega arith in e) (block_link_law C h (at C block_region m) m (omega (arith, few.blocks)) refl))
+      (child_linked_lem C block_region block_next x.block_links x.block_ends 0 (block_count (cut_by C x)) _ 256 (block_count C) m (at C block_region m) (at C region_block_end (at C block_region m))
+      new.blocks l few.blocks (regions_low C (cut_by C x) h few m l) (let e : at C block_region m ≡ at C block_region m + 0 = omega arith in e) (block_link_lem C h (at C block_region m) m (omega (arith, few.blocks)) refl))
 
   -- ---- rows
 
@@ -118,9 +118,9 @@ module _ (C : Cols) (x : Columns) (h : Laid C) (few : Fewer C (cut_by C x)) (new
         go zero e p = p
         go (suc b) e p =
             let q = placed_facts C n b p in
-            let lb = parent_in_law (cut_by C x) sd n b l e in
+            let lb = parent_in_lem (cut_by C x) sd n b l e in
             placed_of (cut_by C x) n b
-            (record { block_in = lb; region_in = region_in_law (cut_by C x) sd b lb; later = q.later; depth = q.depth; place = record { from = q.place.from; below = op_end n b l e } })
+            (record { block_in = lb; region_in = region_in_lem (cut_by C x) sd b lb; later = q.later; depth = q.depth; place = record { from = q.place.from; below = op_end n b l e } })
 
     op_back : Shaped C → (n : ℕ) → n < op_count (cut_by C x) → OpLaid (cut_by C x) n
     unfolding at cut_by
@@ -144,7 +144,7 @@ module _ (C : Cols) (x : Columns) (h : Laid C) (few : Fewer C (cut_by C x)) (new
     block_back m l =
         let o : BlockLaid C m = h.block m (omega (arith, few.blocks)) in
         record {
-          region_in = region_in_law (cut_by C x) sd m l;
+          region_in = region_in_lem (cut_by C x) sd m l;
           place = record { from = o.place.from; below = block_end m l };
           arguments = record { range = record { rises = o.arguments.range.rises; fits = ranges.arguments m l }; words = o.arguments.words };
           ops = new.ops.low m l;
@@ -159,12 +159,12 @@ module _ (C : Cols) (x : Columns) (h : Laid C) (few : Fewer C (cut_by C x)) (new
 
     owner_back : (v : ℕ) (w : Owner) → owner_exists (store_of (cut_by C x)) w ≡ true → in_owner C v w ≡ true → in_owner (cut_by C x) v w ≡ true
     unfolding in_owner owner_exists at cut_by
-    owner_back v (of_op n) e t = and_both _ _ (lt-ltb n _ (op_in_law (cut_by C x) n e)) (and_right (ltb n (op_count C)) _ t)
-    owner_back v (of_block b) e t = and_both _ _ (lt-ltb b _ (block_in_law (cut_by C x) b e)) (and_right (ltb b (block_count C)) _ t)
+    owner_back v (of_op n) e t = and_both _ _ (lt-ltb n _ (op_in_lem (cut_by C x) n e)) (and_right (ltb n (op_count C)) _ t)
+    owner_back v (of_block b) e t = and_both _ _ (lt-ltb b _ (block_in_lem (cut_by C x) b e)) (and_right (ltb b (block_count C)) _ t)
 
     value_back : (v : ℕ) → v < value_count (cut_by C x) → value_laid (cut_by C x) v ≡ true
     unfolding value_laid at cut_by
-    value_back v l = owner_back v _ (owner_in_law (cut_by C x) sd v l) (h.value v (omega (arith, few.values)))
+    value_back v l = owner_back v _ (owner_in_lem (cut_by C x) sd v l) (h.value v (omega (arith, few.values)))
 
     counts_back : Counts (cut_by C x)
     counts_back =
@@ -192,6 +192,6 @@ module _ (C : Cols) (x : Columns) (h : Laid C) (few : Fewer C (cut_by C x)) (new
           operand_end = end_same C (cut_by C x) op_operand_end (op_count (cut_by C x)) refl ∙ sym (sums.operands ∙ operands_end C x shaped h few.ops);
           successor_end = end_same C (cut_by C x) op_successor_end (op_count (cut_by C x)) refl ∙ sym (sums.successors ∙ successors_end C x shaped h few.ops);
           attributes = sym (sums.attributes ∙ attributes_summed (cut_by C x));
-          op_link = op_linked_law;
-          block_link = block_linked_law;
+          op_link = op_linked_lem;
+          block_link = block_linked_lem;
         }

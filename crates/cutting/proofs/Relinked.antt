@@ -84,11 +84,11 @@ pub record Relinked (owners old links' ends' : List ℕ) (shift N most size : �
   pub ends : (b : ℕ) → b < size → Ended owners shift N b (get_or ends' b 0)
   pub low : (b : ℕ) → b < most → get_or ends' b 0 ≤ N
 
-pub child_linked_law : (C : Cols) (owners links : ℕ) (links' ends' : List ℕ) (shift N most size count n b e : ℕ) → Relinked (C owners) (C links) links' ends' shift N most size
+pub child_linked_lem : (C : Cols) (owners links : ℕ) (links' ends' : List ℕ) (shift N most size count n b e : ℕ) → Relinked (C owners) (C links) links' ends' shift N most size
     → n < N → N ≤ count → b < size → at C owners n ≡ b + shift → LinkHolds (next_child C owners count n) (at C links n) e n
     → LinkHolds (next_child C owners N n) (get_or links' n 0) (get_or ends' b 0) n
 unfolding at
-child_linked_law C owners links links' ends' shift N most size count n b e r l h lb q old =
+child_linked_lem C owners links links' ends' shift N most size count n b e r l h lb q old =
     record {
       link = r.links n l ∙ ap (link_cut N) old.link ∙ sym (next_cut C owners N count n l h);
       last = λ z. (r.ends b lb).last n l q (λ j a c k. next_none C owners N n z j a c (k ∙ sym q));

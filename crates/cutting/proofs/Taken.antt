@@ -15,7 +15,7 @@ use Rattle.layout.proofs.Tabulate.{ops_length, blocks_length, regions_length, va
 use Rattle.journal.specs.Journal.{Counts, counts_of, counts_within}
 use Rattle.journal.specs.Words.{row_counts}
 use Rattle.cutting.specs.Cutting.{with_column, counts_taken, links_cut, ends_made, ChildrenFit, children_cut, ops_cut}
-use Rattle.cutting.proofs.Written.{first_at_law, first_past}
+use Rattle.cutting.proofs.Written.{first_at_lem, first_past}
 use Rattle.cutting.proofs.Kept.{Fewer}
 
 -- the counts of D are these
@@ -28,7 +28,7 @@ pub record Counted (k : Counts) (D : Cols) : Type 0 where
 module _ (C : Cols) (row : ℕ) (shaped : Shaped C) where
   pub taken : (i : ℕ) → i < 7 → at (counts_taken C row) counts i ≡ at C mark_counts (8 * row + i)
   unfolding at counts_taken with_column
-  taken i l = first_at_law 7 (λ (j : ℕ). at C mark_counts (8 * row + j)) (C counts) i l (omega (arith, shaped counts))
+  taken i l = first_at_lem 7 (λ (j : ℕ). at C mark_counts (8 * row + j)) (C counts) i l (omega (arith, shaped counts))
 
   pub marks_kept : at (counts_taken C row) counts 7 ≡ at C counts 7
   unfolding at counts_taken with_column

@@ -11,14 +11,14 @@ use Rattle.layout.specs.Columns.{Cols, at, op_operand_first, op_operand_end, op_
 use Rattle.layout.specs.Reading.{op_count, block_count, operand_count, successor_count, op_of, block_of, store_of}
 use Rattle.layout.specs.Soundness.{end_before, attribute_sum}
 use Rattle.layout.proofs.Laid.{Laid, Shaped, Tiled}
-use Rattle.layout.proofs.Totals.{sum_same, slice_lengths, sum_tiled, op_keys, block_keys_law, operands_length, successors_length}
+use Rattle.layout.proofs.Totals.{sum_same, slice_lengths, sum_tiled, op_keys, block_keys_lem, operands_length, successors_length}
 use Rattle.cutting.proofs.Kept.{Columns, cut_by, op_same}
 
 pub attributes_summed : (C : Cols) → attribute_total (store_of C) ≡ attribute_sum C
 unfolding attribute_total store_of attribute_sum
 attributes_summed C =
     ap₂ ◌+◌ (sum_same (λ (o : Op). length o.attributes) (op_of C) (op_count C) (at C op_attributes) (λ k l. op_keys C k))
-    (sum_same (λ (b : Block). length b.attributes) (block_of C) (block_count C) (at C block_attributes) (λ k l. block_keys_law C k))
+    (sum_same (λ (b : Block). length b.attributes) (block_of C) (block_count C) (at C block_attributes) (λ k l. block_keys_lem C k))
 
 module _ (C : Cols) (x : Columns) (shaped : Shaped C) (h : Laid C) (few : op_count (cut_by C x) ≤ op_count C) where
   pub operands_end : operand_total (store_of (cut_by C x)) ≡ end_before C op_operand_end (op_count (cut_by C x))

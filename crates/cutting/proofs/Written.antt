@@ -60,10 +60,10 @@ unfolding first_by
 first_past zero f xs i l = refl
 first_past (suc n) f xs i l = get_or-set_other (first_by n f xs) n i (f n) 0 (λ e. omega arith) ∙ first_past n f xs i (omega arith)
 
-pub first_at_law : (n : ℕ) (f : ℕ → ℕ) (xs : List ℕ) (i : ℕ) → i < n → i < length xs → get_or (first_by n f xs) i 0 ≡ f i
+pub first_at_lem : (n : ℕ) (f : ℕ → ℕ) (xs : List ℕ) (i : ℕ) → i < n → i < length xs → get_or (first_by n f xs) i 0 ≡ f i
 unfolding first_by
-first_at_law zero f xs i l h = absurd (omega arith)
-first_at_law (suc n) f xs i l h = go (ℕ_discrete i n) (λ m. first_at_law n f xs i m h)
+first_at_lem zero f xs i l h = absurd (omega arith)
+first_at_lem (suc n) f xs i l h = go (ℕ_discrete i n) (λ m. first_at_lem n f xs i m h)
   where
     go : Dec (i ≡ n) → (i < n → get_or (first_by n f xs) i 0 ≡ f i) → get_or (set (first_by n f xs) n (f n)) i 0 ≡ f i
     go (yes e) rest = rw e (get_or-set_same (first_by n f xs) n (f n) 0 (omega (arith, first_length n f xs)))

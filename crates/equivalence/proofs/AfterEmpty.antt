@@ -16,13 +16,13 @@ use Rattle.mapping.specs.MappingWords.{mapping_of, empty_words}
 use Rattle.pairing.specs.Told.{answer_of}
 use Rattle.equivalence.specs.Calls.{Answered}
 use Rattle.pairing.specs.declared.types.EqResult.{EqResult}
-use Rattle.mapping.proofs.Unmapped.{empty_words_law}
+use Rattle.mapping.proofs.Unmapped.{empty_words_lem}
 
 pub answered_entered : (ok : Bool) (store types before after : List ℕ) (ig : Ignore) (f : Sort) (l r : ℕ) (q : EqResult) → IsSound store → before ≡ empty_words
     → Answered ok store types before after ig f l r q → EnteredBy (store_in store) (mapping_of after) (paired_in (answer_of q))
 answered_entered ok store types before after ig f l r q sd empty a =
     subst (λ (c : Comparison). EnteredBy (store_in store) c.mapping (paired_in c.answer))
-    (subst (λ (m : Mapping). comparison ok (store_in store) types m ig f l r ≡ record { answer = answer_of q; mapping = mapping_of after }) empty_words_law
+    (subst (λ (m : Mapping). comparison ok (store_in store) types m ig f l r ≡ record { answer = answer_of q; mapping = mapping_of after }) empty_words_lem
     (subst
     (λ (b : List ℕ). comparison ok (store_in store) types (mapping_of b) ig f l r ≡ record { answer = answer_of q; mapping = mapping_of after })
     empty a.told))

@@ -22,7 +22,7 @@ use Rattle.rules.proofs.Types.Renamed.{exists_renamed, renamed_sound}
 use Rattle.layout.specs.Reading.{store_in}
 use Rattle.layout.specs.Soundness.{IsSound}
 use Rattle.renaming.specs.Index.{list_in, IsIndex}
-use Rattle.renaming.proofs.Indexed.{no_words_law, no_list}
+use Rattle.renaming.proofs.Indexed.{no_words_lem, no_list}
 use Rattle.fragments.specs.Options.{Options, under}
 use Rattle.fragments.specs.Order.{block_list}
 use Rattle.mapping.specs.MappingWords.{mapping_of}
@@ -122,23 +122,23 @@ few_walk s sd o f l r e m =
     paired_most (under o s) (renamed_sound o.types s sd) o.ignore f l r (exists_renamed o.types s f l ∙ e) (state_of m 0)
 
 module _ (s : Store) (o : Options) (l r : ℕ) (st : State) where
-  pub op_walk_law : fragments_walk s o op l r st ≡ pair_ops (under o s) o.ignore l r st >>= op_walk s o l r
+  pub op_walk_lem : fragments_walk s o op l r st ≡ pair_ops (under o s) o.ignore l r st >>= op_walk s o l r
   unfolding compare_by op_walk
-  op_walk_law = refl
+  op_walk_lem = refl
 
   pub block_walk : fragments_walk s o block l r st ≡ lists_walk s o (Alone l r) st
   unfolding compare_by lists_walk op_walk left_of right_of block_list pair_of_lists
   block_walk = refl
 
-  pub region_walk_law : fragments_walk s o region l r st ≡ region_walk s o l r st
+  pub region_walk_lem : fragments_walk s o region l r st ≡ region_walk s o l r st
   unfolding compare_by region_walk
-  region_walk_law = refl
+  region_walk_lem = refl
 
 -- ---- a lent list of renamed types
 
 -- no words are the index of the list that they are
 pub no_types : (w : List ℕ) → length w ≡ 0 → IsIndex w × (list_in w ≡ w)
-no_types [] e = (no_words_law, no_list)
+no_types [] e = (no_words_lem, no_list)
 no_types (x ∷ w) e = absurd (omega (arith, e))
 
 pub not_none : (n : ℕ) → (n ≡ 0 → ⊥) → 0 < n

@@ -25,15 +25,15 @@ NotEq q = (n : ℕ) → q ≡ Eq n → ⊥
 pub still_ready : {b t m n : List ℕ} → length n ≡ length m → ReadyToCompare b t m → ReadyToCompare b t n
 still_ready e r = record { sound = r.sound; indexed = r.indexed; long = e ∙ r.long }
 
-abbrev paired_in_law : Compared → ℕ
-paired_in_law (eq n) = n
-paired_in_law (neq p n) = n
-paired_in_law (refused n) = n
+abbrev paired_in_lem : Compared → ℕ
+paired_in_lem (eq n) = n
+paired_in_lem (neq p n) = n
+paired_in_lem (refused n) = n
 
 -- where the answer is equal, the walk goes on with the words and the count
 pub told_on : (w : Walk) (n : ℕ) (b : List ℕ) → Told w (Eq n) b → w ≡ on (state_of b n)
 unfolding Told outcome comparison_of standing answer_of state_of
-told_on (on st) n b h = λ i. on (record { mapping = (h i).mapping; paired = paired_in_law (h i).answer })
+told_on (on st) n b h = λ i. on (record { mapping = (h i).mapping; paired = paired_in_lem (h i).answer })
 told_on (ended (unequal p) st) n b h = let a : neq p st.paired ≡ eq n = ap (λ (x : Comparison). x.answer) h in cc
 told_on (ended (one_longer p) st) n b h = let a : neq p st.paired ≡ eq n = ap (λ (x : Comparison). x.answer) h in cc
 told_on (ended too_deep st) n b h = let a : refused 12 ≡ eq n = ap (λ (x : Comparison). x.answer) h in cc

@@ -8,7 +8,7 @@ use lib.ListN.{length}
 use Rattle.rules.specs.Store.{Op, Block, Owner, of_op, of_block, type_of, values_of, regions_of}
 use Rattle.rules.specs.Shells.{Ignore, unignored, unignored_location, shell_of}
 use Rattle.rules.specs.Types.{present}
-use Rattle.rules.proofs.Types.Renamed.{shell_renamed, shell_renamed_law}
+use Rattle.rules.proofs.Types.Renamed.{shell_renamed, shell_renamed_lem}
 use Rattle.layout.specs.Columns.{Cols, at, columns, op_kind, op_region_first, op_region_end, op_successor_first, op_successor_end, op_operand_first, op_operand_end, op_location, op_result_first, op_result_end, block_location, block_argument_first, block_argument_end, value_type}
 use Rattle.layout.specs.Reading.{op_count, block_count, value_count, slots_of, slice, attributes_from, op_of, block_of, store_of, consecutive}
 use Rattle.layout.specs.Owners.{count_column, owner_number, key_count}
@@ -83,7 +83,7 @@ module _ (b : List ℕ) (s : IsSound b) where
                 slots = omega (arith, slots_fit C w laid l, owner_keys C w laid l);
                 values = omega (arith, r.rises, r.fits, laid.counts.values);
               };
-          shell = λ o. shell_renamed_law o.types (store_of C) o.ignore w ∙ (λ i. record {
+          shell = λ o. shell_renamed_lem o.types (store_of C) o.ignore w ∙ (λ i. record {
             location = where_it_is o.ignore i;
             attributes = (its_keys o.ignore ∙ slots_kept C o.ignore (slots_of w) (key_count C w)) i;
             types = map (present o.types) ((shell_types o.ignore w ∙ types_slice w a e r own) i);
@@ -91,11 +91,11 @@ module _ (b : List ℕ) (s : IsSound b) where
           values = own ∙ range_consecutive a e;
         })
 
-  pub op_row_law : (n : ℕ) → n < op_count C → {place slot keys first many : ℕ}
+  pub op_row_lem : (n : ℕ) → n < op_count C → {place slot keys first many : ℕ}
       → place ≡ at C op_location n → slot ≡ slots_of (of_op n) → keys ≡ key_count C (of_op n) → first ≡ at C op_result_first n → many ≡ at C op_result_end n - at C op_result_first n
       → RowOf C (of_op n) (record { location = place; slot = slot; attributes = keys; value = first; values = many })
   unfolding shell_of op_of slots_of key_count count_column owner_number
-  op_row_law n l =
+  op_row_lem n l =
       let e = op_read C n l in
       row_read (of_op n) l (at C op_location n) _ _ (laid.op n l).results.range (results_range C laid n l)
       (λ ig. ap (λ (o : Op). unignored_location ig o.location) e) (λ ig. ap (λ (o : Op). unignored ig o.attributes) e)
@@ -126,11 +126,11 @@ module _ (b : List ℕ) (s : IsSound b) where
   unfolding head_of_op
   op_regions n l r = r ∙ (head_whole n l).regions
 
-  pub op_head_law : (n : ℕ) → n < op_count C → {kind regions successors operands : ℕ}
+  pub op_head_lem : (n : ℕ) → n < op_count C → {kind regions successors operands : ℕ}
       → kind ≡ at C op_kind n → regions ≡ length (regions_of (store_of C) n) → successors ≡ at C op_successor_end n - at C op_successor_first n → operands ≡ at C op_operand_end n - at C op_operand_first n
       → HeadOf (store_of C) n (record { kind = kind; regions = regions; successors = successors; operands = operands })
   unfolding head_of_op
-  op_head_law n l k r u o =
+  op_head_lem n l k r u o =
       let w = head_whole n l in
       record { kind = k ∙ w.kind; regions = r; successors = u ∙ w.successors; operands = o ∙ w.operands }
 

@@ -12,7 +12,7 @@ use lib.ListN.{length}
 use Rattle.rules.specs.Lists.{numbers_from, numbers_where}
 use Rattle.rules.specs.Store.{Store, Op, Block, is_parent, blocks_of, ops_of, op_exists, sound}
 use Rattle.rules.specs.Fragments.{plus, sizes}
-use Rattle.rules.proofs.Soundness.Children.{ops_in_law}
+use Rattle.rules.proofs.Soundness.Children.{ops_in_lem}
 use Rattle.rules.proofs.Soundness.Sound.{facts}
 use Rattle.rules.proofs.Walking.Sizes.{op_size_most}
 use Rattle.fragments.specs.Sizes.{size_below, block_size, region_size}
@@ -64,7 +64,7 @@ module _ (s : Store) (sd : sound s ≡ true) (k : ℕ) where
 
   pub op_most : (b n z : ℕ) → Memᴰ n (ops_of s b) → size_below k s n ≡ some z → z ≤ 512
   unfolding op_exists
-  op_most b n z m e = below_most k n z (lt-ltb _ _ (ops_in_law s b m).0) e
+  op_most b n z m e = below_most k n z (lt-ltb _ _ (ops_in_lem s b m).0) e
 
   pub block_most : (b z : ℕ) → block_size k s b ≡ some z → z ≤ 262144
   unfolding block_size

@@ -5,7 +5,7 @@ use mathlib.Core.List.Memᴰ
 use mathlib.Core.List.{Memᴰ}
 use mathlib.Core.Path.{◌≡◌, sym, subst}
 use Rattle.rules.specs.Store.{Store, ops_of}
-use Rattle.rules.proofs.Soundness.Children.{ops_in_law, blocks_in_law}
+use Rattle.rules.proofs.Soundness.Children.{ops_in_lem, blocks_in_lem}
 use Rattle.layout.specs.Columns.{Cols}
 use Rattle.layout.specs.Reading.{op_count, block_count, store_of}
 use Rattle.layout.specs.Children.{first_from, found_from}
@@ -31,10 +31,10 @@ next_in_list s x from b r e h =
     record { child = w.0; later = w.1; rest = from_found from b (block_list s x) (block_list_rises s x) f }
 
 -- they exist, and so do the operations in them
-pub block_in_law : (C : Cols) (x : Blocks) (b : ℕ) → BlocksExist C x → Memᴰ b (block_list (store_of C) x) → b < block_count C
+pub block_in_lem : (C : Cols) (x : Blocks) (b : ℕ) → BlocksExist C x → Memᴰ b (block_list (store_of C) x) → b < block_count C
 unfolding block_list BlocksExist
-block_in_law C (InRegion r) b h m = subst (λ (n : ℕ). b < n) (blocks_length C) (blocks_in_law (store_of C) r m).0
-block_in_law C (Alone a) b h m = subst (λ (n : ℕ). n < block_count C) (sym (Memᴰ.eq_of_singleton m)) h
+block_in_lem C (InRegion r) b h m = subst (λ (n : ℕ). b < n) (blocks_length C) (blocks_in_lem (store_of C) r m).0
+block_in_lem C (Alone a) b h m = subst (λ (n : ℕ). n < block_count C) (sym (Memᴰ.eq_of_singleton m)) h
 
-pub op_in_law : (C : Cols) (b n : ℕ) → Memᴰ n (ops_of (store_of C) b) → n < op_count C
-op_in_law C b n m = subst (λ (k : ℕ). n < k) (ops_length C) (ops_in_law (store_of C) b m).0
+pub op_in_lem : (C : Cols) (b n : ℕ) → Memᴰ n (ops_of (store_of C) b) → n < op_count C
+op_in_lem C b n m = subst (λ (k : ℕ). n < k) (ops_length C) (ops_in_lem (store_of C) b m).0

@@ -53,14 +53,14 @@ module _ (C : Cols) (k b size from : ℕ) (inv : SummingBlock C k b size from) (
   block_done f = told _ size (count_done (size_below k (store_of C)) _ size _ inv.0 (none_next from (ops_of (store_of C) b) r e f))
 
   module _ (n : ℕ) (f : r ≡ At n) where
-    op_next_law : NextChild (ops_of (store_of C) b) from n
-    op_next_law = next_op (store_of C) b from n r e f
+    op_next_lem : NextChild (ops_of (store_of C) b) from n
+    op_next_lem = next_op (store_of C) b from n r e f
 
     pub op_found : Laid C → (from ≤ n) × (n < op_count C)
-    op_found h = (op_next_law.later, (ops_facts C h b op_next_law.child).exists)
+    op_found h = (op_next_lem.later, (ops_facts C h b op_next_lem.child).exists)
 
     deep : size_below k (store_of C) n ≡ none → TooDeep ≡ size_from (block_size k (store_of C) b)
-    deep one = told_deep _ (count_deep (size_below k (store_of C)) _ size _ inv.0 n _ op_next_law.rest one)
+    deep one = told_deep _ (count_deep (size_below k (store_of C)) _ size _ inv.0 n _ op_next_lem.rest one)
 
     pub no_level : k ≡ 0 → TooDeep ≡ size_from (block_size k (store_of C) b)
     unfolding size_below
@@ -77,10 +77,10 @@ module _ (C : Cols) (k b size from : ℕ) (inv : SummingBlock C k b size from) (
       pub op_more : sound (store_of C) ≡ true → (z : ℕ) → q ≡ Of z → SummingBlock C k b (size + z) (n + 1)
       op_more sd z d =
           let one : size_below k (store_of C) n ≡ some z = below ∙ size_of q _ z a d in
-          let m : z ≤ 512 = op_most (store_of C) sd k b n z op_next_law.child one in
+          let m : z ≤ 512 = op_most (store_of C) sd k b n z op_next_lem.child one in
           let s : size ≤ 512 * from = inv.1 in
-          let t : from ≤ n = op_next_law.later in
-          (count_more (size_below k (store_of C)) _ size _ inv.0 n _ op_next_law.rest z one, omega arith)
+          let t : from ≤ n = op_next_lem.later in
+          (count_more (size_below k (store_of C)) _ size _ inv.0 n _ op_next_lem.rest z one, omega arith)
 
 -- ---- the blocks of a region
 
@@ -95,23 +95,23 @@ module _ (C : Cols) (k r size from : ℕ) (inv : SummingRegion C k r size from) 
   region_done f = told _ size (count_done (block_size k (store_of C)) _ size _ inv.0 (none_next from (blocks_of (store_of C) r) q e f))
 
   module _ (b : ℕ) (f : q ≡ At b) where
-    block_next_law : NextChild (blocks_of (store_of C) r) from b
-    block_next_law = next_block (store_of C) r from b q e f
+    block_next_lem : NextChild (blocks_of (store_of C) r) from b
+    block_next_lem = next_block (store_of C) r from b q e f
 
     pub block_found : Laid C → (from ≤ b) × (b < block_count C)
-    block_found h = (block_next_law.later, (blocks_facts C h r block_next_law.child).exists)
+    block_found h = (block_next_lem.later, (blocks_facts C h r block_next_lem.child).exists)
 
     module _ (p : Size) (a : p ≡ size_from (block_size k (store_of C) b)) where
       pub block_deep : p ≡ TooDeep → TooDeep ≡ size_from (region_size k (store_of C) r)
-      block_deep d = told_deep _ (count_deep (block_size k (store_of C)) _ size _ inv.0 b _ block_next_law.rest (size_deep p _ a d))
+      block_deep d = told_deep _ (count_deep (block_size k (store_of C)) _ size _ inv.0 b _ block_next_lem.rest (size_deep p _ a d))
 
       pub block_more : sound (store_of C) ≡ true → (z : ℕ) → p ≡ Of z → SummingRegion C k r (size + z) (b + 1)
       block_more sd z d =
           let one : block_size k (store_of C) b ≡ some z = size_of p _ z a d in
           let m : z ≤ 262144 = block_most (store_of C) sd k b z one in
           let s : size ≤ 262144 * from = inv.1 in
-          let t : from ≤ b = block_next_law.later in
-          (count_more (block_size k (store_of C)) _ size _ inv.0 b _ block_next_law.rest z one, omega arith)
+          let t : from ≤ b = block_next_lem.later in
+          (count_more (block_size k (store_of C)) _ size _ inv.0 b _ block_next_lem.rest z one, omega arith)
 
 -- ---- the regions of an operation
 

@@ -30,10 +30,10 @@ module _ (s : Store) (o : Options) where
   all_numbered [] N = refl
   all_numbered (x ∷ xs) N = all_numbered xs (numbered (under o s) x N) ∙ ap (numbered_all s xs) (numbered_renamed o.types s x N)
 
-  head_bytes_law : (own : Owner) → head_bytes (under o s) own ≡ head_bytes s own
+  head_bytes_lem : (own : Owner) → head_bytes (under o s) own ≡ head_bytes s own
   unfolding renamed head_bytes op_at regions_of
-  head_bytes_law (of_op n) = refl
-  head_bytes_law (of_block b) = refl
+  head_bytes_lem (of_op n) = refl
+  head_bytes_lem (of_block b) = refl
 
   -- ---- steps one after the other
 
@@ -67,7 +67,7 @@ module _ (s : Store) (o : Options) where
   unfolding all_bytes feeds owner_bytes
   fed_shell own {a} {b} {w} {w'} f e =
       let types : List ℕ = shell_bytes uncounted (shell_of (under o s) o.ignore own) in
-      record { numbers = f; word = λ N h. e ∙ ap (λ (bs : List ℕ). fnv_from w (bs ++ types)) (sym (head_bytes_law own)) ∙ ap (fnv_from w) (sym (append-nil (head_bytes (under o s) own ++ types))) }
+      record { numbers = f; word = λ N h. e ∙ ap (λ (bs : List ℕ). fnv_from w (bs ++ types)) (sym (head_bytes_lem own)) ∙ ap (fnv_from w) (sym (append-nil (head_bytes (under o s) own ++ types))) }
 
   -- an operation's names: its operands, then its successors
   pub fed_names : (n : ℕ) {a : List ℕ} {w w₁ w₂ : ℕ} → FeedsOperands s a (op_at s n).operands w w₁ → FeedsSuccessors a (op_at s n).successors w₁ w₂ → Fed s o (names n ∷ []) a a w w₂

@@ -36,9 +36,9 @@ pub ops_back : (f g : Op → Op) (n : ℕ) (s : Store) → (op_exists s n ≡ tr
 unfolding op_at op_exists
 ops_back f g n s e = ap (λ (l : List Op). with_lists s l s.blocks) (update_back f g n s.ops no_op (λ l. e (lt-ltb n _ l)))
 
-blocks_back_law : (f g : Block → Block) (b : ℕ) (s : Store) → (block_exists s b ≡ true → g (f (block_at s b)) ≡ block_at s b) → blocks_by g b (blocks_by f b s) ≡ s
+blocks_back_lem : (f g : Block → Block) (b : ℕ) (s : Store) → (block_exists s b ≡ true → g (f (block_at s b)) ≡ block_at s b) → blocks_by g b (blocks_by f b s) ≡ s
 unfolding block_at block_exists
-blocks_back_law f g b s e = ap (λ (l : List Block). with_lists s s.ops l) (update_back f g b s.blocks no_block (λ l. e (lt-ltb b _ l)))
+blocks_back_lem f g b s e = ap (λ (l : List Block). with_lists s s.ops l) (update_back f g b s.blocks no_block (λ l. e (lt-ltb b _ l)))
 
 -- ---- attributes
 
@@ -78,12 +78,12 @@ module _ (f : List Attribute → List Attribute) where
   attributes_there (of_block b) s h = ap (λ (o : Block). o.attributes) (update_there block_by b s.blocks no_block (ltb-true b _ h))
 
   -- what holds of every owner's attributes, and of the changed ones, holds after the change
-  pub attributes_hold_law : (P : List Attribute → Type 0) (w v : Owner) (s : Store) → P (attributes_of s v) → P (f (attributes_of s w)) → P (attributes_of (attributes_by w s) v)
+  pub attributes_hold_lem : (P : List Attribute → Type 0) (w v : Owner) (s : Store) → P (attributes_of s v) → P (f (attributes_of s w)) → P (attributes_of (attributes_by w s) v)
   unfolding attributes_of op_at block_at
-  attributes_hold_law P (of_op n) (of_op i) s p q = get_d_update (λ (o : Op). P o.attributes) op_by n i s.ops no_op p (λ e. q)
-  attributes_hold_law P (of_op n) (of_block i) s p q = p
-  attributes_hold_law P (of_block b) (of_op i) s p q = p
-  attributes_hold_law P (of_block b) (of_block i) s p q = get_d_update (λ (o : Block). P o.attributes) block_by b i s.blocks no_block p (λ e. q)
+  attributes_hold_lem P (of_op n) (of_op i) s p q = get_d_update (λ (o : Op). P o.attributes) op_by n i s.ops no_op p (λ e. q)
+  attributes_hold_lem P (of_op n) (of_block i) s p q = p
+  attributes_hold_lem P (of_block b) (of_op i) s p q = p
+  attributes_hold_lem P (of_block b) (of_block i) s p q = get_d_update (λ (o : Block). P o.attributes) block_by b i s.blocks no_block p (λ e. q)
 
   pub attributes_total : (w : Owner) (s : Store) → owner_exists s w ≡ true
       → attribute_total (attributes_by w s) + length (attributes_of s w) ≡ attribute_total s + length (f (attributes_of s w))
@@ -97,7 +97,7 @@ unfolding owner_exists attributes_of
 attributes_back f g (of_op n) s e =
     ops_back (op_by f) (op_by g) n s (λ h. ap (λ (l : List Attribute). op_by (λ old. l) (op_at s n)) (e h))
 attributes_back f g (of_block b) s e =
-    blocks_back_law (block_by f) (block_by g) b s (λ h. ap (λ (l : List Attribute). block_by (λ old. l) (block_at s b)) (e h))
+    blocks_back_lem (block_by f) (block_by g) b s (λ h. ap (λ (l : List Attribute). block_by (λ old. l) (block_at s b)) (e h))
 
 -- ---- a key set, and a key taken away
 

@@ -12,7 +12,7 @@ use Rattle.rules.proofs.Basics.Tests.{or_false_left, or_false_right, or_neither,
 use Rattle.journal.specs.Journal.{Entry, undone_all, Counts, counts_of, counts_within, no_counts, MarkRow, snapshot_of, row_has_number, rows_up_to, row_or, journaled_back, undoable_all, store_before, journal_before, none_older, journal_sound}
 use Rattle.journal.specs.Statements.{BackSound}
 use Rattle.journal.proofs.Counted.{counts_undone, counts_reached}
-use Rattle.journal.proofs.Rows.{Rising, Numbered, Back, Steps, facts, sound_of, row_at_law, found, rising_up_to}
+use Rattle.journal.proofs.Rows.{Rising, Numbered, Back, Steps, facts, sound_of, row_at_lem, found, rising_up_to}
 use Rattle.journal.proofs.Replaced.{replaced_take}
 use Rattle.journal.proofs.ReadBack.{back_snapshot}
 
@@ -97,17 +97,17 @@ counts_then s journal r w =
     let younger = drop r.place journal in
     counts_reached r.counts (undone_all younger s) (subst (λ (c : Counts). counts_within r.counts c ≡ true) (sym (counts_undone younger s)) w)
 
-pub back_sound_law : BackSound
+pub back_sound_lem : BackSound
 unfolding BackSound journaled_back
-back_sound_law j k h set other =
+back_sound_lem j k h set other =
     let s = j.store in
     let r = row_or other k j.rows in
     let f = facts j h in
     let z = found other k j.rows set in
-    let b = row_at_law 0 no_counts (length j.journal) (counts_of s) j.rows f.rising z.0 in
+    let b = row_at_lem 0 no_counts (length j.journal) (counts_of s) j.rows f.rising z.0 in
     let rises : Rising 0 no_counts r.place r.counts (rows_up_to k j.rows) = rising_up_to other k 0 no_counts _ _ j.rows set f.rising in
     let seen : Seen s j.journal k r (rows_up_to k j.rows) =
-    λ q m. let c = row_at_law 0 no_counts r.place r.counts _ rises m in (take-take q.place r.place j.journal c.to, back_snapshot s j.journal r b.to q c.to c.fewer) in
+    λ q m. let c = row_at_lem 0 no_counts r.place r.counts _ rises m in (take-take q.place r.place j.journal c.to, back_snapshot s j.journal r b.to q c.to c.fewer) in
     subst (λ (n : ℕ). journal_sound (record { store = snapshot_of s j.journal r; journal = take r.place j.journal; rows = rows_up_to n j.rows }) ≡ true) (sym z.1)
     (sound_of _
     (record {

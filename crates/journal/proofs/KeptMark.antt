@@ -20,7 +20,7 @@ use Rattle.journal.specs.Statements.{MarkSound}
 use Rattle.journal.proofs.Counted.{within_same}
 use Rattle.journal.proofs.Rows.{Rising, Numbered, Back, Steps, facts, sound_of, rising_from, rising_filter, rising_new}
 use Rattle.journal.proofs.Replaced.{replaced_drop}
-use Rattle.journal.proofs.ReadMark.{placed_mark, oldest_least, new_mark_law}
+use Rattle.journal.proofs.ReadMark.{placed_mark, oldest_least, new_mark_lem}
 use Rattle.journal.proofs.Steps.{steps_filter}
 
 -- ---- numbers
@@ -59,7 +59,7 @@ module _ (s : Store) (journal : List Entry) (k : ℕ) where
 
   new_snapshot : snapshot_of s journal last ≡ s
   unfolding mark_of new_mark
-  new_snapshot = ap (λ (m : Mark). m.snapshot) (new_mark_law s journal k)
+  new_snapshot = ap (λ (m : Mark). m.snapshot) (new_mark_lem s journal k)
 
   back_new : (r : MarkRow) (rs : List MarkRow) → Back s journal r rs → Back s journal r (rs ++ (last ∷ []))
   unfolding store_before journal_before

@@ -13,7 +13,7 @@ use Rattle.rules.proofs.Basics.Cut.{drop_parts}
 use Rattle.journal.specs.Journal.{Entry, undone_all, cut_to, counts_within, no_counts, replaced_in, MarkRow, Journaled, snapshot_of, mark_of, marked_of, row_has_number, rows_up_to, row_or, journaled_back}
 use Rattle.journal.specs.Statements.{CutCommutesAll, CutTwice, UndoneParts, BackRead}
 use Rattle.journal.proofs.Cut.{cut_commutes_all, cut_twice, undone_parts}
-use Rattle.journal.proofs.Rows.{Rising, row_at_law, found, rising_up_to, Facts, facts}
+use Rattle.journal.proofs.Rows.{Rising, row_at_lem, found, rising_up_to, Facts, facts}
 use Rattle.journal.proofs.Replaced.{replaced_append, map_recounted}
 
 -- a mark that is no younger than r, read from where r was set
@@ -78,10 +78,10 @@ back_read j k h set other =
     let s = j.store in
     let r = row_or other k j.rows in
     let f = facts j h in
-    let l : r.place ≤ length j.journal = (row_at_law 0 no_counts _ _ j.rows f.rising (found other k j.rows set).0).to in
+    let l : r.place ≤ length j.journal = (row_at_lem 0 no_counts _ _ j.rows f.rising (found other k j.rows set).0).to in
     let rises = up_to_rising j f k set other in
     ap (λ (ms : List Mark). record { store = snapshot_of s j.journal r; marks = ms })
     (map_recounted _ (mark_of s j.journal) _ (rows_up_to r.number j.rows)
-    (λ q m. let b = row_at_law 0 no_counts r.place r.counts _ rises m in back_mark s j.journal r l q b.to b.fewer)
+    (λ q m. let b = row_at_lem 0 no_counts r.place r.counts _ rises m in back_mark s j.journal r l q b.to b.fewer)
     ∙ ap (recounted _) (up_to_read s j.journal r.number j.rows))
     ∙ sym (ap (λ (m : Mark). gone_back m (marked_of j)) (or_read s j.journal other (new_mark k s) k j.rows set))

@@ -14,7 +14,7 @@ use Rattle.journal.specs.Journal.{Entry, undone_all, counts_of, cut_to, counts_w
 use Rattle.journal.specs.Statements.{CutCommutesAll, CallUndone, CallRead}
 use Rattle.journal.proofs.Cut.{cut_commutes_all}
 use Rattle.journal.proofs.Undone.{call_undone}
-use Rattle.journal.proofs.Rows.{Rising, Between, row_at_law, facts}
+use Rattle.journal.proofs.Rows.{Rising, Between, row_at_lem, facts}
 use Rattle.journal.proofs.Replaced.{replaced_append, replaced_by, map_recounted}
 use Rattle.journal.proofs.Grown.{grown_snapshot}
 
@@ -33,7 +33,7 @@ call_marks : (s : Store) (c : Call) → sound s ≡ true → first_failed (tests
     → map (mark_of (applied s c) (remembered_in rs journal (entries_for s c))) rs ≡ replaced_once (replaces s c) (map (mark_of s journal) rs)
 unfolding remembered_in replaced_once recounted with_since mark_of
 call_marks s c h f journal [] p = refl
-call_marks s c h f journal (q ∷ qs) p = map_recounted _ (mark_of s journal) (λ (n : ℕ). cond (replaces s c) (n + 1) n) (q ∷ qs) (λ r m. mark r (row_at_law 0 no_counts (length journal) (counts_of s) (q ∷ qs) p m))
+call_marks s c h f journal (q ∷ qs) p = map_recounted _ (mark_of s journal) (λ (n : ℕ). cond (replaces s c) (n + 1) n) (q ∷ qs) (λ r m. mark r (row_at_lem 0 no_counts (length journal) (counts_of s) (q ∷ qs) p m))
   where
     mark : (r : MarkRow) → Between 0 no_counts (length journal) (counts_of s) r
         → mark_of (applied s c) (journal ++ entries_for s c) r

@@ -14,7 +14,7 @@ use Rattle.rules.proofs.Basics.Cut.{drop_from, map_through}
 use Rattle.journal.specs.Journal.{Entry, undone_all, Counts, counts_of, cut_to, no_counts, replaced_in, MarkRow, Journaled, snapshot_of, mark_of, marked_of, row_has_number, oldest_place, placed_back, freed, rows_without, journaled_mark}
 use Rattle.journal.specs.Statements.{CutWhole, MarkRead}
 use Rattle.journal.proofs.Cut.{cut_whole}
-use Rattle.journal.proofs.Rows.{Rising, row_at_law, rising_filter, rising_new, facts}
+use Rattle.journal.proofs.Rows.{Rising, row_at_lem, rising_filter, rising_new, facts}
 
 -- a mark from a later place on reads the same
 pub placed_mark : (s : Store) (journal : List Entry) (n : ℕ) (r : MarkRow) → n ≤ r.place → mark_of s journal r ≡ mark_of s (drop n journal) (placed_back n r)
@@ -29,7 +29,7 @@ pub oldest_least : (place : ℕ) (counts : Counts) (n : ℕ) (most : Counts) (rs
 unfolding oldest_place
 oldest_least place counts n most [] p r m = omega arith
 oldest_least place counts n most (q ∷ qs) p r (Memᴰ.head e) = subst (λ (z : MarkRow). q.place ≤ z.place) (sym e) (omega arith)
-oldest_least place counts n most (q ∷ qs) p r (Memᴰ.tail m) = (row_at_law q.place q.counts n most qs p.2 m).from
+oldest_least place counts n most (q ∷ qs) p r (Memᴰ.tail m) = (row_at_lem q.place q.counts n most qs p.2 m).from
 
 freed_read : (j : Journaled) → Rising 0 no_counts (length j.journal) (counts_of j.store) j.rows → marked_of (freed j) ≡ marked_of j
 unfolding marked_of freed
@@ -38,9 +38,9 @@ freed_read j p =
     (sym (map_through (mark_of j.store j.journal) _ _ j.rows
     (λ r m. placed_mark j.store j.journal (oldest_place j.rows) r (oldest_least 0 no_counts _ _ j.rows p r m))))
 
-pub new_mark_law : (s : Store) (journal : List Entry) (k : ℕ) → mark_of s journal (record { number = k; counts = counts_of s; place = length journal }) ≡ new_mark k s
+pub new_mark_lem : (s : Store) (journal : List Entry) (k : ℕ) → mark_of s journal (record { number = k; counts = counts_of s; place = length journal }) ≡ new_mark k s
 unfolding mark_of snapshot_of new_mark undone_all replaced_in filter CutWhole
-new_mark_law s journal k =
+new_mark_lem s journal k =
     ap (λ (es : List Entry). record { number = k; snapshot = cut_to (counts_of s) (undone_all es s); since = replaced_in es }) (drop-length journal)
     ∙ ap (λ (t : Store). record { number = k; snapshot = t; since = 0 }) (cut_whole s)
 
@@ -59,4 +59,4 @@ mark_read j k h =
     let kept : Rising 0 no_counts n (counts_of s) rows = rising_filter _ 0 no_counts n (counts_of s) j.rows (facts j h).rising in
     freed_read (record { store = s; journal = j.journal; rows = rows ++ (last ∷ []) }) (rising_new k 0 no_counts n (counts_of s) rows kept)
     ∙ ap (λ (ms : List Mark). record { store = s; marks = ms })
-    (map-append (mark_of s j.journal) rows (last ∷ []) ∙ ap₂ (λ (ms : List Mark) (m : Mark). ms ++ (m ∷ [])) (without_read s j.journal k j.rows) (new_mark_law s j.journal k))
+    (map-append (mark_of s j.journal) rows (last ∷ []) ∙ ap₂ (λ (ms : List Mark) (m : Mark). ms ++ (m ∷ [])) (without_read s j.journal k j.rows) (new_mark_lem s j.journal k))

@@ -39,12 +39,12 @@ rows_facts place counts j (r ∷ rs) h =
     let q = rows_facts r.place r.counts j rs p.1.1.1.1.0 in
     ((leb-true place r.place p.1.1.0, p.1.1.1.0, q.0), (p.0, not-true _ p.1.0, q.1))
 
-rows_hold_law : (place : ℕ) (counts : Counts) (j : Journaled) (rs : List MarkRow) → Rising place counts (length j.journal) (counts_of j.store) rs
+rows_hold_lem : (place : ℕ) (counts : Counts) (j : Journaled) (rs : List MarkRow) → Rising place counts (length j.journal) (counts_of j.store) rs
     → Numbered rs → rows_hold place counts j rs ≡ true
 unfolding rows_hold
-rows_hold_law place counts j [] p q = and_both _ _ (le-leb place _ p.0) p.1
-rows_hold_law place counts j (r ∷ rs) p q =
-    every_of _ (q.0, (ap not q.1, (le-leb place r.place p.0, (p.1, (rows_hold_law r.place r.counts j rs p.2 q.2, tt)))))
+rows_hold_lem place counts j [] p q = and_both _ _ (le-leb place _ p.0) p.1
+rows_hold_lem place counts j (r ∷ rs) p q =
+    every_of _ (q.0, (ap not q.1, (le-leb place r.place p.0, (p.1, (rows_hold_lem r.place r.counts j rs p.2 q.2, tt)))))
 
 -- the journal between a mark and the first of the younger ones can be undone
 abbrev pub Back : Store → List Entry → MarkRow → List MarkRow → Type 0
@@ -59,10 +59,10 @@ unfolding steps_back
 steps_facts s journal [] h = tt
 steps_facts s journal (r ∷ rs) h = let p = passed _ h in (p.0, p.1.0, steps_facts s journal rs p.1.1.0)
 
-steps_back_law : (s : Store) (journal : List Entry) (rs : List MarkRow) → Steps s journal rs → steps_back s journal rs ≡ true
+steps_back_lem : (s : Store) (journal : List Entry) (rs : List MarkRow) → Steps s journal rs → steps_back s journal rs ≡ true
 unfolding steps_back
-steps_back_law s journal [] p = refl
-steps_back_law s journal (r ∷ rs) p = every_of _ (p.0, (p.1, (steps_back_law s journal rs p.2, tt)))
+steps_back_lem s journal [] p = refl
+steps_back_lem s journal (r ∷ rs) p = every_of _ (p.0, (p.1, (steps_back_lem s journal rs p.2, tt)))
 
 pub record Facts (j : Journaled) : Type 0 where
   pub now : sound j.store ≡ true
@@ -92,8 +92,8 @@ sound_of j f =
     every_of _ (
       f.now,
       (
-        rows_hold_law 0 no_counts j j.rows f.rising f.numbered,
-        (f.oldest, (le-leb _ max_remembered f.few, (steps_back_law j.store j.journal j.rows f.steps, tt))),
+        rows_hold_lem 0 no_counts j j.rows f.rising f.numbered,
+        (f.oldest, (le-leb _ max_remembered f.few, (steps_back_lem j.store j.journal j.rows f.steps, tt))),
       ),
     )
 
@@ -127,12 +127,12 @@ pub rising_to : (place : ℕ) (counts : Counts) (n n' : ℕ) (most most' : Count
 rising_to place counts n n' most most' [] l w p = let m : place ≤ n = p.0 in (omega arith, within_trans counts most most' p.1 w)
 rising_to place counts n n' most most' (r ∷ rs) l w p = (p.0, p.1, rising_to r.place r.counts n n' most most' rs l w p.2)
 
-pub row_at_law : {r : MarkRow} (place : ℕ) (counts : Counts) (n : ℕ) (most : Counts) (rs : List MarkRow) → Rising place counts n most rs → Memᴰ r rs → Between place counts n most r
-row_at_law {r = r} place counts n most rs p (Memᴰ.head {x = q} {xs = qs} e) =
+pub row_at_lem : {r : MarkRow} (place : ℕ) (counts : Counts) (n : ℕ) (most : Counts) (rs : List MarkRow) → Rising place counts n most rs → Memᴰ r rs → Between place counts n most r
+row_at_lem {r = r} place counts n most rs p (Memᴰ.head {x = q} {xs = qs} e) =
     let z = rising_end q.place q.counts n most qs p.2 in
     subst (Between place counts n most) (sym e) (record { from = p.0; to = z.0; more = p.1; fewer = z.1 })
-row_at_law {r = r} place counts n most rs p (Memᴰ.tail {x = q} {xs = qs} m) =
-    row_at_law place counts n most qs (rising_from q.place place q.counts counts n most qs p.0 p.1 p.2) m
+row_at_lem {r = r} place counts n most rs p (Memᴰ.tail {x = q} {xs = qs} m) =
+    row_at_lem place counts n most qs (rising_from q.place place q.counts counts n most qs p.0 p.1 p.2) m
 
 -- ---- rows that go, and a new one
 

@@ -17,10 +17,10 @@ use Rattle.rules.proofs.Basics.Tests.{and_left, and_right, decided, passed}
 use Rattle.rules.proofs.Basics.Appended.{get_d_update, sum_update}
 use Rattle.rules.proofs.Basics.Filtered.{filter_append, filter_parts, filter_some}
 use Rattle.rules.proofs.Soundness.Sound.{Sound, facts as store_facts}
-use Rattle.rules.proofs.Soundness.KeptAttributes.{keys_rise_law, put_rises, put_replaced}
+use Rattle.rules.proofs.Soundness.KeptAttributes.{keys_rise_lem, put_rises, put_replaced}
 use Rattle.journal.specs.Journal.{Entry, operand_was, attribute_was, key_was_none, without_key, undone, undone_all, counts_of, no_counts, is_replaced, replaced_in, MarkRow, undoable, undoable_all, store_before, journal_before, none_older}
 use Rattle.journal.specs.Statements.{JournalShort}
-use Rattle.journal.proofs.Changed.{ops_by, attributes_hold_law, attributes_total, set_is, taken_is}
+use Rattle.journal.proofs.Changed.{ops_by, attributes_hold_lem, attributes_total, set_is, taken_is}
 use Rattle.journal.proofs.Undone.{owner_holds}
 use Rattle.journal.proofs.Rows.{Rising, Steps, facts}
 use Rattle.journal.proofs.Steps.{back_now}
@@ -41,7 +41,7 @@ unfolding keys_rise
 sound_rises s h w = go (decided (owner_exists s w))
   where
     go : (owner_exists s w ≡ true) ⊎ (owner_exists s w ≡ false) → keys_rise (attributes_of s w) ≡ true
-    go (inl e) = keys_rise_law (attributes_of s w) (owner_holds s h w e)
+    go (inl e) = keys_rise_lem (attributes_of s w) (owner_holds s h w e)
     go (inr e) = ap keys_rise (none_there s w e)
 
 undone_rises : (e : Entry) (s : Store) → KeysRise s → KeysRise (undone e s)
@@ -50,10 +50,10 @@ undone_rises (operand_was n i v) s r (of_op m) = get_d_update (λ (o : Op). keys
 undone_rises (operand_was n i v) s r (of_block b) = r (of_block b)
 undone_rises (attribute_was w a) s r v =
     ap (λ (t : Store). keys_rise (attributes_of t v)) (set_is w a s)
-    ∙ attributes_hold_law (put_attribute a) (λ (l : List Attribute). keys_rise l ≡ true) w v s (r v) (put_rises a (attributes_of s w) (r w))
+    ∙ attributes_hold_lem (put_attribute a) (λ (l : List Attribute). keys_rise l ≡ true) w v s (r v) (put_rises a (attributes_of s w) (r w))
 undone_rises (key_was_none w k) s r v =
     ap (λ (t : Store). keys_rise (attributes_of t v)) (taken_is w k s)
-    ∙ attributes_hold_law (without_key k) (λ (l : List Attribute). keys_rise l ≡ true) w v s (r v) (filter_rises _ (attributes_of s w) (r w))
+    ∙ attributes_hold_lem (without_key k) (λ (l : List Attribute). keys_rise l ≡ true) w v s (r v) (filter_rises _ (attributes_of s w) (r w))
 
 undone_all_rises : (es : List Entry) (s : Store) → KeysRise s → KeysRise (undone_all es s)
 unfolding undone_all
@@ -79,13 +79,13 @@ unfolding has_key without_key
 taken_fewer k as' h = omega (arith, filter_parts (λ (a : Attribute). eqb a.key k) as', filter_some (λ (a : Attribute). eqb a.key k) as' h)
 
 -- an operand is no attribute
-operand_total_law : (s : Store) (n i v : ℕ) → op_exists s n ≡ true → attribute_total (ops_by (op_with_operand i v) n s) ≡ attribute_total s
+operand_total_lem : (s : Store) (n i v : ℕ) → op_exists s n ≡ true → attribute_total (ops_by (op_with_operand i v) n s) ≡ attribute_total s
 unfolding attribute_total op_exists op_with_operand
-operand_total_law s n i v h = omega (arith, sum_update (λ (o : Op). length o.attributes) (op_with_operand i v) n s.ops no_op (ltb-true n _ h))
+operand_total_lem s n i v h = omega (arith, sum_update (λ (o : Op). length o.attributes) (op_with_operand i v) n s.ops no_op (ltb-true n _ h))
 
 undone_total : (e : Entry) (s : Store) → KeysRise s → undoable e s ≡ true → attribute_total (undone e s) + fresh_in (e ∷ []) ≤ attribute_total s
 unfolding undone undoable applied tests fresh_in filter is_replaced
-undone_total (operand_was n i v) s r h = omega (arith, operand_total_law s n i v (passed _ (passed _ h).0).0)
+undone_total (operand_was n i v) s r h = omega (arith, operand_total_lem s n i v (passed _ (passed _ h).0).0)
 undone_total (attribute_was w a) s r h =
     let p = passed _ h in
     let as' = attributes_of s w in

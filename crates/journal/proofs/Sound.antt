@@ -11,7 +11,7 @@ use Rattle.rules.specs.Marks.{unmarked, has_number, is_set, max_remembered, snap
 use Rattle.rules.proofs.Basics.Tests.{and_both, every_of}
 use Rattle.rules.proofs.Basics.Filtered.{any_map}
 use Rattle.rules.proofs.Basics.Cut.{drop_from}
-use Rattle.rules.proofs.Marks.Ordered.{Ordered, marks_hold_law}
+use Rattle.rules.proofs.Marks.Ordered.{Ordered, marks_hold_lem}
 use Rattle.journal.specs.Journal.{Entry, Counts, counts_of, no_counts, replaced_in, MarkRow, mark_of, marked_of, row_has_number, none_older}
 use Rattle.journal.specs.Statements.{SoundRead, BareSound}
 use Rattle.journal.proofs.Counted.{within_none}
@@ -19,10 +19,10 @@ use Rattle.journal.proofs.Rows.{Rising, Numbered, Steps, facts, sound_of}
 use Rattle.journal.proofs.Replaced.{replaced_drop}
 
 module _ (s : Store) (journal : List Entry) where
-  snapshots_sound_law : (rs : List MarkRow) → Steps s journal rs → snapshots_sound (map (mark_of s journal) rs) ≡ true
+  snapshots_sound_lem : (rs : List MarkRow) → Steps s journal rs → snapshots_sound (map (mark_of s journal) rs) ≡ true
   unfolding snapshots_sound all mark_of
-  snapshots_sound_law [] g = refl
-  snapshots_sound_law (r ∷ rs) g = and_both _ _ g.1 (snapshots_sound_law rs g.2)
+  snapshots_sound_lem [] g = refl
+  snapshots_sound_lem (r ∷ rs) g = and_both _ _ g.1 (snapshots_sound_lem rs g.2)
 
   -- the younger a mark, the less of the journal lies behind it
   marks_ordered : (place : ℕ) (counts : Counts) (n : ℕ) (end : Counts) (most : ℕ) (rs : List MarkRow) → Rising place counts n end rs → Numbered rs
@@ -44,8 +44,8 @@ sound_read j h =
     every_of _ (
       f.now,
       (
-        snapshots_sound_law j.store j.journal j.rows f.steps,
-        (marks_hold_law max_remembered _ (marks_ordered j.store j.journal 0 no_counts _ _ max_remembered j.rows f.rising f.numbered f.few), tt),
+        snapshots_sound_lem j.store j.journal j.rows f.steps,
+        (marks_hold_lem max_remembered _ (marks_ordered j.store j.journal 0 no_counts _ _ max_remembered j.rows f.rising f.numbered f.few), tt),
       ),
     )
 

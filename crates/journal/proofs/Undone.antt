@@ -14,7 +14,7 @@ use Rattle.rules.proofs.Basics.Tests.{passed, every_of, all_at}
 use Rattle.rules.proofs.Basics.Appended.{length_update, mem_get_d}
 use Rattle.rules.proofs.Soundness.Sound.{Sound, facts}
 use Rattle.rules.proofs.Soundness.Accepted.{AllPassed, first_failed_none}
-use Rattle.rules.proofs.Soundness.KeptAttributes.{keys_rise_law}
+use Rattle.rules.proofs.Soundness.KeptAttributes.{keys_rise_lem}
 use Rattle.rules.proofs.Soundness.Room.{update_there}
 use Rattle.journal.specs.Journal.{Entry, operand_was, attribute_was, key_was_none, without_key, undone, undone_all, counts_of, cut_to, attribute_or, entries_for, undoable, undoable_all}
 use Rattle.journal.specs.Statements.{CutCommutes, CutWhole, CallUndone, CallUndoable}
@@ -62,7 +62,7 @@ module _ (s : Store) (w : Owner) (a : Attribute) (h : Sound s) (there : owner_ex
   set_back true e =
       let old = attribute_or a a.key now in
       ap (undone (attribute_was w old)) (set_is w a s) ∙ set_is w old (attributes_by (put_attribute a) w s)
-      ∙ attributes_back (put_attribute a) (put_attribute old) w s (λ x. put_back a a now (keys_rise_law now (owner_holds s h w there)) e)
+      ∙ attributes_back (put_attribute a) (put_attribute old) w s (λ x. put_back a a now (keys_rise_lem now (owner_holds s h w there)) e)
   set_back false e =
       ap (undone (key_was_none w a.key)) (set_is w a s) ∙ taken_is w a.key (attributes_by (put_attribute a) w s)
       ∙ attributes_back (put_attribute a) (without_key a.key) w s (λ x. put_taken a now e)

@@ -88,7 +88,7 @@ BareSound =
     → (journal_sound (record { store = s; journal = []; rows = [] }) ≡ true)
     × (marked_of (record { store = s; journal = []; rows = [] }) ≡ unmarked s)
 
--- accepted calls keep it sound: `call_sound`, `copy_sound`, `mark_sound`, `back_sound_law`
+-- accepted calls keep it sound: `call_sound`, `copy_sound`, `mark_sound`, `back_sound_lem`
 unfoldable pub CallSound : Type 0
 CallSound =
     (j : Journaled) (c : Call) → journal_sound j ≡ true → first_failed (marked_tests (marked_of j) (build c)) ≡ none

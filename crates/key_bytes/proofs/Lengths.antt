@@ -19,7 +19,7 @@ use Rattle.fragments.specs.Options.{Options}
 use Rattle.fragments.specs.Rows.{RowFits, row_types, row_shell}
 use Rattle.fragments.specs.declared.types.Row.{Row}
 use Rattle.key_bytes.specs.Put.{row_kept, place_bytes}
-use Rattle.key_bytes.proofs.Shelling.{shell_bytes_law}
+use Rattle.key_bytes.proofs.Shelling.{shell_bytes_lem}
 
 -- each of a list has as many bytes
 module _ {A : Type 0} (f : A → List ℕ) (n : ℕ) (each : (a : A) → length (f a) ≡ n) where
@@ -91,7 +91,7 @@ row_few C o r f =
     let types : List ℕ = map (present o.types) (row_types C r) in
     omega (
       arith,
-      ap length (shell_bytes_law C o r),
+      ap length (shell_bytes_lem C o r),
       length-append (place_bytes C o.ignore r) (list_bytes count leaf types),
       place_few C o.ignore r f,
       leaves types,

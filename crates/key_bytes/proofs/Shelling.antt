@@ -34,26 +34,26 @@ module _ (ig : Ignore) (l : ℕ) where
 
 -- ---- an attribute, and a shell
 
-pub attribute_bytes_law : (a : Attribute) {key kind content : ℕ} {yes : Bool} → key ≡ a.key → kind ≡ a.kind → content ≡ a.content → yes ≡ a.inherent
+pub attribute_bytes_lem : (a : Attribute) {key kind content : ℕ} {yes : Bool} → key ≡ a.key → kind ≡ a.kind → content ≡ a.content → yes ≡ a.inherent
     → (leaf key ++ leaf kind ++ leaf content) ++ flag yes ≡ attribute_bytes a
 unfolding bytes leaf attribute_bytes
-attribute_bytes_law a k m c y = λ i. leaf (k i) ++ leaf (m i) ++ leaf (c i) ++ flag (y i)
+attribute_bytes_lem a k m c y = λ i. leaf (k i) ++ leaf (m i) ++ leaf (c i) ++ flag (y i)
 
-pub shell_bytes_law : (C : Cols) (o : Options) (r : Row) → place_bytes C o.ignore r ++ list_bytes count leaf (row_shell C o r).types ≡ shell_bytes count (row_shell C o r)
+pub shell_bytes_lem : (C : Cols) (o : Options) (r : Row) → place_bytes C o.ignore r ++ list_bytes count leaf (row_shell C o r).types ≡ shell_bytes count (row_shell C o r)
 unfolding place_bytes row_shell shell_bytes
-shell_bytes_law C o r =
+shell_bytes_lem C o r =
     let kept : List Attribute = row_kept C o.ignore r in
     ap (λ (bs : List ℕ). bs ++ list_bytes count leaf (row_shell C o r).types)
     (sym (append_assoc (location_bytes (unignored_location o.ignore r.location)) (count (length kept)) (concat_map attribute_bytes kept)))
 
 -- ---- what an owner is
 
-pub head_bytes_law : (C : Cols) (o : Options) (n : ℕ) → n < op_count C → {kind regions : ℕ} → kind ≡ at C op_kind n → regions ≡ length (regions_of (store_of C) n) → leaf kind ++ count regions ≡ head_bytes (under o (store_of C)) (of_op n)
+pub head_bytes_lem : (C : Cols) (o : Options) (n : ℕ) → n < op_count C → {kind regions : ℕ} → kind ≡ at C op_kind n → regions ≡ length (regions_of (store_of C) n) → leaf kind ++ count regions ≡ head_bytes (under o (store_of C)) (of_op n)
 unfolding renamed head_bytes op_at op_of regions_of
-head_bytes_law C o n l k e =
+head_bytes_lem C o n l k e =
     let kind = k ∙ sym (ap (λ (x : Op). x.kind) (op_read C n l)) in
     (λ i. leaf (kind i) ++ count (e i))
 
-pub owner_bytes_law : {C : Cols} {w : Owner} {r : Row} → RowOf C w r → (o : Options) → head_bytes (under o (store_of C)) w ++ shell_bytes count (row_shell C o r) ≡ owner_bytes (store_of C) o w
+pub owner_bytes_lem : {C : Cols} {w : Owner} {r : Row} → RowOf C w r → (o : Options) → head_bytes (under o (store_of C)) w ++ shell_bytes count (row_shell C o r) ≡ owner_bytes (store_of C) o w
 unfolding owner_bytes
-owner_bytes_law {C} {w} h o = ap (λ (x : Shell). head_bytes (under o (store_of C)) w ++ shell_bytes count x) (sym (h.shell o))
+owner_bytes_lem {C} {w} h o = ap (λ (x : Shell). head_bytes (under o (store_of C)) w ++ shell_bytes count x) (sym (h.shell o))

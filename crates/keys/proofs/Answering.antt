@@ -23,7 +23,7 @@ use Rattle.rules.proofs.Walking.Answered.{fragment_shallow}
 use Rattle.layout.specs.Reading.{store_in}
 use Rattle.layout.specs.Soundness.{IsSound}
 use Rattle.renaming.specs.Index.{list_in, IsIndex}
-use Rattle.renaming.proofs.Indexed.{no_words_law, no_list}
+use Rattle.renaming.proofs.Indexed.{no_words_lem, no_list}
 use Rattle.fragments.specs.Options.{Options, under}
 use Rattle.numbering.proofs.Counting.{no_words, room_start, stands_start}
 use Rattle.key_bytes.specs.Put.{Put}
@@ -63,7 +63,7 @@ module _ (s : Store) (o : Options) (f : Sort) (n : ℕ) where
 
 -- no words are the index of no list
 pub empty_index : (w : List ℕ) → length w ≡ 0 → IsIndex w
-empty_index [] e = no_words_law
+empty_index [] e = no_words_lem
 empty_index (x ∷ xs) e = absurd (omega arith)
 
 pub empty_list : (w : List ℕ) → length w ≡ 0 → list_in w ≡ w
@@ -108,9 +108,9 @@ module _ (b types : List ℕ) (ig : Ignore) (f : Sort) (n : ℕ) (before : List 
       missing e = refused true 2 (rw (t, e) refl)
 
       module _ (e : exists (store_in b) f n ≡ true) where
-        pub too_short_law : leb (length its) (length before) ≡ false → Answered true b types ig f n before before (Refused 13)
+        pub too_short_lem : leb (length its) (length before) ≡ false → Answered true b types ig f n before before (Refused 13)
         unfolding key_tests first_failed
-        too_short_law l = refused true 13 (rw (t, e, fragment_shallow (store_in b) h.ruled f n e, l) refl)
+        too_short_lem l = refused true 13 (rw (t, e, fragment_shallow (store_in b) h.ruled f n e, l) refl)
 
         module _ (l : leb (length its) (length before) ≡ true) where
           none_failed : tested true ≡ none

@@ -115,26 +115,26 @@ module _ (words : List ℕ) (h : all fits words ≡ true) where
       go true = let l = ltb-true w (2 ^ 32) f in lt-ltb (w - 64) (2 ^ 32) (omega arith)
       go false = f
 
-  attributes_fit_law : (first n : ℕ) → all attribute_fits (attributes_from (columns words) first n) ≡ true
+  attributes_fit_lem : (first n : ℕ) → all attribute_fits (attributes_from (columns words) first n) ≡ true
   unfolding attributes_from attribute_at attribute_fits
-  attributes_fit_law first n = all_tabulated attribute_fits n _ (λ k. every_of _ (word_fits _ (first + k), (kind_fits _ (word_fits _ (first + k)), (word_fits _ (first + k), tt))))
+  attributes_fit_lem first n = all_tabulated attribute_fits n _ (λ k. every_of _ (word_fits _ (first + k), (kind_fits _ (word_fits _ (first + k)), (word_fits _ (first + k), tt))))
 
-  op_fits_law : (n : ℕ) → op_fits (op_of (columns words) n) ≡ true
+  op_fits_lem : (n : ℕ) → op_fits (op_of (columns words) n) ≡ true
   unfolding op_of op_fits
-  op_fits_law n = every_of _ (word_fits _ n, (word_fits _ n, (attributes_fit_law _ _, tt)))
+  op_fits_lem n = every_of _ (word_fits _ n, (word_fits _ n, (attributes_fit_lem _ _, tt)))
 
-  block_fits_law : (n : ℕ) → block_fits (block_of (columns words) n) ≡ true
+  block_fits_lem : (n : ℕ) → block_fits (block_of (columns words) n) ≡ true
   unfolding block_of block_fits
-  block_fits_law n = every_of _ (word_fits _ n, (attributes_fit_law _ _, tt))
+  block_fits_lem n = every_of _ (word_fits _ n, (attributes_fit_lem _ _, tt))
 
-  value_fits_law : (n : ℕ) → value_fits (value_of (columns words) n) ≡ true
+  value_fits_lem : (n : ℕ) → value_fits (value_of (columns words) n) ≡ true
   unfolding value_of value_fits
-  value_fits_law n = word_fits _ n
+  value_fits_lem n = word_fits _ n
 
 pub words_fit : WordsFit
 unfolding WordsFit fields_fit store_of
 words_fit words h =
     every_of _ (
-      all_tabulated op_fits (op_count (columns words)) (op_of (columns words)) (op_fits_law words h),
-      (all_tabulated block_fits (block_count (columns words)) (block_of (columns words)) (block_fits_law words h), (all_tabulated value_fits (value_count (columns words)) (value_of (columns words)) (value_fits_law words h), tt)),
+      all_tabulated op_fits (op_count (columns words)) (op_of (columns words)) (op_fits_lem words h),
+      (all_tabulated block_fits (block_count (columns words)) (block_of (columns words)) (block_fits_lem words h), (all_tabulated value_fits (value_count (columns words)) (value_of (columns words)) (value_fits_lem words h), tt)),
     )

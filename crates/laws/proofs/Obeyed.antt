@@ -25,7 +25,7 @@ use Rattle.building.proofs.Answering.{after_calls}
 use Rattle.mapping.specs.MappingWords.{mapping_of, empty_words}
 use Rattle.equivalence.specs.Calls as comparisons
 use Rattle.pairing.specs.Told.{answer_of}
-use Rattle.mapping.proofs.Unmapped.{empty_words_law}
+use Rattle.mapping.proofs.Unmapped.{empty_words_lem}
 use Rattle.pairing.specs.declared.types.EqResult.{EqResult}
 use Rattle.pairing.specs.declared.types.EqResult.TheVariants.{Eq, FirstNEQOps, FirstNEQRegions, FirstNEQBlocks, Refused}
 use Rattle.hashing.specs.Calls as hashes
@@ -73,7 +73,7 @@ module _ (b : List ℕ) (sd : sound_lent b ≡ true) (types : List ℕ) (th : ty
     pub told : (q : EqResult) (words : List ℕ) → comparisons.Answered (sound_lent b) b types empty_words words ig f x y q
         → comparison true (store_in b) types empty_mapping ig f x y ≡ record { answer = answer_of q; mapping = mapping_of words }
     told q words h =
-        subst (λ (m : Mapping). comparison true (store_in b) types m ig f x y ≡ record { answer = answer_of q; mapping = mapping_of words }) empty_words_law
+        subst (λ (m : Mapping). comparison true (store_in b) types m ig f x y ≡ record { answer = answer_of q; mapping = mapping_of words }) empty_words_lem
         (subst (λ (t : Bool). comparison t (store_in b) types (mapping_of empty_words) ig f x y ≡ record { answer = answer_of q; mapping = mapping_of words }) sd h.told)
 
     answered : (q : EqResult) → Compares b types ig f x y q → (comparison true (store_in b) types empty_mapping ig f x y).answer ≡ answer_of q

@@ -13,13 +13,13 @@ use lib.Dec.{eqb}
 use Rattle.rules.specs.Lists.{numbers_from, numbers_where}
 use Rattle.rules.specs.Store.{Op, Block, is_parent, ops_of, blocks_of, regions_of}
 use Rattle.rules.proofs.Basics.Tests.{clash}
-use Rattle.rules.proofs.Soundness.Children.{ops_in_law, blocks_in_law}
+use Rattle.rules.proofs.Soundness.Children.{ops_in_lem, blocks_in_lem}
 use Rattle.layout.specs.Columns.{Cols, at, op_parent, region_op, region_block_first, region_block_end, block_region, block_op_first, block_op_end}
 use Rattle.layout.specs.Reading.{tabulate_from, tabulate, op_count, block_count, region_count, parent_from, op_of, block_of, store_of}
 use Rattle.layout.specs.Soundness.{placed}
 use Rattle.layout.specs.Children.{first_from}
 use Rattle.layout.proofs.Laid.{Laid, InRange}
-use Rattle.layout.proofs.Tabulate.{ops_length, blocks_length, parent_read_law, block_read}
+use Rattle.layout.proofs.Tabulate.{ops_length, blocks_length, parent_read_lem, block_read}
 use Rattle.layout.proofs.Nesting.{placed_facts}
 
 -- to look from n on for the first word that is c, up to the range's end, is to look for the list's first entry from n on
@@ -85,10 +85,10 @@ module _ {A : Type 0} (p : A → Bool) (f : ℕ → A) (word : ℕ → ℕ) (c :
 
 -- ---- the operations of a block
 
-parent_word_law : (b w : ℕ) → (is_parent b (parent_from w) ≡ true) ↔ (w ≡ b + 1)
+parent_word_lem : (b w : ℕ) → (is_parent b (parent_from w) ≡ true) ↔ (w ≡ b + 1)
 unfolding is_parent parent_from
-parent_word_law b zero = (λ t. clash t refl, λ e. absurd (omega arith))
-parent_word_law b (suc q) = (λ t. let e : q ≡ b = eqb-true q b t in omega arith, λ e. eq-eqb q b (omega arith))
+parent_word_lem b zero = (λ t. clash t refl, λ e. absurd (omega arith))
+parent_word_lem b (suc q) = (λ t. let e : q ≡ b = eqb-true q b t in omega arith, λ e. eq-eqb q b (omega arith))
 
 -- what stands in the list of a block's operations: an operation in the block's range, whose word names the block
 pub record OpChild (C : Cols) (b n : ℕ) : Type 0 where
@@ -106,7 +106,7 @@ module _ (C : Cols) where
   pub ops_scan_all : (b : ℕ) → Scan (at C op_parent) (b + 1) (op_count C) (ops_of (store_of C) b)
   unfolding ops_of store_of op_of
   ops_scan_all b =
-      child_scan (λ (o : Op). is_parent b o.parent) (op_of C) (at C op_parent) (b + 1) (λ i. parent_word_law b (at C op_parent i))
+      child_scan (λ (o : Op). is_parent b o.parent) (op_of C) (at C op_parent) (b + 1) (λ i. parent_word_lem b (at C op_parent i))
       0 (op_count C) (op_count C) (omega arith) (λ i l e. record { from = omega arith; below = l })
 
   pub blocks_scan_all : (r : ℕ) → Scan (at C block_region) r (block_count C) (blocks_of (store_of C) r)
@@ -123,20 +123,20 @@ module _ (C : Cols) (h : Laid C) where
   pub ops_facts : (b : ℕ) {n : ℕ} → Memᴰ n (ops_of (store_of C) b) → OpChild C b n
   unfolding is_parent
   ops_facts b {n} m =
-      let (l, e) = ops_in_law (store_of C) b m in
+      let (l, e) = ops_in_lem (store_of C) b m in
       let l' : n < op_count C = subst (λ (k : ℕ). n < k) (ops_length C) l in
-      let w : at C op_parent n ≡ b + 1 = (parent_word_law b _).0 (ap (is_parent b) (sym (parent_read_law C n l') ∙ e) ∙ eq-eqb b b refl) in
+      let w : at C op_parent n ≡ b + 1 = (parent_word_lem b _).0 (ap (is_parent b) (sym (parent_read_lem C n l') ∙ e) ∙ eq-eqb b b refl) in
       record { exists = l'; word = w ∙ add-one b; place = op_inside b n l' (w ∙ add-one b) }
 
   pub ops_mem : (b n : ℕ) → n < op_count C → at C op_parent n ≡ suc b → Memᴰ n (ops_of (store_of C) b)
   unfolding ops_of store_of op_of
   ops_mem b n l e =
-      child_mem (λ (o : Op). is_parent b o.parent) (op_of C) (at C op_parent) (b + 1) (λ i. parent_word_law b (at C op_parent i)) (op_count C) n l (e ∙ sym (add-one b))
+      child_mem (λ (o : Op). is_parent b o.parent) (op_of C) (at C op_parent) (b + 1) (λ i. parent_word_lem b (at C op_parent i)) (op_count C) n l (e ∙ sym (add-one b))
 
   pub ops_scan : (b : ℕ) → b < block_count C → Scan (at C op_parent) (b + 1) (at C block_op_end b) (ops_of (store_of C) b)
   unfolding ops_of store_of op_of
   ops_scan b l =
-      child_scan (λ (o : Op). is_parent b o.parent) (op_of C) (at C op_parent) (b + 1) (λ i. parent_word_law b (at C op_parent i))
+      child_scan (λ (o : Op). is_parent b o.parent) (op_of C) (at C op_parent) (b + 1) (λ i. parent_word_lem b (at C op_parent i))
       (at C block_op_first b) (at C block_op_end b) (op_count C) (h.block b l).ops (λ i l' e. op_inside b i l' (e ∙ add-one b))
 
   -- ---- the blocks of a region
@@ -147,7 +147,7 @@ module _ (C : Cols) (h : Laid C) where
   pub blocks_facts : (r : ℕ) {m : ℕ} → Memᴰ m (blocks_of (store_of C) r) → BlockChild C r m
   unfolding block_of
   blocks_facts r {m} k =
-      let (l, e) = blocks_in_law (store_of C) r k in
+      let (l, e) = blocks_in_lem (store_of C) r k in
       let l' : m < block_count C = subst (λ (x : ℕ). m < x) (blocks_length C) l in
       let w : at C block_region m ≡ r = sym (ap (λ (x : Block). x.region) (block_read C m l')) ∙ e in
       record { exists = l'; word = w; place = block_inside r m l' w }

@@ -69,14 +69,14 @@ module _ (C : Cols) where
 -- ---- no child stands before the range, so to search from n on and from the range's begin on is to look for the first child from n on
 
 module _ (C : Cols) (h : Laid C) where
-  pub op_next_law : (b : ℕ) → b < block_count C → (n : ℕ)
+  pub op_next_lem : (b : ℕ) → b < block_count C → (n : ℕ)
       → first_from n (ops_of (store_of C) b) ≡ first_word C op_parent (b + 1) (max n (at C block_op_first b)) (at C block_op_end b - max n (at C block_op_first b))
-  op_next_law b l n =
+  op_next_lem b l n =
       scan_first C op_parent (b + 1) (at C block_op_end b) _ (ops_scan C h b l) n (max n (at C block_op_first b)) (omega arith)
       (λ i p q f e. let t = (h.block b l).ops in let s = (ops_facts C h b (ops_mem C h b i (omega arith) (e ∙ add-one b))).place in omega arith)
 
-  pub block_next_law : (r : ℕ) → r < region_count C → (n : ℕ)
+  pub block_next_lem : (r : ℕ) → r < region_count C → (n : ℕ)
       → first_from n (blocks_of (store_of C) r) ≡ first_word C block_region r (max n (at C region_block_first r)) (at C region_block_end r - max n (at C region_block_first r))
-  block_next_law r l n =
+  block_next_lem r l n =
       scan_first C block_region r (at C region_block_end r) _ (blocks_scan C h r l) n (max n (at C region_block_first r)) (omega arith)
       (λ i p q f e. let t = (h.region r l).blocks in let s = (blocks_facts C h r (blocks_mem C h r i (omega arith) e)).place in omega arith)

@@ -12,8 +12,8 @@ use Rattle.layout.specs.declared.children.Found.{Found}
 use Rattle.layout.specs.Children.{first_from, first_word, word_from, found_from, link_found, behind_child}
 use Rattle.layout.specs.Soundness.{next_child}
 use Rattle.layout.proofs.Laid.{Laid}
-use Rattle.layout.proofs.Finds.{op_on, block_on, op_next_law, block_next_law}
-use Rattle.layout.proofs.Linking.{link_leads, behind_facts, op_link_law, block_link_law}
+use Rattle.layout.proofs.Finds.{op_on, block_on, op_next_lem, block_next_lem}
+use Rattle.layout.proofs.Linking.{link_leads, behind_facts, op_link_lem, block_link_lem}
 
 -- the children of the owner whose word is w, with a range from `first` to `end`, are those of the list
 pub record Children (C : Cols) (owners links count w first end : ℕ) (xs : List ℕ) : Type 0 where
@@ -23,12 +23,12 @@ pub record Children (C : Cols) (owners links count w first end : ℕ) (xs : List
   pub ends : end ≤ count
 
 module _ (C : Cols) (h : Laid C) where
-  pub ops_of_law : (b : ℕ) → b < block_count C → Children C op_parent op_next (op_count C) (b + 1) (at C block_op_first b) (at C block_op_end b) (ops_of (store_of C) b)
-  ops_of_law b l = record { all = op_on C b; ranged = op_next_law C h b l; linked = λ n m e. (op_link_law C h b n m e).link; ends = (h.block b l).ops }
+  pub ops_of_lem : (b : ℕ) → b < block_count C → Children C op_parent op_next (op_count C) (b + 1) (at C block_op_first b) (at C block_op_end b) (ops_of (store_of C) b)
+  ops_of_lem b l = record { all = op_on C b; ranged = op_next_lem C h b l; linked = λ n m e. (op_link_lem C h b n m e).link; ends = (h.block b l).ops }
 
-  pub blocks_of_law : (r : ℕ) → r < region_count C
+  pub blocks_of_lem : (r : ℕ) → r < region_count C
       → Children C block_region block_next (block_count C) r (at C region_block_first r) (at C region_block_end r) (blocks_of (store_of C) r)
-  blocks_of_law r l = record { all = block_on C r; ranged = block_next_law C h r l; linked = λ m n e. (block_link_law C h r m n e).link; ends = (h.region r l).blocks }
+  blocks_of_lem r l = record { all = block_on C r; ranged = block_next_lem C h r l; linked = λ m n e. (block_link_lem C h r m n e).link; ends = (h.region r l).blocks }
 
 -- the two ways to a child, as the code goes them
 module _ {C : Cols} {owners links count w first end : ℕ} {xs : List ℕ} (k : Children C owners links count w first end xs) (from : ℕ) {found : Found} where

@@ -10,18 +10,18 @@ use lib.Dec.{leb}
 use Rattle.rules.specs.Store.{Attribute, max_attribute_kind}
 use Rattle.layout.specs.Reading.{kind_code, kind_from, inherent_from, attribute_read}
 
-kind_read_law : (kind : ℕ) (inherent : Bool) → kind ≤ max_attribute_kind → kind_from (kind_code kind inherent) ≡ kind
+kind_read_lem : (kind : ℕ) (inherent : Bool) → kind ≤ max_attribute_kind → kind_from (kind_code kind inherent) ≡ kind
 unfolding kind_from kind_code
-kind_read_law kind true l = rw (le-leb 64 (kind + 64) (omega arith)) (let e : (kind + 64) - 64 ≡ kind = omega arith in e)
-kind_read_law kind false l = rw (lt-leb 64 kind (omega arith)) refl
+kind_read_lem kind true l = rw (le-leb 64 (kind + 64) (omega arith)) (let e : (kind + 64) - 64 ≡ kind = omega arith in e)
+kind_read_lem kind false l = rw (lt-leb 64 kind (omega arith)) refl
 
 flag_read : (kind : ℕ) (inherent : Bool) → kind ≤ max_attribute_kind → inherent_from (kind_code kind inherent) ≡ inherent
 unfolding kind_code
 flag_read kind true l = le-leb 64 (kind + 64) (omega arith)
 flag_read kind false l = lt-leb 64 kind (omega arith)
 
-pub attribute_read_law : (a : Attribute) → a.kind ≤ max_attribute_kind → attribute_read a.key (kind_code a.kind a.inherent) a.content ≡ a
-attribute_read_law a l = λ i. record { key = a.key; kind = kind_read_law a.kind a.inherent l i; content = a.content; inherent = flag_read a.kind a.inherent l i }
+pub attribute_read_lem : (a : Attribute) → a.kind ≤ max_attribute_kind → attribute_read a.key (kind_code a.kind a.inherent) a.content ≡ a
+attribute_read_lem a l = λ i. record { key = a.key; kind = kind_read_lem a.kind a.inherent l i; content = a.content; inherent = flag_read a.kind a.inherent l i }
 
 -- the word of what was read out of a word is that word
 word_of : (w : ℕ) → kind_code (kind_from w) (inherent_from w) ≡ w

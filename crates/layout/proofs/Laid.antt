@@ -125,9 +125,9 @@ op_facts C n h =
       keys = leb-true _ _ p.1.1.1.1.0;
     }
 
-pub op_of_law : (C : Cols) (n : ℕ) → OpLaid C n → op_laid C n ≡ true
+pub op_of_lem : (C : Cols) (n : ℕ) → OpLaid C n → op_laid C n ≡ true
 unfolding op_laid regions_owned results_owned lists_tiled
-op_of_law C n h =
+op_of_lem C n h =
     let lists = and_both _ _ (tiled_of C _ _ _ _ h.operands) (tiled_of C _ _ _ _ h.successors) in
     every_of _ (h.place, (owned_of C _ _ _ _ _ h.regions, (owned_of C _ _ _ _ _ h.results, (lists, (le-leb _ _ h.keys, tt)))))
 
@@ -170,9 +170,9 @@ counts_facts C h =
       attributes = leb-true _ _ p.1.1.1.1.1.1.0;
     }
 
-pub counts_of_law : (C : Cols) → Counts C → counts_hold C ≡ true
+pub counts_of_lem : (C : Cols) → Counts C → counts_hold C ≡ true
 unfolding counts_hold
-counts_of_law C h =
+counts_of_lem C h =
     every_of _
     (le-leb _ _ h.ops, (le-leb _ _ h.blocks, (le-leb _ _ h.regions, (le-leb _ _ h.values, (le-leb _ _ h.operands, (le-leb _ _ h.successors, (le-leb _ _ h.attributes, tt)))))))
 
@@ -198,9 +198,9 @@ pub laid_of : (C : Cols) → Laid C → laid_out C ≡ true
 unfolding laid_out counts_laid
 laid_of C h =
     every_of _ (
-      counts_of_law C h.counts,
+      counts_of_lem C h.counts,
       (
-        all_below_of _ _ (λ n l. op_of_law C n (h.op n l)),
+        all_below_of _ _ (λ n l. op_of_lem C n (h.op n l)),
         (
           all_below_of _ _ (λ m l. block_of C m (h.block m l)),
           (

@@ -55,9 +55,9 @@ module _ (next link end n : ℕ) where
       ap (λ (b : Bool). b && cond (eqb next 0) (eqb end (n + 1)) true) (eq-eqb link next e)
       ∙ ap (λ (b : Bool). cond b (eqb end (n + 1)) true) (eq-eqb next 0 z)
 
-pub parent_linked_law : (C : Cols) (n b w next : ℕ) → w ≡ suc b → parent_linked C n (parent_from w) next ≡ link_holds next (at C op_next n) (at C block_op_end b) n
+pub parent_linked_lem : (C : Cols) (n b w next : ℕ) → w ≡ suc b → parent_linked C n (parent_from w) next ≡ link_holds next (at C op_next n) (at C block_op_end b) n
 unfolding parent_linked parent_from
-parent_linked_law C n b w next e = ap (λ (v : ℕ). parent_linked C n (parent_from v) next) e
+parent_linked_lem C n b w next e = ap (λ (v : ℕ). parent_linked C n (parent_from v) next) e
 
 -- ---- the next child
 
@@ -102,10 +102,10 @@ unfolding behind_child
 behind_high C owners count w zero l = refl
 behind_high C owners count w (suc n) l = ap (λ (b : Bool). b && eqb (at C owners n) w) (le-ltb n count (omega arith))
 
-pub behind_by_law : (C : Cols) (owners count w from : ℕ) → (from ≡ 0 → ⊥) → from ≤ count → behind_child C owners count w from ≡ eqb (at C owners (from - 1)) w
+pub behind_by_lem : (C : Cols) (owners count w from : ℕ) → (from ≡ 0 → ⊥) → from ≤ count → behind_child C owners count w from ≡ eqb (at C owners (from - 1)) w
 unfolding behind_child
-behind_by_law C owners count w zero ne l = absurd (ne refl)
-behind_by_law C owners count w (suc n) ne l =
+behind_by_lem C owners count w zero ne l = absurd (ne refl)
+behind_by_lem C owners count w (suc n) ne l =
     ap (λ (b : Bool). b && eqb (at C owners n) w) (lt-ltb n count (omega arith))
     ∙ ap (λ (i : ℕ). eqb (at C owners i) w) (let z : n ≡ suc n - 1 = omega arith in z)
 
@@ -121,14 +121,14 @@ behind_facts C owners count w (suc n) h =
     }
 
 module _ (C : Cols) (h : Laid C) where
-  pub op_link_law : (b n : ℕ) → n < op_count C → at C op_parent n ≡ b + 1 → LinkHolds (next_child C op_parent (op_count C) n) (at C op_next n) (at C block_op_end b) n
+  pub op_link_lem : (b n : ℕ) → n < op_count C → at C op_parent n ≡ b + 1 → LinkHolds (next_child C op_parent (op_count C) n) (at C op_next n) (at C block_op_end b) n
   unfolding op_linked parent_linked parent_from
-  op_link_law b n l e =
+  op_link_lem b n l e =
       link_facts _ _ _ n (subst (λ (w : ℕ). parent_linked C n (parent_from w) (next_child C op_parent (op_count C) n) ≡ true) (e ∙ add-one b) (h.op_link n l))
 
-  pub block_link_law : (r m : ℕ) → m < block_count C → at C block_region m ≡ r → LinkHolds (next_child C block_region (block_count C) m) (at C block_next m) (at C region_block_end r) m
+  pub block_link_lem : (r m : ℕ) → m < block_count C → at C block_region m ≡ r → LinkHolds (next_child C block_region (block_count C) m) (at C block_next m) (at C region_block_end r) m
   unfolding block_linked
-  block_link_law r m l e =
+  block_link_lem r m l e =
       link_facts _ _ _ m (subst (λ (x : ℕ). link_holds (next_child C block_region (block_count C) m) (at C block_next m) (at C region_block_end x) m ≡ true) e (h.block_link m l))
 
 -- a parent's word is that of a block, or 0

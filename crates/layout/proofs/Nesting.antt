@@ -15,7 +15,7 @@ use Rattle.layout.specs.Columns.{Cols, at, op_depth, block_region, block_op_firs
 use Rattle.layout.specs.Reading.{op_count, block_count, region_count, around, store_of}
 use Rattle.layout.specs.Soundness.{placed}
 use Rattle.layout.proofs.Laid.{Laid, InRange, within_facts, within_of}
-use Rattle.layout.proofs.Tabulate.{ops_length, parent_read_law, around_read}
+use Rattle.layout.proofs.Tabulate.{ops_length, parent_read_lem, around_read}
 
 -- what `placed` says of an operation in block b
 pub record Placed (C : Cols) (n b : ℕ) : Type 0 where
@@ -68,7 +68,7 @@ module _ (C : Cols) (h : Laid C) where
   left_under (suc k) b l =
       let r = (h.block b l).region_in in
       let o = (h.region _ r).op_in in
-      ap (λ (q : Option ℕ). is_some (levels_left k (store_of C) q)) (ap (parent_of (store_of C)) (around_read C b l r) ∙ parent_read_law C (around C b) o)
+      ap (λ (q : Option ℕ). is_some (levels_left k (store_of C) q)) (ap (parent_of (store_of C)) (around_read C b l r) ∙ parent_read_lem C (around C b) o)
       ∙ left_at C k (around C b) _ (h.op (around C b) o).place (left_under k)
       ∙ sym (ap (λ (d : ℕ). leb d (suc k)) (add-one (at C op_depth (around C b))) ∙ leb-suc-suc (at C op_depth (around C b)) k)
 
@@ -84,7 +84,7 @@ module _ (C : Cols) (h : Laid C) where
   pub nesting_at : (n : ℕ) → n < op_count C → nesting_holds (store_of C) (parent_of (store_of C) n) ≡ leb (at C op_depth n) max_nesting
   unfolding nesting_holds
   nesting_at n l =
-      ap (λ (q : Option ℕ). is_some (levels_left max_nesting (store_of C) q)) (parent_read_law C n l)
+      ap (λ (q : Option ℕ). is_some (levels_left max_nesting (store_of C) q)) (parent_read_lem C n l)
       ∙ left_at C max_nesting n _ (h.op n l).place (left_under max_nesting)
 
   -- ---- what is left of so many levels inside an operation
@@ -99,7 +99,7 @@ module _ (C : Cols) (h : Laid C) where
       let w = placed_facts C n b p in
       let d : at C op_depth n ≡ at C op_depth (around C b) + 1 = w.depth in
       let o = (h.region _ w.region_in).op_in in
-      ap (levels_left k (store_of C)) (ap (parent_of (store_of C)) (around_read C b w.block_in w.region_in) ∙ parent_read_law C (around C b) o)
+      ap (levels_left k (store_of C)) (ap (parent_of (store_of C)) (around_read C b w.block_in w.region_in) ∙ parent_read_lem C (around C b) o)
       ∙ levels_in k (around C b) _ (h.op (around C b) o).place (omega arith)
       ∙ ap some (let e : k - at C op_depth (around C b) ≡ suc k - at C op_depth n = omega arith in e)
 
@@ -108,4 +108,4 @@ module _ (C : Cols) (h : Laid C) where
     depth_most = leb-true _ _ (sym (nesting_at n l) ∙ ((facts (store_of C) sd).op n (subst (λ (k : ℕ). n < k) (sym (ops_length C)) l)).nesting)
 
     pub levels_at : levels_left max_nesting (store_of C) (parent_of (store_of C) n) ≡ some (max_nesting - at C op_depth n)
-    levels_at = ap (levels_left max_nesting (store_of C)) (parent_read_law C n l) ∙ levels_in max_nesting n _ (h.op n l).place depth_most
+    levels_at = ap (levels_left max_nesting (store_of C)) (parent_read_lem C n l) ∙ levels_in max_nesting n _ (h.op n l).place depth_most

@@ -9,22 +9,22 @@ use Rattle.layout.specs.Columns.{Cols, column_size, column_count, slot_count}
 use Rattle.layout.specs.Reading.{op_count, block_count, slots_of, store_of}
 use Rattle.layout.specs.Owners.{count_column, owner_number, key_count}
 use Rattle.layout.proofs.Laid.{Laid}
-use Rattle.layout.proofs.Tabulate.{op_exists_law, block_exists_law, op_in_law, block_in_law}
+use Rattle.layout.proofs.Tabulate.{op_exists_lem, block_exists_lem, op_in_lem, block_in_lem}
 
 -- the owner is in the store
 abbrev pub OwnerIn : Cols → Owner → Type 0
 OwnerIn C (of_op n) = n < op_count C
 OwnerIn C (of_block m) = m < block_count C
 
-pub owner_in_law : (C : Cols) (w : Owner) → owner_exists (store_of C) w ≡ true → OwnerIn C w
+pub owner_in_lem : (C : Cols) (w : Owner) → owner_exists (store_of C) w ≡ true → OwnerIn C w
 unfolding owner_exists
-owner_in_law C (of_op n) e = op_in_law C n e
-owner_in_law C (of_block m) e = block_in_law C m e
+owner_in_lem C (of_op n) e = op_in_lem C n e
+owner_in_lem C (of_block m) e = block_in_lem C m e
 
 pub in_exists : (C : Cols) (w : Owner) → OwnerIn C w → owner_exists (store_of C) w ≡ true
 unfolding owner_exists
-in_exists C (of_op n) l = op_exists_law C n ∙ lt-ltb n _ l
-in_exists C (of_block m) l = block_exists_law C m ∙ lt-ltb m _ l
+in_exists C (of_op n) l = op_exists_lem C n ∙ lt-ltb n _ l
+in_exists C (of_block m) l = block_exists_lem C m ∙ lt-ltb m _ l
 
 pub owner_keys : (C : Cols) (w : Owner) → Laid C → OwnerIn C w → key_count C w ≤ max_own_keys
 unfolding key_count count_column owner_number

@@ -11,7 +11,7 @@ use lib.ListN.{length}
 use Rattle.rules.specs.Lists.{numbers_from, numbers_where}
 use Rattle.rules.specs.Store.{Value, Owner, of_op, of_block, same_owner, regions_of, values_of}
 use Rattle.rules.proofs.Basics.Tests.{clash, and_right}
-use Rattle.rules.proofs.Soundness.Children.{same_owner_law}
+use Rattle.rules.proofs.Soundness.Children.{same_owner_lem}
 use Rattle.rules.proofs.Soundness.NewValues.{same_self}
 use Rattle.layout.specs.Columns.{Cols, at, op_region_first, op_region_end, op_result_first, op_result_end, region_op, block_argument_first, block_argument_end, value_owner}
 use Rattle.layout.specs.Reading.{tabulate_from, tabulate, op_count, block_count, region_count, value_count, owner_from, owner_code, value_of, store_of}
@@ -49,12 +49,12 @@ unfolding range
 in_range a e k l h = in_from a (e - a) k l (omega arith)
 
 module _ {A : Type 0} (p : A → Bool) (f : ℕ → A) where
-  numbers_from_law : (i n a e : ℕ) → a ≤ e → e ≤ i + n → ((j : ℕ) → i ≤ j → j < i + n → p (f j) ≡ true → InRange a e j) → ((j : ℕ) → InRange a e j → p (f j) ≡ true)
+  numbers_from_lem : (i n a e : ℕ) → a ≤ e → e ≤ i + n → ((j : ℕ) → i ≤ j → j < i + n → p (f j) ≡ true → InRange a e j) → ((j : ℕ) → InRange a e j → p (f j) ≡ true)
       → numbers_from i p (tabulate_from i n f) ≡ range (max i a) e
   unfolding numbers_from tabulate_from
-  numbers_from_law i zero a e rises fits only each = sym (range_empty (max i a) e (omega arith))
-  numbers_from_law i (suc n) a e rises fits only each =
-      go (p (f i)) refl (numbers_from_law (suc i) n a e rises (omega arith) (λ j h l t. only j (omega arith) (omega arith) t) each)
+  numbers_from_lem i zero a e rises fits only each = sym (range_empty (max i a) e (omega arith))
+  numbers_from_lem i (suc n) a e rises fits only each =
+      go (p (f i)) refl (numbers_from_lem (suc i) n a e rises (omega arith) (λ j h l t. only j (omega arith) (omega arith) t) each)
     where
       past : Dec (i < e) → (InRange a e i → ⊥) → a ≤ i → e ≤ i
       past (yes h) out l = absurd (out (record { from = l; below = h }))
@@ -80,13 +80,13 @@ module _ {A : Type 0} (p : A → Bool) (f : ℕ → A) where
       → numbers_where p (tabulate n f) ≡ range a e
   unfolding numbers_where tabulate
   numbers_range n a e rises fits only each =
-      numbers_from_law 0 n a e rises (omega arith) (λ j h l t. only j (omega arith) t) each
+      numbers_from_lem 0 n a e rises (omega arith) (λ j h l t. only j (omega arith) t) each
       ∙ (let k : max 0 a ≡ a = omega arith in ap (λ (x : ℕ). range x e) k)
 
-pub owner_read_law : (w : Owner) → owner_from (owner_code w) ≡ w
+pub owner_read_lem : (w : Owner) → owner_from (owner_code w) ≡ w
 unfolding owner_from owner_code
-owner_read_law (of_op n) = let r : (2 * n) % 2 ≡ 0 = omega arith in let q : (2 * n) / 2 ≡ n = omega arith in rw (r, q) refl
-owner_read_law (of_block b) = let r : (2 * b + 1) % 2 ≡ 1 = omega arith in let q : (2 * b + 1) / 2 ≡ b = omega arith in rw (r, q) refl
+owner_read_lem (of_op n) = let r : (2 * n) % 2 ≡ 0 = omega arith in let q : (2 * n) / 2 ≡ n = omega arith in rw (r, q) refl
+owner_read_lem (of_block b) = let r : (2 * b + 1) % 2 ≡ 1 = omega arith in let q : (2 * b + 1) / 2 ≡ b = omega arith in rw (r, q) refl
 
 -- the words of a range, by their own number
 owned_at : (C : Cols) (k a e n w : ℕ) → Owned C k a e n w → (j : ℕ) → InRange a e j → at C k j ≡ w
@@ -105,8 +105,8 @@ module _ (C : Cols) (h : Laid C) where
   unfolding values_of store_of value_of value_laid
   values_range w a e o only =
       numbers_range (λ (v : Value). same_owner v.owner w) (value_of C) (value_count C) a e o.range.rises o.range.fits
-      (λ v l t. only v (subst (λ (x : Owner). in_owner C v x ≡ true) (same_owner_law _ w t) (h.value v l)))
-      (λ v l. subst (λ (x : Owner). same_owner x w ≡ true) (sym (ap owner_from (owned_at C value_owner a e _ _ o v l) ∙ owner_read_law w)) (same_self w))
+      (λ v l t. only v (subst (λ (x : Owner). in_owner C v x ≡ true) (same_owner_lem _ w t) (h.value v l)))
+      (λ v l. subst (λ (x : Owner). same_owner x w ≡ true) (sym (ap owner_from (owned_at C value_owner a e _ _ o v l) ∙ owner_read_lem w)) (same_self w))
 
   pub results_range : (n : ℕ) → n < op_count C → values_of (store_of C) (of_op n) ≡ range (at C op_result_first n) (at C op_result_end n)
   unfolding in_owner

@@ -14,12 +14,12 @@ use Rattle.rules.proofs.Basics.Tests.{and_left, and_both}
 use Rattle.layout.specs.Columns.{Cols, at, region_op}
 use Rattle.layout.specs.Reading.{tabulate_from, tabulate, op_count, block_count, region_count, value_count, around, op_of, block_of, value_of, store_of}
 use Rattle.layout.specs.Soundness.{placed, in_owner, value_laid, counts_hold, op_rules, block_rules, rules_hold, laid_out}
-use Rattle.layout.proofs.Laid.{Laid, Shaped, laid_facts, counts_of_law}
-use Rattle.layout.proofs.Tabulate.{ops_length, blocks_length, regions_length, values_length, op_exists_law, block_exists_law, op_read, block_read, parent_read_law, around_read}
+use Rattle.layout.proofs.Laid.{Laid, Shaped, laid_facts, counts_of_lem}
+use Rattle.layout.proofs.Tabulate.{ops_length, blocks_length, regions_length, values_length, op_exists_lem, block_exists_lem, op_read, block_read, parent_read_lem, around_read}
 use Rattle.layout.proofs.Scans.{below_cong}
 use Rattle.layout.proofs.Ranges.{length_range, regions_range, results_range, arguments_range}
 use Rattle.layout.proofs.Nesting.{placed_facts, nesting_at}
-use Rattle.layout.proofs.Totals.{operands_length, successors_length, operand_total_law, successor_total_law, attribute_total_law}
+use Rattle.layout.proofs.Totals.{operands_length, successors_length, operand_total_lem, successor_total_lem, attribute_total_lem}
 
 -- ---- tests
 
@@ -36,10 +36,10 @@ module _ {A : Type 0} (p : A → Bool) (f : ℕ → A) where
 -- ---- what the layout passes
 
 module _ (C : Cols) where
-  parent_in_law : (n : ℕ) (q : Option ℕ) → placed C n q ≡ true → parent_exists (store_of C) q ≡ true
+  parent_in_lem : (n : ℕ) (q : Option ℕ) → placed C n q ≡ true → parent_exists (store_of C) q ≡ true
   unfolding parent_exists
-  parent_in_law n none h = refl
-  parent_in_law n (some b) h = block_exists_law C b ∙ lt-ltb b (block_count C) (placed_facts C n b h).block_in
+  parent_in_lem n none h = refl
+  parent_in_lem n (some b) h = block_exists_lem C b ∙ lt-ltb b (block_count C) (placed_facts C n b h).block_in
 
   parent_before : (n : ℕ) (q : Option ℕ) → placed C n q ≡ true → op_after (store_of C) n q ≡ true
   unfolding op_after
@@ -50,16 +50,16 @@ module _ (C : Cols) where
 
   owner_named : (v : ℕ) (w : Owner) → in_owner C v w ≡ true → owner_exists (store_of C) w ≡ true
   unfolding in_owner owner_exists
-  owner_named v (of_op n) h = op_exists_law C n ∙ and_left (ltb n (op_count C)) _ h
-  owner_named v (of_block b) h = block_exists_law C b ∙ and_left (ltb b (block_count C)) _ h
+  owner_named v (of_op n) h = op_exists_lem C n ∙ and_left (ltb n (op_count C)) _ h
+  owner_named v (of_block b) h = block_exists_lem C b ∙ and_left (ltb b (block_count C)) _ h
 
 module _ (C : Cols) (shaped : Shaped C) (h : Laid C) where
-  op_row_law : (n : ℕ) → n < op_count C → op_holds (store_of C) n ≡ op_rules C n
+  op_row_lem : (n : ℕ) → n < op_count C → op_holds (store_of C) n ≡ op_rules C n
   unfolding op_holds op_rules every parent_of value_exists block_exists results_of op_of
-  op_row_law n l =
+  op_row_lem n l =
       let e = op_read C n l in
       let q = (h.op n l).place in
-      let parent_in = ap (λ (o : Op). parent_exists (store_of C) o.parent) e ∙ parent_in_law C n _ q in
+      let parent_in = ap (λ (o : Op). parent_exists (store_of C) o.parent) e ∙ parent_in_lem C n _ q in
       let after = ap (λ (o : Op). op_after (store_of C) n o.parent) e ∙ parent_before C n _ q in
       λ i.
       every
@@ -85,18 +85,18 @@ module _ (C : Cols) (shaped : Shaped C) (h : Laid C) where
       λ i.
       every
       (region_in i
-      ∷ block_after m ((ap (parent_of (store_of C)) (around_read C m l r) ∙ parent_read_law C (around C m) o) i)
+      ∷ block_after m ((ap (parent_of (store_of C)) (around_read C m l r) ∙ parent_read_lem C (around C m) o) i)
       ∷ leb ((ap length (arguments_range C h m l) ∙ length_range _ _) i) max_own_values
       ∷ attributes_hold (e i).attributes
       ∷ [])
 
-  regions_in_law : all (op_exists (store_of C)) (store_of C).regions ≡ true
+  regions_in_lem : all (op_exists (store_of C)) (store_of C).regions ≡ true
   unfolding store_of
-  regions_in_law = all_tabulate _ (at C region_op) (region_count C) (λ r l. op_exists_law C _ ∙ lt-ltb _ (op_count C) (h.region r l).op_in)
+  regions_in_lem = all_tabulate _ (at C region_op) (region_count C) (λ r l. op_exists_lem C _ ∙ lt-ltb _ (op_count C) (h.region r l).op_in)
 
-  values_in_law : all (λ (v : Value). owner_exists (store_of C) v.owner) (store_of C).values ≡ true
+  values_in_lem : all (λ (v : Value). owner_exists (store_of C) v.owner) (store_of C).values ≡ true
   unfolding store_of value_of value_laid
-  values_in_law = all_tabulate _ (value_of C) (value_count C) (λ v l. owner_named C v _ (h.value v l))
+  values_in_lem = all_tabulate _ (value_of C) (value_count C) (λ v l. owner_named C v _ (h.value v l))
 
   pub totals_counts : totals_hold (store_of C) ≡ counts_hold C
   unfolding totals_hold counts_hold
@@ -106,19 +106,19 @@ module _ (C : Cols) (shaped : Shaped C) (h : Laid C) where
       ∷ leb (blocks_length C i) max_blocks
       ∷ leb (regions_length C i) max_regions
       ∷ leb (values_length C i) max_values
-      ∷ leb (operand_total_law C shaped h i) max_operands
-      ∷ leb (successor_total_law C shaped h i) max_successors
-      ∷ leb (attribute_total_law C h i) max_attributes
+      ∷ leb (operand_total_lem C shaped h i) max_operands
+      ∷ leb (successor_total_lem C shaped h i) max_successors
+      ∷ leb (attribute_total_lem C h i) max_attributes
       ∷ [])
 
   store_sound : sound (store_of C) ≡ rules_hold C
   unfolding sound rules_hold every
   store_sound =
-      let ops = ap (λ (n : ℕ). all_below n (op_holds (store_of C))) (ops_length C) ∙ below_cong _ _ _ op_row_law in
+      let ops = ap (λ (n : ℕ). all_below n (op_holds (store_of C))) (ops_length C) ∙ below_cong _ _ _ op_row_lem in
       let blocks = ap (λ (n : ℕ). all_below n (block_holds (store_of C))) (blocks_length C) ∙ below_cong _ _ _ block_row in
-      let counts = totals_counts ∙ counts_of_law C h.counts in
+      let counts = totals_counts ∙ counts_of_lem C h.counts in
       let whole : sound (store_of C) ≡ (all_below (op_count C) (op_rules C) && (all_below (block_count C) (block_rules C) && true)) =
-      λ i. every (ops i ∷ blocks i ∷ regions_in_law i ∷ values_in_law i ∷ counts i ∷ []) in
+      λ i. every (ops i ∷ blocks i ∷ regions_in_lem i ∷ values_in_lem i ∷ counts i ∷ []) in
       whole ∙ ap (λ (b : Bool). all_below (op_count C) (op_rules C) && b) (and-true _)
 
 pub rules_sound : (C : Cols) → Shaped C → laid_out C ≡ true → rules_hold C ≡ sound (store_of C)

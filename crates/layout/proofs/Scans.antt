@@ -130,8 +130,8 @@ same_tests true false f g = sym (f refl)
 same_tests false true f g = g refl
 same_tests false false f g = refl
 
-pub all_below_law : (p : ℕ → Bool) (xs : List ℕ) → all p xs ≡ all_below (length xs) (passes_at p xs)
-all_below_law p xs =
+pub all_below_lem : (p : ℕ → Bool) (xs : List ℕ) → all p xs ≡ all_below (length xs) (passes_at p xs)
+all_below_lem p xs =
     same_tests (all p xs) (all_below (length xs) (passes_at p xs))
     (λ h. all_below_of (length xs) (passes_at p xs) (λ i l. all_at p xs h (mem_get_d xs i 0 l)))
     (λ h. all_passes p xs (all_below_at (length xs) (passes_at p xs) h))
@@ -139,10 +139,10 @@ all_below_law p xs =
 -- a scan of the entries of a list
 module _ (p : ℕ → Bool) (xs : List ℕ) {i : ℕ} (g : Scanned (passes_at p xs) (length xs) (length xs) i) where
   pub entry_fails : i < length xs → passes_at p xs i ≡ false → false ≡ all p xs
-  entry_fails l h = scan_fails g l h ∙ sym (all_below_law p xs)
+  entry_fails l h = scan_fails g l h ∙ sym (all_below_lem p xs)
 
   pub entries_done : length xs ≤ i → true ≡ all p xs
-  entries_done l = scan_done g l ∙ sym (all_below_law p xs)
+  entries_done l = scan_done g l ∙ sym (all_below_lem p xs)
 
 pub slice_length : (xs : List ℕ) (a e : ℕ) → e ≤ length xs → length (slice xs a e) ≡ e - a
 unfolding slice
@@ -156,14 +156,14 @@ slice_at xs a e i l = get_or-take (e - a) (drop a xs) i 0 l ∙ get_or-drop a xs
 pub owned_slice : (C : Cols) (k a e w : ℕ) → e ≤ length (C k) → all (λ (x : ℕ). eqb x w) (slice (C k) a e) ≡ owned C k a e w
 unfolding owned at
 owned_slice C k a e w h =
-    all_below_law (λ (x : ℕ). eqb x w) (slice (C k) a e)
+    all_below_lem (λ (x : ℕ). eqb x w) (slice (C k) a e)
     ∙ ap (λ (n : ℕ). all_below n (passes_at (λ (x : ℕ). eqb x w) (slice (C k) a e))) (slice_length (C k) a e h)
     ∙ below_cong (e - a) _ _ (λ i m. ap (λ (x : ℕ). eqb x w) (slice_at (C k) a e i m))
 
-pub first_end_law : (C : Cols) (k n : ℕ) → n ≡ 0 → 0 ≡ end_before C k n
+pub first_end_lem : (C : Cols) (k n : ℕ) → n ≡ 0 → 0 ≡ end_before C k n
 unfolding end_before
-first_end_law C k zero h = refl
-first_end_law C k (suc n) h = absurd (let w : ⊥ = omega arith in w)
+first_end_lem C k zero h = refl
+first_end_lem C k (suc n) h = absurd (let w : ⊥ = omega arith in w)
 
 pub later_end : (C : Cols) (k n : ℕ) → (n ≡ 0 → ⊥) → at C k (n - 1) ≡ end_before C k n
 unfolding end_before

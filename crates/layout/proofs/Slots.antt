@@ -14,7 +14,7 @@ use Rattle.rules.proofs.Basics.Appended.{mem_get_d}
 use Rattle.layout.specs.Columns.{Cols, at, slot_key, slot_kind}
 use Rattle.layout.specs.Reading.{tabulate_from, tabulate, slice, parent_from, kind_from, attribute_at, attributes_from}
 use Rattle.layout.proofs.Tabulate.{length_tabulate, get_d_tabulate}
-use Rattle.layout.proofs.Scans.{passes_at, same_tests, all_below_law, below_cong, slice_length, slice_at}
+use Rattle.layout.proofs.Scans.{passes_at, same_tests, all_below_lem, below_cong, slice_length, slice_at}
 use Rattle.layout.proofs.Rules.{all_tabulate}
 
 -- ---- the keys
@@ -77,7 +77,7 @@ pub kinds_slice : (C : Cols) (first count : ℕ) → first + count ≤ length (C
 unfolding attributes_from attribute_at at
 kinds_slice C first count h =
     let e : (first + count) - first ≡ count = omega arith in
-    all_below_law (λ (x : ℕ). ltb x 128) (slice (C slot_kind) first (first + count))
+    all_below_lem (λ (x : ℕ). ltb x 128) (slice (C slot_kind) first (first + count))
     ∙ ap (λ (n : ℕ). all_below n (passes_at (λ (x : ℕ). ltb x 128) (slice (C slot_kind) first (first + count)))) (slice_length (C slot_kind) first (first + count) h ∙ e)
     ∙ below_cong count _ _ (λ i l. ap (λ (x : ℕ). ltb x 128) (slice_at (C slot_kind) first (first + count) i (omega arith)) ∙ kind_test (at C slot_kind (first + i)))
     ∙ sym (tabulate_tests (λ (a : Attribute). leb a.kind max_attribute_kind) (λ (i : ℕ). attribute_at C (first + i)) count)

@@ -85,27 +85,27 @@ module _ (C : Cols) where
   unfolding store_of
   values_length = length_tabulate (value_count C) (value_of C)
 
-  pub op_exists_law : (n : ℕ) → op_exists (store_of C) n ≡ ltb n (op_count C)
+  pub op_exists_lem : (n : ℕ) → op_exists (store_of C) n ≡ ltb n (op_count C)
   unfolding op_exists
-  op_exists_law n = ap (ltb n) ops_length
+  op_exists_lem n = ap (ltb n) ops_length
 
-  pub block_exists_law : (n : ℕ) → block_exists (store_of C) n ≡ ltb n (block_count C)
+  pub block_exists_lem : (n : ℕ) → block_exists (store_of C) n ≡ ltb n (block_count C)
   unfolding block_exists
-  block_exists_law n = ap (ltb n) blocks_length
+  block_exists_lem n = ap (ltb n) blocks_length
 
-  pub op_in_law : (n : ℕ) → op_exists (store_of C) n ≡ true → n < op_count C
-  op_in_law n e = ltb-true n _ (sym (op_exists_law n) ∙ e)
+  pub op_in_lem : (n : ℕ) → op_exists (store_of C) n ≡ true → n < op_count C
+  op_in_lem n e = ltb-true n _ (sym (op_exists_lem n) ∙ e)
 
-  pub block_in_law : (n : ℕ) → block_exists (store_of C) n ≡ true → n < block_count C
-  block_in_law n e = ltb-true n _ (sym (block_exists_law n) ∙ e)
+  pub block_in_lem : (n : ℕ) → block_exists (store_of C) n ≡ true → n < block_count C
+  block_in_lem n e = ltb-true n _ (sym (block_exists_lem n) ∙ e)
 
-  pub region_exists_law : (n : ℕ) → region_exists (store_of C) n ≡ ltb n (region_count C)
+  pub region_exists_lem : (n : ℕ) → region_exists (store_of C) n ≡ ltb n (region_count C)
   unfolding region_exists
-  region_exists_law n = ap (ltb n) regions_length
+  region_exists_lem n = ap (ltb n) regions_length
 
-  pub value_exists_law : (n : ℕ) → value_exists (store_of C) n ≡ ltb n (value_count C)
+  pub value_exists_lem : (n : ℕ) → value_exists (store_of C) n ≡ ltb n (value_count C)
   unfolding value_exists
-  value_exists_law n = ap (ltb n) values_length
+  value_exists_lem n = ap (ltb n) values_length
 
   pub op_read : (n : ℕ) → n < op_count C → op_at (store_of C) n ≡ op_of C n
   unfolding op_at store_of
@@ -119,14 +119,14 @@ module _ (C : Cols) where
   unfolding value_at store_of
   value_read v h = get_d_tabulate (value_count C) (value_of C) v no_value h
 
-  pub region_read_law : (r : ℕ) → r < region_count C → get_or (store_of C).regions r 0 ≡ at C region_op r
+  pub region_read_lem : (r : ℕ) → r < region_count C → get_or (store_of C).regions r 0 ≡ at C region_op r
   unfolding store_of
-  region_read_law r h = get_d_tabulate (region_count C) (at C region_op) r 0 h
+  region_read_lem r h = get_d_tabulate (region_count C) (at C region_op) r 0 h
 
-  pub parent_read_law : (n : ℕ) → n < op_count C → parent_of (store_of C) n ≡ parent_from (at C op_parent n)
+  pub parent_read_lem : (n : ℕ) → n < op_count C → parent_of (store_of C) n ≡ parent_from (at C op_parent n)
   unfolding parent_of op_of
-  parent_read_law n h = ap (λ (o : Op). o.parent) (op_read n h)
+  parent_read_lem n h = ap (λ (o : Op). o.parent) (op_read n h)
 
   pub around_read : (b : ℕ) → b < block_count C → at C block_region b < region_count C → op_around (store_of C) b ≡ around C b
   unfolding op_around block_of
-  around_read b h l = ap (λ (o : Block). get_or (store_of C).regions o.region 0) (block_read b h) ∙ region_read_law (at C block_region b) l
+  around_read b h l = ap (λ (o : Block). get_or (store_of C).regions o.region 0) (block_read b h) ∙ region_read_lem (at C block_region b) l

@@ -38,15 +38,15 @@ pub op_keys : (C : Cols) (n : ℕ) → length (op_of C n).attributes ≡ at C op
 unfolding op_of attributes_from
 op_keys C n = length_tabulate (at C op_attributes n) _
 
-pub block_keys_law : (C : Cols) (m : ℕ) → length (block_of C m).attributes ≡ at C block_attributes m
+pub block_keys_lem : (C : Cols) (m : ℕ) → length (block_of C m).attributes ≡ at C block_attributes m
 unfolding block_of attributes_from
-block_keys_law C m = length_tabulate (at C block_attributes m) _
+block_keys_lem C m = length_tabulate (at C block_attributes m) _
 
-pub attribute_total_law : (C : Cols) → Laid C → attribute_total (store_of C) ≡ attribute_count C
+pub attribute_total_lem : (C : Cols) → Laid C → attribute_total (store_of C) ≡ attribute_count C
 unfolding attribute_total store_of attribute_sum
-attribute_total_law C h =
+attribute_total_lem C h =
     ap₂ ◌+◌ (sum_same (λ (o : Op). length o.attributes) (op_of C) (op_count C) (at C op_attributes) (λ k l. op_keys C k))
-    (sum_same (λ (b : Block). length b.attributes) (block_of C) (block_count C) (at C block_attributes) (λ k l. block_keys_law C k))
+    (sum_same (λ (b : Block). length b.attributes) (block_of C) (block_count C) (at C block_attributes) (λ k l. block_keys_lem C k))
     ∙ h.attributes
 
 module _ (C : Cols) (shaped : Shaped C) (h : Laid C) where
@@ -64,14 +64,14 @@ module _ (C : Cols) (shaped : Shaped C) (h : Laid C) where
       let t = (h.op n l).successors.range.fits in
       slice_length (C successor_words) _ _ (omega (arith, shaped successor_words))
 
-  pub operand_total_law : operand_total (store_of C) ≡ operand_count C
+  pub operand_total_lem : operand_total (store_of C) ≡ operand_count C
   unfolding operand_total store_of
-  operand_total_law =
+  operand_total_lem =
       sum_same (λ (o : Op). length o.operands) (op_of C) (op_count C) (slice_lengths C op_operand_first op_operand_end) operands_length
       ∙ sum_tiled C op_operand_first op_operand_end (op_count C) (operand_count C) (λ k l. (h.op k l).operands) ∙ h.operand_end
 
-  pub successor_total_law : successor_total (store_of C) ≡ successor_count C
+  pub successor_total_lem : successor_total (store_of C) ≡ successor_count C
   unfolding successor_total store_of
-  successor_total_law =
+  successor_total_lem =
       sum_same (λ (o : Op). length o.successors) (op_of C) (op_count C) (slice_lengths C op_successor_first op_successor_end) successors_length
       ∙ sum_tiled C op_successor_first op_successor_end (op_count C) (successor_count C) (λ k l. (h.op k l).successors) ∙ h.successor_end

@@ -43,12 +43,12 @@ differs r rs none d i l =
     ne_eqb r.number (get_or rs i d).number
     (λ e. clash (any_at (row_has_number r.number) (mem_get_d rs i d l) (eq-eqb (get_or rs i d).number r.number (sym e))) none)
 
-pub first_at_law : (rs : List MarkRow) → Numbered rs → (d : MarkRow) (i : ℕ) → i < length rs → FirstAt rs (get_or rs i d).number i
-first_at_law [] p d i l = absurd (not-suc-le-zero l)
-first_at_law (r ∷ rs) p d zero l = (p.0, head_place r rs)
-first_at_law (r ∷ rs) p d (suc i) l =
+pub first_at_lem : (rs : List MarkRow) → Numbered rs → (d : MarkRow) (i : ℕ) → i < length rs → FirstAt rs (get_or rs i d).number i
+first_at_lem [] p d i l = absurd (not-suc-le-zero l)
+first_at_lem (r ∷ rs) p d zero l = (p.0, head_place r rs)
+first_at_lem (r ∷ rs) p d (suc i) l =
     let k = (get_or rs i d).number in
-    let z = first_at_law rs p.2 d i (omega arith) in
+    let z = first_at_lem rs p.2 d i (omega arith) in
     (z.0, other_place k r rs (differs r rs p.1 d i (omega arith)) ∙ ap suc z.1)
 
 -- a later row of the first one's number would not be the first

@@ -81,10 +81,10 @@ module _ (C : Cols) where
     journal_long = ap length journal_is ∙ length_tabulate (entry_count C) (entry_at C)
 
     -- the journal before younger rows
-    journal_before_law : (rs : List MarkRow) → Rises 0 no_counts rs → tabulate (place_or (entry_count C) rs) (entry_at C) ≡ journal_before journal rs
+    journal_before_lem : (rs : List MarkRow) → Rises 0 no_counts rs → tabulate (place_or (entry_count C) rs) (entry_at C) ≡ journal_before journal rs
     unfolding place_or journal_before
-    journal_before_law [] p = sym journal_is
-    journal_before_law (r ∷ rs) p =
+    journal_before_lem [] p = sym journal_is
+    journal_before_lem (r ∷ rs) p =
         let l : r.place ≤ entry_count C = omega (arith, journal_long, (rising_end r.place r.counts (length journal) (counts_of s) rs p.2).0) in
         first_tabulate (entry_count C) r.place (entry_at C) l ∙ ap (take r.place) (sym journal_is)
 
@@ -112,9 +112,9 @@ module _ (C : Cols) where
       unfolding row_at
       place_same = ap (λ (r : MarkRow). r.place) row_same
 
-      counts_same_law : row_counts D i ≡ row_counts C i
+      counts_same_lem : row_counts D i ≡ row_counts C i
       unfolding row_at
-      counts_same_law = ap (λ (r : MarkRow). r.counts) row_same
+      counts_same_lem = ap (λ (r : MarkRow). r.counts) row_same
 
       first_is : row_of D (at D mark_number i) ≡ row_of C (at C mark_number i)
       first_is = ap₂ place_in number_same (sym (rows_rest D C g.behind))
@@ -123,23 +123,23 @@ module _ (C : Cols) where
       unfolding entries_between
       between_is =
           ap₂ drop place_same
-          (sym (entries_rest D C g.behind end) ∙ ap (λ (n : ℕ). tabulate n (entry_at C)) g.ends ∙ journal_before_law rs g.rising)
+          (sym (entries_rest D C g.behind end) ∙ ap (λ (n : ℕ). tabulate n (entry_at C)) g.ends ∙ journal_before_lem rs g.rising)
 
       undo_is : undoable_all (entries_between D i end) (store_of D) ≡ undoable_all (drop place (journal_before journal rs)) (store_before s journal rs)
       undo_is = ap₂ undoable_all between_is g.reads
 
       within_is : counts_within (row_counts D i) (counts_of (store_of D)) ≡ counts_within (row_counts C i) (counts_or (counts_of s) rs)
-      within_is = ap₂ counts_within counts_same_law (ap counts_of g.reads ∙ counts_before s journal rs g.rising)
+      within_is = ap₂ counts_within counts_same_lem (ap counts_of g.reads ∙ counts_before s journal rs g.rising)
 
       tables_is : Rises place (row_counts C i) rs → tables_at D i end ≡ snapshot_of s journal (row_at C i)
       unfolding tables_at snapshot_of row_at
-      tables_is p = (λ t. cut_to (counts_same_law t) (undone_all (between_is t) (g.reads t))) ∙ before_snapshot s journal (row_at C i) rs p
+      tables_is p = (λ t. cut_to (counts_same_lem t) (undone_all (between_is t) (g.reads t))) ∙ before_snapshot s journal (row_at C i) rs p
 
       totals_is : Rises place (row_counts C i) rs → totals_kept D i (tables_at D i end) ≡ totals_kept C i (snapshot_of s journal (row_at C i))
       totals_is p = ap (totals_kept D i) (tables_is p) ∙ sym (totals_rest D C g.behind i (snapshot_of s journal (row_at C i)))
 
       ranges_is : counts_within (row_counts D i) (counts_of (store_of D)) ≡ true → ranges_end D (row_counts D i) ≡ ranges_end C (row_counts C i)
-      ranges_is w = sym (ranges_rest D C g.behind (row_counts D i) w) ∙ ap (ranges_end C) counts_same_law
+      ranges_is w = sym (ranges_rest D C g.behind (row_counts D i) w) ∙ ap (ranges_end C) counts_same_lem
 
       ends_same : place_or (length journal) rs ≡ end
       ends_same = ap (λ (n : ℕ). place_or n rs) journal_long ∙ sym g.ends

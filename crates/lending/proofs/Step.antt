@@ -45,9 +45,9 @@ module _ (b : List ℕ) (i end : ℕ) (fit : row_fits (columns b) i end ≡ true
   unfolding row_fits
   place_within = leb-true (at D mark_place i) end (passed _ fit).1.1.1.0
 
-  counts_within_law : counts_within (row_counts D i) (counts_of (store_of D)) ≡ true
+  counts_within_lem : counts_within (row_counts D i) (counts_of (store_of D)) ≡ true
   unfolding row_fits
-  counts_within_law = (passed _ fit).1.1.1.1.0
+  counts_within_lem = (passed _ fit).1.1.1.1.0
 
   module _ (place : ℕ) (read : place ≡ at D mark_place i) (u : List ℕ) (q : Bool) (d : UndidAll b u (drop place (tabulate end (entry_at D))) q) where
     abbrev U : Cols
@@ -67,7 +67,7 @@ module _ (b : List ℕ) (i end : ℕ) (fit : row_fits (columns b) i end ≡ true
       same_counts = ap (λ (r : MarkRow). r.counts) (row_rests D U undid.behind i)
 
       pub cut_within : counts_within (row_counts U i) (counts_of (store_of U)) ≡ true
-      cut_within = ap₂ counts_within same_counts (ap counts_of (undid.reads all) ∙ counts_undone (entries_between D i end) (store_of D)) ∙ counts_within_law
+      cut_within = ap₂ counts_within same_counts (ap counts_of (undid.reads all) ∙ counts_undone (entries_between D i end) (store_of D)) ∙ counts_within_lem
 
       cut_is : cut_to (row_counts U i) (store_of U) ≡ tables_at D i end
       unfolding tables_at
@@ -79,7 +79,7 @@ module _ (b : List ℕ) (i end : ℕ) (fit : row_fits (columns b) i end ≡ true
           let totals : totals_kept U i (cut_to (row_counts U i) (store_of U)) ≡ totals_kept D i (tables_at D i end) =
           ap (totals_kept U i) cut_is ∙ totals_rest D U undid.behind i (tables_at D i end) in
           let ranges : ranges_end U (row_counts U i) ≡ ranges_end D (row_counts D i) =
-          ap (ranges_end U) same_counts ∙ ranges_rest D U undid.behind (row_counts D i) counts_within_law in
+          ap (ranges_end U) same_counts ∙ ranges_rest D U undid.behind (row_counts D i) counts_within_lem in
           (λ t. every (sound (cut_is t) ∷ totals t ∷ ranges t ∷ [])) ∙ sym (next _ _ fit (next _ _ (sym undid.told ∙ all) refl))
 
       pub came_back : (t : List ℕ) (r : Bool) → store_of (columns t) ≡ cut_to (row_counts U i) (store_of U) → sound_buffer t ≡ back_sound U i → MarksKept U (columns t)

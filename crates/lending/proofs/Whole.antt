@@ -19,7 +19,7 @@ use Rattle.journal.specs.Journal.{counts_of, no_counts, replaced_in, MarkRow, no
 use Rattle.journal.specs.Words.{mark_count, journal_of, row_at, rows_of, journaled_of, row_holds}
 use Rattle.journal.proofs.Rows.{Rising, Steps, Facts, facts, sound_of}
 use Rattle.lending.specs.Lending.{step_holds, rows_hold_in}
-use Rattle.lending.proofs.Numbers.{FirstAt, first_at_law, numbered_of}
+use Rattle.lending.proofs.Numbers.{FirstAt, first_at_lem, numbered_of}
 use Rattle.lending.proofs.Younger.{younger, younger_next, younger_all, place_or, from_on}
 use Rattle.lending.proofs.Reached.{Reached, Stepped, step_passes}
 
@@ -55,7 +55,7 @@ module _ (C : Cols) where
       let z = from_on s journal C (subst Rises (sym (younger_all C)) f.0.rising) (subst (Steps s journal) (sym (younger_all C)) f.0.steps) i (omega arith) in
       let w = subst (λ (rs : List MarkRow). Rises rs × Steps s journal rs) (younger_next C i l) z in
       record {
-        number = subst (λ (k : ℕ). FirstAt (rows_of C) k i) (number_is i l) (first_at_law (rows_of C) f.0.numbered (row_at C 0) i (omega (arith, rows_long)));
+        number = subst (λ (k : ℕ). FirstAt (rows_of C) k i) (number_is i l) (first_at_lem (rows_of C) f.0.numbered (row_at C 0) i (omega (arith, rows_long)));
         rising = w.0.2;
         back = w.1.0;
         sounds = w.1.1;

@@ -57,9 +57,9 @@ none_or_more (x ∷ []) h = absurd (h refl)
 none_or_more (x ∷ y ∷ xs) h = refl
 
 module _ (line : List ℕ) (a e : ℕ) (l : a ≤ e) (within : e ≤ length line) where
-  pub one_byte_law : e - a ≡ 1 → one_byte (slice line a e) ≡ some (get_or line a 0)
+  pub one_byte_lem : e - a ≡ 1 → one_byte (slice line a e) ≡ some (get_or line a 0)
   unfolding one_byte
-  one_byte_law h = ap one_byte (slice_first line a e (omega arith) within ∙ ap (λ (xs : List ℕ). get_or line a 0 ∷ xs) (slice_none line (a + 1) e (omega arith)))
+  one_byte_lem h = ap one_byte (slice_first line a e (omega arith) within ∙ ap (λ (xs : List ℕ). get_or line a 0 ∷ xs) (slice_none line (a + 1) e (omega arith)))
 
   pub not_one_byte : (e - a ≡ 1 → ⊥) → one_byte (slice line a e) ≡ none
   not_one_byte h = none_or_more (slice line a e) (λ q. h (sym (slice_length line a e within) ∙ q))
@@ -105,20 +105,20 @@ abbrev as_block : Answer ℕ → Answer (Option ℕ)
 as_block none = none
 as_block (some got) = some (some got.0, got.1)
 
-block_meaning_law : (fs : List (List ℕ)) → field block_meaning fs ≡ as_block (number fs)
+block_meaning_lem : (fs : List (List ℕ)) → field block_meaning fs ≡ as_block (number fs)
 unfolding field block_meaning number
-block_meaning_law [] = refl
-block_meaning_law (f ∷ fs) = go (number_below (2 ^ 32) f)
+block_meaning_lem [] = refl
+block_meaning_lem (f ∷ fs) = go (number_below (2 ^ 32) f)
   where
     go : (q : Option ℕ) → map (λ a. (a, fs)) (map some q) ≡ as_block (map (λ a. (a, fs)) q)
     go none = refl
     go (some n) = refl
 
 pub block_read : (fs gs : List (List ℕ)) (n : ℕ) → number fs ≡ some (n, gs) → some (some n, gs) ≡ field block_meaning fs
-block_read fs gs n h = sym (block_meaning_law fs ∙ ap as_block h)
+block_read fs gs n h = sym (block_meaning_lem fs ∙ ap as_block h)
 
 pub block_bad : (fs : List (List ℕ)) → number fs ≡ none → none ≡ field block_meaning fs
-block_bad fs h = sym (block_meaning_law fs ∙ ap as_block h)
+block_bad fs h = sym (block_meaning_lem fs ∙ ap as_block h)
 
 -- what the one byte of the first field says of a parent
 module _ (gs : List (List ℕ)) (b : ℕ) (fs : List (List ℕ)) (h : field one_byte fs ≡ some (b, gs)) where

@@ -21,29 +21,29 @@ pub refusal_line : (line cause : ℕ) → text "refused," ++ (decimal line ++ (c
 unfolding refusal printed
 refusal_line line cause = fielded (text "refused,") (decimal line) comma (decimal cause ++ (line_feed ∷ []))
 
-pub equal_line_law : (paired : ℕ) → text "eq,-,-," ++ (decimal paired ++ (line_feed ∷ [])) ≡ equal_line paired
+pub equal_line_lem : (paired : ℕ) → text "eq,-,-," ++ (decimal paired ++ (line_feed ∷ [])) ≡ equal_line paired
 unfolding equal_line printed
-equal_line_law paired = refl
+equal_line_lem paired = refl
 
-pub unequal_line_law : (f : Sort) (l r paired : ℕ)
+pub unequal_line_lem : (f : Sort) (l r paired : ℕ)
     → sort_text f ++ (comma ∷ []) ++ (decimal l ++ (comma ∷ [])) ++ (decimal r ++ (comma ∷ [])) ++ (decimal paired ++ (line_feed ∷ [])) ≡ unequal_line (pair_of f l r) paired
 unfolding unequal_line printed pair_of
-unequal_line_law f l r paired =
+unequal_line_lem f l r paired =
     let last = decimal paired ++ (line_feed ∷ []) in
     fielded (sort_text f ++ (comma ∷ []) ++ (decimal l ++ (comma ∷ []))) (decimal r) comma last
     ∙ fielded (sort_text f ++ (comma ∷ [])) (decimal l) comma (decimal r ++ comma ∷ last)
     ∙ append_snoc (sort_text f) comma (decimal l ++ comma ∷ (decimal r ++ comma ∷ last))
 
-pub hashes_line_law : (l r : ℕ) → hexadecimal l ++ (comma ∷ []) ++ hexadecimal r ++ (line_feed ∷ []) ≡ hashes_line l r
+pub hashes_line_lem : (l r : ℕ) → hexadecimal l ++ (comma ∷ []) ++ hexadecimal r ++ (line_feed ∷ []) ≡ hashes_line l r
 unfolding hashes_line printed
-hashes_line_law l r =
+hashes_line_lem l r =
     append_assoc (hexadecimal l ++ (comma ∷ [])) (hexadecimal r) (line_feed ∷ [])
     ∙ append_snoc (hexadecimal l) comma (hexadecimal r ++ (line_feed ∷ []))
 
-pub share_line_law : (equal all share : ℕ) → share ≡ per_cent equal all
+pub share_line_lem : (equal all share : ℕ) → share ≡ per_cent equal all
     → text "share," ++ (decimal share ++ (line_feed ∷ [])) ≡ share_line (per_cent equal all)
 unfolding share_line printed
-share_line_law equal all share e = ap (λ (n : ℕ). text "share," ++ (decimal n ++ (line_feed ∷ []))) e
+share_line_lem equal all share e = ap (λ (n : ℕ). text "share," ++ (decimal n ++ (line_feed ∷ []))) e
 
 -- ---- the share
 

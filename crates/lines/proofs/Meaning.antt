@@ -45,10 +45,10 @@ module _ {A : Type 0} {q : Answer A} where
     more_left [] h l = clash refl l
     more_left (f ∷ fs) h l = sym (ap wholly h)
 
-    pub all_read_law : (gs : List (List ℕ)) → q ≡ some (a, gs) → nothing_left gs ≡ true → some a ≡ wholly q
+    pub all_read_lem : (gs : List (List ℕ)) → q ≡ some (a, gs) → nothing_left gs ≡ true → some a ≡ wholly q
     unfolding wholly all_read nothing_left
-    all_read_law [] h l = sym (ap wholly h)
-    all_read_law (f ∷ fs) h l = clash l refl
+    all_read_lem [] h l = sym (ap wholly h)
+    all_read_lem (f ∷ fs) h l = clash l refl
 
 -- ---- three numbers
 
@@ -124,14 +124,14 @@ module _ (fs : List (List ℕ)) where
   operation_headless h = unread (operation_parts ∙ stops with_lists h)
 
   module _ (head : OpFields) (gs : List (List ℕ)) (h : operation_fields fs ≡ some (head, gs)) where
-    operation_lists_law : wholly (operation_line fs) ≡ map (operation_line_of head) (wholly (operation_lists gs))
-    operation_lists_law = ap wholly (operation_parts ∙ goes with_lists h refl) ∙ given_read (operation_line_of head) (operation_lists gs)
+    operation_lists_lem : wholly (operation_line fs) ≡ map (operation_line_of head) (wholly (operation_lists gs))
+    operation_lists_lem = ap wholly (operation_parts ∙ goes with_lists h refl) ∙ given_read (operation_line_of head) (operation_lists gs)
 
     pub operation_bad : wholly (operation_lists gs) ≡ none → none ≡ wholly (operation_line fs)
-    operation_bad k = sym (operation_lists_law ∙ ap (map (operation_line_of head)) k)
+    operation_bad k = sym (operation_lists_lem ∙ ap (map (operation_line_of head)) k)
 
     pub operation_good : (lists : OpLists) → wholly (operation_lists gs) ≡ some lists → some (operation_line_of head lists) ≡ wholly (operation_line fs)
-    operation_good lists k = sym (operation_lists_law ∙ ap (map (operation_line_of head)) k)
+    operation_good lists k = sym (operation_lists_lem ∙ ap (map (operation_line_of head)) k)
 
 -- ---- the line of a block
 
@@ -172,9 +172,9 @@ module _ (fs : List (List ℕ)) where
     pub attribute_bad : numbers 3 gs ≡ none → attribute_line fs ≡ none
     attribute_bad k = attribute_parts ∙ goes owned h (three_bad (attribute_with w) gs k)
 
-    pub attribute_read_law : {key kind content : ℕ} {hs : List (List ℕ)} → numbers 3 gs ≡ some (key ∷ kind ∷ content ∷ [], hs)
+    pub attribute_read_lem : {key kind content : ℕ} {hs : List (List ℕ)} → numbers 3 gs ≡ some (key ∷ kind ∷ content ∷ [], hs)
         → attribute_line fs ≡ some (building (set_attribute w (record { key = key; kind = kind; content = content; inherent = false })), hs)
-    attribute_read_law k = attribute_parts ∙ goes owned h (three_good (attribute_with w) gs k refl)
+    attribute_read_lem k = attribute_parts ∙ goes owned h (three_good (attribute_with w) gs k refl)
 
 -- ---- the line of an operand
 

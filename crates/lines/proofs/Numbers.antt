@@ -94,9 +94,9 @@ module _ (line : List ℕ) (i e : ℕ) where
     first : slice line i e ≡ x ∷ xs
     first = slice_first line i e l within
 
-    pub one_byte_law : e - i ≡ 1 → true ≡ starts_well (slice line i e)
+    pub one_byte_lem : e - i ≡ 1 → true ≡ starts_well (slice line i e)
     unfolding starts_well
-    one_byte_law h = sym (ap starts_well (first ∙ ap (λ (ys : List ℕ). x ∷ ys) (slice_none line (i + 1) e (omega arith))))
+    one_byte_lem h = sym (ap starts_well (first ∙ ap (λ (ys : List ℕ). x ∷ ys) (slice_none line (i + 1) e (omega arith))))
 
     pub several_bytes : i + 1 < e → not (eqb x 48) ≡ starts_well (slice line i e)
     unfolding starts_well
@@ -136,9 +136,9 @@ module _ (limit : ℕ) (ds : List ℕ) where
       ∙ ap (λ (k : ℕ). cond (ltb k limit) (some k) none) e
       ∙ ap (λ (t : Bool). cond t (some n) none) (lt-ltb n limit h)
 
-  pub number_below_law : (n : ℕ) → number_below limit ds ≡ some n → n < limit
+  pub number_below_lem : (n : ℕ) → number_below limit ds ≡ some n → n < limit
   unfolding number_below
-  number_below_law n h = go (well_written ds && ltb (value_from 0 ds) limit) refl h
+  number_below_lem n h = go (well_written ds && ltb (value_from 0 ds) limit) refl h
     where
       go : (t : Bool) → (well_written ds && ltb (value_from 0 ds) limit) ≡ t → cond t (some (value_from 0 ds)) none ≡ some n → n < limit
       go true p q =

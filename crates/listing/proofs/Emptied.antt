@@ -25,23 +25,23 @@ unfolding at write_range
 cleared C i h = get_or-append (replicate 8 0) (drop 8 (C counts)) 0 i h ∙ get_or-replicate 8 i 0 0 h
 
 module _ (b after : List ℕ) (long : length after ≡ buffer_length) (e : columns after ≡ write_range (columns b) counts 0 (replicate 8 0)) where
-  no_counts_law : (i : ℕ) → i < 8 → at (columns after) counts i ≡ 0
-  no_counts_law i h = ap (λ (C : Cols). at C counts i) e ∙ cleared (columns b) i h
+  no_counts_lem : (i : ℕ) → i < 8 → at (columns after) counts i ≡ 0
+  no_counts_lem i h = ap (λ (C : Cols). at C counts i) e ∙ cleared (columns b) i h
 
   pub store_empty : store_in after ≡ empty_store
-  store_empty = empty_reads (columns after) no_counts_law
+  store_empty = empty_reads (columns after) no_counts_lem
 
   store_sound : IsSound after
   store_sound =
       record {
         sized = long;
-        laid = laid_of (columns after) (empty_laid (columns after) no_counts_law);
+        laid = laid_of (columns after) (empty_laid (columns after) no_counts_lem);
         ruled = subst (λ (s : Store). sound s ≡ true) (sym store_empty) empty_sound;
       }
 
   pub store_bare : Bare after
   unfolding mark_count
-  store_bare = record { sound = store_sound; unmarked = no_counts_law 7 (omega arith) }
+  store_bare = record { sound = store_sound; unmarked = no_counts_lem 7 (omega arith) }
 
 -- ---- the mapping
 

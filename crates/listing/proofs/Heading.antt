@@ -26,9 +26,9 @@ refused : (listing : List ℕ) (k : ℕ) → listing_cause listing ≡ some k �
 unfolding cause_of
 refused listing k h = record { same = sym h; begun = λ q. absurd (none-ne-some k (sym (ap cause_of q))) }
 
-pub too_long_law : (listing : List ℕ) → max_listing < length listing → Headed listing (Is 11)
+pub too_long_lem : (listing : List ℕ) → max_listing < length listing → Headed listing (Is 11)
 unfolding listing_cause
-too_long_law listing h = refused listing 11 (ap (λ (t : Bool). cond t (header_cause (cut_at line_feed listing).whole (cut_at line_feed listing).rest) (some 11)) (lt-leb (length listing) max_listing h))
+too_long_lem listing h = refused listing 11 (ap (λ (t : Bool). cond t (header_cause (cut_at line_feed listing).whole (cut_at line_feed listing).rest) (some 11)) (lt-leb (length listing) max_listing h))
 
 module _ (listing : List ℕ) (short : length listing ≤ max_listing) where
   by_header : listing_cause listing ≡ header_cause (cut_at line_feed listing).whole (cut_at line_feed listing).rest

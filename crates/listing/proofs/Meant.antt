@@ -44,14 +44,14 @@ module _ {line : List ℕ} {at : ℕ} {types operands successors : List ℕ} {li
   unfolding ListsFit
   lists_fit = subst (ListsFit types operands successors) q r.fit
 
-  pub types_fit_law : a ≤ length types
-  types_fit_law = lists_fit.0
+  pub types_fit_lem : a ≤ length types
+  types_fit_lem = lists_fit.0
 
-  pub operands_fit_law : b ≤ length operands
-  operands_fit_law = lists_fit.1
+  pub operands_fit_lem : b ≤ length operands
+  operands_fit_lem = lists_fit.1
 
-  pub successors_fit_law : c ≤ length successors
-  successors_fit_law = lists_fit.2
+  pub successors_fit_lem : c ≤ length successors
+  successors_fit_lem = lists_fit.2
 
 -- ---- the line of a block
 
@@ -65,9 +65,9 @@ module _ {line : List ℕ} {at : ℕ} {types : List ℕ} {read : BlockLine} (r :
     unfolding block_line_of
     block_meant = sym (ap (block_line_of types) q) ∙ r.same
 
-    pub arguments_fit_law : n ≤ length types
+    pub arguments_fit_lem : n ≤ length types
     unfolding ArgumentsFit
-    arguments_fit_law = subst (ArgumentsFit types) q r.fit
+    arguments_fit_lem = subst (ArgumentsFit types) q r.fit
 
 -- ---- the line of a letter
 

@@ -76,17 +76,17 @@ module _ (p : Program) (listing : List ℕ) where
           ∙ ap (λ (o : LineOutcome). proceed o n (λ next'. prints_from (suc n) (e + 1) next')) d
           ∙ ap (λ (k : ℕ). b ++ prints_from k (e + 1) next) (sym (add-one n))
 
-      left_on_law : (b : List ℕ) (next : rules.Progress) → does (program_of p) now (slice listing start e) ≡ prints b next → leaves_from start now ≡ leaves_from (e + 1) next
+      left_on_lem : (b : List ℕ) (next : rules.Progress) → does (program_of p) now (slice listing start e) ≡ prints b next → leaves_from start now ≡ leaves_from (e + 1) next
       unfolding keeps
-      left_on_law b next d = line_leaves l ∙ ap (λ (o : LineOutcome). (keeps o now (λ next'. leaves (program_of p) next' (pieces_from line_feed listing (e + 1)).whole)).store) d
+      left_on_lem b next d = line_leaves l ∙ ap (λ (o : LineOutcome). (keeps o now (λ next'. leaves (program_of p) next' (pieces_from line_feed listing (e + 1)).whole)).store) d
 
       stops_here : (k : ℕ) → does (program_of p) now (slice listing start e) ≡ stops k → prints_from n start now ≡ refusal n k
       unfolding proceed
       stops_here k d = line_first l ∙ ap (λ (o : LineOutcome). proceed o n (λ next'. prints_from (suc n) (e + 1) next')) d
 
-      left_here_law : (k : ℕ) → does (program_of p) now (slice listing start e) ≡ stops k → leaves_from start now ≡ now.store
+      left_here_lem : (k : ℕ) → does (program_of p) now (slice listing start e) ≡ stops k → leaves_from start now ≡ now.store
       unfolding keeps
-      left_here_law k d = line_leaves l ∙ ap (λ (o : LineOutcome). (keeps o now (λ next'. leaves (program_of p) next' (pieces_from line_feed listing (e + 1)).whole)).store) d
+      left_here_lem k d = line_leaves l ∙ ap (λ (o : LineOutcome). (keeps o now (λ next'. leaves (program_of p) next' (pieces_from line_feed listing (e + 1)).whole)).store) d
 
       -- five bytes for each byte of the line, its line feed included
       line_short : (b : List ℕ) (next : rules.Progress) → does (program_of p) now (slice listing start e) ≡ prints b next → length b + per_byte * start ≤ per_byte * (e + 1)
@@ -234,7 +234,7 @@ module _ {p : Program} {listing : List ℕ} {from : ℕ} {before : List ℕ} (ro
           ran_stopped mapping' after r q w =
               ran (refusal n k) refusal_room store' after r (did.unchanged k refl) (omega arith) (subst (λ (xs : List ℕ). Wrote refusal_room xs after at (refusal n k) r) same_out w)
               (stops_here p listing n start e end (progress_of store tally) ended k stops_there)
-              (left_here_law p listing n start e end (progress_of store tally) ended k stops_there)
+              (left_here_lem p listing n start e end (progress_of store tally) ended k stops_there)
               mapping' q
 
         module _ (next : ℕ) (did : LineDoes p (slice listing start e) store store' tally tally' out out' at (On next)) where
@@ -267,7 +267,7 @@ module _ {p : Program} {listing : List ℕ} {from : ℕ} {before : List ℕ} (ro
                 whole =
                     front inv.bytes did.step.bytes _
                     (inv.whole ∙ ap (λ (xs : List ℕ). inv.bytes ++ xs) (printed_on p listing n start e end (progress_of store tally) ended did.step.bytes (progress_of store' tally') goes_there));
-                store_left = inv.store_left ∙ left_on_law p listing n start e end (progress_of store tally) ended did.step.bytes (progress_of store' tally') goes_there;
+                store_left = inv.store_left ∙ left_on_lem p listing n start e end (progress_of store tally) ended did.step.bytes (progress_of store' tally') goes_there;
                 room = omega arith;
                 within = omega arith;
                 counts = did.step.counts;

@@ -48,9 +48,9 @@ goes_on h = true≢false (ap (λ r. is_on r) h)
 -- ---- a line by its letter
 
 module _ (p : rules.Program) (now : rules.Progress) (line : List ℕ) where
-  pub too_long_law : max_line < length line → does p now line ≡ stops 11
+  pub too_long_lem : max_line < length line → does p now line ≡ stops 11
   unfolding does
-  too_long_law h = ap (λ (t : Bool). cond t (line_does p now (parse line)) (stops 11)) (lt-leb (length line) max_line h)
+  too_long_lem h = ap (λ (t : Bool). cond t (line_does p now (parse line)) (stops 11)) (lt-leb (length line) max_line h)
 
   module _ (short : length line ≤ max_line) where
     by_meaning : (meant : Option Line) → parse line ≡ meant → does p now line ≡ line_does p now meant

@@ -26,7 +26,7 @@ use Rattle.pairing.specs.Told.{answer_of}
 use Rattle.equivalence.specs.Calls.{Answered}
 use Rattle.pairing.specs.declared.types.EqResult.{EqResult}
 use Rattle.pairing.specs.declared.types.EqResult.TheVariants.{Eq, FirstNEQOps, FirstNEQRegions, FirstNEQBlocks, Refused}
-use Rattle.mapping.proofs.Unmapped.{empty_words_law}
+use Rattle.mapping.proofs.Unmapped.{empty_words_lem}
 use Rattle.tally.specs.Tally.{tally_of, IsTally, Tallied}
 use Rattle.lines.specs.Parsing.{query_of}
 use Rattle.lines.specs.Wrote.{Wrote}
@@ -39,10 +39,10 @@ use Rattle.listing.proofs.Emptied.{empty_length}
 -- ---- the empty mapping
 
 words_are : (m : List ℕ) → m ≡ empty_words → mapping_of m ≡ empty_mapping
-words_are m e = ap mapping_of e ∙ empty_words_law
+words_are m e = ap mapping_of e ∙ empty_words_lem
 
-pub entries_allowed_law : (s : Store) (m : List ℕ) → m ≡ empty_words → allowed s (mapping_of m) ≡ true
-entries_allowed_law s m e = subst (λ (x : Mapping). allowed s x ≡ true) (sym (words_are m e)) (empty_allowed s)
+pub entries_allowed_lem : (s : Store) (m : List ℕ) → m ≡ empty_words → allowed s (mapping_of m) ≡ true
+entries_allowed_lem s m e = subst (λ (x : Mapping). allowed s x ≡ true) (sym (words_are m e)) (empty_allowed s)
 
 -- there are as many words still, where their number has not changed
 pub as_many : (m after : List ℕ) → m ≡ empty_words → length after ≡ length m → length after ≡ mapping_length

@@ -98,9 +98,9 @@ module _ (p : rules.Program) (listing store mapping out : List ℕ) where
       unfolding first_failed
       right_lengths = tested true true (eq-eqb _ _ s) (eq-eqb _ _ m)
 
-      pub no_room_law : length out < max_output → Answered p listing (buffers store mapping out) (buffers store mapping out) NoRoom
+      pub no_room_lem : length out < max_output → Answered p listing (buffers store mapping out) (buffers store mapping out) NoRoom
       unfolding Answered buffers
-      no_room_law h = (right_lengths, h, refl)
+      no_room_lem h = (right_lengths, h, refl)
 
       pub answered : (after : Buffers) (n : ℕ) → max_output ≤ length out → PrintsListing p listing (buffers store mapping out) after n → Answered p listing (buffers store mapping out) after (Printed n)
       unfolding Answered buffers

@@ -27,16 +27,16 @@ or_false false = refl
 or_false true = refl
 
 module _ (p : ℕ → Bool) where
-  one_more_law : (xs : List ℕ) (i : ℕ) → i < length xs → all p (take i xs) && p (get_or xs i 0) ≡ all p (take (suc i) xs)
+  one_more_lem : (xs : List ℕ) (i : ℕ) → i < length xs → all p (take i xs) && p (get_or xs i 0) ≡ all p (take (suc i) xs)
   unfolding all
-  one_more_law [] i l = absurd (not-suc-le-zero l)
-  one_more_law (x ∷ xs) zero l = sym (and_true (p x))
-  one_more_law (x ∷ xs) (suc i) l = and_again (p x) (all p (take i xs)) (p (get_or xs i 0)) ∙ ap (λ (b : Bool). p x && b) (one_more_law xs i (le_of_suc-le-suc l))
+  one_more_lem [] i l = absurd (not-suc-le-zero l)
+  one_more_lem (x ∷ xs) zero l = sym (and_true (p x))
+  one_more_lem (x ∷ xs) (suc i) l = and_again (p x) (all p (take i xs)) (p (get_or xs i 0)) ∙ ap (λ (b : Bool). p x && b) (one_more_lem xs i (le_of_suc-le-suc l))
 
   pub scan_next : (xs : List ℕ) (i : ℕ) {g t : Bool} → i < length xs → g ≡ all p (take i xs) → t ≡ p (get_or xs i 0) → g && t ≡ all p (take (i + 1) xs)
   scan_next xs i l e f =
       let k : suc i ≡ i + 1 = omega arith in
-      ap₂ ◌&&◌ e f ∙ one_more_law xs i l ∙ ap (λ (n : ℕ). all p (take n xs)) k
+      ap₂ ◌&&◌ e f ∙ one_more_lem xs i l ∙ ap (λ (n : ℕ). all p (take n xs)) k
 
   pub scan_over : (xs : List ℕ) (i : ℕ) {g : Bool} → length xs ≤ i → g ≡ all p (take i xs) → g ≡ all p xs
   scan_over xs i l e = e ∙ ap (all p) (take_all i xs l)

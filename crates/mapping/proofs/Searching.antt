@@ -169,21 +169,21 @@ whole w long = record { held = λ k. go k (dec_lt k 2048) (dec_lt k 2816); value
 -- ---- at the start
 
 module _ (C : Cols) (laid : Laid C) (w : List ℕ) (paired : ℕ) (by : EnteredBy (store_of C) (mapping_of w) paired) where
-  block_count_law : count_below 256 (λ (k : ℕ). mapped w (2048 + k)) ≤ count_below 256 (mapped (mapping_of w).blocks)
+  block_count_lem : count_below 256 (λ (k : ℕ). mapped w (2048 + k)) ≤ count_below 256 (mapped (mapping_of w).blocks)
   unfolding mapped mapping_of
-  block_count_law =
+  block_count_lem =
       count_le _ _ 256
       (λ k b h. subst (λ (e : ℕ). not (eqb e no_image) ≡ true) (sym (get_or-take 256 (drop 2048 w) k no_image b ∙ get_or-drop 2048 w k no_image)) h)
 
-  op_count_law : count_below 512 (λ (k : ℕ). mapped w (2048 + (256 + k))) ≤ count_below 512 (mapped (mapping_of w).ops)
+  op_count_lem : count_below 512 (λ (k : ℕ). mapped w (2048 + (256 + k))) ≤ count_below 512 (mapped (mapping_of w).ops)
   unfolding mapped mapping_of
-  op_count_law =
+  op_count_lem =
       count_le _ _ 512
       (λ k b h. let e : 2048 + (256 + k) ≡ 2304 + k = omega arith in
       subst (λ (x : ℕ). not (eqb x no_image) ≡ true) (ap (λ (j : ℕ). get_or w j no_image) e ∙ sym (get_or-drop 2304 w k no_image)) h)
 
   all_count : count_below 768 (λ (k : ℕ). mapped w (2048 + k)) ≤ paired
-  all_count = omega (arith, count_parts (λ (k : ℕ). mapped w (2048 + k)) 256 512, block_count_law, op_count_law, by.owners)
+  all_count = omega (arith, count_parts (λ (k : ℕ). mapped w (2048 + k)) 256 512, block_count_lem, op_count_lem, by.owners)
 
   -- a value with an image exists, and its owner has one
   with_owner : (v : ℕ) → v < 2048 → (get_or w v no_image ≡ no_image → ⊥) → (v < value_count C) × (mapped w (owner_word (owner_at C laid v)) ≡ true)

@@ -12,9 +12,9 @@ drop_same : (n m x : ℕ) → drop n (replicate (n + m) x) ≡ replicate m x
 drop_same zero m x = let e : 0 + m ≡ m = omega arith in ap (λ (k : ℕ). replicate k x) e
 drop_same (suc n) m x = let e : suc n + m ≡ suc (n + m) = omega arith in ap (λ (k : ℕ). drop (suc n) (replicate k x)) e ∙ drop_same n m x
 
-pub empty_words_law : mapping_of empty_words ≡ empty_mapping
+pub empty_words_lem : mapping_of empty_words ≡ empty_mapping
 unfolding mapping_of empty_words empty_mapping
-empty_words_law = λ i. record {
+empty_words_lem = λ i. record {
   values = take_same 2048 2816 no_image (omega arith) i;
   blocks = (ap (take 256) (drop_same 2048 768 no_image) ∙ take_same 256 768 no_image (omega arith)) i;
   ops = drop_same 2304 512 no_image i;

@@ -20,9 +20,9 @@ use Rattle.journal.proofs.Rows.{Numbered}
 abbrev numbers : List MarkRow → List ℕ
 numbers rs = map (λ (r : MarkRow). r.number) rs
 
-numbers_length_law : (rs : List MarkRow) → length (numbers rs) ≡ length rs
-numbers_length_law [] = refl
-numbers_length_law (r ∷ rs) = ap suc (numbers_length_law rs)
+numbers_length_lem : (rs : List MarkRow) → length (numbers rs) ≡ length rs
+numbers_length_lem [] = refl
+numbers_length_lem (r ∷ rs) = ap suc (numbers_length_lem rs)
 
 mark_low : (k : ℕ) → is_mark k ≡ true → 1 ≤ k
 unfolding is_mark
@@ -51,4 +51,4 @@ numbered_few rs p =
     let few : suc (length (numbers rs)) ≤ 9 =
     pigeons 9 (0 ∷ numbers rs) (λ m. let w : ⊥ = omega (arith, (marks_only rs p 0 m).0) in w, numbers_distinct rs p)
     (λ x m. ⊎_elim (λ e. omega (arith, e)) (λ k. (marks_only rs p x k).1) (Memᴰ.cases_cons m)) in
-    omega (arith, numbers_length_law rs)
+    omega (arith, numbers_length_lem rs)

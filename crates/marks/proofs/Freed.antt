@@ -77,9 +77,9 @@ module _ (B C : Cols) (fulls : List Full) (journal : List Entry) (g : Stands B C
       ∙ pasted_new (C mark_place) 0 places (omega (arith, places_length, g.shaped mark_place, free.few)) i (omega (arith, places_length))
       ∙ get_d_tabulate (mark_count C) (λ (m : ℕ). at C mark_place m - n) i 0 l
 
-  full_back_law : (i : ℕ) → i < mark_count C → full_at (freed_before C n) i ≡ full_back n (full_at C i)
+  full_back_lem : (i : ℕ) → i < mark_count C → full_at (freed_before C n) i ≡ full_back n (full_at C i)
   unfolding places full_at row_at row_counts placed_back mark_count freed_before places_back entries_back copied write write_range at
-  full_back_law i l =
+  full_back_lem i l =
       λ t. record {
         row = record { number = (row_at C i).number; counts = (row_at C i).counts; place = place_back i l t };
         operands = at C mark_counts (8 * i + 4);
@@ -133,7 +133,7 @@ module _ (B C : Cols) (fulls : List Full) (journal : List Entry) (g : Stands B C
         kept = freed_kept.1;
         rows =
             ap (λ (m : ℕ). tabulate m (full_at (freed_before C n))) freed_count
-            ∙ map_tabulate (full_back n) (mark_count C) (full_at C) (full_at (freed_before C n)) full_back_law ∙ ap (map (full_back n)) g.rows;
+            ∙ map_tabulate (full_back n) (mark_count C) (full_at C) (full_at (freed_before C n)) full_back_lem ∙ ap (map (full_back n)) g.rows;
         entries =
             ap (λ (m : ℕ). tabulate m (entry_at (freed_before C n))) freed_entries
             ∙ drop_tabulate (entry_count C) n (entry_at C) free.within (entry_at (freed_before C n)) entry_back ∙ ap (drop n) g.entries;

@@ -30,17 +30,17 @@ module _ (C : Cols) where
   unfolding first_entries tabulate tabulate_from replaced_in filter
   none_counted = refl
 
-  one_more_law : (i : ℕ) → replaced_in (first_entries C (i + 1)) ≡ replaced_in (first_entries C i) + replaced_in (entry_at C i ∷ [])
+  one_more_lem : (i : ℕ) → replaced_in (first_entries C (i + 1)) ≡ replaced_in (first_entries C i) + replaced_in (entry_at C i ∷ [])
   unfolding first_entries
-  one_more_law i =
+  one_more_lem i =
       let e : i + 1 ≡ suc i = omega arith in
       ap (λ (n : ℕ). replaced_in (tabulate n (entry_at C))) e ∙ ap replaced_in (tabulate_suc i (entry_at C)) ∙ replaced_append (tabulate i (entry_at C)) (entry_at C i ∷ [])
 
   module _ (i n : ℕ) (so_far : n ≡ replaced_in (first_entries C i)) where
     pub counted_more : at C journal_sort i < 2 → n + 1 ≡ replaced_in (first_entries C (i + 1))
     unfolding entry_at
-    counted_more l = omega (arith, one_more_law i, sort_low (at C journal_sort i) (at C journal_owner i) (at C journal_key i) (at C journal_kind i) (at C journal_content i) l)
+    counted_more l = omega (arith, one_more_lem i, sort_low (at C journal_sort i) (at C journal_owner i) (at C journal_key i) (at C journal_kind i) (at C journal_content i) l)
 
     pub counted_same : 2 ≤ at C journal_sort i → n ≡ replaced_in (first_entries C (i + 1))
     unfolding entry_at
-    counted_same l = omega (arith, one_more_law i, sort_high (at C journal_sort i) (at C journal_owner i) (at C journal_key i) (at C journal_kind i) (at C journal_content i) l)
+    counted_same l = omega (arith, one_more_lem i, sort_high (at C journal_sort i) (at C journal_owner i) (at C journal_key i) (at C journal_kind i) (at C journal_content i) l)

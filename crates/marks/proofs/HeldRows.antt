@@ -18,7 +18,7 @@ use Rattle.layout.proofs.Tabulate.{ops_length, blocks_length, regions_length, va
 use Rattle.calling.proofs.Facts.{laid, operands_counted, successors_counted, attributes_counted}
 use Rattle.journal.specs.Journal.{Entry, counts_of, MarkRow, snapshot_of, mark_of, placed_back}
 use Rattle.journal.specs.Words.{mark_count, journal_of, ranges_end, journal_holds}
-use Rattle.journal.proofs.ReadMark.{placed_mark, new_mark_law}
+use Rattle.journal.proofs.ReadMark.{placed_mark, new_mark_lem}
 use Rattle.marks.proofs.Tables.{TablesKept, store_kept, ranges_kept}
 use Rattle.marks.proofs.Listed.{Every, every_tabulate}
 use Rattle.marks.proofs.Standing.{Full, full_at, fulls_of, new_full, full_back}
@@ -46,9 +46,9 @@ rows_held C h =
 
 -- ---- the present
 
-ranges_end_law : (C : Cols) → Laid C → ranges_end C (counts_of (store_of C)) ≡ true
+ranges_end_lem : (C : Cols) → Laid C → ranges_end C (counts_of (store_of C)) ≡ true
 unfolding ranges_end counts_of
-ranges_end_law C h =
+ranges_end_lem C h =
     every_of _ (
       all_below_of (length (store_of C).ops) _
           (λ n l. let m : n < op_count C = omega (arith, ops_length C) in
@@ -66,12 +66,12 @@ pub present_held : (b : List ℕ) → IsSound b → (journal : List Entry) (k : 
 unfolding mark_of new_mark
 present_held b h journal k =
     let s = store_of (columns b) in
-    let same : snapshot_of s journal (record { number = k; counts = counts_of s; place = length journal }) ≡ s = ap (λ (m : Mark). m.snapshot) (new_mark_law s journal k) in
+    let same : snapshot_of s journal (record { number = k; counts = counts_of s; place = length journal }) ≡ s = ap (λ (m : Mark). m.snapshot) (new_mark_lem s journal k) in
     record {
       operands = sym (operands_counted b h) ∙ ap operand_total (sym same);
       successors = sym (successors_counted b h) ∙ ap successor_total (sym same);
       attributes = sym (attributes_counted b h) ∙ ap attribute_total (sym same);
-      ranges = ranges_end_law (columns b) (laid b h);
+      ranges = ranges_end_lem (columns b) (laid b h);
     }
 
 -- ---- when the journal before entry n goes

@@ -33,7 +33,7 @@ use Rattle.marks.proofs.Lent.{Lent}
 use Rattle.marks.proofs.Doing.{marked_work}
 use Rattle.marks.proofs.Tables.{TablesKept, store_kept, sound_kept}
 use Rattle.marks.proofs.Few.{numbered_few}
-use Rattle.marks.proofs.Sought.{rows_without_law}
+use Rattle.marks.proofs.Sought.{rows_without_lem}
 use Rattle.marks.proofs.Listed.{map_take, map_drop, map_length, Every, every_at, every_take, every_drop, every_append}
 use Rattle.marks.proofs.Standing.{Full, full_at, fulls_of, entries_of, row_in, rows_fulls, new_full, full_back, Stands, marks_stand, entries_stand, full_stands, rows_stand}
 use Rattle.marks.proofs.Holding.{FullHolds, full_of, holds_of}
@@ -47,9 +47,9 @@ use Rattle.marks.proofs.HeldRows.{rows_held, present_held, held_back, held_kept}
 abbrev kept_fulls : ℕ → List Full → List Full
 kept_fulls k fulls = take (place_in k (map row_in fulls)) fulls ++ drop (suc (place_in k (map row_in fulls))) fulls
 
-mark_taken_law : (B C : Cols) (fulls : List Full) (journal : List Entry) (k : ℕ) → mark_count C ≤ 8 → Stands B C fulls journal → Stands B (mark_taken C k) (kept_fulls k fulls) journal
+mark_taken_lem : (B C : Cols) (fulls : List Full) (journal : List Entry) (k : ℕ) → mark_count C ≤ 8 → Stands B C fulls journal → Stands B (mark_taken C k) (kept_fulls k fulls) journal
 unfolding mark_taken
-mark_taken_law B C fulls journal k few g =
+mark_taken_lem B C fulls journal k few g =
     subst (λ (p : ℕ). Stands B (cond (ltb p (mark_count C)) (row_taken C p) C) (kept_fulls k fulls) journal) (sym (ap (place_in k) (rows_stand g)))
     (go (ltb (place_in k (map row_in fulls)) (mark_count C)) refl)
   where
@@ -67,13 +67,13 @@ mark_taken_law B C fulls journal k few g =
 kept_rows : (k : ℕ) (fulls : List Full) → Numbered (map row_in fulls) → map row_in (kept_fulls k fulls) ≡ rows_without k (map row_in fulls)
 kept_rows k fulls p =
     let n = place_in k (map row_in fulls) in
-    map-append row_in (take n fulls) (drop (suc n) fulls) ∙ ap₂ ◌++◌ (map_take row_in n fulls) (map_drop row_in (suc n) fulls) ∙ sym (rows_without_law k (map row_in fulls) p)
+    map-append row_in (take n fulls) (drop (suc n) fulls) ∙ ap₂ ◌++◌ (map_take row_in n fulls) (map_drop row_in (suc n) fulls) ∙ sym (rows_without_lem k (map row_in fulls) p)
 
 -- ---- marks from 1 to 8
 
-pub is_mark_law : (k : ℕ) → 1 ≤ k → k ≤ 8 → is_mark k ≡ true
+pub is_mark_lem : (k : ℕ) → 1 ≤ k → k ≤ 8 → is_mark k ≡ true
 unfolding is_mark
-is_mark_law k l h = and_both _ _ (le-leb 1 k l) (le-leb k max_marks h)
+is_mark_lem k l h = and_both _ _ (le-leb 1 k l) (le-leb k max_marks h)
 
 module _ (b : List ℕ) (k : ℕ) where
   pub refused_as : is_mark k ≡ false → first_failed (marked_tests (marked_in b) (set_mark k)) ≡ some 16
@@ -111,7 +111,7 @@ module _ (b : List ℕ) (h : Lent b) (k : ℕ) (named : is_mark k ≡ true) wher
   others = kept_fulls k (fulls_of B)
 
   taken_so : Stands B (mark_taken (begun B) k) others remembered
-  taken_so = mark_taken_law B (begun B) (fulls_of B) remembered k begun_few begun_so
+  taken_so = mark_taken_lem B (begun B) (fulls_of B) remembered k begun_few begun_so
 
   -- the other rows are those without the mark
   other_rows : map row_in others ≡ rows_without k (rows_of B)

@@ -115,10 +115,10 @@ unfolding row_has_number
 only_one k r rs t h = filter_whole _ rs (none_there k rs (subst (λ (n : ℕ). any (row_has_number n) rs ≡ false) (eqb-true r.number k t) h))
 
 -- the row of the number goes, and no other
-pub rows_without_law : (k : ℕ) (rs : List MarkRow) → Numbered rs → rows_without k rs ≡ take (place_in k rs) rs ++ drop (suc (place_in k rs)) rs
+pub rows_without_lem : (k : ℕ) (rs : List MarkRow) → Numbered rs → rows_without k rs ≡ take (place_in k rs) rs ++ drop (suc (place_in k rs)) rs
 unfolding rows_without filter place_in
-rows_without_law k [] p = refl
-rows_without_law k (r ∷ rs) p = go (row_has_number k r) refl (rows_without_law k rs p.2)
+rows_without_lem k [] p = refl
+rows_without_lem k (r ∷ rs) p = go (row_has_number k r) refl (rows_without_lem k rs p.2)
   where
     rest : List MarkRow
     rest = filter (λ (q : MarkRow). not (row_has_number k q)) rs

@@ -12,10 +12,10 @@ use Rattle.rules.proofs.Basics.Tests.{all_at, clash}
 use Rattle.rules.proofs.Basics.Appended.{mem_get_d}
 use Rattle.rules.proofs.Form.Images.{position_some, position_kept, position_other}
 use Rattle.rules.proofs.Soundness.Sound.{facts}
-use Rattle.rules.proofs.Soundness.Children.{same_owner_law, values_in_law}
+use Rattle.rules.proofs.Soundness.Children.{same_owner_lem, values_in_lem}
 use Rattle.rules.proofs.Soundness.NewValues.{same_self}
 use Rattle.layout.specs.Reading.{owner_from, owner_code, tabulate_from, consecutive}
-use Rattle.layout.proofs.Ranges.{owner_read_law}
+use Rattle.layout.proofs.Ranges.{owner_read_lem}
 use Rattle.fragments.proofs.ByRows.{consecutive_length}
 use Rattle.numbering.specs.Words.{block_place, Tells, values_numbered, blocks_numbered, Stands, define_at, with_run}
 use Rattle.numbering.specs.Numbered.{numbered_all, values_in, blocks_in, Numbers}
@@ -134,7 +134,7 @@ owner_apart s sd v l =
     apart s sd (get_or s.values v no_value).owner (all_at (λ (x : Value). owner_exists s x.owner) s.values (facts s sd).values_in (mem_get_d s.values v no_value l))
 
 same_code : (a b : Owner) → owner_code a ≡ owner_code b → a ≡ b
-same_code a b e = sym (owner_read_law a) ∙ ap owner_from e ∙ owner_read_law b
+same_code a b e = sym (owner_read_lem a) ∙ ap owner_from e ∙ owner_read_lem b
 
 -- ---- an owner's values
 
@@ -165,7 +165,7 @@ module _ (s : Store) (sd : sound s ≡ true) (w : Owner) (here : owner_exists s 
         out none p = p
         out (some i) p =
             let q = position_some v (values_of s w) i p in
-            absurd (ne (values_in_law s w (subst (λ (x : ℕ). Memᴰ x (values_of s w)) q.1 (mem_get_d (values_of s w) i 0 q.0))).1)
+            absurd (ne (values_in_lem s w (subst (λ (x : ℕ). Memᴰ x (values_of s w)) q.1 (mem_get_d (values_of s w) i 0 q.0))).1)
 
     values_defined : Stands s (record { values = N.values ++ values_of s w; blocks = N.blocks }) after
     values_defined =
@@ -180,7 +180,7 @@ module _ (s : Store) (sd : sound s ≡ true) (w : Owner) (here : owner_exists s 
       where
         by : (v : ℕ) → v < length s.values → (b : Bool) → same_owner (value_at s v).owner w ≡ b → Tells (get_or after (owner_code (value_at s v).owner) 0) v (position v (N.values ++ values_of s w))
         by v l true t =
-            let e = same_owner_law (value_at s v).owner w t in
+            let e = same_owner_lem (value_at s v).owner w t in
             subst (λ (o : Owner). Tells (get_or after (owner_code o) 0) v (position v (N.values ++ values_of s w))) (sym e) (own v l e)
         by v l false t = others v l (λ e. clash (subst (λ (o : Owner). same_owner o w ≡ true) (sym e) (same_self w)) t)
 

@@ -6,7 +6,7 @@ use Rattle.rules.specs.Store.{Store, Value, Owner, of_op, of_block, value_at, va
 use Rattle.rules.specs.Fragments.{shell, step_defines, block_owner}
 use Rattle.layout.specs.Columns.{Cols, at, value_owner}
 use Rattle.layout.specs.Reading.{op_count, block_count, value_count, owner_from, owner_code, value_of, store_of}
-use Rattle.layout.proofs.Tabulate.{value_read, op_exists_law, block_exists_law, values_length}
+use Rattle.layout.proofs.Tabulate.{value_read, op_exists_lem, block_exists_lem, values_length}
 use Rattle.fragments.specs.Rows.{RowOf}
 use Rattle.fragments.specs.declared.types.Row.{Row}
 use Rattle.fragments.proofs.ByRows.{row_count}
@@ -18,9 +18,9 @@ pub row_room : {C : Cols} {w : Owner} {r : Row} → RowOf C w r → {ns : List �
 unfolding values_in concat_map step_defines
 row_room {C} {w} h m = omega (arith, m.values, row_count h, ap length (append-nil (values_of (store_of C) w)))
 
-pub block_room_law : {s : Store} {n : ℕ} {ns : List ℕ} → DefinitionsFit s (shell (of_block n) ∷ []) ns → blocks_numbered ns < max_blocks
+pub block_room_lem : {s : Store} {n : ℕ} {ns : List ℕ} → DefinitionsFit s (shell (of_block n) ∷ []) ns → blocks_numbered ns < max_blocks
 unfolding blocks_in concat_map step_defines block_owner
-block_room_law m = omega (arith, m.blocks)
+block_room_lem m = omega (arith, m.blocks)
 
 -- the word in the column of owners is the owner's code
 code_read : (w : ℕ) → owner_code (owner_from w) ≡ w
@@ -31,17 +31,17 @@ code_read w = go (ℕ_discrete (w % 2) 0)
     go (yes e) = rw (eq-eqb (w % 2) 0 e) (omega arith)
     go (no ne) = rw (ne_eqb (w % 2) 0 ne) (omega arith)
 
-pub owner_code_law : (C : Cols) (v : ℕ) → v < value_count C → owner_code (value_at (store_of C) v).owner ≡ at C value_owner v
+pub owner_code_lem : (C : Cols) (v : ℕ) → v < value_count C → owner_code (value_at (store_of C) v).owner ≡ at C value_owner v
 unfolding value_of
-owner_code_law C v l = ap (λ (x : Value). owner_code x.owner) (value_read C v l) ∙ code_read (at C value_owner v)
+owner_code_lem C v l = ap (λ (x : Value). owner_code x.owner) (value_read C v l) ∙ code_read (at C value_owner v)
 
 -- what is below the count is there
 pub op_there : (C : Cols) (n : ℕ) → n < op_count C → op_exists (store_of C) n ≡ true
-op_there C n l = op_exists_law C n ∙ lt-ltb n (op_count C) l
+op_there C n l = op_exists_lem C n ∙ lt-ltb n (op_count C) l
 
 pub block_there : (C : Cols) (b : ℕ) → b < block_count C → block_exists (store_of C) b ≡ true
-block_there C b l = block_exists_law C b ∙ lt-ltb b (block_count C) l
+block_there C b l = block_exists_lem C b ∙ lt-ltb b (block_count C) l
 
 -- a value's owner has a word among the first 1,024
 pub owner_low : (C : Cols) → sound (store_of C) ≡ true → (v : ℕ) → v < value_count C → at C value_owner v < 1024
-owner_low C sd v l = subst (λ (k : ℕ). k < 1024) (owner_code_law C v l) (owner_apart (store_of C) sd v (subst (λ (k : ℕ). v < k) (sym (values_length C)) l)).low
+owner_low C sd v l = subst (λ (k : ℕ). k < 1024) (owner_code_lem C v l) (owner_apart (store_of C) sd v (subst (λ (k : ℕ). v < k) (sym (values_length C)) l)).low

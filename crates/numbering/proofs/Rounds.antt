@@ -51,7 +51,7 @@ module _ (s : Store) where
 
   pub region_list : sound s ≡ true → (r : ℕ) → in_region r ≡ listed_steps s (block_list s (InRegion r))
   unfolding listed_steps full_steps block_list
-  region_list sd r = enough.region_steps_law s sd r
+  region_list sd r = enough.region_steps_lem s sd r
 
 module _ {A : Type 0} (W : StepRelation A) (s : Store) (n : ℕ) {a b : A} (does : W.Does (names n ∷ []) a b) (rs : List ℕ) (e : regions_of s n ≡ rs) where
   pub regions_room : W.Room (full_steps s n) a → W.Room (concat_map (in_region s) rs) b
@@ -84,8 +84,8 @@ each f = record { none = refl; some = λ n xs. refl }
 abbrev pub each_shell : (ℕ → Owner) → List ℕ → List Step
 each_shell w ns = map (λ (n : ℕ). shell (w n)) ns
 
-pub each_shell_law : (w : ℕ → Owner) → StepsOf (each_shell w) (λ (n : ℕ). shell (w n) ∷ [])
-each_shell_law w = record { none = refl; some = λ n xs. refl }
+pub each_shell_lem : (w : ℕ → Owner) → StepsOf (each_shell w) (λ (n : ℕ). shell (w n) ∷ [])
+each_shell_lem w = record { none = refl; some = λ n xs. refl }
 
 module _ (s : Store) (bs : List ℕ) where
   abbrev pub first_pass : List Step
@@ -130,9 +130,9 @@ pub block_steps : (s : Store) (n : ℕ) → steps s block n ≡ listed_steps s (
 unfolding steps listed_steps full_steps block_list
 block_steps s n = refl
 
-pub region_steps_law : (s : Store) → sound s ≡ true → (n : ℕ) → steps s region n ≡ listed_steps s (block_list s (InRegion n))
+pub region_steps_lem : (s : Store) → sound s ≡ true → (n : ℕ) → steps s region n ≡ listed_steps s (block_list s (InRegion n))
 unfolding steps
-region_steps_law s sd n = region_list s sd n
+region_steps_lem s sd n = region_list s sd n
 
 module _ {A : Type 0} (W : StepRelation A) (s : Store) (f : Sort) (n : ℕ) (xs : List Step) (e : steps s f n ≡ xs) {a : A} where
   pub steps_room : W.Room (steps s f n) a → W.Room xs a

@@ -67,10 +67,10 @@ rest C o l r =
     ∷ [])
 
 module _ {C : Cols} (o : Options) {a b : ℕ} {l r : Row} where
-  pub op_shells_law : {h g : Head} → HeadOf (store_of C) a h → HeadOf (store_of C) b g → RowOf C (of_op a) l → RowOf C (of_op b) r
+  pub op_shells_lem : {h g : Head} → HeadOf (store_of C) a h → HeadOf (store_of C) b g → RowOf C (of_op a) l → RowOf C (of_op b) r
       → same_shells (under o (store_of C)) o.ignore (of_op a) (of_op b) ≡ same_heads h g && same_rows C o l r
   unfolding same_shells every same_list same_heads same_rows
-  op_shells_law {h} {g} eh eg el er =
+  op_shells_lem {h} {g} eh eg el er =
       (λ i.
       every
       (same_list eqb (counts_read o eh el i) (counts_read o eg er i)
@@ -80,9 +80,9 @@ module _ {C : Cols} (o : Options) {a b : ℕ} {l r : Row} where
       ∷ []))
       ∙ regrouped (eqb h.kind g.kind) (eqb h.regions g.regions) (eqb h.successors g.successors) (eqb h.operands g.operands) (eqb l.values r.values) (rest C o l r)
 
-  pub block_shells_law : RowOf C (of_block a) l → RowOf C (of_block b) r → same_shells (under o (store_of C)) o.ignore (of_block a) (of_block b) ≡ same_rows C o l r
+  pub block_shells_lem : RowOf C (of_block a) l → RowOf C (of_block b) r → same_shells (under o (store_of C)) o.ignore (of_block a) (of_block b) ≡ same_rows C o l r
   unfolding same_shells counts_of every same_list same_rows
-  block_shells_law el er =
+  block_shells_lem el er =
       (λ i.
       every
       (same_list eqb (values_many o el i ∷ []) (values_many o er i ∷ [])

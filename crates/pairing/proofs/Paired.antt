@@ -22,7 +22,7 @@ use Rattle.fragments.proofs.ByRows.{head_of_op, head_whole}
 use Rattle.pairing.specs.Rows.{same_heads, same_rows}
 use Rattle.pairing.specs.Told.{answer_of, state_of, outcome, Told}
 use Rattle.pairing.specs.declared.types.EqResult.TheVariants.{Eq, FirstNEQOps, FirstNEQBlocks}
-use Rattle.pairing.proofs.Alike.{op_shells_law, block_shells_law, as_many}
+use Rattle.pairing.proofs.Alike.{op_shells_lem, block_shells_lem, as_many}
 
 -- ---- the values of two rows
 
@@ -46,12 +46,12 @@ module _ (b : List ℕ) (o : Options) (x y : ℕ) {l r : Row} where
   pub op_side : IsSound b → x < op_count (columns b) → y < op_count (columns b) → RowOf (columns b) (of_op x) l → RowOf (columns b) (of_op y) r
       → same_shells (under o (store_in b)) o.ignore (of_op x) (of_op y) ≡ true → Side (columns b) (of_op x) (of_op y) l r
   op_side s lx ly el er t =
-      let same = sym (op_shells_law o (head_whole b s x lx) (head_whole b s y ly) el er) ∙ t in
+      let same = sym (op_shells_lem o (head_whole b s x lx) (head_whole b s y ly) el er) ∙ t in
       side el er (as_many (columns b) o l r (and_right (same_heads (head_of_op (columns b) x) (head_of_op (columns b) y)) (same_rows (columns b) o l r) same))
 
   pub block_side : RowOf (columns b) (of_block x) l → RowOf (columns b) (of_block y) r → same_shells (under o (store_in b)) o.ignore (of_block x) (of_block y) ≡ true
       → Side (columns b) (of_block x) (of_block y) l r
-  block_side el er t = side el er (as_many (columns b) o l r (sym (block_shells_law o el er) ∙ t))
+  block_side el er t = side el er (as_many (columns b) o l r (sym (block_shells_lem o el er) ∙ t))
 
 -- ---- what is told
 

@@ -32,7 +32,7 @@ use Rattle.marks.proofs.Lent.{Lent, lent_facts}
 use Rattle.marks.proofs.Holding.{Remembered}
 use Rattle.remembering.specs.Raw.{replaced_count}
 use Rattle.remembering.proofs.Lent.{held_facts, held_of, journal_length}
-use Rattle.remembering.proofs.Kept.{Kept, rows_kept, row_holds_law}
+use Rattle.remembering.proofs.Kept.{Kept, rows_kept, row_holds_lem}
 
 -- ---- tests, and more behind them
 
@@ -80,9 +80,9 @@ module _ (b : List ℕ) (h : IsLent b) (c : Call) where
 
   -- ---- the tests
 
-  pub can_remember_law : can_remember (marked_in b) c ≡ (not (replaces s c) || ltb (replaced_in (journal_of C)) max_remembered)
+  pub can_remember_lem : can_remember (marked_in b) c ≡ (not (replaces s c) || ltb (replaced_in (journal_of C)) max_remembered)
   unfolding can_remember marked_of journaled_of TestsRead
-  can_remember_law = ap (λ (n : ℕ). not (replaces s c) || ltb n max_remembered) ((tests_read j).1 lent.journal)
+  can_remember_lem = ap (λ (n : ℕ). not (replaces s c) || ltb n max_remembered) ((tests_read j).1 lent.journal)
 
   fails : (cause : ℕ) → first_failed (tests s c) ≡ some cause → failing ≡ some cause
   unfolding marked_tests marked_of journaled_of
@@ -138,7 +138,7 @@ module _ (b : List ℕ) (h : IsLent b) (c : Call) where
               counted = counted m;
               rows = λ i n.
                   let e : i < mark_count C = subst (λ (x : ℕ). i < x) k.marks n in
-                  row_holds_law C D k c lent.tables.ruled clear reads longer (facts j lent.journal).rising i e ∙ was.rows i e;
+                  row_holds_lem C D k c lent.tables.ruled clear reads longer (facts j lent.journal).rising i e ∙ was.rows i e;
             }
 
         pub marked_work : (r : Built) → built_of r ≡ acceptance s c → DidMarked b exit (build c) r

@@ -20,7 +20,7 @@ use Rattle.layout.proofs.Scans.{below_cong}
 use Rattle.layout.proofs.Tabulate.{length_tabulate, get_d_tabulate, ops_length, blocks_length}
 use Rattle.journal.specs.Journal.{Counts, counts_of, counts_within, no_counts, snapshot_of, entries_for}
 use Rattle.journal.specs.Words.{mark_count, row_counts, row_at, rows_of, journal_of, ranges_end, totals_kept, row_holds}
-use Rattle.journal.proofs.Rows.{Rising, Between, row_at_law}
+use Rattle.journal.proofs.Rows.{Rising, Between, row_at_lem}
 use Rattle.journal.proofs.ReadCall.{call_snapshot}
 
 -- the rows of marks, and where ranges end
@@ -43,21 +43,21 @@ abbrev counts_from : List ℕ → ℕ → Counts
 counts_from xs i = record { ops = get_or xs (8 * i) 0; blocks = get_or xs (8 * i + 1) 0; regions = get_or xs (8 * i + 2) 0; values = get_or xs (8 * i + 3) 0 }
 
 module _ (C D : Cols) (k : Kept C D) where
-  row_counts_law : (i : ℕ) → row_counts D i ≡ row_counts C i
+  row_counts_lem : (i : ℕ) → row_counts D i ≡ row_counts C i
   unfolding row_counts at
-  row_counts_law i = ap (λ (xs : List ℕ). counts_from xs i) k.counts
+  row_counts_lem i = ap (λ (xs : List ℕ). counts_from xs i) k.counts
 
-  pub row_kept_law : (i : ℕ) → row_at D i ≡ row_at C i
+  pub row_kept_lem : (i : ℕ) → row_at D i ≡ row_at C i
   unfolding row_at at
-  row_kept_law i = λ z. record { number = get_or (k.numbers z) i 0; counts = row_counts_law i z; place = get_or (k.places z) i 0 }
+  row_kept_lem i = λ z. record { number = get_or (k.numbers z) i 0; counts = row_counts_lem i z; place = get_or (k.places z) i 0 }
 
   pub rows_kept : rows_of D ≡ rows_of C
   unfolding rows_of
-  rows_kept = λ z. tabulate (k.marks z) (λ (i : ℕ). row_kept_law i z)
+  rows_kept = λ z. tabulate (k.marks z) (λ (i : ℕ). row_kept_lem i z)
 
-  totals_kept_law : (i : ℕ) {s t : Store} → s ≡ t → totals_kept D i s ≡ totals_kept C i t
+  totals_kept_lem : (i : ℕ) {s t : Store} → s ≡ t → totals_kept D i s ≡ totals_kept C i t
   unfolding totals_kept at
-  totals_kept_law i e =
+  totals_kept_lem i e =
       λ z. every
       (eqb (get_or (k.counts z) (8 * i + 4) 0) (operand_total (e z))
       ∷ eqb (get_or (k.counts z) (8 * i + 5) 0) (successor_total (e z))
@@ -78,17 +78,17 @@ module _ (C D : Cols) (k : Kept C D) where
   pub row_same : (i : ℕ) → snapshot_of (store_of D) (journal_of D) (row_at D i) ≡ snapshot_of (store_of C) (journal_of C) (row_at C i)
       → counts_within (row_counts C i) (counts_of (store_of C)) ≡ true → row_holds D i ≡ row_holds C i
   unfolding row_holds
-  row_same i e w = ap₂ ◌&&◌ (totals_kept_law i e) (ap (ranges_end D) (row_counts_law i) ∙ ranges_kept (row_counts C i) w)
+  row_same i e w = ap₂ ◌&&◌ (totals_kept_lem i e) (ap (ranges_end D) (row_counts_lem i) ∙ ranges_kept (row_counts C i) w)
 
   -- each row has its place in the journal, and counts no more than there is
   pub row_between : Rising 0 no_counts (length (journal_of C)) (counts_of (store_of C)) (rows_of C) → (i : ℕ) → i < mark_count C
       → Between 0 no_counts (length (journal_of C)) (counts_of (store_of C)) (row_at C i)
   unfolding rows_of
-  row_between rising i l = row_at_law 0 no_counts _ _ (rows_of C) rising (mem_tabulate (mark_count C) (row_at C) i l)
+  row_between rising i l = row_at_lem 0 no_counts _ _ (rows_of C) rising (mem_tabulate (mark_count C) (row_at C) i l)
 
   module _ (c : Call) (h : sound (store_of C) ≡ true) (f : first_failed (tests (store_of C) c) ≡ none) (reads : store_of D ≡ applied (store_of C) c) (journal : journal_of D ≡ journal_of C ++ entries_for (store_of C) c) where
-    pub row_holds_law : Rising 0 no_counts (length (journal_of C)) (counts_of (store_of C)) (rows_of C) → (i : ℕ) → i < mark_count C → row_holds D i ≡ row_holds C i
+    pub row_holds_lem : Rising 0 no_counts (length (journal_of C)) (counts_of (store_of C)) (rows_of C) → (i : ℕ) → i < mark_count C → row_holds D i ≡ row_holds C i
     unfolding row_at
-    row_holds_law rising i l =
+    row_holds_lem rising i l =
         let b = row_between rising i l in
-        row_same i ((λ z. snapshot_of (reads z) (journal z) (row_kept_law i z)) ∙ call_snapshot (store_of C) c h f (journal_of C) (row_at C i) b.to b.fewer) b.fewer
+        row_same i ((λ z. snapshot_of (reads z) (journal z) (row_kept_lem i z)) ∙ call_snapshot (store_of C) c h f (journal_of C) (row_at C i) b.to b.fewer) b.fewer

@@ -17,21 +17,21 @@ use Rattle.marks.specs.Doing.{IsLent}
 use Rattle.marks.proofs.Lent.{lent_facts}
 use Rattle.remembering.specs.Raw.{replaced_count}
 use Rattle.remembering.proofs.Lent.{held_counted}
-use Rattle.remembering.proofs.Done.{can_remember_law}
+use Rattle.remembering.proofs.Done.{can_remember_lem}
 
 module _ (b : List ℕ) (h : IsLent b) (l : 0 < mark_count (columns b)) (c : Call) where
   counted : replaced_count (columns b) ≡ replaced_in (journal_of (columns b))
   counted = held_counted (columns b) l (lent_facts b h).holds
 
   pub new_fits : replaces (store_in b) c ≡ false → can_remember (marked_in b) c ≡ true
-  new_fits e = can_remember_law b h c ∙ or_left _ (ltb (replaced_in (journal_of (columns b))) max_remembered) (ap not e)
+  new_fits e = can_remember_lem b h c ∙ or_left _ (ltb (replaced_in (journal_of (columns b))) max_remembered) (ap not e)
 
   pub one_fits : leb max_remembered (replaced_count (columns b)) ≡ false → can_remember (marked_in b) c ≡ true
   one_fits e =
-      can_remember_law b h c
+      can_remember_lem b h c
       ∙ or_right (not (replaces (store_in b) c)) _ (lt-ltb (replaced_in (journal_of (columns b))) max_remembered (omega (arith, counted, leb-false max_remembered (replaced_count (columns b)) e)))
 
   pub none_fits : leb max_remembered (replaced_count (columns b)) ≡ true → replaces (store_in b) c ≡ true → can_remember (marked_in b) c ≡ false
   none_fits e r =
-      can_remember_law b h c
+      can_remember_lem b h c
       ∙ ap₂ (λ (x y : Bool). not x || y) r (le-ltb (replaced_in (journal_of (columns b))) max_remembered (omega (arith, counted, leb-true max_remembered (replaced_count (columns b)) e)))

@@ -25,7 +25,7 @@ use Rattle.marks.proofs.Bare.{no_journal}
 use Rattle.remembering.specs.Raw.{replaced_count}
 use Rattle.remembering.proofs.Lent.{held_counted}
 use Rattle.remembering.proofs.Kept.{Kept}
-use Rattle.remembering.proofs.Done.{remembered_behind, can_remember_law, marked_refuse, marked_work}
+use Rattle.remembering.proofs.Done.{remembered_behind, can_remember_lem, marked_refuse, marked_work}
 
 -- ---- what marks rest on is as it was
 
@@ -99,7 +99,7 @@ module _ (b : List ℕ) (h : IsLent b) (exit : List ℕ) (c : Call) (r : Built) 
   unfolding rows_of tabulate tabulate_from remembered_in replaced_in filter
   unmarked_call e =
       none_remembered
-      (can_remember_law b h c ∙ or_right (not (replaces s c)) _ (ap (λ (es : List Entry). ltb (replaced_in es) max_remembered) (no_journal C e)))
+      (can_remember_lem b h c ∙ or_right (not (replaces s c)) _ (ap (λ (es : List Entry). ltb (replaced_in es) max_remembered) (no_journal C e)))
       (ap (λ (n : ℕ). remembered_in (tabulate n (row_at C)) (journal_of C) (entries_for s c)) e ∙ sym (no_journal C e))
 
   pub adding_call : replaces s c ≡ false → entries_for s c ≡ [] → DidMarked b exit (build c) r
@@ -110,5 +110,5 @@ module _ (b : List ℕ) (h : IsLent b) (exit : List ℕ) (c : Call) (r : Built) 
       go zero e = unmarked_call e
       go (suc n) e =
           none_remembered
-          (can_remember_law b h c ∙ or_left _ (ltb (replaced_in (journal_of C)) max_remembered) (ap not new))
+          (can_remember_lem b h c ∙ or_left _ (ltb (replaced_in (journal_of C)) max_remembered) (ap not new))
           (remembered_behind (mark_count C) (row_at C) (journal_of C) (entries_for s c) (omega arith) ∙ ap (λ (es : List Entry). journal_of C ++ es) empty ∙ append-nil (journal_of C))

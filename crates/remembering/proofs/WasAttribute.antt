@@ -16,7 +16,7 @@ use Rattle.layout.specs.Columns.{Cols, buffer_length, column_size, columns}
 use Rattle.layout.specs.Reading.{slots_of, attribute_at, attributes_from, store_in}
 use Rattle.layout.specs.Soundness.{IsSound}
 use Rattle.layout.specs.Owners.{count_column, owner_number, key_count}
-use Rattle.layout.proofs.Ranges.{owner_read_law}
+use Rattle.layout.proofs.Ranges.{owner_read_lem}
 use Rattle.layout.proofs.Tabulate.{length_tabulate, get_d_tabulate}
 use Rattle.calling.specs.declared.types.Built.TheVariants as Builts
 use Rattle.calling.specs.Doing.{Did}
@@ -109,20 +109,20 @@ module _ (b : List ℕ) (h : IsSound b) (w : Owner) (e : owner_exists (store_in 
     unfolding replaces
     key_replaced t k = key_is t k
 
-    pub attribute_entry_law : (slot : ℕ) → key_there (columns b) w a.key ≡ true → slot ≡ slot_for (columns b) w a.key
+    pub attribute_entry_lem : (slot : ℕ) → key_there (columns b) w a.key ≡ true → slot ≡ slot_for (columns b) w a.key
         → entry_of (attribute_entry (columns b) w slot) ∷ [] ≡ entries_for (store_in b) (set_attribute w a)
     unfolding entry_of entry_from attribute_entry entries_for attribute_at
-    attribute_entry_law slot k q =
+    attribute_entry_lem slot k q =
         let C = columns b in
-        ap (λ (u : Owner). attribute_was u (attribute_at C slot) ∷ []) (owner_read_law w)
+        ap (λ (u : Owner). attribute_was u (attribute_at C slot) ∷ []) (owner_read_lem w)
         ∙ ap (λ (x : Attribute). remembered true x)
         (ap (attribute_at C) q ∙ sym (slot_attribute C w a a.key k) ∙ ap (attribute_or a a.key) (sym (attributes_read b h w e)))
         ∙ ap (λ (t : Bool). remembered t (attribute_or a a.key (attributes_of (store_in b) w))) (sym (key_is true k))
 
-    pub key_entry_law : key_there (columns b) w a.key ≡ false → entry_of (key_entry w a.key) ∷ [] ≡ entries_for (store_in b) (set_attribute w a)
+    pub key_entry_lem : key_there (columns b) w a.key ≡ false → entry_of (key_entry w a.key) ∷ [] ≡ entries_for (store_in b) (set_attribute w a)
     unfolding entry_of entry_from key_entry entries_for
-    key_entry_law k =
-        ap (λ (u : Owner). key_was_none u a.key ∷ []) (owner_read_law w)
+    key_entry_lem k =
+        ap (λ (u : Owner). key_was_none u a.key ∷ []) (owner_read_lem w)
         ∙ ap (λ (t : Bool). remembered t (attribute_or a a.key (attributes_of (store_in b) w))) (sym (key_is false k))
 
 -- ---- the call
@@ -132,8 +132,8 @@ module _ (b : List ℕ) (h : IsLent b) (w : Owner) (a : Attribute) (l : 0 < mark
   did : Did b mid (set_attribute w a) Builts.Accepted
   did = attribute_done b (lent_facts b h).tables w a mid clear len q
 
-  pub attribute_room_law : (length mid ≡ buffer_length) × ((entry_count (columns mid) < max_entries) × (replaced_count (columns mid) ≤ max_remembered))
-  attribute_room_law = (len ∙ (lent_facts b h).tables.sized, entry_room b h (set_attribute w a) l clear can e is mid _ did)
+  pub attribute_room_lem : (length mid ≡ buffer_length) × ((entry_count (columns mid) < max_entries) × (replaced_count (columns mid) ≤ max_remembered))
+  attribute_room_lem = (len ∙ (lent_facts b h).tables.sized, entry_room b h (set_attribute w a) l clear can e is mid _ did)
 
   pub attribute_remembered : (exit : List ℕ) → length exit ≡ length mid → columns exit ≡ with_entry (columns mid) e → DidMarked b exit (build (set_attribute w a)) Builts.Accepted
   attribute_remembered exit more written = remembered_call b h (set_attribute w a) l clear can e is mid _ did exit more written

@@ -28,9 +28,9 @@ use Rattle.remembering.proofs.Room.{one_fits}
 use Rattle.remembering.proofs.Remembered.{entry_room, remembered_call}
 
 module _ (b : List ℕ) (h : IsSound b) (n i v : ℕ) (clear : first_failed (tests (store_in b) (set_operand (record { operation = n; index = i; value = v }))) ≡ none) where
-  pub operand_entry_law : entry_of (operand_entry (columns b) n i) ∷ [] ≡ entries_for (store_in b) (set_operand (record { operation = n; index = i; value = v }))
+  pub operand_entry_lem : entry_of (operand_entry (columns b) n i) ∷ [] ≡ entries_for (store_in b) (set_operand (record { operation = n; index = i; value = v }))
   unfolding entry_of entry_from operand_entry entries_for op_of at
-  operand_entry_law =
+  operand_entry_lem =
       let C = columns b in
       let t = there_operand b h n i v clear in
       ap (λ (x : ℕ). operand_was n i x ∷ [])
@@ -49,10 +49,10 @@ module _ (b : List ℕ) (h : IsLent b) (n i v : ℕ) (l : 0 < mark_count (column
   did : Did b mid c Builts.Accepted
   did = operand_done b tables n i v clear mid len q
 
-  pub operand_room_law : (length mid ≡ buffer_length) × ((entry_count (columns mid) < max_entries) × (replaced_count (columns mid) ≤ max_remembered))
-  operand_room_law =
-      (len ∙ tables.sized, entry_room b h c l clear (one_fits b h l c room) (operand_entry (columns b) n i) (operand_entry_law b tables n i v clear) mid _ did)
+  pub operand_room_lem : (length mid ≡ buffer_length) × ((entry_count (columns mid) < max_entries) × (replaced_count (columns mid) ≤ max_remembered))
+  operand_room_lem =
+      (len ∙ tables.sized, entry_room b h c l clear (one_fits b h l c room) (operand_entry (columns b) n i) (operand_entry_lem b tables n i v clear) mid _ did)
 
   pub operand_remembered : (exit : List ℕ) → length exit ≡ length mid → columns exit ≡ with_entry (columns mid) (operand_entry (columns b) n i) → DidMarked b exit (build c) Builts.Accepted
   operand_remembered exit more written =
-      remembered_call b h c l clear (one_fits b h l c room) (operand_entry (columns b) n i) (operand_entry_law b tables n i v clear) mid _ did exit more written
+      remembered_call b h c l clear (one_fits b h l c room) (operand_entry (columns b) n i) (operand_entry_lem b tables n i v clear) mid _ did exit more written

@@ -132,12 +132,12 @@ rows_same f g f' g' i (suc k) p q =
 
 -- ---- lists of words
 
-nothing_left_law : (xs : List ℕ) (n : ℕ) → length xs ≡ n → drop n xs ≡ []
-nothing_left_law xs n e = ap (λ (m : ℕ). drop m xs) (sym e) ∙ drop-length xs
+nothing_left_lem : (xs : List ℕ) (n : ℕ) → length xs ≡ n → drop n xs ≡ []
+nothing_left_lem xs n e = ap (λ (m : ℕ). drop m xs) (sym e) ∙ drop-length xs
 
 -- the words of a list of renamed types
 pub list_rows : (xs : List ℕ) (i k : ℕ) → length xs ≡ 2 * (i + k) → drop (2 * i) xs ≡ rows_by (λ j. get_or xs (2 * j) 0) (λ j. get_or xs (2 * j + 1) 0) i k
-list_rows xs i zero e = nothing_left_law xs (2 * i) (omega arith)
+list_rows xs i zero e = nothing_left_lem xs (2 * i) (omega arith)
 list_rows xs i (suc k) e =
     drop-cons xs (2 * i) 0 (omega arith)
     ∙ ap (λ (l : List ℕ). get_or xs (2 * i) 0 ∷ l)
@@ -148,7 +148,7 @@ list_rows xs i (suc k) e =
 -- the words of an index, behind its buckets
 pub index_rows : (w : List ℕ) (i k : ℕ) → length w ≡ 64 + 3 * (i + k) → rows_in (drop (64 + 3 * i) w) ≡ rows_by (old_at w) (now_at w) i k
 unfolding rows_in
-index_rows w i zero e = ap rows_in (nothing_left_law w (64 + 3 * i) (omega arith))
+index_rows w i zero e = ap rows_in (nothing_left_lem w (64 + 3 * i) (omega arith))
 index_rows w i (suc k) e =
     ap rows_in three
     ∙ ap (λ (l : List ℕ). old_at w i ∷ now_at w i ∷ l) (index_rows w (suc i) k (omega arith))
@@ -164,8 +164,8 @@ index_rows w i (suc k) e =
         ∙ ap (λ (l : List ℕ). now_at w i ∷ l) (at (66 + 3 * i) (64 + 3 * suc i) (omega arith) (omega arith)))
 
 -- a half row
-pub half_row_law : (xs : List ℕ) → (length xs % 2 ≡ 0 → ⊥) → whole_rows xs ≡ false
+pub half_row_lem : (xs : List ℕ) → (length xs % 2 ≡ 0 → ⊥) → whole_rows xs ≡ false
 unfolding whole_rows
-half_row_law [] h = absurd (h refl)
-half_row_law (x ∷ []) h = refl
-half_row_law (x ∷ y ∷ xs) h = half_row_law xs (λ e. h (omega arith))
+half_row_lem [] h = absurd (h refl)
+half_row_lem (x ∷ []) h = refl
+half_row_lem (x ∷ y ∷ xs) h = half_row_lem xs (λ e. h (omega arith))

@@ -14,8 +14,8 @@ pub no_list : list_in [] ≡ []
 unfolding list_in rows_in
 no_list = refl
 
-pub no_words_law : IsIndex []
-no_words_law = nothing refl
+pub no_words_lem : IsIndex []
+no_words_lem = nothing refl
 
 none_holds : types_hold (list_in []) ≡ true
 unfolding types_hold list_in rows_in whole_rows old_types present_types each_once every all

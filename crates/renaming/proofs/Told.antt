@@ -15,7 +15,7 @@ use Rattle.layout.proofs.Scans.{Before, fails}
 use Rattle.renaming.specs.Index.{bucket_of, list_in, old_at, now_at, link_at, Link, Entered, Found, table, Rows, none_renamed, Indexes}
 use Rattle.renaming.proofs.Making.{link_kept}
 use Rattle.renaming.proofs.Flat.{rows_by, run, run_length, run_all, run_fails, stands_none, stands_one, once, twice}
-use Rattle.renaming.proofs.Flat.{rows_whole, rows_old, rows_present, rows_same, list_rows, index_rows, half_row_law}
+use Rattle.renaming.proofs.Flat.{rows_whole, rows_old, rows_present, rows_same, list_rows, index_rows, half_row_lem}
 
 -- the rules' tests, in their order
 abbrev tests : List ℕ → List Bool
@@ -31,7 +31,7 @@ unfolding types_hold
 test_fails types i h = fails (tests types) i h
 
 pub half_fails : (types : List ℕ) → (length types % 2 ≡ 0 → ⊥) → types_hold types ≡ false
-half_fails types h = test_fails types 0 (half_row_law types h)
+half_fails types h = test_fails types 0 (half_row_lem types h)
 
 pub once_fails : (types : List ℕ) → each_once (old_types types) ≡ false → types_hold types ≡ false
 once_fails types h = test_fails types 2 h
@@ -51,14 +51,14 @@ module _ (types : List ℕ) (whole : length types % 2 ≡ 0) where
   in_rows : types ≡ rows_by old now 0 (length types / 2)
   in_rows = list_rows types 0 (length types / 2) (omega arith)
 
-  old_types_law : old_types types ≡ run old 0 (length types / 2)
-  old_types_law = ap old_types in_rows ∙ rows_old old now 0 (length types / 2)
+  old_types_lem : old_types types ≡ run old 0 (length types / 2)
+  old_types_lem = ap old_types in_rows ∙ rows_old old now 0 (length types / 2)
 
-  present_types_law : present_types types ≡ run now 0 (length types / 2)
-  present_types_law = ap present_types in_rows ∙ rows_present old now 0 (length types / 2)
+  present_types_lem : present_types types ≡ run now 0 (length types / 2)
+  present_types_lem = ap present_types in_rows ∙ rows_present old now 0 (length types / 2)
 
   rows_counted : length (old_types types) ≡ length types / 2
-  rows_counted = ap length old_types_law ∙ run_length old 0 (length types / 2)
+  rows_counted = ap length old_types_lem ∙ run_length old 0 (length types / 2)
 
   pub many_fails : 128 < length types → types_hold types ≡ false
   many_fails l = test_fails types 1 (lt-leb (length (old_types types)) 64 (omega (arith, rows_counted)))
@@ -72,14 +72,14 @@ module _ (types : List ℕ) (whole : length types % 2 ≡ 0) where
   -- an old type that has a row already
   pub given_twice : (w : List ℕ) (k r : ℕ) → Rows types w k → 2 * k < length types → Found w k (old k) r → (r ≡ 0 → ⊥) → each_once (old_types types) ≡ false
   given_twice w k r g l f ne =
-      ap each_once old_types_law
+      ap each_once old_types_lem
       ∙ twice old 0 (length types / 2) (r - 1) k (omega arith) (omega (arith, f.low)) (omega arith)
       (sym (g.olds (r - 1) (omega (arith, f.low))) ∙ f.there (omega arith))
 
   module _ (w : List ℕ) (g : Rows types w (length types / 2)) where
     pub given_once : each_once (old_types types) ≡ true
     given_once =
-        ap each_once old_types_law
+        ap each_once old_types_lem
         ∙ once old 0 (length types / 2)
         (λ a b from l below q. g.entered.apart a b l (omega arith) (g.olds a (omega arith) ∙ q ∙ sym (g.olds b (omega arith))))
 
@@ -87,22 +87,22 @@ module _ (types : List ℕ) (whole : length types % 2 ≡ 0) where
     module _ (t r : ℕ) (f : Found w (length types / 2) t r) where
       pub has_none : r ≡ 0 → not (stands_in (old_types types) t) ≡ true
       has_none z =
-          ap (λ (l : List ℕ). not (stands_in l t)) old_types_law
+          ap (λ (l : List ℕ). not (stands_in l t)) old_types_lem
           ∙ ap not (stands_none old t 0 (length types / 2) (λ j from below q. f.none z j (omega arith) (g.olds j (omega arith) ∙ q)))
 
       pub has_row : (r ≡ 0 → ⊥) → not (stands_in (old_types types) t) ≡ false
       has_row ne =
-          ap (λ (l : List ℕ). not (stands_in l t)) old_types_law
+          ap (λ (l : List ℕ). not (stands_in l t)) old_types_lem
           ∙ ap not
           (stands_one old t 0 (length types / 2) (r - 1) (omega arith) (omega (arith, f.low)) (sym (g.olds (r - 1) (omega (arith, f.low))) ∙ f.there (omega arith)))
 
   -- a scan of the present types
   module _ (p : ℕ → Bool) where
     pub all_present : (k : ℕ) → length types ≤ 2 * k → Before (λ j. p (now j)) k → all p (present_types types) ≡ true
-    all_present k l b = ap (all p) present_types_law ∙ run_all p now 0 (length types / 2) (λ j from below. b j (omega arith))
+    all_present k l b = ap (all p) present_types_lem ∙ run_all p now 0 (length types / 2) (λ j from below. b j (omega arith))
 
     pub some_present : (k : ℕ) → 2 * k < length types → p (now k) ≡ false → all p (present_types types) ≡ false
-    some_present k l h = ap (all p) present_types_law ∙ run_fails p now 0 (length types / 2) k (omega arith) (omega arith) h
+    some_present k l h = ap (all p) present_types_lem ∙ run_fails p now 0 (length types / 2) k (omega arith) (omega arith) h
 
 -- ---- the words that are used
 

@@ -25,7 +25,7 @@ use Rattle.journal.specs.Statements.{TestsRead, BackRead, BackSound}
 use Rattle.journal.proofs.Rows.{facts, found}
 use Rattle.journal.proofs.ReadTests.{tests_read}
 use Rattle.journal.proofs.ReadBack.{back_read}
-use Rattle.journal.proofs.KeptBack.{back_sound_law}
+use Rattle.journal.proofs.KeptBack.{back_sound_lem}
 use Rattle.marks.specs.Raw.{row_of}
 use Rattle.marks.specs.Doing.{DidMarked}
 use Rattle.marks.proofs.Lent.{Lent}
@@ -42,9 +42,9 @@ module _ (b : List ℕ) (h : Lent b) (k : ℕ) where
   abbrev j : Journaled
   j = journaled_of C
 
-  is_set_law : is_set k (marked_of j).marks ≡ ltb (row_of C k) (length (rows_of C))
+  is_set_lem : is_set k (marked_of j).marks ≡ ltb (row_of C k) (length (rows_of C))
   unfolding TestsRead journaled_of
-  is_set_law = (tests_read j).0 k ∙ place_set k (rows_of C)
+  is_set_lem = (tests_read j).0 k ∙ place_set k (rows_of C)
 
   count : length (rows_of C) ≡ mark_count C
   unfolding rows_of
@@ -52,7 +52,7 @@ module _ (b : List ℕ) (h : Lent b) (k : ℕ) where
 
   pub not_set : mark_count C ≤ row_of C k → first_failed (marked_tests (marked_in b) (go_back k)) ≡ some 16
   unfolding marked_tests
-  not_set l = fails _ 16 [] (and_false (is_mark k) _ (is_set_law ∙ le-ltb (row_of C k) (length (rows_of C)) (omega (arith, count))))
+  not_set l = fails _ 16 [] (and_false (is_mark k) _ (is_set_lem ∙ le-ltb (row_of C k) (length (rows_of C)) (omega (arith, count))))
 
   module _ (l : row_of C k < mark_count C) where
     abbrev row : ℕ
@@ -70,14 +70,14 @@ module _ (b : List ℕ) (h : Lent b) (k : ℕ) where
     numbered : r.number ≡ k
     numbered = (found (row_at C 0) k (rows_of C) there).1
 
-    is_mark_law : is_mark k ≡ true
+    is_mark_lem : is_mark k ≡ true
     unfolding journaled_of
-    is_mark_law =
+    is_mark_lem =
         ap is_mark (sym numbered) ∙ numbered_at (rows_of C) (facts j h.journal).numbered (found (row_at C 0) k (rows_of C) there).0
 
     clear : first_failed (marked_tests (marked_in b) (go_back k)) ≡ none
     unfolding marked_tests
-    clear = passes _ 16 [] (and_both _ _ is_mark_law (is_set_law ∙ lt-ltb (row_of C k) (length (rows_of C)) (omega (arith, count)))) none_fail
+    clear = passes _ 16 [] (and_both _ _ is_mark_lem (is_set_lem ∙ lt-ltb (row_of C k) (length (rows_of C)) (omega (arith, count)))) none_fail
 
     abbrev after : Journaled
     after = journaled_back j r
@@ -94,5 +94,5 @@ module _ (b : List ℕ) (h : Lent b) (k : ℕ) where
       pub back_done : DidMarked b exit (go_back k) Builts.Accepted
       unfolding BackRead BackSound marked_acceptance built_of journaled_of
       back_done =
-          marked_work b (go_back k) Builts.Accepted exit after clear step (back_read j k h.journal there (row_at C 0)) (back_sound_law j k h.journal there (row_at C 0))
+          marked_work b (go_back k) Builts.Accepted exit after clear step (back_read j k h.journal there (row_at C 0)) (back_sound_lem j k h.journal there (row_at C 0))
           (omega (arith, w.marks, h.few)) w.holds w.tables refl

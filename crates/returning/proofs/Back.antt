@@ -19,7 +19,7 @@ use Rattle.layout.proofs.Tabulate.{tabulate_cong}
 use Rattle.layout.proofs.Empty.{sound_facts}
 use Rattle.journal.specs.Journal.{Entry, counts_of, counts_within, no_counts, cut_to, replaced_in, MarkRow, snapshot_of}
 use Rattle.journal.specs.Words.{mark_count, entry_count, entry_at, journal_of, row_counts, row_at, rows_of, journaled_of, ranges_end}
-use Rattle.journal.proofs.Rows.{row_at_law}
+use Rattle.journal.proofs.Rows.{row_at_lem}
 use Rattle.journal.proofs.ReadBack.{back_snapshot}
 use Rattle.rules.proofs.Basics.Appended.{mem_get_d}
 use Rattle.cutting.specs.Back.{MarksKept, back_sound}
@@ -34,7 +34,7 @@ use Rattle.marks.proofs.HeldRows.{held_as}
 use Rattle.returning.specs.Returning.{forgotten, rows_cut, PutBack}
 use Rattle.returning.proofs.Words.{full_same, entry_same, ranges_same, ranges_behind}
 use Rattle.returning.proofs.Rows.{rising_two}
-use Rattle.returning.proofs.Undone.{behind, f, words, journal_is, row_is, rows_long, between, place_fits, then, cut_reads, cut_sound_law}
+use Rattle.returning.proofs.Undone.{behind, f, words, journal_is, row_is, rows_long, between, place_fits, then, cut_reads, cut_sound_lem}
 
 -- ---- what is written last
 
@@ -109,7 +109,7 @@ module _
   n = at B mark_place row
 
   tables : IsSound t
-  tables = sound_facts t (cut_sound ∙ cut_sound_law b h row set u q d)
+  tables = sound_facts t (cut_sound ∙ cut_sound_lem b h row set u q d)
 
   shaped : Shaped T
   shaped = columns_shaped t tables.sized
@@ -193,7 +193,7 @@ module _
   counts_low : (i : ℕ) → i < mark_count B → counts_within (row_at B i).counts (counts_of (store_of B)) ≡ true
   unfolding journaled_of
   counts_low i l =
-      (row_at_law 0 no_counts (length (journal_of B)) (counts_of (store_of B)) (rows_of B) (f b h row set).rising
+      (row_at_lem 0 no_counts (length (journal_of B)) (counts_of (store_of B)) (rows_of B) (f b h row set).rising
       (subst (λ (r : MarkRow). Memᴰ r (rows_of B)) (row_is b h row set i l) (mem_get_d (rows_of B) i (row_at B 0) (omega (arith, rows_long b h row set))))).fewer
 
   held : (i : ℕ) → i < mark_count B → FullHolds B (store_of B) (journal_of B) (full_at B i)

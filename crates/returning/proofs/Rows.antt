@@ -11,7 +11,7 @@ use Rattle.rules.specs.Marks.{is_mark}
 use Rattle.rules.proofs.Basics.Appended.{mem_get_d}
 use Rattle.journal.specs.Journal.{Entry, Counts, counts_of, counts_within, MarkRow, undoable_all, store_before, journal_before}
 use Rattle.journal.proofs.Counted.{within_same}
-use Rattle.journal.proofs.Rows.{Rising, Numbered, Steps, row_at_law}
+use Rattle.journal.proofs.Rows.{Rising, Numbered, Steps, row_at_lem}
 use Rattle.journal.proofs.Steps.{back_now}
 
 pub undoable_at : (s : Store) (journal : List Entry) {r : MarkRow} (place : ℕ) (counts : Counts) (rs : List MarkRow)
@@ -31,6 +31,6 @@ pub rising_two : (place : ℕ) (counts : Counts) (n : ℕ) (most : Counts) (rs :
 rising_two place counts n most [] p d i m l h = absurd (not-suc-le-zero h)
 rising_two place counts n most (r ∷ rs) p d zero zero l h = (omega arith, within_same r.counts)
 rising_two place counts n most (r ∷ rs) p d zero (suc m) l h =
-    let b = row_at_law r.place r.counts n most rs p.2 (mem_get_d rs m d (omega arith)) in (b.from, b.more)
+    let b = row_at_lem r.place r.counts n most rs p.2 (mem_get_d rs m d (omega arith)) in (b.from, b.more)
 rising_two place counts n most (r ∷ rs) p d (suc i) zero l h = absurd (not-suc-le-zero l)
 rising_two place counts n most (r ∷ rs) p d (suc i) (suc m) l h = rising_two r.place r.counts n most rs p.2 d i m (omega arith) (omega arith)

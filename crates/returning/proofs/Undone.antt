@@ -16,7 +16,7 @@ use Rattle.layout.proofs.Tabulate.{length_tabulate, get_d_tabulate}
 use Rattle.journal.specs.Journal.{Entry, counts_of, counts_within, no_counts, cut_to, undone_all, undoable_all, MarkRow, snapshot_of}
 use Rattle.journal.specs.Words.{mark_count, entry_count, entry_at, journal_of, row_counts, row_at, rows_of, journaled_of, totals_kept, ranges_end}
 use Rattle.journal.proofs.Counted.{counts_undone}
-use Rattle.journal.proofs.Rows.{Between, Facts, facts, row_at_law}
+use Rattle.journal.proofs.Rows.{Between, Facts, facts, row_at_lem}
 use Rattle.journal.proofs.KeptBack.{sound_at}
 use Rattle.cutting.specs.Back.{back_sound}
 use Rattle.undoing.specs.Undoing.{UndidAll}
@@ -61,7 +61,7 @@ module _ (b : List ℕ) (h : Lent b) (row : ℕ) (set : row < mark_count (column
 
   pub between : Between 0 no_counts (length (journal_of C)) (counts_of (store_of C)) (row_at C row)
   unfolding journaled_of
-  between = row_at_law 0 no_counts (length (journal_of C)) (counts_of (store_of C)) (rows_of C) f.rising row_there
+  between = row_at_lem 0 no_counts (length (journal_of C)) (counts_of (store_of C)) (rows_of C) f.rising row_there
 
   pub place_fits : place ≤ entry_count C
   unfolding row_at
@@ -77,7 +77,7 @@ module _ (b : List ℕ) (h : Lent b) (row : ℕ) (set : row < mark_count (column
 
   -- from the words that were read
   pub undid : (p e : ℕ) → p ≡ place → e ≡ entry_count C → (u : List ℕ) (q : Bool) → UndidAll b u (drop p (tabulate e (entry_at C))) q → UndidAll b u behind q
-  undid p e at_place at_end_law u q d = subst₂ (λ (x y : ℕ). UndidAll b u (drop x (tabulate y (entry_at C))) q) at_place at_end_law d
+  undid p e at_place at_end_lem u q d = subst₂ (λ (x y : ℕ). UndidAll b u (drop x (tabulate y (entry_at C))) q) at_place at_end_lem d
 
   unfoldable pub then : Store
   then = snapshot_of (store_of C) (journal_of C) (row_at C row)
@@ -92,26 +92,26 @@ module _ (b : List ℕ) (h : Lent b) (row : ℕ) (set : row < mark_count (column
     pub full_undone : (i : ℕ) → full_at U i ≡ full_at C i
     full_undone i = full_same C U (d.behind.words mark_number (omega arith)) (d.behind.words mark_place (omega arith)) (d.behind.words mark_counts (omega arith)) i
 
-    pub counts_same_law : row_counts U row ≡ row_counts C row
+    pub counts_same_lem : row_counts U row ≡ row_counts C row
     unfolding full_at row_at
-    counts_same_law = ap (λ (x : Full). x.row.counts) (full_undone row)
+    counts_same_lem = ap (λ (x : Full). x.row.counts) (full_undone row)
 
     pub within : counts_within (row_counts U row) (counts_of (store_of U)) ≡ true
     unfolding row_at
     within =
-        ap₂ counts_within counts_same_law (ap counts_of undone_reads ∙ counts_undone (drop place (journal_of C)) (store_of C))
+        ap₂ counts_within counts_same_lem (ap counts_of undone_reads ∙ counts_undone (drop place (journal_of C)) (store_of C))
         ∙ between.fewer
 
     pub cut_reads : cut_to (row_counts U row) (store_of U) ≡ then
     unfolding then snapshot_of row_at
-    cut_reads = ap₂ cut_to counts_same_law undone_reads
+    cut_reads = ap₂ cut_to counts_same_lem undone_reads
 
     held : FullHolds C (store_of C) (journal_of C) (full_at C row)
     held = full_facts C row (words.rows row set)
 
-    pub cut_sound_law : back_sound U row ≡ true
+    pub cut_sound_lem : back_sound U row ≡ true
     unfolding back_sound totals_kept full_at row_at then journaled_of
-    cut_sound_law =
+    cut_sound_lem =
         let same = full_undone row in
         every_of _ (
           ap sound cut_reads ∙ sound_at (store_of C) (journal_of C) (rows_of C) f.steps row_there,
@@ -124,7 +124,7 @@ module _ (b : List ℕ) (h : Lent b) (row : ℕ) (set : row < mark_count (column
               ),
             ),
             (
-              ap (ranges_end U) counts_same_law ∙ ranges_behind C U d.behind (row_counts C row) between.fewer held.ranges,
+              ap (ranges_end U) counts_same_lem ∙ ranges_behind C U d.behind (row_counts C row) between.fewer held.ranges,
               tt,
             ),
           ),

@@ -17,7 +17,7 @@ use Rattle.rules.proofs.Basics.Entries.{none_at}
 use Rattle.rules.proofs.Soundness.Sound.{facts}
 use Rattle.rules.proofs.Soundness.Kept.{empty_sound, after_sound}
 use Rattle.rules.proofs.Form.Images.{Once}
-use Rattle.rules.proofs.Form.Once.{values_once_law, values_here, blocks_once_law, blocks_here, ops_once, ops_here}
+use Rattle.rules.proofs.Form.Once.{values_once_lem, values_here, blocks_once_lem, blocks_here, ops_once, ops_here}
 use Rattle.rules.proofs.Form.Canonical.{empty_table, within}
 use Rattle.rules.proofs.Form.SideBySide.{side_by_side}
 use Rattle.rules.proofs.Form.Beside.{bijection, reads_backwards, one_follows}
@@ -44,8 +44,8 @@ module _ (s : Store) (sd : sound s ≡ true) (f : Sort) where
   -- what a fragment defines: each number once, and a number of its table
   listed : (t : Table) (n : ℕ) → In s f n → Once (length (E t)) (defines_of s f n t)
   unfolding table_of empty_mapping defines_of
-  listed values n h = let so = facts s sd in within max_values (length s.values) (defines_of s f n values) so.totals.values (values_once_law s so f n h) (values_here s so f n)
-  listed blocks n h = let so = facts s sd in within max_blocks (length s.blocks) (defines_of s f n blocks) so.totals.blocks (blocks_once_law s so f n h) (blocks_here s so f n h)
+  listed values n h = let so = facts s sd in within max_values (length s.values) (defines_of s f n values) so.totals.values (values_once_lem s so f n h) (values_here s so f n)
+  listed blocks n h = let so = facts s sd in within max_blocks (length s.blocks) (defines_of s f n blocks) so.totals.blocks (blocks_once_lem s so f n h) (blocks_here s so f n h)
   listed ops n h = let so = facts s sd in within max_ops (length s.ops) (defines_of s f n ops) so.totals.ops (ops_once s so f n h) (ops_here s so f n h)
 
   module _ (ig : Ignore) where

@@ -125,8 +125,8 @@ went_back = returning.went_back
 pub went_back_whole : stated.WentBackWhole
 went_back_whole = returning.went_back_whole
 
-pub copy_uncounted_law : stated.CopyUncounted
-copy_uncounted_law = returning.copy_uncounted_law
+pub copy_uncounted_lem : stated.CopyUncounted
+copy_uncounted_lem = returning.copy_uncounted_lem
 
 pub copy_never_17 : stated.CopyNever17
 copy_never_17 = returning.copy_never_17

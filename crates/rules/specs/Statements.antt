@@ -157,7 +157,7 @@ SameWindow =
     (s : Store) (ig : Ignore) (b : ℕ) (ls rs : List ℕ) → succeeds (compare_runs s ig b ls rs) ≡ true
     → window_sum s ig ls ≡ window_sum s ig rs
 
--- order 6: the sum kept from a window to the next is the next window's sum: `kept_sum_law`
+-- order 6: the sum kept from a window to the next is the next window's sum: `kept_sum_lem`
 unfoldable pub KeptSum : Type 0
 KeptSum = (w : ℕ) (ws : List ℕ) (v : ℕ) → kept_sum (weighted (w ∷ ws)) w (length ws) v ≡ weighted (ws ++ (v ∷ []))
 
@@ -238,7 +238,7 @@ WentBackWhole =
     → is_set k (after_marked (marked t (set_mark k)) calls).marks ≡ true
     → marked (after_marked (marked t (set_mark k)) calls) (go_back k) ≡ marked t (set_mark k)
 
--- order 11: a copy, accepted or refused, leaves the marks and what they remember as they are: its keys are no replacements: `copy_uncounted_law`
+-- order 11: a copy, accepted or refused, leaves the marks and what they remember as they are: its keys are no replacements: `copy_uncounted_lem`
 unfoldable pub CopyUncounted : Type 0
 CopyUncounted = (t : MarkedStore) (ok : Bool) (n : ℕ) (place : Option ℕ) → (marked t (copy ok n place)).marks ≡ t.marks
 

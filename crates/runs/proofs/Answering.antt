@@ -45,8 +45,8 @@ module _ (store types : List ℕ) (ig : Ignore) (b n : ℕ) where
         pub no_length : n ≡ 0 → Answered true store types ig b n (Refused 15)
         no_length z = outside (ap (λ (k : ℕ). leb 1 k && leb k max_run) z)
 
-        pub too_long_law : 1 ≤ n → max_run < n → Answered true store types ig b n (Refused 15)
-        too_long_law low high = outside (ap₂ (λ (x y : Bool). x && y) (le-leb 1 n low) (lt-leb n max_run high))
+        pub too_long_lem : 1 ≤ n → max_run < n → Answered true store types ig b n (Refused 15)
+        too_long_lem low high = outside (ap₂ (λ (x y : Bool). x && y) (le-leb 1 n low) (lt-leb n max_run high))
 
         pub answered : 1 ≤ n → n ≤ max_run → (q : Repeated) → found_of q ≡ repeated_of (repeated (renamed types (store_in store)) ig b n) → Answered true store types ig b n q
         unfolding RepeatedIs

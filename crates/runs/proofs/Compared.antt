@@ -17,7 +17,7 @@ use Rattle.rules.specs.Entered.{EnteredBy, paired_in}
 use Rattle.rules.specs.Laws.{succeeds}
 use Rattle.rules.specs.Runs.{compare_runs, run_of, same_runs}
 use Rattle.rules.proofs.Basics.Tests.{impossible}
-use Rattle.rules.proofs.Soundness.Children.{ops_in_law}
+use Rattle.rules.proofs.Soundness.Children.{ops_in_lem}
 use Rattle.rules.proofs.Types.Renamed.{exists_renamed, entered_renamed, renamed_sound}
 use Rattle.rules.proofs.Walking.Entered.{runs_entered}
 use Rattle.rules.proofs.Walking.Paired.{runs_paired}
@@ -32,7 +32,7 @@ use Rattle.equivalence.specs.Walked.{op_walk}
 use Rattle.pairing.specs.declared.types.EqResult.{EqResult}
 use Rattle.pairing.specs.declared.types.EqResult.TheVariants.{Eq}
 use Rattle.equivalence.proofs.Telling.{NotEq, told_on, told_ended}
-use Rattle.mapping.proofs.Unmapped.{empty_words_law}
+use Rattle.mapping.proofs.Unmapped.{empty_words_lem}
 use Rattle.runs.specs.Walked.{RunsIn, runs_walk}
 use Rattle.runs.specs.declared.types.TwoRuns.{TwoRuns}
 use Rattle.runs.proofs.Deep.{runs_not_deep}
@@ -51,7 +51,7 @@ dropped_in (suc n) (y ∷ l) m = Memᴰ.tail (dropped_in n l m)
 
 run_in : (s : Store) (b n i x : ℕ) → Memᴰ x (run_of (ops_of s b) n i) → x < length s.ops
 unfolding run_of
-run_in s b n i x m = (ops_in_law s b (dropped_in i (ops_of s b) (taken_in n (drop i (ops_of s b)) m))).0
+run_in s b n i x m = (ops_in_lem s b (dropped_in i (ops_of s b) (taken_in n (drop i (ops_of s b)) m))).0
 
 -- ---- what is told
 
@@ -110,7 +110,7 @@ module _ {store ops : List ℕ} {x : TwoRuns} (o : Options) (sd : IsSound store)
   unfolding runs_walk compare_runs state_of op_walk renamed ops_of start
   walk_is =
       ap (λ (l : List ℕ). runs_walk (store_in store) o l x (state_of empty_words 0)) h.listed.all
-      ∙ ap (λ (m : Mapping). runs_walk (store_in store) o (ops_of (store_in store) x.block) x (record { mapping = m; paired = 0 })) empty_words_law
+      ∙ ap (λ (m : Mapping). runs_walk (store_in store) o (ops_of (store_in store) x.block) x (record { mapping = m; paired = 0 })) empty_words_lem
 
   module _ {m : List ℕ} (e : m ≡ empty_words) (q : EqResult) (b : List ℕ) (told : Told (runs_walk (store_in store) o ops x (state_of m 0)) q b) where
     told_runs : Told runs q b

@@ -22,12 +22,12 @@ use Rattle.rules.proofs.Basics.Appended.{mem_get_d}
 use Rattle.rules.proofs.Basics.Distinct.{mem_concat_map}
 use Rattle.rules.proofs.Basics.Tests.{decided}
 use Rattle.rules.proofs.Runs.FirstUses.{first_uses}
-use Rattle.rules.proofs.Soundness.Children.{values_in_law}
+use Rattle.rules.proofs.Soundness.Children.{values_in_lem}
 use Rattle.rules.proofs.Types.Renamed.{values_renamed}
 use Rattle.layout.specs.Columns.{columns, at, value_owner}
 use Rattle.layout.specs.Reading.{value_count, owner_code, store_in}
 use Rattle.layout.proofs.Seeking.{Rising, ops_rise}
-use Rattle.numbering.proofs.Reading.{owner_code_law}
+use Rattle.numbering.proofs.Reading.{owner_code_lem}
 use Rattle.runs.specs.Walked.{RunsIn, left_run, left_results}
 use Rattle.runs.specs.declared.types.TwoRuns.{TwoRuns}
 use Rattle.runs.proofs.Stepping.{run_first}
@@ -79,10 +79,10 @@ module _ {store ops : List ℕ} {x : TwoRuns} (h : RunsIn store ops x) where
   unfolding results_of owner_code
   result_owner v l m =
       let p = mem_concat_map (results_of (store_in store)) (left_run ops x) m in
-      let own : (value_at (store_in store) v).owner ≡ of_op p.0 = (values_in_law (store_in store) (of_op p.0) p.2).1 in
+      let own : (value_at (store_in store) v).owner ≡ of_op p.0 = (values_in_lem (store_in store) (of_op p.0) p.2).1 in
       let rising : Rising ops = subst Rising (sym h.listed.all) (ops_rise (store_in store) x.block) in
       let between = run_between ops rising x.n x.left h.left p.1 in
-      record { owner = p.0; code = sym (owner_code_law (columns store) v l) ∙ ap owner_code own; from = between.0; to = between.1 }
+      record { owner = p.0; code = sym (owner_code_lem (columns store) v l) ∙ ap owner_code own; from = between.0; to = between.1 }
 
   -- ---- runs whose first operands differ
 
@@ -100,9 +100,9 @@ module _ {store ops : List ℕ} {x : TwoRuns} (h : RunsIn store ops x) where
     unfolding renamed ops_of
     begins i l = ap (λ (os : List ℕ). run_of os x.n i) (sym h.listed.all) ∙ run_first ops x.n i h.some l
 
-    own_results_law : concat_map (results_of s) (get_or ops x.left 0 ∷ run_of ops (x.n - 1) (x.left + 1)) ≡ left_results (store_in store) ops x
+    own_results_lem : concat_map (results_of s) (get_or ops x.left 0 ∷ run_of ops (x.n - 1) (x.left + 1)) ≡ left_results (store_in store) ops x
     unfolding results_of
-    own_results_law = λ i. concat_map (λ (p : ℕ). values_renamed types (store_in store) (of_op p) i) (sym (run_first ops x.n x.left h.some h.left) i)
+    own_results_lem = λ i. concat_map (λ (p : ℕ). values_renamed types (store_in store) (of_op p) i) (sym (run_first ops x.n x.left h.some h.left) i)
 
     pub uses_differ : (i : ℕ) → i < length lefts → (get_or lefts i 0 ≡ get_or rights i 0 → ⊥) → (Memᴰ (get_or lefts i 0) (left_results (store_in store) ops x) → ⊥)
         → same_runs s ig x.block x.n x.left x.right ≡ false
@@ -113,6 +113,6 @@ module _ {store ops : List ℕ} {x : TwoRuns} (h : RunsIn store ops x) where
             → same_runs s ig x.block x.n x.left x.right ≡ false
         go (inl e) =
             let same = ap₂ (λ (ls rs : List ℕ). succeeds (compare_runs s ig x.block ls rs)) (sym (begins x.left h.left)) (sym (begins x.right h.right)) ∙ e in
-            ⊎_elim (λ k. absurd (other k)) (λ m. absurd (outside (subst (Memᴰ (get_or lefts i 0)) own_results_law m)))
+            ⊎_elim (λ k. absurd (other k)) (λ m. absurd (outside (subst (Memᴰ (get_or lefts i 0)) own_results_lem m)))
             (first_uses s ig x.block _ _ _ _ same i l)
         go (inr e) = e

@@ -77,8 +77,8 @@ module _ (p : ℕ → Bool) (n j i : ℕ) where
   abbrev pub left_on : Option ℕ
   left_on = first_of (suc j - n - i) i p
 
-  pub left_here_law : i + n ≤ j → p i ≡ true → left_on ≡ some i
-  left_here_law l e =
+  pub left_here_lem : i + n ≤ j → p i ≡ true → left_on ≡ some i
+  left_here_lem l e =
       let k : suc j - n - i ≡ suc (suc j - n - (i + 1)) = omega arith in
       ap (λ (m : ℕ). first_of m i p) k ∙ first_here p i (suc j - n - (i + 1)) e
 
@@ -105,8 +105,8 @@ left_skips p n j (suc m) i h = go (dec_lt j (i + n)) (λ e. left_skips p n j m (
         left_later p n j i l (h i (omega arith) (omega arith) l) ∙ later l ∙ ap (left_on p n j) e
 
 -- from a start on to a later one
-pub left_on_law : (p : ℕ → Bool) (n j i e : ℕ) → i ≤ e → ((k : ℕ) → i ≤ k → k < e → k + n ≤ j → p k ≡ false) → left_on p n j i ≡ left_on p n j e
-left_on_law p n j i e l h =
+pub left_on_lem : (p : ℕ → Bool) (n j i e : ℕ) → i ≤ e → ((k : ℕ) → i ≤ k → k < e → k + n ≤ j → p k ≡ false) → left_on p n j i ≡ left_on p n j e
+left_on_lem p n j i e l h =
     let there : i + (e - i) ≡ e = omega arith in
     left_skips p n j (e - i) i (λ k a b c. h k a (omega arith) c) ∙ ap (left_on p n j) there
 
@@ -150,9 +150,9 @@ module _ (s : Store) (ig : Ignore) (b n : ℕ) where
     more : j + n ≤ count → suc count - n - j ≡ suc (suc count - n - (j + 1))
     more l = omega arith
 
-    pub right_here_law : {i : ℕ} → j + n ≤ count → lefts j ≡ some i → right_on j ≡ some (record { left = i; right = j })
+    pub right_here_lem : {i : ℕ} → j + n ≤ count → lefts j ≡ some i → right_on j ≡ some (record { left = i; right = j })
     unfolding first_run or_later
-    right_here_law l e = ap (λ (m : ℕ). first_run m j lefts) (more l) ∙ ap (λ (x : Option ℕ). or_later x j (first_run (suc count - n - (j + 1)) (suc j) lefts)) e
+    right_here_lem l e = ap (λ (m : ℕ). first_run m j lefts) (more l) ∙ ap (λ (x : Option ℕ). or_later x j (first_run (suc count - n - (j + 1)) (suc j) lefts)) e
 
     pub right_later : j + n ≤ count → lefts j ≡ none → right_on j ≡ right_on (j + 1)
     unfolding first_run or_later
@@ -174,4 +174,4 @@ unfolding left_from left_start
 left_whole S o x h =
     let p : ℕ → Bool = λ (i : ℕ). same_runs (under o S) o.ignore x.block x.n i x.right in
     let k : suc x.right - x.n - 0 ≡ suc x.right - x.n = omega arith in
-    sym (left_on_law p x.n x.right 0 x.left (omega arith) (λ i a l m. h i l m)) ∙ ap (λ (m : ℕ). first_of m 0 p) k
+    sym (left_on_lem p x.n x.right 0 x.left (omega arith) (λ i a l m. h i l m)) ∙ ap (λ (m : ℕ). first_of m 0 p) k

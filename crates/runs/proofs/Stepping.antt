@@ -15,7 +15,7 @@ use Rattle.layout.specs.Columns.{columns}
 use Rattle.layout.specs.Reading.{op_count, store_in}
 use Rattle.layout.specs.Soundness.{IsSound}
 use Rattle.layout.proofs.Laid.{laid_facts}
-use Rattle.fragments.proofs.Ordered.{op_in_law}
+use Rattle.fragments.proofs.Ordered.{op_in_lem}
 use Rattle.pairing.specs.Told.{ReadyToCompare, state_of, Told, max_paired, PairedFits}
 use Rattle.pairing.specs.declared.types.EqResult.{EqResult}
 use Rattle.pairing.specs.declared.types.EqResult.TheVariants.{Eq}
@@ -31,7 +31,7 @@ module _ {store ops : List ℕ} {b : ℕ} (sd : IsSound store) (h : OpsOf store 
   few = subst (λ (l : List ℕ). length l < 512) (sym h.all) (few_ops (store_in store) sd.ruled b)
 
   pub op_here : (i : ℕ) → i < length ops → get_or ops i 0 < op_count (columns store)
-  op_here i l = op_in_law (columns store) b (get_or ops i 0) (subst (λ (o : List ℕ). Memᴰ (get_or ops i 0) o) h.all (mem_get_d ops i 0 l))
+  op_here i l = op_in_lem (columns store) b (get_or ops i 0) (subst (λ (o : List ℕ). Memᴰ (get_or ops i 0) o) h.all (mem_get_d ops i 0 l))
 
 -- ---- a pair of two runs
 

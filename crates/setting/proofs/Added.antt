@@ -17,7 +17,7 @@ use Rattle.layout.specs.Reading.{slots_of, kind_code, attribute_read, attribute_
 use Rattle.layout.specs.Owners.{key_count, count_column, owner_number}
 use Rattle.layout.proofs.Laid.{Shaped, Laid}
 use Rattle.layout.proofs.Buffer.{write_other, write_range_other}
-use Rattle.layout.proofs.KindWords.{attribute_read_law}
+use Rattle.layout.proofs.KindWords.{attribute_read_lem}
 use Rattle.layout.proofs.OwnerKeys.{OwnerIn, slots_fit}
 use Rattle.setting.specs.Raw.{slot_for, key_there, inserted, added}
 use Rattle.setting.proofs.Changed.{attribute_same}
@@ -109,7 +109,7 @@ module _ (C : Cols) (w : Owner) (a : Attribute) (sh : Shaped C) (h : Laid C) (l 
       (grown_there (C slot_key) s e a.key low (high slot_key refl))
       (grown_there (C slot_kind) s e _ low (high slot_kind refl))
       (grown_there (C slot_content) s e a.content low (high slot_content refl))
-      ∙ attribute_read_law a fits
+      ∙ attribute_read_lem a fits
 
   mine : attributes_from D (slots_of w) (key_count D w) ≡ put_attribute a (own C w)
   unfolding attributes_from

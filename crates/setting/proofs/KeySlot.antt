@@ -143,8 +143,8 @@ module _ (C : Cols) (w : Owner) where
       (λ l. let u : place C w a.key < key_count C w = omega (arith, own_length) in omega (arith, own_key (place C w a.key) a u, above a.key t u))
 
   -- the test over the slots is the rules' test
-  pub key_there_law : (key : ℕ) → keys_rise own ≡ true → key_there C w key ≡ has_key key own
-  key_there_law key rise = go (key_there C w key) (has_key key own) refl refl
+  pub key_there_lem : (key : ℕ) → keys_rise own ≡ true → key_there C w key ≡ has_key key own
+  key_there_lem key rise = go (key_there C w key) (has_key key own) refl refl
     where
       a : Attribute
       a = record { key = key; kind = 0; content = 0; inherent = false }

@@ -13,7 +13,7 @@ use Rattle.layout.specs.Reading.{slots_of, kind_code, attribute_count, attribute
 use Rattle.layout.specs.Owners.{key_count, count_column, owner_number}
 use Rattle.layout.proofs.Laid.{Shaped, Laid}
 use Rattle.layout.proofs.Buffer.{write_other}
-use Rattle.layout.proofs.KindWords.{attribute_read_law}
+use Rattle.layout.proofs.KindWords.{attribute_read_lem}
 use Rattle.layout.proofs.OwnerKeys.{OwnerIn, owner_keys, slots_fit}
 use Rattle.setting.specs.Raw.{slot_for, key_there, replaced}
 use Rattle.setting.proofs.Changed.{update_tabulate, attribute_same, set_update}
@@ -53,7 +53,7 @@ module _ (C : Cols) (w : Owner) (a : Attribute) (sh : Shaped C) (h : Laid C) (l 
       attribute_same (ap (at C slot_key) (slot_found C w a.key) ∙ there_key C w a.key t)
       (get_or-set_same (C slot_kind) s word 0 (omega (arith, sh slot_kind)))
       (get_or-set_same (C slot_content) s a.content 0 (omega (arith, sh slot_content)))
-      ∙ attribute_read_law a fits
+      ∙ attribute_read_lem a fits
 
   mine : attributes_from D (slots_of w) (key_count D w) ≡ put_attribute a (own C w)
   unfolding attributes_from

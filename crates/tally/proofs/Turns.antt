@@ -38,8 +38,8 @@ module _ {found : Bool} {includes : ℕ → List ℕ} {rest words : List ℕ} wh
     unfolding included_all concat_map
     ends none_left = ap (λ (ns : List ℕ). included_all found (concat_map includes ns) words) (sym none_left) ∙ h.same
 
-pub region_first_law : (r end : ℕ) → r < end → range r end ≡ r ∷ range (r + 1) end
-region_first_law r end l = range_first r end l ∙ ap (λ (i : ℕ). r ∷ range i end) (sym (add-one r))
+pub region_first_lem : (r end : ℕ) → r < end → range r end ≡ r ∷ range (r + 1) end
+region_first_lem r end l = range_first r end l ∙ ap (λ (i : ℕ). r ∷ range i end) (sym (add-one r))
 
 -- ---- what is included in a block, an operation and a region, by their children
 

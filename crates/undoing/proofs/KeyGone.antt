@@ -24,7 +24,7 @@ use Rattle.setting.proofs.Owners.{reachable, rising, key_test}
 use Rattle.undoing.specs.Raw.{without_slot}
 use Rattle.undoing.specs.Undoing.{Undid}
 use Rattle.undoing.proofs.KeySound.{taken_sound}
-use Rattle.undoing.proofs.Taken.{Taken, key_taken_law}
+use Rattle.undoing.proofs.Taken.{Taken, key_taken_lem}
 use Rattle.undoing.proofs.TakenRead.{taken_reads, taken_laid}
 use Rattle.undoing.proofs.Told.{undid_done}
 
@@ -64,7 +64,7 @@ module _ (b : List ℕ) (h : IsSound b) (w : Owner) (k : ℕ) (can : undoable (k
   slot_there = (omega (arith, slot_found C w k), slot_among C w k key_found)
 
   gone : Taken C D w k
-  gone = key_taken_law C w k (shaped b h) (laid b h) (reachable b h w owner_there).within key_found (rising b h w owner_there)
+  gone = key_taken_lem C w k (shaped b h) (laid b h) (reachable b h w owner_there).within key_found (rising b h w owner_there)
 
   pub key_undid : (exit : List ℕ) → length exit ≡ length b → columns exit ≡ D → Undid b exit (key_was_none w k) true
   unfolding undone

@@ -146,8 +146,8 @@ module _ (C : Cols) (w : Owner) (k : ℕ) (sh : Shaped C) (h : Laid C) (l : Owne
   unfolding at attribute_count
   total_fallen = ap (λ (xs : List ℕ). get_or xs 6 0) (removed_counts C s w) ∙ get_or-set_same (C counts) 6 _ 0 (omega (arith, sh counts))
 
-  pub key_taken_law : Taken C D w k
-  key_taken_law =
+  pub key_taken_lem : Taken C D w k
+  key_taken_lem =
       record {
         kept = kept;
         operands = removed_operands C s w;

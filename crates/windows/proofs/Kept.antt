@@ -8,9 +8,9 @@ use Rattle.rules.proofs.Runs.Sums.{sum_kept}
 use Rattle.windows.proofs.Weights.{M}
 
 -- what the code's subtraction leaves
-left_of_law : (r t t' sum : ℕ) → t ≡ t' % M → (r + t) % M ≡ sum → r % M ≡ wrapping_sub sum t'
+left_of_lem : (r t t' sum : ℕ) → t ≡ t' % M → (r + t) % M ≡ sum → r % M ≡ wrapping_sub sum t'
 unfolding wrapping_sub
-left_of_law r t t' sum e h = omega (arith, e, h)
+left_of_lem r t t' sum e h = omega (arith, e, h)
 
 -- a product, a subtraction that wraps, a product and a sum keep the sum
 code_kept : (sum w k v r : ℕ) {t p s : ℕ} → t ≡ (w * fnv_prime ^ k) % M → (r + t) % M ≡ sum → p ≡ (r * fnv_prime) % M → s ≡ (p + v) % M
@@ -21,7 +21,7 @@ code_kept sum w k v r {t} {p} {s} e0 e1 e2 e3 =
     ∙ ap (λ (x : ℕ). (x + v) % M) e2
     ∙ mod-add-mod (r * fnv_prime) M v
     ∙ sym (step_mod r fnv_prime v M)
-    ∙ ap (λ (x : ℕ). (x * fnv_prime + v) % M) (left_of_law r t (w * fnv_prime ^ k) sum e0 e1)
+    ∙ ap (λ (x : ℕ). (x * fnv_prime + v) % M) (left_of_lem r t (w * fnv_prime ^ k) sum e0 e1)
 
 -- ---- a window of hashes
 

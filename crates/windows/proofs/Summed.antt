@@ -93,9 +93,9 @@ module _ (s : Store) (o : Options) (ops hashes : List ℕ) (e : HashesOf s o ops
   pub hashes_long : length (take (length ops) hashes) ≡ length ops
   hashes_long = ap length e ∙ length-map ops (shell_hash (under o s) o.ignore)
 
-  pub sums_of_law : (sums : List ℕ) (n : ℕ) → WeightsOf (take (length ops) hashes) sums n → SumsOf s o ops sums n
+  pub sums_of_lem : (sums : List ℕ) (n : ℕ) → WeightsOf (take (length ops) hashes) sums n → SumsOf s o ops sums n
   unfolding window_sum
-  sums_of_law sums n h i l =
+  sums_of_lem sums n h i l =
       h i (omega (arith, hashes_long))
       ∙ ap (λ (ws : List ℕ). weighted (run_of ws n i)) e
       ∙ ap weighted (run_of_map (shell_hash (under o s) o.ignore) ops n i)

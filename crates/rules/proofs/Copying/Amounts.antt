@@ -15,9 +15,9 @@ use Rattle.rules.proofs.Basics.Appended.{sum_append}
 use Rattle.rules.proofs.Basics.Pigeons.{pigeons}
 use Rattle.rules.proofs.Basics.Distinct.{mem_concat_map}
 use Rattle.rules.proofs.Soundness.Sound.{Sound}
-use Rattle.rules.proofs.Soundness.Children.{regions_in_law}
+use Rattle.rules.proofs.Soundness.Children.{regions_in_lem}
 use Rattle.rules.proofs.Keys.Longest.{over, places_most}
-use Rattle.rules.proofs.Copying.Inside.{ops_distinct, blocks_distinct, values_distinct, copied_distinct, op_below, block_below, value_owner_law}
+use Rattle.rules.proofs.Copying.Inside.{ops_distinct, blocks_distinct, values_distinct, copied_distinct, op_below, block_below, value_owner_lem}
 
 -- ---- what operations and blocks have, by their numbers
 
@@ -84,13 +84,13 @@ module _ (s : Store) (sd : Sound s) (n : ℕ) (ex : op_exists s n ≡ true) wher
 
   region_below : {r : ℕ} → Memᴰ r (copied_regions s n) → r < length s.regions
   unfolding copied_regions
-  region_below k = let w = mem_concat_map (regions_of s) (fragment_ops s op n) k in (regions_in_law s w.0 w.2).0
+  region_below k = let w = mem_concat_map (regions_of s) (fragment_ops s op n) k in (regions_in_lem s w.0 w.2).0
 
   pub regions_few : length (copied_regions s n) ≤ length s.regions
   regions_few = pigeons (length s.regions) (copied_regions s n) (copied_distinct s sd n ex) (λ r k. region_below k)
 
   pub values_few : length (defines_values s op n) ≤ length s.values
-  values_few = pigeons (length s.values) (defines_values s op n) (values_distinct s sd n ex) (λ v k. (value_owner_law s sd n ex k).0)
+  values_few = pigeons (length s.values) (defines_values s op n) (values_distinct s sd n ex) (λ v k. (value_owner_lem s sd n ex k).0)
 
   over_ops : (g : Op → ℕ) → over (λ (m : ℕ). g (op_at s m)) (fragment_ops s op n) ≤ over g s.ops
   unfolding op_at

@@ -17,11 +17,11 @@ use Rattle.rules.specs.Copying.{copied_regions, op_copy, block_copy, region_copy
 use Rattle.rules.proofs.Basics.Tests.{all_at, impossible, differ_back}
 use Rattle.rules.proofs.Basics.Distinct.{Distinct, mem_concat_map}
 use Rattle.rules.proofs.Soundness.Sound.{Sound}
-use Rattle.rules.proofs.Soundness.Children.{same_owner_law, ops_in_law, blocks_in_law, regions_in_law, values_in_law}
+use Rattle.rules.proofs.Soundness.Children.{same_owner_lem, ops_in_lem, blocks_in_lem, regions_in_lem, values_in_lem}
 use Rattle.rules.proofs.Form.Once.{owners_here}
 use Rattle.rules.proofs.Copying.Renumbered.{numbers_old, numbers_new, of_one_parent, entry_of, in_concat_map}
 use Rattle.rules.proofs.Copying.Walked.{walked_regions, blocks_by_region, ops_by_block}
-use Rattle.rules.proofs.Copying.Inside.{ops_distinct, blocks_distinct, values_distinct, copied_distinct, op_below, block_below, owned_op, owned_block, block_around, region_around, value_owner_law}
+use Rattle.rules.proofs.Copying.Inside.{ops_distinct, blocks_distinct, values_distinct, copied_distinct, op_below, block_below, owned_op, owned_block, block_around, region_around, value_owner_lem}
 use Rattle.rules.proofs.Copying.Tables.{op_new, block_new, region_new, op_once, block_once, region_once}
 
 -- a number of the table is none behind it
@@ -69,7 +69,7 @@ module _ (s : Store) (sd : Sound s) (n : ℕ) (ex : op_exists s n ≡ true) (pla
   unfolding copied_regions
   region_parent {r} k =
       let w = mem_concat_map (regions_of s) the_ops k in
-      let i = regions_in_law s w.0 w.2 in
+      let i = regions_in_lem s w.0 w.2 in
       (i.0, subst (λ (m : ℕ). Memᴰ m the_ops) (sym i.1) w.1)
 
   pub regions_old : (m : ℕ) → m < length s.ops → regions_of with m ≡ regions_of s m
@@ -85,13 +85,13 @@ module _ (s : Store) (sd : Sound s) (n : ℕ) (ex : op_exists s n ≡ true) (pla
       (λ o i. apart o (op_copy s n m) (length s.ops) (below_op s sd o i) (op_new s n place k))
       ∙ ap (map (region_copy s n))
       (of_one_parent (regions_of s) (λ (r : ℕ). eqb (op_copy s n (get_or s.regions r 0)) (op_copy s n m)) m the_ops (copied_distinct s sd n ex) k
-      (λ r i. eq-eqb _ _ (ap (op_copy s n) (regions_in_law s m i).1))
+      (λ r i. eq-eqb _ _ (ap (op_copy s n) (regions_in_lem s m i).1))
       (λ r i e. listed r i (eqb-true _ _ e)))
     where
       listed : (r : ℕ) → Memᴰ r (concat_map (regions_of s) the_ops) → op_copy s n (get_or s.regions r 0) ≡ op_copy s n m → Memᴰ r (regions_of s m)
       listed r i e =
           let w = mem_concat_map (regions_of s) the_ops i in
-          let f : get_or s.regions r 0 ≡ w.0 = (regions_in_law s w.0 w.2).1 in
+          let f : get_or s.regions r 0 ≡ w.0 = (regions_in_lem s w.0 w.2).1 in
           let g : w.0 ≡ m = op_once s n place w.0 m (op_below s sd n ex w.1) (op_below s sd n ex k) (ap (op_copy s n) (sym f) ∙ e) in
           subst (λ (x : ℕ). Memᴰ r (regions_of s x)) g w.2
 
@@ -111,7 +111,7 @@ module _ (s : Store) (sd : Sound s) (n : ℕ) (ex : op_exists s n ≡ true) (pla
       ∙ ap (map (block_copy s n))
       (ap (filter test) (blocks_by_region s n)
       ∙ of_one_parent (blocks_of s) test r (walked_regions s n) (subst Distinct (blocks_by_region s n) (blocks_distinct s sd n ex)) w
-      (λ b i. eq-eqb _ _ (ap (region_copy s n) (blocks_in_law s r i).1))
+      (λ b i. eq-eqb _ _ (ap (region_copy s n) (blocks_in_lem s r i).1))
       (λ b i e. listed b i (eqb-true _ _ e)))
     where
       test : ℕ → Bool
@@ -121,7 +121,7 @@ module _ (s : Store) (sd : Sound s) (n : ℕ) (ex : op_exists s n ≡ true) (pla
       listed b i e =
           let j : Memᴰ b the_blocks = subst (Memᴰ b) (sym (blocks_by_region s n)) i in
           let q = mem_concat_map (blocks_of s) (walked_regions s n) i in
-          let f : (block_at s b).region ≡ q.0 = (blocks_in_law s q.0 q.2).1 in
+          let f : (block_at s b).region ≡ q.0 = (blocks_in_lem s q.0 q.2).1 in
           let g : (block_at s b).region ≡ r = region_once s n place _ r (region_parent (region_around s sd n ex b j)).0 (region_parent k).0 e in
           subst (λ (x : ℕ). Memᴰ b (blocks_of s x)) (sym f ∙ g) q.2
 
@@ -161,7 +161,7 @@ module _ (s : Store) (sd : Sound s) (n : ℕ) (ex : op_exists s n ≡ true) (pla
   unfolding values_of copied copied_value
   values_old w h =
       numbers_old s.values (copied_value s n) the_values (λ (o : Value). same_owner o.owner w)
-      (λ v k. same_back w (owner_copy s n (value_at s v).owner) (owner_apart w (value_at s v).owner h (value_owner_law s sd n ex k).1))
+      (λ v k. same_back w (owner_copy s n (value_at s v).owner) (owner_apart w (value_at s v).owner h (value_owner_lem s sd n ex k).1))
 
   pub values_new : {w : Owner} → Memᴰ w the_owners → values_of with (owner_copy s n w) ≡ map (value_copy s n) (values_of s w)
   unfolding values_of copied copied_value value_copy defines_values
@@ -170,8 +170,8 @@ module _ (s : Store) (sd : Sound s) (n : ℕ) (ex : op_exists s n ≡ true) (pla
       (λ o i. owner_apart o.owner w (all_at (λ (v : Value). owner_exists s v.owner) s.values sd.values_in i) k)
       ∙ ap (map (value_copy s n))
       (of_one_parent (values_of s) test w the_owners (values_distinct s sd n ex) k
-      (λ v i. ap (λ (x : Owner). same_owner (owner_copy s n x) (owner_copy s n w)) (values_in_law s w i).1 ∙ same_self (owner_copy s n w))
-      (λ v i e. listed v i (same_owner_law (owner_copy s n (value_at s v).owner) (owner_copy s n w) e)))
+      (λ v i. ap (λ (x : Owner). same_owner (owner_copy s n x) (owner_copy s n w)) (values_in_lem s w i).1 ∙ same_self (owner_copy s n w))
+      (λ v i e. listed v i (same_owner_lem (owner_copy s n (value_at s v).owner) (owner_copy s n w) e)))
     where
       test : ℕ → Bool
       test v = same_owner (owner_copy s n (value_at s v).owner) (owner_copy s n w)
@@ -179,7 +179,7 @@ module _ (s : Store) (sd : Sound s) (n : ℕ) (ex : op_exists s n ≡ true) (pla
       listed : (v : ℕ) → Memᴰ v (concat_map (values_of s) the_owners) → owner_copy s n (value_at s v).owner ≡ owner_copy s n w → Memᴰ v (values_of s w)
       listed v i e =
           let q = mem_concat_map (values_of s) the_owners i in
-          let f : (value_at s v).owner ≡ q.0 = (values_in_law s q.0 q.2).1 in
+          let f : (value_at s v).owner ≡ q.0 = (values_in_lem s q.0 q.2).1 in
           let g : q.0 ≡ w = owner_once q.0 w (owner_here q.1) (owner_here k) (ap (owner_copy s n) (sym f) ∙ e) in
           subst (λ (x : Owner). Memᴰ v (values_of s x)) g q.2
 
@@ -250,12 +250,12 @@ module _ (s : Store) (sd : Sound s) (n : ℕ) (ex : op_exists s n ≡ true) (pla
 
       below : (m : ℕ) → Memᴰ m (ops_of s b) → test m ≡ true
       below m i =
-          ap (is_parent (block_copy s n b)) (parent_inner m (other m (in_concat_map (ops_of s) the_blocks k i)) ∙ ap (inner (block_copy s n)) (ops_in_law s b i).1)
+          ap (is_parent (block_copy s n b)) (parent_inner m (other m (in_concat_map (ops_of s) the_blocks k i)) ∙ ap (inner (block_copy s n)) (ops_in_lem s b i).1)
           ∙ eq-eqb (block_copy s n b) (block_copy s n b) refl
 
       listed : (m : ℕ) → Memᴰ m rest → test m ≡ true → Memᴰ m (ops_of s b)
       listed m i e =
           let q = mem_concat_map (ops_of s) the_blocks i in
-          let f : parent_copy s n place m ≡ some (block_copy s n q.0) = parent_inner m (other m i) ∙ ap (inner (block_copy s n)) (ops_in_law s q.0 q.2).1 in
+          let f : parent_copy s n place m ≡ some (block_copy s n q.0) = parent_inner m (other m i) ∙ ap (inner (block_copy s n)) (ops_in_lem s q.0 q.2).1 in
           let g : block_copy s n q.0 ≡ block_copy s n b = eqb-true _ _ (sym (ap (is_parent (block_copy s n b)) f) ∙ e) in
           subst (λ (x : ℕ). Memᴰ m (ops_of s x)) (block_once s n place q.0 b (block_below s sd n ex q.1) (block_below s sd n ex k) g) q.2

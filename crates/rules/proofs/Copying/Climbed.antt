@@ -19,13 +19,13 @@ use Rattle.rules.specs.Copying.{has_place}
 use Rattle.rules.proofs.Basics.Distinct.{mem_concat_map}
 use Rattle.rules.proofs.Soundness.Sound.{Sound, facts}
 use Rattle.rules.proofs.Soundness.NewValues.{same_self}
-use Rattle.rules.proofs.Walking.EnoughSteps.{region_steps_law}
+use Rattle.rules.proofs.Walking.EnoughSteps.{region_steps_lem}
 use Rattle.rules.proofs.Basics.Appended.{mem_get_d}
 use Rattle.rules.proofs.Form.Images.{position_some, position_none, position_out}
 use Rattle.rules.proofs.Copying.Renumbered.{in_concat_map}
 use Rattle.rules.proofs.Copying.Walked.{ops_by_block}
 use Rattle.rules.proofs.Copying.Shelled.{block_listed, full_listed, listed_op, shell_owner, owner_shell}
-use Rattle.rules.proofs.Copying.Inside.{numbers_in, region_listed, op_below, op_owned, block_owned, owned_op, owned_block, block_around, op_around_law, value_owner_law}
+use Rattle.rules.proofs.Copying.Inside.{numbers_in, region_listed, op_below, op_owned, block_owned, owned_op, owned_block, block_around, op_around_lem, value_owner_lem}
 
 -- ---- a place in a list
 
@@ -82,7 +82,7 @@ module _ (s : Store) (h : sound s ≡ true) where
       → Memᴰ x (region_steps levels s q) → Memᴰ x (region_steps levels s r)
   unfolding full_op
   below_op r {b} {o} {x = x} i j k m =
-      subst (Memᴰ x) (sym (region_steps_law s h r))
+      subst (Memᴰ x) (sym (region_steps_lem s h r))
       (full_listed s (full_op s (region_steps levels s)) (blocks_of s r) i j (Memᴰ.tail (in_concat_map (region_steps levels s) (regions_of s o) k m)))
 
   down : (k r o : ℕ) → Memᴰ (shell (of_op o)) (region_steps k s r) → {q : ℕ} {x : Step} → Memᴰ q (regions_of s o)
@@ -122,7 +122,7 @@ module _ (s : Store) (h : sound s ≡ true) where
       let r = (block_at s b).region in
       let i : r < length s.regions = ltb-true _ _ (sd.block b l).region_in in
       let j : Memᴰ (shell (of_block b)) (region_steps levels s r) =
-      subst (Memᴰ (shell (of_block b))) (sym (region_steps_law s h r))
+      subst (Memᴰ (shell (of_block b))) (sym (region_steps_lem s h r))
       (block_listed s (full_op s (region_steps levels s)) (blocks_of s r) (block_child s b l)) in
       owned_block s sd n ex
       (shell_owner s n (of_block b) (down_whole n (get_or s.regions r 0) (owner_shell s n _ (op_owned s sd n ex m)) (region_listed s r i) j))
@@ -151,7 +151,7 @@ module _ (s : Store) (h : sound s ≡ true) where
         go (no ne) below =
             let a = block_around s sd n ex m i ne in
             let d : op_around s a.0 < m = around_smaller m a.0 i a.1 in
-            let r : n ≤ op_around s a.0 = below (op_around s a.0) (omega arith) (op_around_law s sd n ex a.0 a.2) in
+            let r : n ≤ op_around s a.0 = below (op_around s a.0) (omega arith) (op_around_lem s sd n ex a.0 a.2) in
             omega arith
 
     pub place_itself : has_place (fragment_ops s op n) n ≡ true
@@ -165,7 +165,7 @@ module _ (s : Store) (h : sound s ≡ true) where
 
     pub place_block : (b : ℕ) → b < length s.blocks → has_place (defines_blocks s op n) b ≡ has_place (fragment_ops s op n) (op_around s b)
     place_block b l =
-        place_alike (defines_blocks s op n) (fragment_ops s op n) b (op_around s b) (λ k. op_around_law s sd n ex b k) (λ k. block_within n b l k ex)
+        place_alike (defines_blocks s op n) (fragment_ops s op n) b (op_around s b) (λ k. op_around_lem s sd n ex b k) (λ k. block_within n b l k ex)
 
     pub place_op : (m b : ℕ) → m < length s.ops → (m ≡ n → ⊥) → parent_of s m ≡ some b → b < length s.blocks
         → has_place (fragment_ops s op n) m ≡ has_place (fragment_ops s op n) (op_around s b)
@@ -183,12 +183,12 @@ module _ (s : Store) (h : sound s ≡ true) where
         → has_place (defines_values s op n) v ≡ has_place (fragment_ops s op n) m
     place_result v m l e =
         place_alike (defines_values s op n) (fragment_ops s op n) v m
-        (λ k. owned_op s sd n ex (subst (λ (w : Owner). Memᴰ w (defines_owners s op n)) e (value_owner_law s sd n ex k).1))
+        (λ k. owned_op s sd n ex (subst (λ (w : Owner). Memᴰ w (defines_owners s op n)) e (value_owner_lem s sd n ex k).1))
         (λ k. value_within v l (subst (λ (w : Owner). Memᴰ w (defines_owners s op n)) (sym e) (op_owned s sd n ex k)))
 
     pub place_argument : (v b : ℕ) → v < length s.values → (value_at s v).owner ≡ of_block b
         → has_place (defines_values s op n) v ≡ has_place (defines_blocks s op n) b
     place_argument v b l e =
         place_alike (defines_values s op n) (defines_blocks s op n) v b
-        (λ k. owned_block s sd n ex (subst (λ (w : Owner). Memᴰ w (defines_owners s op n)) e (value_owner_law s sd n ex k).1))
+        (λ k. owned_block s sd n ex (subst (λ (w : Owner). Memᴰ w (defines_owners s op n)) e (value_owner_lem s sd n ex k).1))
         (λ k. value_within v l (subst (λ (w : Owner). Memᴰ w (defines_owners s op n)) (sym e) (block_owned s sd n ex k)))

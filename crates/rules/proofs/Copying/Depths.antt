@@ -16,7 +16,7 @@ use Rattle.rules.specs.Fragments.{op, fragment_ops}
 use Rattle.rules.specs.Copying.{parent_copy, copied}
 use Rattle.rules.proofs.Soundness.Sound.{Sound}
 use Rattle.rules.proofs.Soundness.Grown.{levels_kept}
-use Rattle.rules.proofs.Copying.Inside.{op_below, op_around_law}
+use Rattle.rules.proofs.Copying.Inside.{op_below, op_around_lem}
 use Rattle.rules.proofs.Copying.Children.{parent_root, parent_copied}
 use Rattle.rules.proofs.Copying.Kept.{with_grown, parent_with, around_with}
 
@@ -34,7 +34,7 @@ module _ (s : Store) (sd : Sound s) (n : ℕ) (ex : op_exists s n ≡ true) (pla
             let a = parent_copied s sd n ex place pe m i ne in
             let h : m < length s.ops = op_below s sd n ex i in
             let d : op_around s a.0 < m = ltb-true _ _ (sym (ap (op_after s m) a.1) ∙ (sd.op m h).later) in
-            let r : D n ≤ D (op_around s a.0) = below (op_around s a.0) (omega arith) (op_around_law s sd n ex a.0 a.2) in
+            let r : D n ≤ D (op_around s a.0) = below (op_around s a.0) (omega arith) (op_around_lem s sd n ex a.0 a.2) in
             omega (arith, deeper m a.0 h a.1)
 
     pub depth_least : (m : ℕ) → Memᴰ m (fragment_ops s op n) → D n ≤ D m
@@ -61,7 +61,7 @@ module _ (s : Store) (sd : Sound s) (n : ℕ) (ex : op_exists s n ≡ true) (pla
       unfolding Copies levels_left is_some
       inner_zero m i ne =
           let a = parent_copied s sd n ex place pe m i ne in
-          let r : D n ≤ D (op_around s a.0) = depth_least (op_around s a.0) (op_around_law s sd n ex a.0 a.2) in
+          let r : D n ≤ D (op_around s a.0) = depth_least (op_around s a.0) (op_around_lem s sd n ex a.0 a.2) in
           ap (λ (p : Option ℕ). is_some (levels_left 0 (copied s n place) p)) a.3
           ∙ sym (lt-leb (U + (D m - D n)) 0 (omega (arith, deeper m a.0 (op_below s sd n ex i) a.1)))
 
@@ -69,7 +69,7 @@ module _ (s : Store) (sd : Sound s) (n : ℕ) (ex : op_exists s n ≡ true) (pla
       unfolding Copies levels_left
       inner_suc k m below i ne =
           let a = parent_copied s sd n ex place pe m i ne in
-          let j : Memᴰ (op_around s a.0) (fragment_ops s op n) = op_around_law s sd n ex a.0 a.2 in
+          let j : Memᴰ (op_around s a.0) (fragment_ops s op n) = op_around_lem s sd n ex a.0 a.2 in
           let r : D n ≤ D (op_around s a.0) = depth_least (op_around s a.0) j in
           let z : suc (U + (D (op_around s a.0) - D n)) ≡ U + (D m - D n) = omega (arith, deeper m a.0 (op_below s sd n ex i) a.1) in
           ap (λ (p : Option ℕ). is_some (levels_left (suc k) (copied s n place) p)) a.3

@@ -42,22 +42,22 @@ module _ (s t : Store) (n : ℕ) (wc : Owner → Owner) where
   abbrev P : Event → Event → Type 0
   P = Carries s t (value_copy s n) (block_copy s n) wc
 
-  step_in_time_law : (N : Numbering) (m m' : ℕ) → NamesPair s t (value_copy s n) (block_copy s n) wc m m'
+  step_in_time_lem : (N : Numbering) (m m' : ℕ) → NamesPair s t (value_copy s n) (block_copy s n) wc m m'
       → (step_in_time s n (names m) N ≡ true) ↔ EventKept s t (value_copy s n) (block_copy s n) wc (step (names m)) N
   unfolding step_in_time EventKept value_copy block_copy
-  step_in_time_law N m m' p =
+  step_in_time_lem N m m' p =
       let v = names_in_time (defines_values s op n) N.values (op_at s m).operands (length s.values) p.operands_in in
       let b = names_in_time (defines_blocks s op n) N.blocks (op_at s m).successors (length s.blocks) p.successors_in in
       (λ h. (v.0 (and_left _ _ h), b.0 (and_right (numbered_names (defines_values s op n) N.values (op_at s m).operands) _ h)), λ h. and_both _ _ (v.1 h.0) (b.1 h.1))
 
-  pub in_time_law : {es es' : List Event} → Along P es es' → (N : Numbering) → (in_time s n (bare_steps es) N ≡ true) ↔ Kept s t (value_copy s n) (block_copy s n) wc es N
+  pub in_time_lem : {es es' : List Event} → Along P es es' → (N : Numbering) → (in_time s n (bare_steps es) N ≡ true) ↔ Kept s t (value_copy s n) (block_copy s n) wc es N
   unfolding in_time step_in_time bare_steps Kept EventKept numbered_by numbered
-  in_time_law over N = (λ h. tt, λ h. refl)
-  in_time_law (pair {es = es} (shelled {w = w} p) a) N = let r = in_time_law a (numbered s (shell w) N) in (λ h. (tt, r.0 h), λ h. r.1 h.1)
-  in_time_law (pair {es = es} (named {m = m} {m' = m'} p) a) N =
-      let r = in_time_law a N in
-      let q = step_in_time_law N m m' p in
+  in_time_lem over N = (λ h. tt, λ h. refl)
+  in_time_lem (pair {es = es} (shelled {w = w} p) a) N = let r = in_time_lem a (numbered s (shell w) N) in (λ h. (tt, r.0 h), λ h. r.1 h.1)
+  in_time_lem (pair {es = es} (named {m = m} {m' = m'} p) a) N =
+      let r = in_time_lem a N in
+      let q = step_in_time_lem N m m' p in
       (λ h. (q.0 (and_left _ _ h), r.0 (and_right (step_in_time s n (names m) N) _ h)), λ h. and_both _ _ (q.1 h.0) (r.1 h.1))
-  in_time_law (pair begun a) N = let r = in_time_law a N in (λ h. (tt, r.0 h), λ h. r.1 h.1)
-  in_time_law (pair mores a) N = let r = in_time_law a N in (λ h. (tt, r.0 h), λ h. r.1 h.1)
-  in_time_law (pair dones a) N = let r = in_time_law a N in (λ h. (tt, r.0 h), λ h. r.1 h.1)
+  in_time_lem (pair begun a) N = let r = in_time_lem a N in (λ h. (tt, r.0 h), λ h. r.1 h.1)
+  in_time_lem (pair mores a) N = let r = in_time_lem a N in (λ h. (tt, r.0 h), λ h. r.1 h.1)
+  in_time_lem (pair dones a) N = let r = in_time_lem a N in (λ h. (tt, r.0 h), λ h. r.1 h.1)

@@ -15,11 +15,11 @@ use Rattle.rules.specs.Store.{Store, Owner, of_op, of_block, op_exists, region_e
 use Rattle.rules.specs.Fragments.{op, exists, op_owner, block_owner, defines_owners, defines_blocks, defines_values, fragment_ops}
 use Rattle.rules.specs.Copying.{copied_regions, op_copy, block_copy}
 use Rattle.rules.proofs.Soundness.Sound.{Sound}
-use Rattle.rules.proofs.Soundness.Children.{regions_in_law, regions_distinct, values_in_law}
+use Rattle.rules.proofs.Soundness.Children.{regions_in_lem, regions_distinct, values_in_lem}
 use Rattle.rules.proofs.Basics.Tests.{impossible}
 use Rattle.rules.proofs.Basics.Distinct.{Distinct, mem_concat_map, distinct_concat_map}
 use Rattle.rules.proofs.Form.Ancestors.{up}
-use Rattle.rules.proofs.Form.Once.{op_owner_law, block_owner_law, owners_once, ops_once, blocks_once_law, values_once_law, ops_here, blocks_here}
+use Rattle.rules.proofs.Form.Once.{op_owner_lem, block_owner_lem, owners_once, ops_once, blocks_once_lem, values_once_lem, ops_here, blocks_here}
 use Rattle.rules.proofs.Copying.Renumbered.{Before, first_in, before_trans, before_between, before_less, in_concat_map}
 use Rattle.rules.proofs.Copying.Walked.{around_before}
 
@@ -54,15 +54,15 @@ module _ (s : Store) (sd : Sound s) (n : ℕ) (ex : op_exists s n ≡ true) wher
   ops_distinct = ops_once s sd op n existing
 
   pub blocks_distinct : Distinct (defines_blocks s op n)
-  blocks_distinct = blocks_once_law s sd op n existing
+  blocks_distinct = blocks_once_lem s sd op n existing
 
   pub values_distinct : Distinct (defines_values s op n)
-  values_distinct = values_once_law s sd op n existing
+  values_distinct = values_once_lem s sd op n existing
 
   pub copied_distinct : Distinct (copied_regions s n)
   unfolding copied_regions
   copied_distinct =
-      distinct_concat_map (regions_of s) (fragment_ops s op n) ops_distinct (λ m k. regions_distinct s m) (λ m o km ko r i j. sym (regions_in_law s m i).1 ∙ (regions_in_law s o j).1)
+      distinct_concat_map (regions_of s) (fragment_ops s op n) ops_distinct (λ m k. regions_distinct s m) (λ m o km ko r i j. sym (regions_in_lem s m i).1 ∙ (regions_in_lem s o j).1)
 
   pub op_below : {m : ℕ} → Memᴰ m (fragment_ops s op n) → m < length s.ops
   op_below {m} k = ops_here s sd op n existing m k
@@ -74,7 +74,7 @@ module _ (s : Store) (sd : Sound s) (n : ℕ) (ex : op_exists s n ≡ true) wher
 
   pub op_owned : {m : ℕ} → Memᴰ m (fragment_ops s op n) → Memᴰ (of_op m) (defines_owners s op n)
   unfolding fragment_ops
-  op_owned {m} k = let w = mem_concat_map op_owner (defines_owners s op n) k in subst (λ (x : Owner). Memᴰ x (defines_owners s op n)) (op_owner_law w.0 m w.2) w.1
+  op_owned {m} k = let w = mem_concat_map op_owner (defines_owners s op n) k in subst (λ (x : Owner). Memᴰ x (defines_owners s op n)) (op_owner_lem w.0 m w.2) w.1
 
   pub owned_op : {m : ℕ} → Memᴰ (of_op m) (defines_owners s op n) → Memᴰ m (fragment_ops s op n)
   unfolding fragment_ops op_owner
@@ -83,7 +83,7 @@ module _ (s : Store) (sd : Sound s) (n : ℕ) (ex : op_exists s n ≡ true) wher
   pub block_owned : {b : ℕ} → Memᴰ b (defines_blocks s op n) → Memᴰ (of_block b) (defines_owners s op n)
   unfolding defines_blocks
   block_owned {b} k =
-      let w = mem_concat_map block_owner (defines_owners s op n) k in subst (λ (x : Owner). Memᴰ x (defines_owners s op n)) (block_owner_law w.0 b w.2) w.1
+      let w = mem_concat_map block_owner (defines_owners s op n) k in subst (λ (x : Owner). Memᴰ x (defines_owners s op n)) (block_owner_lem w.0 b w.2) w.1
 
   pub owned_block : {b : ℕ} → Memᴰ (of_block b) (defines_owners s op n) → Memᴰ b (defines_blocks s op n)
   unfolding defines_blocks block_owner
@@ -112,13 +112,13 @@ module _ (s : Store) (sd : Sound s) (n : ℕ) (ex : op_exists s n ≡ true) wher
   pub block_around : (m : ℕ) → Memᴰ m (fragment_ops s op n) → (m ≡ n → ⊥) → (b : ℕ) × (parent_of s m ≡ some b) × Memᴰ b (defines_blocks s op n)
   block_around m k ne = let h = block_first m k ne in (h.0, h.1, owned_block (first_in h.2))
 
-  pub op_around_law : (b : ℕ) → Memᴰ b (defines_blocks s op n) → Memᴰ (op_around s b) (fragment_ops s op n)
-  op_around_law b k = owned_op (first_in (op_first b k))
+  pub op_around_lem : (b : ℕ) → Memᴰ b (defines_blocks s op n) → Memᴰ (op_around s b) (fragment_ops s op n)
+  op_around_lem b k = owned_op (first_in (op_first b k))
 
   pub region_around : (b : ℕ) → Memᴰ b (defines_blocks s op n) → Memᴰ (block_at s b).region (copied_regions s n)
   unfolding copied_regions op_around region_exists
   region_around b k =
-      in_concat_map (regions_of s) (fragment_ops s op n) (op_around_law b k) (region_listed s (block_at s b).region (ltb-true _ _ (sd.block b (block_below k)).region_in))
+      in_concat_map (regions_of s) (fragment_ops s op n) (op_around_lem b k) (region_listed s (block_at s b).region (ltb-true _ _ (sd.block b (block_below k)).region_in))
 
   -- ---- the numbers rise
 
@@ -135,7 +135,7 @@ module _ (s : Store) (sd : Sound s) (n : ℕ) (ex : op_exists s n ≡ true) wher
       → Memᴰ c (defines_blocks s op n) × (block_copy s n c < block_copy s n b)
   unfolding block_copy defines_blocks block_owner
   block_rises b c k ne e =
-      let h = block_first (op_around s b) (op_around_law b k) ne in
+      let h = block_first (op_around s b) (op_around_lem b k) ne in
       let f : h.0 ≡ c = some-injective h.0 c (sym h.1 ∙ e) in
       let g : Before (of_block c) (of_op (op_around s b)) (defines_owners s op n) = subst (λ (x : ℕ). Before (of_block x) (of_op (op_around s b)) (defines_owners s op n)) f h.2 in (
         owned_block (first_in g),
@@ -143,9 +143,9 @@ module _ (s : Store) (sd : Sound s) (n : ℕ) (ex : op_exists s n ≡ true) wher
       )
 
   -- the owner of a value inside
-  pub value_owner_law : {v : ℕ} → Memᴰ v (defines_values s op n) → (v < length s.values) × Memᴰ (value_at s v).owner (defines_owners s op n)
+  pub value_owner_lem : {v : ℕ} → Memᴰ v (defines_values s op n) → (v < length s.values) × Memᴰ (value_at s v).owner (defines_owners s op n)
   unfolding defines_values
-  value_owner_law {v} k =
+  value_owner_lem {v} k =
       let w = mem_concat_map (values_of s) (defines_owners s op n) k in
-      let i = values_in_law s w.0 w.2 in
+      let i = values_in_lem s w.0 w.2 in
       (i.0, subst (λ (x : Owner). Memᴰ x (defines_owners s op n)) (sym i.1) w.1)

@@ -19,12 +19,12 @@ use Rattle.rules.specs.Copying.{copied_regions, op_copy, block_copy, region_copy
 use Rattle.rules.specs.CopyLaws.{CopySound, CopyAcceptedExactly}
 use Rattle.rules.proofs.Basics.Tests.{and_left, and_right, all_at, all_of}
 use Rattle.rules.proofs.Basics.Appended.{all_append}
-use Rattle.rules.proofs.Soundness.Sound.{Sound, OpSound, BlockSound, facts, sound_of, totals_facts, totals_hold_law}
+use Rattle.rules.proofs.Soundness.Sound.{Sound, OpSound, BlockSound, facts, sound_of, totals_facts, totals_hold_lem}
 use Rattle.rules.proofs.Soundness.Accepted.{first_failed_none, all_passed}
 use Rattle.rules.proofs.Soundness.Grown.{Grown, appended_grown, fits, fits_kept, parent_kept, owner_op, owner_block, around_in, after_kept, op_kept, block_kept, regions_kept, values_kept}
 use Rattle.rules.proofs.Copying.Renumbered.{number_named, number_of}
-use Rattle.rules.proofs.Copying.Inside.{ops_distinct, blocks_distinct, op_below, block_below, op_owned, block_owned, op_around_law, region_around, block_rises, op_rises, value_owner_law}
-use Rattle.rules.proofs.Copying.Tables.{old_op, new_op, old_block, new_block_law, new_region, op_new, block_new, ops_length, blocks_length, regions_length, values_length}
+use Rattle.rules.proofs.Copying.Inside.{ops_distinct, blocks_distinct, op_below, block_below, op_owned, block_owned, op_around_lem, region_around, block_rises, op_rises, value_owner_lem}
+use Rattle.rules.proofs.Copying.Tables.{old_op, new_op, old_block, new_block_lem, new_region, op_new, block_new, ops_length, blocks_length, regions_length, values_length}
 use Rattle.rules.proofs.Copying.Children.{region_parent, owner_here, regions_old, regions_new, values_old, values_new, parent_root, parent_copied}
 
 all_map : {A B : Type 0} (p : B → Bool) (q : A → Bool) (f : A → B) (xs : List A) → ((x : A) → q x ≡ true → p (f x) ≡ true) → all q xs ≡ true → all p (map f xs) ≡ true
@@ -72,27 +72,27 @@ module _ (s : Store) (sd : Sound s) (n : ℕ) (ex : op_exists s n ≡ true) (pla
   pub around_with : {b : ℕ} → Memᴰ b (defines_blocks s op n) → op_around with (block_copy s n b) ≡ op_copy s n (op_around s b)
   unfolding op_around copied_block
   around_with {b} k =
-      ap (λ (o : Block). get_or with.regions o.region 0) (new_block_law s n place k)
+      ap (λ (o : Block). get_or with.regions o.region 0) (new_block_lem s n place k)
       ∙ new_region s n place (region_around s sd n ex b k)
 
-  parent_exists_law : (m : ℕ) → Memᴰ m (fragment_ops s op n) → Dec (m ≡ n) → parent_exists with (parent_copy s n place m) ≡ true
+  parent_exists_lem : (m : ℕ) → Memᴰ m (fragment_ops s op n) → Dec (m ≡ n) → parent_exists with (parent_copy s n place m) ≡ true
   unfolding parent_exists
-  parent_exists_law m k (yes e) =
+  parent_exists_lem m k (yes e) =
       ap (λ (x : ℕ). parent_exists with (parent_copy s n place x)) e ∙ ap (parent_exists with) (parent_root s sd n ex place pe) ∙ parent_kept s with with_grown place pe
-  parent_exists_law m k (no ne) = let a = parent_copied s sd n ex place pe m k ne in ap (parent_exists with) a.3 ∙ block_copied a.0 (block_below s sd n ex a.2)
+  parent_exists_lem m k (no ne) = let a = parent_copied s sd n ex place pe m k ne in ap (parent_exists with) a.3 ∙ block_copied a.0 (block_below s sd n ex a.2)
 
   place_after : (p : Option ℕ) → parent_exists s p ≡ true → (m : ℕ) → length s.ops ≤ m → op_after s m p ≡ true
   unfolding op_after parent_exists block_exists
   place_after none h m l = refl
   place_after (some b) h m l = lt-ltb (op_around s b) m (omega (arith, around_in s sd b (ltb-true _ _ h)))
 
-  op_after_law : (m : ℕ) → Memᴰ m (fragment_ops s op n) → Dec (m ≡ n) → op_after with (op_copy s n m) (parent_copy s n place m) ≡ true
+  op_after_lem : (m : ℕ) → Memᴰ m (fragment_ops s op n) → Dec (m ≡ n) → op_after with (op_copy s n m) (parent_copy s n place m) ≡ true
   unfolding op_after
-  op_after_law m k (yes e) =
+  op_after_lem m k (yes e) =
       ap (λ (x : ℕ). op_after with (op_copy s n m) (parent_copy s n place x)) e
       ∙ ap (op_after with (op_copy s n m)) (parent_root s sd n ex place pe)
       ∙ after_kept s with with_grown sd (op_copy s n m) place pe (place_after place pe (op_copy s n m) (op_new s n place k))
-  op_after_law m k (no ne) =
+  op_after_lem m k (no ne) =
       let a = parent_copied s sd n ex place pe m k ne in
       ap (op_after with (op_copy s n m)) a.3
       ∙ ap (λ (x : ℕ). ltb x (op_copy s n m)) (around_with a.2)
@@ -103,14 +103,14 @@ module _ (s : Store) (sd : Sound s) (n : ℕ) (ex : op_exists s n ≡ true) (pla
   place_before none h b l = refl
   place_before (some a) h b l = lt-ltb a b (omega (arith, ltb-true a (length s.blocks) h))
 
-  block_after_law : (b : ℕ) → Memᴰ b (defines_blocks s op n) → Dec (op_around s b ≡ n) → block_after (block_copy s n b) (parent_copy s n place (op_around s b)) ≡ true
+  block_after_lem : (b : ℕ) → Memᴰ b (defines_blocks s op n) → Dec (op_around s b ≡ n) → block_after (block_copy s n b) (parent_copy s n place (op_around s b)) ≡ true
   unfolding block_after
-  block_after_law b k (yes e) =
+  block_after_lem b k (yes e) =
       ap (λ (x : ℕ). block_after (block_copy s n b) (parent_copy s n place x)) e
       ∙ ap (block_after (block_copy s n b)) (parent_root s sd n ex place pe)
       ∙ place_before place pe (block_copy s n b) (block_new s n place k)
-  block_after_law b k (no ne) =
-      let a = parent_copied s sd n ex place pe (op_around s b) (op_around_law s sd n ex b k) ne in
+  block_after_lem b k (no ne) =
+      let a = parent_copied s sd n ex place pe (op_around s b) (op_around_lem s sd n ex b k) ne in
       ap (block_after (block_copy s n b)) a.3 ∙ lt-ltb _ _ (block_rises s sd n ex b a.0 k ne a.1).1
 
   -- ---- an operation, a block
@@ -122,10 +122,10 @@ module _ (s : Store) (sd : Sound s) (n : ℕ) (ex : op_exists s n ≡ true) (pla
         let o = sd.op m (op_below s sd n ex k) in
         let e : op_at with (op_copy s n m) ≡ copied_op s n place m = new_op s n place k in
         record {
-          parent_in = rw (parent_with k) (parent_exists_law m k (ℕ_discrete m n));
+          parent_in = rw (parent_with k) (parent_exists_lem m k (ℕ_discrete m n));
           operands_in = rw e (all_map (value_exists with) (value_exists s) (value_copy s n) (op_at s m).operands (λ v h. value_copied v (ltb-true _ _ h)) o.operands_in);
           successors_in = rw e (all_map (block_exists with) (block_exists s) (block_copy s n) (op_at s m).successors (λ b h. block_copied b (ltb-true _ _ h)) o.successors_in);
-          later = rw (parent_with k) (op_after_law m k (ℕ_discrete m n));
+          later = rw (parent_with k) (op_after_lem m k (ℕ_discrete m n));
           nesting = rw (parent_with k) (nests m k);
           regions_fit = rw (regions_new s sd n ex place pe k, length-map) o.regions_fit;
           results_fit = rw (values_new s sd n ex place pe (op_owned s sd n ex k), length-map) o.results_fit;
@@ -138,10 +138,10 @@ module _ (s : Store) (sd : Sound s) (n : ℕ) (ex : op_exists s n ≡ true) (pla
     unfolding copied_block arguments_of owner_copy region_exists
     new_block_sound b k =
         let o = sd.block b (block_below s sd n ex k) in
-        let e : block_at with (block_copy s n b) ≡ copied_block s n b = new_block_law s n place k in
+        let e : block_at with (block_copy s n b) ≡ copied_block s n b = new_block_lem s n place k in
         record {
           region_in = rw e (region_copied (block_at s b).region (ltb-true _ _ o.region_in));
-          later = rw (around_with k, parent_with (op_around_law s sd n ex b k)) (block_after_law b k (ℕ_discrete (op_around s b) n));
+          later = rw (around_with k, parent_with (op_around_lem s sd n ex b k)) (block_after_lem b k (ℕ_discrete (op_around s b) n));
           arguments_fit = rw (values_new s sd n ex place pe (block_owned s sd n ex k), length-map) o.arguments_fit;
           attributes_fit = rw e o.attributes_fit;
         }
@@ -184,7 +184,7 @@ module _ (s : Store) (sd : Sound s) (n : ℕ) (ex : op_exists s n ≡ true) (pla
               subst (λ (x : ℕ). op_exists with x ≡ true) w.2 (op_copied (get_or s.regions w.0 0) (op_below s sd n ex (region_parent s sd n ex place pe w.1).1))));
           values_in = all_append (λ (v : Value). owner_exists with v.owner) s.values _ (values_kept s with with_grown sd)
               (all_of (λ (v : Value). owner_exists with v.owner) _ (λ v i. let w = Memᴰ.of_map (copied_value s n) (defines_values s op n) i in
-              subst (λ (x : Value). owner_exists with x.owner ≡ true) w.2 (owner_copied (value_at s w.0).owner (owner_here s sd n ex place pe (value_owner_law s sd n ex w.1).1))));
+              subst (λ (x : Value). owner_exists with x.owner ≡ true) w.2 (owner_copied (value_at s w.0).owner (owner_here s sd n ex place pe (value_owner_lem s sd n ex w.1).1))));
           totals = totals_facts with totals;
         })
 
@@ -200,7 +200,7 @@ module _ (s : Store) (sd : Sound s) (n : ℕ) (ex : op_exists s n ≡ true) (pla
   unfolding copy_nests
   sound_exactly = (
     λ h. with_sound (λ m k. all_at (λ (x : ℕ). nesting_holds with (parent_copy s n place x)) (fragment_ops s op n) h.0 k) h.1,
-    λ h. (sound_nests h, totals_hold_law with (facts with h).totals),
+    λ h. (sound_nests h, totals_hold_lem with (facts with h).totals),
   )
 
 -- ---- as stated

@@ -89,15 +89,15 @@ module _ (s : Store) (h : sound s ≡ true) (n : ℕ) (place : Option ℕ) (e : 
     -- each table is what the original defines and what the copy does, side by side
     filed_is : (ig : Ignore) → Equal under_types ig op n copy → filed under_types ig op n copy ≡ copy_mapping s n
     unfolding copy_mapping table_of defines_of SideBySide fragment_ops
-    filed_is ig eq = λ i. record { values = in_values i; blocks = in_blocks_law i; ops = in_ops i }
+    filed_is ig eq = λ i. record { values = in_values i; blocks = in_blocks_lem i; ops = in_ops i }
       where
         in_values : (filed under_types ig op n copy).values ≡ enter_all (defines_values s op n) (map (value_copy s n) (defines_values s op n)) empty_mapping.values
         in_values =
             (side_by_side under_types renamed_sound ig op n copy original_under copy_under eq values).0
             ∙ λ i. enter_all ((under.values types with op n ∙ values_stay s sd n ex place pe out) i) ((under.values types with op copy ∙ values_copied s sd n ex place pe out) i) empty_mapping.values
 
-        in_blocks_law : (filed under_types ig op n copy).blocks ≡ enter_all (defines_blocks s op n) (map (block_copy s n) (defines_blocks s op n)) empty_mapping.blocks
-        in_blocks_law =
+        in_blocks_lem : (filed under_types ig op n copy).blocks ≡ enter_all (defines_blocks s op n) (map (block_copy s n) (defines_blocks s op n)) empty_mapping.blocks
+        in_blocks_lem =
             (side_by_side under_types renamed_sound ig op n copy original_under copy_under eq blocks).0
             ∙ λ i. enter_all ((under.blocks types with op n ∙ blocks_stay s sd n ex place pe out) i) ((under.blocks types with op copy ∙ blocks_copied s sd n ex place pe out) i) empty_mapping.blocks
 

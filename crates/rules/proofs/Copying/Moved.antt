@@ -21,7 +21,7 @@ use Rattle.rules.specs.Copying.{copied_regions}
 use Rattle.rules.proofs.Basics.Tests.{all_at}
 use Rattle.rules.proofs.Basics.Cut.{map_through}
 use Rattle.rules.proofs.Soundness.Sound.{Sound}
-use Rattle.rules.proofs.Soundness.Children.{values_in_law}
+use Rattle.rules.proofs.Soundness.Children.{values_in_lem}
 use Rattle.rules.proofs.Form.Tokens.{event_operands, event_successors}
 use Rattle.rules.proofs.Form.Canonical.{events_name_values, events_name_blocks}
 use Rattle.rules.proofs.Form.Passed.{event_owners, in_walk}
@@ -101,7 +101,7 @@ module _ (s t : Store) (n : ℕ) (oc bc rc vc : ℕ → ℕ) where
     P = Carries s t vc bc renamed_owner
 
     own_types : (w : Owner) → map (type_of t) (map vc (values_of s w)) ≡ map (type_of s) (values_of s w)
-    own_types w = sym (map_through (type_of s) (type_of t) vc (values_of s w) (λ v m. sym (mv.renaming.types v (values_in_law s w m).0)))
+    own_types w = sym (map_through (type_of s) (type_of t) vc (values_of s w) (λ v m. sym (mv.renaming.types v (values_in_lem s w m).0)))
 
     op_counts : (m : ℕ) → Memᴰ m (fragment_ops s op n) → counts_of t (of_op (oc m)) ≡ counts_of s (of_op m)
     unfolding counts_of renamed_owner

@@ -18,7 +18,7 @@ use Rattle.rules.specs.Hash.{Numbering, numbered, Name, name_at, name_of}
 use Rattle.rules.specs.Form.{Event, step, more, done, shell_token, names_token, numbered_by, token, tokens}
 use Rattle.rules.proofs.Basics.Cut.{map_through}
 use Rattle.rules.proofs.Basics.Tests.{decided}
-use Rattle.rules.proofs.Soundness.Children.{values_in_law}
+use Rattle.rules.proofs.Soundness.Children.{values_in_lem}
 use Rattle.rules.proofs.Copying.Along.{Along, over, pair}
 
 -- ---- places of renamed numbers
@@ -107,7 +107,7 @@ module _ (s t : Store) (vc bc : ℕ → ℕ) (wc : Owner → Owner) where
   mapped_next N N' e e' (shelled {w = w} {w' = w'} p) q =
       record {
         values = ap₂ ◌++◌ q.values p.values ∙ sym (map-append vc N.values (values_of s w));
-        values_in = λ v m. ⊎_elim (q.values_in v) (λ k. (values_in_law s w k).0) (Memᴰ.append_cases N.values m);
+        values_in = λ v m. ⊎_elim (q.values_in v) (λ k. (values_in_lem s w k).0) (Memᴰ.append_cases N.values m);
         blocks = ap₂ ◌++◌ q.blocks p.blocks ∙ sym (map-append bc N.blocks (block_owner w));
         blocks_in = λ b m. ⊎_elim (q.blocks_in b) (λ k. p.blocks_in b k) (Memᴰ.append_cases N.blocks m);
       }
@@ -178,13 +178,13 @@ module _ (s t : Store) (vc bc : ℕ → ℕ) (wc : Owner → Owner) where
     token_same N N' q e e' mores k = refl
     token_same N N' q e e' dones k = refl
 
-    same_kept_law : (N N' : Numbering) → Mapped N N' → (e e' : Event) → Carries e e' → token s ig e N ≡ token t ig e' N' → EventKept e N
+    same_kept_lem : (N N' : Numbering) → Mapped N N' → (e e' : Event) → Carries e e' → token s ig e N ≡ token t ig e' N' → EventKept e N
     unfolding EventKept
-    same_kept_law N N' q e e' (shelled p) k = tt
-    same_kept_law N N' q e e' (named {m = m} {m' = m'} p) k = same_names N N' q m m' p k
-    same_kept_law N N' q e e' begun k = tt
-    same_kept_law N N' q e e' mores k = tt
-    same_kept_law N N' q e e' dones k = tt
+    same_kept_lem N N' q e e' (shelled p) k = tt
+    same_kept_lem N N' q e e' (named {m = m} {m' = m'} p) k = same_names N N' q m m' p k
+    same_kept_lem N N' q e e' begun k = tt
+    same_kept_lem N N' q e e' mores k = tt
+    same_kept_lem N N' q e e' dones k = tt
 
     pub tokens_same : {es es' : List Event} → Along Carries es es' → (N N' : Numbering) → Mapped N N' → Kept es N → tokens s ig es N ≡ tokens t ig es' N'
     unfolding tokens Kept
@@ -196,4 +196,4 @@ module _ (s t : Store) (vc bc : ℕ → ℕ) (wc : Owner → Owner) where
     unfolding tokens Kept
     same_tokens over N N' q k = tt
     same_tokens (pair {e = e} {e' = e'} p a) N N' q k =
-        (same_kept_law N N' q e e' p (head-eq_of_cons-eq k), same_tokens a (numbered_by s e N) (numbered_by t e' N') (mapped_next N N' e e' p q) (tail-eq_of_cons-eq k))
+        (same_kept_lem N N' q e e' p (head-eq_of_cons-eq k), same_tokens a (numbered_by s e N) (numbered_by t e' N') (mapped_next N N' e e' p q) (tail-eq_of_cons-eq k))

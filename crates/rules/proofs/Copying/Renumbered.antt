@@ -154,8 +154,8 @@ module _ (C : List ℕ) (next : ℕ) where
   pub number_new : {c : ℕ} → Memᴰ c C → next ≤ renumbered C next c
   number_new {c} m = let p = place_in m in omega (arith, number_at c p.0 p.1)
 
-  pub number_below_law : {c : ℕ} → Memᴰ c C → renumbered C next c < next + length C
-  number_below_law {c} m = let p = place_in m in let l : p.0 < length C = p.2 in omega (arith, number_at c p.0 p.1)
+  pub number_below_lem : {c : ℕ} → Memᴰ c C → renumbered C next c < next + length C
+  number_below_lem {c} m = let p = place_in m in let l : p.0 < length C = p.2 in omega (arith, number_at c p.0 p.1)
 
   -- one that has a new number is one of the list, one that keeps its own is none
   pub number_cases : (c : ℕ) → Memᴰ c C ⊎ ((Memᴰ c C → ⊥) × (renumbered C next c ≡ c))
@@ -167,7 +167,7 @@ module _ (C : List ℕ) (next : ℕ) where
 
   -- a number of the table, renamed
   pub number_named : (c : ℕ) → c < next → renumbered C next c < next + length C
-  number_named c l = ⊎_elim (λ m. number_below_law m) (λ h. omega (arith, h.1)) (number_cases c)
+  number_named c l = ⊎_elim (λ m. number_below_lem m) (λ h. omega (arith, h.1)) (number_cases c)
 
   -- of numbers of the table, no two get the same
   pub number_once : (a b : ℕ) → a < next → b < next → renumbered C next a ≡ renumbered C next b → a ≡ b
@@ -253,8 +253,8 @@ module _ {A : Type 0} (xs : List A) (g : ℕ → A) (C : List ℕ) where
       ∙ get_d_map g C p.0 d p.2
       ∙ ap g p.3
 
-  pub table_length_law : length (xs ++ map g C) ≡ length xs + length C
-  table_length_law = simp (length-append, length-map)
+  pub table_length_lem : length (xs ++ map g C) ≡ length xs + length C
+  table_length_lem = simp (length-append, length-map)
 
   -- none of the new entries passes
   pub numbers_old : (p : A → Bool) → ((c : ℕ) → Memᴰ c C → p (g c) ≡ false) → numbers_where p (xs ++ map g C) ≡ numbers_where p xs

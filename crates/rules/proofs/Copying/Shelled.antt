@@ -61,13 +61,13 @@ module _ (s : Store) (full : ℕ → List Step) (bs : List ℕ) where
   abbrev pub Below : Step → Type 0
   Below x = (b : ℕ) × (o : ℕ) × Memᴰ b bs × Memᴰ o (ops_of s b) × Memᴰ x (full o)
 
-  full_part_law : {x : Step} → Memᴰ x full_part → Below x
-  full_part_law i =
+  full_part_lem : {x : Step} → Memᴰ x full_part → Below x
+  full_part_lem i =
       let b = mem_concat_map (λ (b : ℕ). concat_map full (ops_of s b)) bs i in
       let o = mem_concat_map full (ops_of s b.0) b.2 in (b.0, o.0, b.1, o.1, o.2)
 
-  op_part_law : {m : ℕ} → Memᴰ (shell (of_op m)) op_part → (b : ℕ) × Memᴰ b bs × Memᴰ m (ops_of s b)
-  op_part_law {m} i =
+  op_part_lem : {m : ℕ} → Memᴰ (shell (of_op m)) op_part → (b : ℕ) × Memᴰ b bs × Memᴰ m (ops_of s b)
+  op_part_lem {m} i =
       let b = mem_concat_map (λ (b : ℕ). shells of_op (ops_of s b)) bs i in
       let j = of_shells of_op (ops_of s b.0) (of_op m) b.2 in
       let e : of_op j.0 ≡ of_op m = j.2 in
@@ -80,9 +80,9 @@ module _ (s : Store) (full : ℕ → List Step) (bs : List ℕ) where
       ⊎_elim
       (λ i. ⊎_elim
       (λ j. let w = of_shells of_block bs (of_op m) j in let e = w.2 in let z : ⊥ = cc in absurd z)
-      (λ j. inl (op_part_law j))
+      (λ j. inl (op_part_lem j))
       (Memᴰ.append_cases (shells of_block bs) i))
-      (λ i. inr (full_part_law i))
+      (λ i. inr (full_part_lem i))
       (Memᴰ.append_cases (shells of_block bs ++ op_part) k)
 
   listed_names : {m : ℕ} → Memᴰ (names m) (list_steps s full bs) → Below (names m)
@@ -93,37 +93,37 @@ module _ (s : Store) (full : ℕ → List Step) (bs : List ℕ) where
       (λ j. absurd (unnamed of_block bs m j))
       (λ j. let b = mem_concat_map (λ (b : ℕ). shells of_op (ops_of s b)) bs j in absurd (unnamed of_op (ops_of s b.0) m b.2))
       (Memᴰ.append_cases (shells of_block bs) i))
-      full_part_law
+      full_part_lem
       (Memᴰ.append_cases (shells of_block bs ++ op_part) k)
 
 -- ---- names and shells
 
 module _ (s : Store) where
-  in_full_law : (in_region : ℕ → List Step) (m : ℕ) → ((r : ℕ) → Memᴰ (names m) (in_region r) → Memᴰ (shell (of_op m)) (in_region r))
+  in_full_lem : (in_region : ℕ → List Step) (m : ℕ) → ((r : ℕ) → Memᴰ (names m) (in_region r) → Memᴰ (shell (of_op m)) (in_region r))
       → (o : ℕ) → Memᴰ (names m) (full_op s in_region o) → (m ≡ o) ⊎ Memᴰ (shell (of_op m)) (full_op s in_region o)
   unfolding full_op
-  in_full_law in_region m inner o k =
+  in_full_lem in_region m inner o k =
       ⊎_elim
       (λ e. let f : m ≡ o = cc in inl f)
       (λ i. let r = mem_concat_map in_region (regions_of s o) i in inr (Memᴰ.tail (in_concat_map in_region (regions_of s o) r.1 (inner r.0 r.2))))
       (Memᴰ.cases_cons k)
 
-  in_region_law : (k r m : ℕ) → Memᴰ (names m) (region_steps k s r) → Memᴰ (shell (of_op m)) (region_steps k s r)
+  in_region_lem : (k r m : ℕ) → Memᴰ (names m) (region_steps k s r) → Memᴰ (shell (of_op m)) (region_steps k s r)
   unfolding region_steps
-  in_region_law zero r m i = absurd (Memᴰ.not-nil i)
-  in_region_law (suc k) r m i =
+  in_region_lem zero r m i = absurd (Memᴰ.not-nil i)
+  in_region_lem (suc k) r m i =
       let b = listed_names s (full_op s (region_steps k s)) (blocks_of s r) i in
       ⊎_elim
       (λ e. op_listed s (full_op s (region_steps k s)) (blocks_of s r) b.2 (subst (λ (x : ℕ). Memᴰ x (ops_of s b.0)) (sym e) b.3))
       (λ j. full_listed s (full_op s (region_steps k s)) (blocks_of s r) b.2 b.3 j)
-      (in_full_law (region_steps k s) m (λ q l. in_region_law k q m l) b.1 b.4)
+      (in_full_lem (region_steps k s) m (λ q l. in_region_lem k q m l) b.1 b.4)
 
   in_steps : (n m : ℕ) → Memᴰ (names m) (steps s op n) → Memᴰ (shell (of_op m)) (steps s op n)
   unfolding steps
   in_steps n m k =
       ⊎_elim (λ e. let z : ⊥ = cc in absurd z)
       (λ i. ⊎_elim (λ e. Memᴰ.head (ap (λ (x : ℕ). shell (of_op x)) e)) (λ j. Memᴰ.tail j)
-      (in_full_law (region_steps levels s) m (λ r l. in_region_law levels r m l) n i))
+      (in_full_lem (region_steps levels s) m (λ r l. in_region_lem levels r m l) n i))
       (Memᴰ.cases_cons k)
 
   -- ---- owners

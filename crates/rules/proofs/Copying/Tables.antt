@@ -7,7 +7,7 @@ use lib.ListN.{length, get_or}
 use Rattle.rules.specs.Store.{Store, no_op, no_block, no_value, op_at, block_at, value_at}
 use Rattle.rules.specs.Fragments.{op, defines_blocks, defines_values, fragment_ops}
 use Rattle.rules.specs.Copying.{copied_regions, op_copy, block_copy, region_copy, value_copy, copied_op, copied_block, copied_value, copied}
-use Rattle.rules.proofs.Copying.Renumbered.{number_new, number_once, old_entry, new_entry, table_length_law}
+use Rattle.rules.proofs.Copying.Renumbered.{number_new, number_once, old_entry, new_entry, table_length_lem}
 
 module _ (s : Store) (n : ℕ) (place : Option ℕ) where
   abbrev with : Store
@@ -39,9 +39,9 @@ module _ (s : Store) (n : ℕ) (place : Option ℕ) where
   unfolding block_at copied
   old_block b l = old_entry s.blocks (copied_block s n) the_blocks no_block b l
 
-  pub new_block_law : {b : ℕ} → Memᴰ b the_blocks → block_at with (block_copy s n b) ≡ copied_block s n b
+  pub new_block_lem : {b : ℕ} → Memᴰ b the_blocks → block_at with (block_copy s n b) ≡ copied_block s n b
   unfolding block_at copied block_copy
-  new_block_law k = new_entry s.blocks (copied_block s n) the_blocks no_block k
+  new_block_lem k = new_entry s.blocks (copied_block s n) the_blocks no_block k
 
   pub old_value : (v : ℕ) → v < length s.values → value_at with v ≡ value_at s v
   unfolding value_at copied
@@ -61,19 +61,19 @@ module _ (s : Store) (n : ℕ) (place : Option ℕ) where
 
   pub ops_length : length with.ops ≡ length s.ops + length the_ops
   unfolding copied
-  ops_length = table_length_law s.ops (copied_op s n place) the_ops
+  ops_length = table_length_lem s.ops (copied_op s n place) the_ops
 
   pub blocks_length : length with.blocks ≡ length s.blocks + length the_blocks
   unfolding copied
-  blocks_length = table_length_law s.blocks (copied_block s n) the_blocks
+  blocks_length = table_length_lem s.blocks (copied_block s n) the_blocks
 
   pub regions_length : length with.regions ≡ length s.regions + length the_regions
   unfolding copied
-  regions_length = table_length_law s.regions (λ (q : ℕ). op_copy s n (get_or s.regions q 0)) the_regions
+  regions_length = table_length_lem s.regions (λ (q : ℕ). op_copy s n (get_or s.regions q 0)) the_regions
 
   pub values_length : length with.values ≡ length s.values + length the_values
   unfolding copied
-  values_length = table_length_law s.values (copied_value s n) the_values
+  values_length = table_length_lem s.values (copied_value s n) the_values
 
   -- ---- new numbers
 

@@ -26,12 +26,12 @@ use Rattle.rules.proofs.Form.Events.{bare_events}
 use Rattle.rules.proofs.Form.Images.{position_none}
 use Rattle.rules.proofs.Copying.Renumbered.{number_new, number_cases, number_once, first_number}
 use Rattle.rules.proofs.Copying.Walked.{ops_by_block}
-use Rattle.rules.proofs.Copying.Inside.{op_below, block_below, value_owner_law}
-use Rattle.rules.proofs.Copying.Tables.{old_op, new_op, old_block, new_block_law, old_value, new_value, values_length, block_once}
+use Rattle.rules.proofs.Copying.Inside.{op_below, block_below, value_owner_lem}
+use Rattle.rules.proofs.Copying.Tables.{old_op, new_op, old_block, new_block_lem, old_value, new_value, values_length, block_once}
 use Rattle.rules.proofs.Copying.Children.{region_parent, owner_here, owner_apart, same_self, ops_old, ops_new, blocks_old, blocks_new, regions_old, regions_new, values_old, values_new}
 use Rattle.rules.proofs.Copying.Kept.{value_copied}
 use Rattle.rules.proofs.Copying.Named.{KeptNames, EventKept, Kept}
-use Rattle.rules.proofs.Copying.Early.{in_time_law}
+use Rattle.rules.proofs.Copying.Early.{in_time_lem}
 use Rattle.rules.proofs.Copying.Moved.{renamed_owner, Moved, moves, owners_moved, ops_moved, blocks_moved, values_moved, named_values_moved, named_blocks_moved, named_values_in, named_blocks_in, kept→same, same→kept}
 
 -- ---- names of the store, and new numbers
@@ -61,9 +61,9 @@ outside s n (some c) h b k e = go (position c (defines_blocks s op n)) refl h
     go none f i = position_none c (defines_blocks s op n) f (subst (λ (x : ℕ). Memᴰ x (defines_blocks s op n)) (sym (some-injective c b e)) k)
     go (some j) f i = true≢false (sym i)
 
-none_renamed_law : (s : Store) → renamed [] s ≡ s
+none_renamed_lem : (s : Store) → renamed [] s ≡ s
 unfolding RenamedNone
-none_renamed_law s = under.renamed_none s
+none_renamed_lem s = under.renamed_none s
 
 -- what keeps its number
 abbrev same : ℕ → ℕ
@@ -129,7 +129,7 @@ module _ (s : Store) (sd : Sound s) (n : ℕ) (ex : op_exists s n ≡ true) (pla
         regions = λ m k. regions_new s sd n ex place pe k;
         values = λ w k. ap (values_of with) (owner_is w) ∙ values_new s sd n ex place pe k;
         op_entry = λ m k. (parent_copy s n place m, new_op s n place k);
-        block_entry = λ b k. (region_copy s n (block_at s b).region, (block_at s b).label, new_block_law s n place k);
+        block_entry = λ b k. (region_copy s n (block_at s b).region, (block_at s b).label, new_block_lem s n place k);
       }
 
   -- ---- the original
@@ -204,8 +204,8 @@ module _ (s : Store) (sd : Sound s) (n : ℕ) (ex : op_exists s n ≡ true) (pla
     values_copied =
         ap (defines_values with op) (sym root_copy) ∙ values_moved s with n (op_copy s n) (block_copy s n) (region_copy s n) (value_copy s n) sd ex copy_moved
 
-    owners_copied_law : defines_owners with op (length s.ops) ≡ map copy_owner (defines_owners s op n)
-    owners_copied_law =
+    owners_copied_lem : defines_owners with op (length s.ops) ≡ map copy_owner (defines_owners s op n)
+    owners_copied_lem =
         ap (defines_owners with op) (sym root_copy) ∙ owners_moved s with n (op_copy s n) (block_copy s n) (region_copy s n) (value_copy s n) sd ex copy_moved
 
     named_values_copied : names_values with op (length s.ops) ≡ map (value_copy s n) (names_values s op n)
@@ -234,14 +234,14 @@ module _ (s : Store) (sd : Sound s) (n : ℕ) (ex : op_exists s n ≡ true) (pla
     unfolding NamesNothingOf value_copy block_copy
     names_back =
         rw (named_values_copied, named_blocks_copied, values_stay, blocks_stay) (
-          apart_old (defines_values s op n) (length s.values) (names_values s op n) values_below (λ v k. (value_owner_law s sd n ex k).0),
+          apart_old (defines_values s op n) (length s.values) (names_values s op n) values_below (λ v k. (value_owner_lem s sd n ex k).0),
           apart_old (defines_blocks s op n) (length s.blocks) (names_blocks s op n) blocks_below (λ b k. block_below s sd n ex k),
         )
 
     owners_apart : Disjoint (defines_owners with op n) (defines_owners with op (length s.ops))
     owners_apart x m k =
         let i = Memᴰ.of_map self (defines_owners s op n) (subst (Memᴰ x) owners_stay m) in
-        let j = Memᴰ.of_map copy_owner (defines_owners s op n) (subst (Memᴰ x) owners_copied_law k) in
+        let j = Memᴰ.of_map copy_owner (defines_owners s op n) (subst (Memᴰ x) owners_copied_lem k) in
         let e : i.0 ≡ x = sym (self_is i.0) ∙ i.2 in
         let f : owner_copy s n j.0 ≡ x = sym (owner_is j.0) ∙ j.2 in
         let h : same_owner i.0 (owner_copy s n j.0) ≡ false = owner_apart s sd n ex place pe i.0 j.0 (owner_here s sd n ex place pe i.1) j.1 in
@@ -256,7 +256,7 @@ module _ (s : Store) (sd : Sound s) (n : ℕ) (ex : op_exists s n ≡ true) (pla
     in_time_kept : (in_time s n (steps s op n) no_numbers ≡ true) ↔ Kept s with (value_copy s n) (block_copy s n) copy_owner (events s op n) no_numbers
     in_time_kept =
         subst (λ (xs : List Step). (in_time s n xs no_numbers ≡ true) ↔ Kept s with (value_copy s n) (block_copy s n) copy_owner (events s op n) no_numbers) (bare_events s op n)
-        (in_time_law s with n copy_owner (moves s with n (op_copy s n) (block_copy s n) (region_copy s n) (value_copy s n) sd ex copy_moved) no_numbers)
+        (in_time_lem s with n copy_owner (moves s with n (op_copy s n) (block_copy s n) (region_copy s n) (value_copy s n) sd ex copy_moved) no_numbers)
 
     pub one_form : in_time s n (steps s op n) no_numbers ≡ true → (types : List ℕ) (ig : Ignore)
         → canonical (renamed types with) ig op n ≡ canonical (renamed types with) ig op (length s.ops)
@@ -271,4 +271,4 @@ module _ (s : Store) (sd : Sound s) (n : ℕ) (ex : op_exists s n ≡ true) (pla
         (unrenamed ∙ e ∙ ap (canonical with ig op) (sym root_copy)))
       where
         unrenamed : canonical s ig op n ≡ canonical with ig op n
-        unrenamed = ap (λ (x : Store). canonical x ig op n) (sym (none_renamed_law s)) ∙ stay_canonical [] ig ∙ ap (λ (x : Store). canonical x ig op n) (none_renamed_law with)
+        unrenamed = ap (λ (x : Store). canonical x ig op n) (sym (none_renamed_lem s)) ∙ stay_canonical [] ig ∙ ap (λ (x : Store). canonical x ig op n) (none_renamed_lem with)

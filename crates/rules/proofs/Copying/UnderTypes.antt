@@ -9,21 +9,21 @@ use Rattle.rules.specs.Shells.{counts_of}
 use Rattle.rules.specs.Hash.{Numbering}
 use Rattle.rules.specs.Types.{present, renamed}
 use Rattle.rules.specs.Form.{Event, step, more, done, op_events, blocks_events, region_events, events, numbered_by}
-use Rattle.rules.proofs.Types.Renamed.{values_length, values_renamed, numbered_renamed, type_renamed, shell_renamed, shell_renamed_law}
+use Rattle.rules.proofs.Types.Renamed.{values_length, values_renamed, numbered_renamed, type_renamed, shell_renamed, shell_renamed_lem}
 use Rattle.rules.proofs.Copying.Named.{OwnerPair, NamesPair, Carries, shelled, named, begun, mores, dones, Renaming, EventKept, Kept}
 
 module _ (types : List ℕ) (s : Store) where
   abbrev other : Store
   other = renamed types s
 
-  region_events_law : (k r : ℕ) → region_events other k r ≡ region_events s k r
+  region_events_lem : (k r : ℕ) → region_events other k r ≡ region_events s k r
   unfolding renamed region_events blocks_events op_events ops_of blocks_of regions_of
-  region_events_law zero r = refl
-  region_events_law (suc k) r = λ i. blocks_events s (op_events s (λ (q : ℕ). region_events_law k q i)) (blocks_of s r)
+  region_events_lem zero r = refl
+  region_events_lem (suc k) r = λ i. blocks_events s (op_events s (λ (q : ℕ). region_events_lem k q i)) (blocks_of s r)
 
   pub events_renamed : (n : ℕ) → events other op n ≡ events s op n
   unfolding renamed events op_events regions_of
-  events_renamed n = λ i. step (shell (of_op n)) ∷ op_events s (λ (q : ℕ). region_events_law levels q i) n
+  events_renamed n = λ i. step (shell (of_op n)) ∷ op_events s (λ (q : ℕ). region_events_lem levels q i) n
 
   counts_renamed : (w : Owner) → counts_of other w ≡ counts_of s w
   unfolding renamed counts_of op_at regions_of
@@ -53,7 +53,7 @@ module _ (types : List ℕ) (s t : Store) (vc bc : ℕ → ℕ) (wc : Owner → 
         blocks = p.blocks;
         blocks_in = p.blocks_in;
         counts = counts_renamed types t w' ∙ p.counts ∙ sym (counts_renamed types s w);
-        shells = λ ig. shell_renamed_law types t ig w' ∙ ap (shell_renamed types) (p.shells ig) ∙ sym (shell_renamed_law types s ig w);
+        shells = λ ig. shell_renamed_lem types t ig w' ∙ ap (shell_renamed types) (p.shells ig) ∙ sym (shell_renamed_lem types s ig w);
       }
 
   names_under : (m m' : ℕ) → NamesPair s t vc bc wc m m' → NamesPair s' t' vc bc wc m m'

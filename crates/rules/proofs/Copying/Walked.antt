@@ -12,7 +12,7 @@ use Rattle.rules.specs.Lists.{concat_map}
 use Rattle.rules.specs.Store.{Store, Owner, of_op, of_block, ops_of, blocks_of, regions_of, op_around}
 use Rattle.rules.specs.Fragments.{Step, shell, names, counted, op, full_op, shells, list_steps, region_steps, levels, steps, step_defines, op_owner, block_owner, defines_owners, defines_blocks, fragment_ops}
 use Rattle.rules.proofs.Basics.Distinct.{mem_concat_map, concat_map_append, concat_map_concat_map, concat_map_same}
-use Rattle.rules.proofs.Soundness.Children.{ops_in_law, blocks_in_law, regions_in_law}
+use Rattle.rules.proofs.Soundness.Children.{ops_in_lem, blocks_in_lem, regions_in_lem}
 use Rattle.rules.proofs.Form.Ancestors.{up}
 use Rattle.rules.proofs.Copying.Renumbered.{Before, here, there, in_concat_map, before_left, before_right, before_across, before_within}
 
@@ -123,12 +123,12 @@ module _ (s : Store) where
       of_full (ops_of s) step_ops no_ops in_region (λ (r : ℕ). concat_map step_blocks (in_region r)) same m
       ∙ ap (concat_map (ops_of s)) (sym (ap₂ ◌++◌ (no_blocks m) (concat_map_concat_map step_blocks in_region (regions_of s m))))
 
-  ops_of_blocks_law : (k r : ℕ) → concat_map step_ops (region_steps k s r) ≡ concat_map (ops_of s) (concat_map step_blocks (region_steps k s r))
+  ops_of_blocks_lem : (k r : ℕ) → concat_map step_ops (region_steps k s r) ≡ concat_map (ops_of s) (concat_map step_blocks (region_steps k s r))
   unfolding region_steps concat_map
-  ops_of_blocks_law zero r = refl
-  ops_of_blocks_law (suc k) r =
+  ops_of_blocks_lem zero r = refl
+  ops_of_blocks_lem (suc k) r =
       ops_parts (full_op s (region_steps k s)) (blocks_of s r)
-      ∙ ap (λ (l : List ℕ). concat_map (ops_of s) (blocks_of s r) ++ l) (through (ops_of s) _ _ (blocks_of s r) (λ b. through (ops_of s) _ _ (ops_of s b) (ops_of_full (region_steps k s) (ops_of_blocks_law k))))
+      ∙ ap (λ (l : List ℕ). concat_map (ops_of s) (blocks_of s r) ++ l) (through (ops_of s) _ _ (blocks_of s r) (λ b. through (ops_of s) _ _ (ops_of s b) (ops_of_full (region_steps k s) (ops_of_blocks_lem k))))
       ∙ sym (concat_map_append (ops_of s) (blocks_of s r) _)
       ∙ sym (ap (concat_map (ops_of s)) (blocks_parts (full_op s (region_steps k s)) (blocks_of s r)))
 
@@ -145,7 +145,7 @@ module _ (s : Store) where
   ops_by_block n =
       concat_map_concat_map op_owner step_defines (steps s op n)
       ∙ ap (λ (l : List ℕ). n ∷ l)
-      (ops_of_full (region_steps levels s) (ops_of_blocks_law levels) n
+      (ops_of_full (region_steps levels s) (ops_of_blocks_lem levels) n
       ∙ ap (concat_map (ops_of s)) (sym (concat_map_concat_map block_owner step_defines (steps s op n))))
 
   -- ---- what is next around a thing comes before it
@@ -184,24 +184,24 @@ module _ (s : Store) where
   unfolding blocks_part up op_around
   block_around r w m =
       let i = mem_concat_map (λ (b : ℕ). of_block b ∷ []) (blocks_of s r) m in
-      ap (up s) (Memᴰ.eq_of_singleton i.2) ∙ ap (λ (q : ℕ). some (region_op q)) (blocks_in_law s r i.1).1
+      ap (up s) (Memᴰ.eq_of_singleton i.2) ∙ ap (λ (q : ℕ). some (region_op q)) (blocks_in_lem s r i.1).1
 
-  op_around_law : (r : ℕ) (w : Owner) → Memᴰ w (ops_part r) → (p : Owner) × (up s w ≡ some p) × Memᴰ p (blocks_part r)
+  op_around_lem : (r : ℕ) (w : Owner) → Memᴰ w (ops_part r) → (p : Owner) × (up s w ≡ some p) × Memᴰ p (blocks_part r)
   unfolding blocks_part ops_part up
-  op_around_law r w m =
+  op_around_lem r w m =
       let i = mem_concat_map (λ (b : ℕ). concat_map (λ (m : ℕ). of_op m ∷ []) (ops_of s b)) (blocks_of s r) m in
       let j = mem_concat_map (λ (m : ℕ). of_op m ∷ []) (ops_of s i.0) i.2 in (
         of_block i.0,
-        ap (up s) (Memᴰ.eq_of_singleton j.2) ∙ ap (Option.map of_block) (ops_in_law s i.0 j.1).1,
+        ap (up s) (Memᴰ.eq_of_singleton j.2) ∙ ap (Option.map of_block) (ops_in_lem s i.0 j.1).1,
         in_concat_map (λ (b : ℕ). of_block b ∷ []) (blocks_of s r) i.1 (Memᴰ.head refl),
       )
 
   -- in a region of an operation
-  in_full_law : (k m : ℕ) (w : Owner) → Memᴰ w (in_full k m) → (q : ℕ) × (region_op q ≡ of_op m) × Memᴰ w (in_region k q) × ((p : Owner) → Before p w (in_region k q) → Before p w (in_full k m))
+  in_full_lem : (k m : ℕ) (w : Owner) → Memᴰ w (in_full k m) → (q : ℕ) × (region_op q ≡ of_op m) × Memᴰ w (in_region k q) × ((p : Owner) → Before p w (in_region k q) → Before p w (in_full k m))
   unfolding in_full
-  in_full_law k m w i =
+  in_full_lem k m w i =
       let j = mem_concat_map (in_region k) (regions_of s m) i in
-      (j.0, ap of_op (regions_in_law s m j.1).1, j.2, λ p h. before_within (in_region k) j.1 h)
+      (j.0, ap of_op (regions_in_lem s m j.1).1, j.2, λ p h. before_within (in_region k) j.1 h)
 
   in_inside : (k r : ℕ) (w : Owner) → Memᴰ w (inside_part k r)
       → (m : ℕ) × Memᴰ (of_op m) (ops_part r) × Memᴰ w (in_full k m) × ((p : Owner) → Before p w (in_full k m) → Before p w (inside_part k r))
@@ -228,12 +228,12 @@ module _ (s : Store) where
       comes p e h = inr (p, e, subst (Before p w) (sym (region_parts k r)) h)
 
       as_op : Memᴰ w (ops_part r) → AroundFirst (suc k) r w
-      as_op i = let j = op_around_law r w i in comes j.0 j.1 (before_left (inside_part k r) (before_across j.2 i))
+      as_op i = let j = op_around_lem r w i in comes j.0 j.1 (before_left (inside_part k r) (before_across j.2 i))
 
       inside : ((q : ℕ) (x : Owner) → Memᴰ x (in_region k q) → AroundFirst k q x) → Memᴰ w (inside_part k r) → AroundFirst (suc k) r w
       inside inner i =
           let j = in_inside k r w i in
-          let l = in_full_law k j.0 w j.2 in
+          let l = in_full_lem k j.0 w j.2 in
           ⊎_elim
           (λ e. comes (of_op j.0) (e ∙ ap some l.1) (before_across (Memᴰ.append_right (blocks_part r) j.1) i))
           (λ h. comes h.0 h.1 (before_right (blocks_part r ++ ops_part r) (j.3 h.0 (l.3 h.0 h.2))))
@@ -253,5 +253,5 @@ module _ (s : Store) where
 
       later : Memᴰ w (in_full levels n) → (p : Owner) × (up s w ≡ some p) × Before p w (defines_owners s op n)
       later i =
-          let l = in_full_law levels n w i in
+          let l = in_full_lem levels n w i in
           ⊎_elim (λ e. comes (of_op n) (e ∙ ap some l.1) (here i)) (λ h. comes h.0 h.1 (there (l.3 h.0 h.2))) (around_first levels l.0 w l.2)

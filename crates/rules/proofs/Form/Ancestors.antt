@@ -10,7 +10,7 @@ use borrow.Author.Tests.{ltb-true}
 use lib.ListN.{length}
 use Rattle.rules.specs.Store.{Store, Owner, of_op, of_block, parent_of, op_around, op_after, parent_exists, owner_exists, op_exists, block_exists}
 use Rattle.rules.proofs.Soundness.Sound.{Sound}
-use Rattle.rules.proofs.Soundness.Grown.{owner_op, parent_in_law, around_in}
+use Rattle.rules.proofs.Soundness.Grown.{owner_op, parent_in_lem, around_in}
 
 -- the block around an operation, or none; the operation around a block
 unfoldable pub up : Store → Owner → Option Owner
@@ -49,7 +49,7 @@ module _ (s : Store) (sd : Sound s) where
       go (some b) f k =
           let q : of_block b ≡ p = some-injective (of_block b) p k in
           let l : n < length s.ops = ltb-true _ _ h in
-          let i : block_exists s b ≡ true = subst (λ (o : Option ℕ). parent_exists s o ≡ true) f (parent_in_law s sd n l) in
+          let i : block_exists s b ≡ true = subst (λ (o : Option ℕ). parent_exists s o ≡ true) f (parent_in_lem s sd n l) in
           let a : op_after s n (some b) ≡ true = subst (λ (o : Option ℕ). op_after s n o ≡ true) f (sd.op n l).later in
           let m : op_around s b < n = ltb-true _ _ a in
           subst (λ (w : Owner). (owner_exists s w ≡ true) × (rank s w < 2 * n)) q (i, omega arith)

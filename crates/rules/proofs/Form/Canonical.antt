@@ -27,7 +27,7 @@ use Rattle.rules.proofs.Form.Events.{bare_steps, bare_events, lock}
 use Rattle.rules.proofs.Form.LockStep.{going, lock_step}
 use Rattle.rules.proofs.Form.Tokens.{event_values, event_blocks, event_operands, event_successors, Rest, Whole, Related, Apart, tokens_equal, lock_goes_on}
 use Rattle.rules.proofs.Form.Hashes.{token_bytes, tokens_bytes}
-use Rattle.rules.proofs.Form.Once.{values_once_law, values_here, blocks_once_law, blocks_here}
+use Rattle.rules.proofs.Form.Once.{values_once_lem, values_here, blocks_once_lem, blocks_here}
 use Rattle.rules.proofs.Walking.Deep.{compare_not_deep}
 
 -- ---- the empty mapping
@@ -115,8 +115,8 @@ module _ (s : Store) (sd : sound s ≡ true) where
   whole f n h =
       let so = facts s sd in
       record {
-        values = within max_values (length s.values) (defines_values s f n) so.totals.values (values_once_law s so f n h) (values_here s so f n);
-        blocks = within max_blocks (length s.blocks) (defines_blocks s f n) so.totals.blocks (blocks_once_law s so f n h) (blocks_here s so f n h);
+        values = within max_values (length s.values) (defines_values s f n) so.totals.values (values_once_lem s so f n h) (values_here s so f n);
+        blocks = within max_blocks (length s.blocks) (defines_blocks s f n) so.totals.blocks (blocks_once_lem s so f n h) (blocks_here s so f n h);
       }
 
   module _ (ig : Ignore) (f : Sort) where

@@ -14,12 +14,12 @@ use Rattle.rules.specs.Fragments.{Sort, exists, block_owner, defines_owners, def
 use Rattle.rules.proofs.Soundness.Sound.{facts}
 use Rattle.rules.proofs.Basics.Distinct.{Distinct, distinct_concat_map, mem_concat_map}
 use Rattle.rules.proofs.Basics.Pigeons.{pigeons}
-use Rattle.rules.proofs.Form.Once.{owners_once, owners_here, values_once_law, values_here, blocks_once_law, blocks_here}
+use Rattle.rules.proofs.Form.Once.{owners_once, owners_here, values_once_lem, values_here, blocks_once_lem, blocks_here}
 
-op_owner_law : (w : Owner) {n : ℕ} → Memᴰ n (op_owner w) → w ≡ of_op n
+op_owner_lem : (w : Owner) {n : ℕ} → Memᴰ n (op_owner w) → w ≡ of_op n
 unfolding op_owner
-op_owner_law (of_op m) k = ap of_op (sym (Memᴰ.eq_of_singleton k))
-op_owner_law (of_block b) k = absurd (Memᴰ.not-nil k)
+op_owner_lem (of_op m) k = ap of_op (sym (Memᴰ.eq_of_singleton k))
+op_owner_lem (of_block b) k = absurd (Memᴰ.not-nil k)
 
 op_alone : (w : Owner) → Distinct (op_owner w)
 unfolding op_owner
@@ -34,14 +34,14 @@ owners_split (of_op n ∷ ws) = omega (arith, owners_split ws)
 owners_split (of_block b ∷ ws) = omega (arith, owners_split ws)
 
 pub ops_once : (ws : List Owner) → Distinct ws → Distinct (concat_map op_owner ws)
-ops_once ws once = distinct_concat_map op_owner ws once (λ w m. op_alone w) (λ w x mw mx n k l. op_owner_law w k ∙ sym (op_owner_law x l))
+ops_once ws once = distinct_concat_map op_owner ws once (λ w m. op_alone w) (λ w x mw mx n k l. op_owner_lem w k ∙ sym (op_owner_lem x l))
 
 module _ (s : Store) (sd : sound s ≡ true) where
   pub ops_here : (ws : List Owner) → ((w : Owner) → Memᴰ w ws → owner_exists s w ≡ true) → (n : ℕ) → Memᴰ n (concat_map op_owner ws) → n < length s.ops
   unfolding owner_exists op_exists
   ops_here ws here n m =
       let w = mem_concat_map op_owner ws m in
-      ltb-true _ _ (subst (λ (x : Owner). owner_exists s x ≡ true) (op_owner_law w.0 w.2) (here w.0 w.1))
+      ltb-true _ _ (subst (λ (x : Owner). owner_exists s x ≡ true) (op_owner_lem w.0 w.2) (here w.0 w.1))
 
   pub ops_most : (ws : List Owner) → Distinct ws → ((w : Owner) → Memᴰ w ws → owner_exists s w ≡ true) → length (concat_map op_owner ws) ≤ max_ops
   ops_most ws once here =
@@ -52,14 +52,14 @@ module _ (s : Store) (sd : sound s ≡ true) where
   pub values_most : (f : Sort) (n : ℕ) → exists s f n ≡ true → length (defines_values s f n) ≤ max_values
   values_most f n e =
       let so = facts s sd in
-      let l : length (defines_values s f n) ≤ length s.values = pigeons (length s.values) (defines_values s f n) (values_once_law s so f n e) (values_here s so f n) in
+      let l : length (defines_values s f n) ≤ length s.values = pigeons (length s.values) (defines_values s f n) (values_once_lem s so f n e) (values_here s so f n) in
       let t : length s.values ≤ max_values = so.totals.values in
       omega arith
 
   pub blocks_most : (f : Sort) (n : ℕ) → exists s f n ≡ true → length (defines_blocks s f n) ≤ max_blocks
   blocks_most f n e =
       let so = facts s sd in
-      let l : length (defines_blocks s f n) ≤ length s.blocks = pigeons (length s.blocks) (defines_blocks s f n) (blocks_once_law s so f n e) (blocks_here s so f n e) in
+      let l : length (defines_blocks s f n) ≤ length s.blocks = pigeons (length s.blocks) (defines_blocks s f n) (blocks_once_lem s so f n e) (blocks_here s so f n e) in
       let t : length s.blocks ≤ max_blocks = so.totals.blocks in
       omega arith
 

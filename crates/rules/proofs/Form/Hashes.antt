@@ -35,14 +35,14 @@ concat_map_map f g [] = refl
 concat_map_map {C = C} f g (x ∷ xs) = ap (λ (l : List C). f (g x) ++ l) (concat_map_map f g xs)
 
 module _ (s : Store) (ig : Ignore) where
-  pub head_bytes_law : (w : Owner) → counts_bytes (counts_of s w) ≡ head_bytes s w
+  pub head_bytes_lem : (w : Owner) → counts_bytes (counts_of s w) ≡ head_bytes s w
   unfolding counts_bytes counts_of head_bytes
-  head_bytes_law (of_op n) = refl
-  head_bytes_law (of_block b) = refl
+  head_bytes_lem (of_op n) = refl
+  head_bytes_lem (of_block b) = refl
 
   step_bytes : (x : Step) (N : Numbering) → token_bytes (token s ig (step x) N) ≡ feeds uncounted s ig x N
   unfolding token_bytes token feeds list_bytes
-  step_bytes (shell w) N = ap (λ (l : List ℕ). l ++ shell_bytes uncounted (shell_of s ig w)) (head_bytes_law w)
+  step_bytes (shell w) N = ap (λ (l : List ℕ). l ++ shell_bytes uncounted (shell_of s ig w)) (head_bytes_lem w)
   step_bytes (names n) N =
       ap₂ ◌++◌
       (concat_map_map (λ (x : Name × ℕ). name_bytes x.0) (λ (v : ℕ). (name_of N.values v, type_of s v)) (op_at s n).operands)

@@ -15,7 +15,7 @@ use Rattle.rules.specs.Fragments.{Sort, op, block, region, exists, levels, Step,
 use Rattle.rules.proofs.Soundness.Sound.{Sound}
 use Rattle.rules.proofs.Soundness.Grown.{owner_op}
 use Rattle.rules.proofs.Basics.Distinct.{Distinct, distinct_concat_map, mem_concat_map, concat_map_concat_map}
-use Rattle.rules.proofs.Soundness.Children.{blocks_in_law, regions_in_law, values_in_law, blocks_distinct, regions_distinct, values_distinct}
+use Rattle.rules.proofs.Soundness.Children.{blocks_in_lem, regions_in_lem, values_in_lem, blocks_distinct, regions_distinct, values_distinct}
 use Rattle.rules.proofs.Form.Ancestors.{up, next, around_from, not_around_itself, same_from}
 use Rattle.rules.proofs.Form.OnceInLists.{defined, OpPart, BlocksPart, Blocks, list_part}
 
@@ -24,20 +24,20 @@ use Rattle.rules.proofs.Form.OnceInLists.{defined, OpPart, BlocksPart, Blocks, l
 one_alone : (n : ℕ) → Distinct (n ∷ [])
 one_alone n = (λ m. Memᴰ.not-nil m, tt)
 
-pub op_owner_law : (w : Owner) (n : ℕ) → Memᴰ n (op_owner w) → w ≡ of_op n
+pub op_owner_lem : (w : Owner) (n : ℕ) → Memᴰ n (op_owner w) → w ≡ of_op n
 unfolding op_owner
-op_owner_law (of_op m) n k = ap of_op (sym (Memᴰ.eq_of_singleton k))
-op_owner_law (of_block b) n k = absurd (Memᴰ.not-nil k)
+op_owner_lem (of_op m) n k = ap of_op (sym (Memᴰ.eq_of_singleton k))
+op_owner_lem (of_block b) n k = absurd (Memᴰ.not-nil k)
 
 op_alone : (w : Owner) → Distinct (op_owner w)
 unfolding op_owner
 op_alone (of_op m) = one_alone m
 op_alone (of_block b) = tt
 
-pub block_owner_law : (w : Owner) (b : ℕ) → Memᴰ b (block_owner w) → w ≡ of_block b
+pub block_owner_lem : (w : Owner) (b : ℕ) → Memᴰ b (block_owner w) → w ≡ of_block b
 unfolding block_owner
-block_owner_law (of_op m) b k = absurd (Memᴰ.not-nil k)
-block_owner_law (of_block c) b k = ap of_block (sym (Memᴰ.eq_of_singleton k))
+block_owner_lem (of_op m) b k = absurd (Memᴰ.not-nil k)
+block_owner_lem (of_block c) b k = ap of_block (sym (Memᴰ.eq_of_singleton k))
 
 block_alone : (w : Owner) → Distinct (block_owner w)
 unfolding block_owner
@@ -51,20 +51,20 @@ module _ (s : Store) (sd : Sound s) where
   unfolding up op_around
   region_blocks r =
       record {
-        here = λ b m. (blocks_in_law s r m).0;
+        here = λ b m. (blocks_in_lem s r m).0;
         once = blocks_distinct s r;
-        around = λ b c mb mc. ap (λ (q : ℕ). some (of_op (get_or s.regions q 0))) ((blocks_in_law s r mb).1 ∙ sym (blocks_in_law s r mc).1);
+        around = λ b c mb mc. ap (λ (q : ℕ). some (of_op (get_or s.regions q 0))) ((blocks_in_lem s r mb).1 ∙ sym (blocks_in_lem s r mc).1);
       }
 
   -- the operation around a block of its region
   region_up : (n r b : ℕ) → Memᴰ r (regions_of s n) → Memᴰ b (blocks_of s r) → up s (of_block b) ≡ some (of_op n)
   unfolding up op_around
   region_up n r b mr mb =
-      ap (λ (q : ℕ). some (of_op (get_or s.regions q 0))) (blocks_in_law s r mb).1 ∙ ap (λ (m : ℕ). some (of_op m)) (regions_in_law s n mr).1
+      ap (λ (q : ℕ). some (of_op (get_or s.regions q 0))) (blocks_in_lem s r mb).1 ∙ ap (λ (m : ℕ). some (of_op m)) (regions_in_lem s n mr).1
 
-  op_part_law : (in_region : ℕ → List Step) → ((r : ℕ) → BlocksPart s (in_region r) (blocks_of s r)) → (n : ℕ) → OpPart s (full_op s in_region) n
+  op_part_lem : (in_region : ℕ → List Step) → ((r : ℕ) → BlocksPart s (in_region r) (blocks_of s r)) → (n : ℕ) → OpPart s (full_op s in_region) n
   unfolding full_op defined concat_map step_defines
-  op_part_law in_region parts n =
+  op_part_lem in_region parts n =
       record {
         inside = λ y m.
             let w = mem_concat_map part (regions_of s n) (subst (Memᴰ y) flat m) in
@@ -77,7 +77,7 @@ module _ (s : Store) (sd : Sound s) where
             let j = (parts q).inside y l in
             let e : of_block i.1.0 ≡ of_block j.1.0 = same_from s sd (region_up n r i.1.0 mr i.1.1 ∙ sym (region_up n q j.1.0 mq j.1.1)) i.0 i.1.2 j.1.2 in
             let f : i.1.0 ≡ j.1.0 = cc in
-            sym (blocks_in_law s r i.1.1).1 ∙ ap (λ (b : ℕ). (block_at s b).region) f ∙ (blocks_in_law s q j.1.1).1));
+            sym (blocks_in_lem s r i.1.1).1 ∙ ap (λ (b : ℕ). (block_at s b).region) f ∙ (blocks_in_lem s q j.1.1).1));
       }
     where
       part : ℕ → List Owner
@@ -91,20 +91,20 @@ module _ (s : Store) (sd : Sound s) where
   region_part : (k r : ℕ) → BlocksPart s (region_steps k s r) (blocks_of s r)
   unfolding region_steps defined concat_map
   region_part zero r = record { inside = λ y m. absurd (Memᴰ.not-nil m); once = tt }
-  region_part (suc k) r = list_part s sd (full_op s (region_steps k s)) (λ n l. op_part_law (region_steps k s) (region_part k) n) (blocks_of s r) (region_blocks r)
+  region_part (suc k) r = list_part s sd (full_op s (region_steps k s)) (λ n l. op_part_lem (region_steps k s) (region_part k) n) (blocks_of s r) (region_blocks r)
 
-  full_part_law : (k n : ℕ) → OpPart s (full_op s (region_steps k s)) n
-  full_part_law k = op_part_law (region_steps k s) (region_part k)
+  full_part_lem : (k n : ℕ) → OpPart s (full_op s (region_steps k s)) n
+  full_part_lem k = op_part_lem (region_steps k s) (region_part k)
 
   -- an operation and what it defines
   pub op_once : (k n : ℕ) → op_exists s n ≡ true → Distinct (of_op n ∷ defined (full_op s (region_steps k s) n))
   unfolding op_exists
-  op_once k n h = (λ m. not_around_itself s sd (owner_op s sd n (ltb-true _ _ h)) ((full_part_law k n).inside (of_op n) m).1, (full_part_law k n).once)
+  op_once k n h = (λ m. not_around_itself s sd (owner_op s sd n (ltb-true _ _ h)) ((full_part_lem k n).inside (of_op n) m).1, (full_part_lem k n).once)
 
   pub op_here : (k n : ℕ) → op_exists s n ≡ true → (w : Owner) → Memᴰ w (of_op n ∷ defined (full_op s (region_steps k s) n)) → owner_exists s w ≡ true
   unfolding op_exists
   op_here k n h w m =
-      ⊎_elim (λ e. subst (λ (x : Owner). owner_exists s x ≡ true) (sym e) (owner_op s sd n (ltb-true _ _ h))) (λ i. ((full_part_law k n).inside w i).0) (Memᴰ.cases_cons m)
+      ⊎_elim (λ e. subst (λ (x : Owner). owner_exists s x ≡ true) (sym e) (owner_op s sd n (ltb-true _ _ h))) (λ i. ((full_part_lem k n).inside w i).0) (Memᴰ.cases_cons m)
 
   one_block_alone : (b : ℕ) → b < length s.blocks → Blocks s (b ∷ [])
   one_block_alone b l =
@@ -119,24 +119,24 @@ module _ (s : Store) (sd : Sound s) where
   pub owners_once : (f : Sort) (n : ℕ) → exists s f n ≡ true → Distinct (defines_owners s f n)
   unfolding defines_owners steps exists block_exists concat_map step_defines defined
   owners_once op n h = op_once levels n h
-  owners_once block n h = (list_part s sd (full_op s (region_steps levels s)) (λ m l. full_part_law levels m) (n ∷ []) (one_block_alone n (ltb-true _ _ h))).once
+  owners_once block n h = (list_part s sd (full_op s (region_steps levels s)) (λ m l. full_part_lem levels m) (n ∷ []) (one_block_alone n (ltb-true _ _ h))).once
   owners_once region n h = (region_part levels n).once
 
   pub owners_here : (f : Sort) (n : ℕ) → exists s f n ≡ true → (w : Owner) → Memᴰ w (defines_owners s f n) → owner_exists s w ≡ true
   unfolding defines_owners steps exists block_exists concat_map step_defines defined
   owners_here op n h w m = op_here levels n h w m
-  owners_here block n h w m = ((list_part s sd (full_op s (region_steps levels s)) (λ m l. full_part_law levels m) (n ∷ []) (one_block_alone n (ltb-true _ _ h))).inside w m).0
+  owners_here block n h w m = ((list_part s sd (full_op s (region_steps levels s)) (λ m l. full_part_lem levels m) (n ∷ []) (one_block_alone n (ltb-true _ _ h))).inside w m).0
   owners_here region n h w m = ((region_part levels n).inside w m).0
 
-  pub values_once_law : (f : Sort) (n : ℕ) → exists s f n ≡ true → Distinct (defines_values s f n)
+  pub values_once_lem : (f : Sort) (n : ℕ) → exists s f n ≡ true → Distinct (defines_values s f n)
   unfolding defines_values
-  values_once_law f n h =
+  values_once_lem f n h =
       distinct_concat_map (values_of s) (defines_owners s f n) (owners_once f n h) (λ w m. values_distinct s w)
-      (λ w x mw mx v k l. sym (values_in_law s w k).1 ∙ (values_in_law s x l).1)
+      (λ w x mw mx v k l. sym (values_in_lem s w k).1 ∙ (values_in_lem s x l).1)
 
   pub values_here : (f : Sort) (n : ℕ) (v : ℕ) → Memᴰ v (defines_values s f n) → v < length s.values
   unfolding defines_values
-  values_here f n v m = let w = mem_concat_map (values_of s) (defines_owners s f n) m in (values_in_law s w.0 w.2).0
+  values_here f n v m = let w = mem_concat_map (values_of s) (defines_owners s f n) m in (values_in_lem s w.0 w.2).0
 
   -- ---- the operations alone, and the blocks: by a function that lists of an owner nothing, or its number
 
@@ -152,16 +152,16 @@ module _ (s : Store) (sd : Sound s) where
 
   pub ops_once : (f : Sort) (n : ℕ) → exists s f n ≡ true → Distinct (fragment_ops s f n)
   unfolding fragment_ops
-  ops_once = numbers_once op_owner of_op op_owner_law op_alone
+  ops_once = numbers_once op_owner of_op op_owner_lem op_alone
 
   pub ops_here : (f : Sort) (n : ℕ) → exists s f n ≡ true → (m : ℕ) → Memᴰ m (fragment_ops s f n) → m < length s.ops
   unfolding fragment_ops owner_exists op_exists
-  ops_here f n h m k = ltb-true _ _ (numbers_here op_owner of_op op_owner_law op_alone f n h m k)
+  ops_here f n h m k = ltb-true _ _ (numbers_here op_owner of_op op_owner_lem op_alone f n h m k)
 
-  pub blocks_once_law : (f : Sort) (n : ℕ) → exists s f n ≡ true → Distinct (defines_blocks s f n)
+  pub blocks_once_lem : (f : Sort) (n : ℕ) → exists s f n ≡ true → Distinct (defines_blocks s f n)
   unfolding defines_blocks
-  blocks_once_law = numbers_once block_owner of_block block_owner_law block_alone
+  blocks_once_lem = numbers_once block_owner of_block block_owner_lem block_alone
 
   pub blocks_here : (f : Sort) (n : ℕ) → exists s f n ≡ true → (b : ℕ) → Memᴰ b (defines_blocks s f n) → b < length s.blocks
   unfolding defines_blocks owner_exists block_exists
-  blocks_here f n h b k = ltb-true _ _ (numbers_here block_owner of_block block_owner_law block_alone f n h b k)
+  blocks_here f n h b k = ltb-true _ _ (numbers_here block_owner of_block block_owner_lem block_alone f n h b k)

@@ -16,7 +16,7 @@ use Rattle.rules.proofs.Soundness.Sound.{Sound}
 use Rattle.rules.proofs.Soundness.Grown.{owner_op, owner_block}
 use Rattle.rules.proofs.Basics.Tests.{impossible}
 use Rattle.rules.proofs.Basics.Distinct.{Distinct, distinct_append, distinct_concat_map, distinct_map, mem_concat_map, concat_map_append, concat_map_concat_map, concat_map_cong}
-use Rattle.rules.proofs.Soundness.Children.{ops_in_law, ops_distinct}
+use Rattle.rules.proofs.Soundness.Children.{ops_in_lem, ops_distinct}
 use Rattle.rules.proofs.Form.Ancestors.{up, Around, next, From, around_trans, siblings, same_branch}
 
 -- the operations and blocks that steps define
@@ -52,10 +52,10 @@ module _ (s : Store) where
 module _ (s : Store) (sd : Sound s) where
   op_up : (b : ℕ) {n : ℕ} → Memᴰ n (ops_of s b) → up s (of_op n) ≡ some (of_block b)
   unfolding up
-  op_up b m = ap (Option.map of_block) (ops_in_law s b m).1
+  op_up b m = ap (Option.map of_block) (ops_in_lem s b m).1
 
   op_here : (b : ℕ) {n : ℕ} → Memᴰ n (ops_of s b) → owner_exists s (of_op n) ≡ true
-  op_here b {n} m = owner_op s sd n (ops_in_law s b m).0
+  op_here b {n} m = owner_op s sd n (ops_in_lem s b m).0
 
   -- ---- a list of blocks
 
@@ -77,9 +77,9 @@ module _ (s : Store) (sd : Sound s) where
 
     -- ---- what the three passes come to
 
-    in_blocks_law : (y : Owner) → Memᴰ y block_shells → (b : ℕ) × Memᴰ b bs × (y ≡ of_block b)
+    in_blocks_lem : (y : Owner) → Memᴰ y block_shells → (b : ℕ) × Memᴰ b bs × (y ≡ of_block b)
     unfolding block_shells
-    in_blocks_law y m = let w = Memᴰ.of_map of_block bs m in (w.0, w.1, sym w.2)
+    in_blocks_lem y m = let w = Memᴰ.of_map of_block bs m in (w.0, w.1, sym w.2)
 
     in_shells_of : (b : ℕ) (y : Owner) → Memᴰ y (shells_of b) → (n : ℕ) × Memᴰ n (ops_of s b) × (y ≡ of_op n)
     unfolding shells_of
@@ -89,7 +89,7 @@ module _ (s : Store) (sd : Sound s) where
     unfolding fulls_of
     in_fulls_of b y m =
         let w = mem_concat_map (λ (n : ℕ). defined (full n)) (ops_of s b) m in
-        let i = (ops w.0 (ops_in_law s b w.1).0).inside y w.2 in
+        let i = (ops w.0 (ops_in_lem s b w.1).0).inside y w.2 in
         (i.0, (w.0, w.1, i.1))
 
     shell_here : (b : ℕ) (y : Owner) → Memᴰ y (shells_of b) → (owner_exists s y ≡ true) × Around s (of_block b) y
@@ -110,9 +110,9 @@ module _ (s : Store) (sd : Sound s) where
 
     -- ---- each pass comes to nothing twice, and no two come to the same
 
-    blocks_once_law : Distinct block_shells
+    blocks_once_lem : Distinct block_shells
     unfolding block_shells
-    blocks_once_law = distinct_map of_block bs ok.once (λ x y e. cc)
+    blocks_once_lem = distinct_map of_block bs ok.once (λ x y e. cc)
 
     ops_once : Distinct op_shells
     unfolding op_shells shells_of
@@ -124,16 +124,16 @@ module _ (s : Store) (sd : Sound s) where
     unfolding op_fulls fulls_of
     fulls_once =
         distinct_concat_map fulls_of bs ok.once
-        (λ b m. distinct_concat_map (λ (n : ℕ). defined (full n)) (ops_of s b) (ops_distinct s b) (λ n k. (ops n (ops_in_law s b k).0).once)
+        (λ b m. distinct_concat_map (λ (n : ℕ). defined (full n)) (ops_of s b) (ops_distinct s b) (λ n k. (ops n (ops_in_lem s b k).0).once)
         (λ n n' k k' y p q.
-        let i = (ops n (ops_in_law s b k).0).inside y p in
-        let e : of_op n ≡ of_op n' = same_branch s sd (ops_alike b k k') i.0 i.1 ((ops n' (ops_in_law s b k').0).inside y q).1 in cc))
+        let i = (ops n (ops_in_lem s b k).0).inside y p in
+        let e : of_op n ≡ of_op n' = same_branch s sd (ops_alike b k k') i.0 i.1 ((ops n' (ops_in_lem s b k').0).inside y q).1 in cc))
         (λ b c mb mc y k l. let h = full_here b y k in one_block b c mb mc y h.0 h.1 (full_here c y l).1)
 
     shells_apart : Disjoint block_shells op_shells
     unfolding op_shells
     shells_apart y p q =
-        let v = in_blocks_law y p in
+        let v = in_blocks_lem y p in
         let w = mem_concat_map shells_of bs q in
         let u = in_shells_of w.0 y w.2 in
         let e : y ≡ of_block v.0 = v.2 in
@@ -146,7 +146,7 @@ module _ (s : Store) (sd : Sound s) where
       where
         as_block : Memᴰ y block_shells → ⊥
         as_block m =
-            let v = in_blocks_law y m in
+            let v = in_blocks_lem y m in
             let w = mem_concat_map fulls_of bs q in
             let h = full_here w.0 y w.2 in
             let e : y ≡ of_block v.0 = v.2 in
@@ -180,7 +180,7 @@ module _ (s : Store) (sd : Sound s) where
     list_part =
         record {
           inside = λ y m. where_from y (Memᴰ.append_cases (block_shells ++ op_shells) (subst (Memᴰ y) list_defined m));
-          once = subst Distinct (sym list_defined) (distinct_append (block_shells ++ op_shells) op_fulls (distinct_append block_shells op_shells blocks_once_law ops_once shells_apart) fulls_once fulls_apart);
+          once = subst Distinct (sym list_defined) (distinct_append (block_shells ++ op_shells) op_fulls (distinct_append block_shells op_shells blocks_once_lem ops_once shells_apart) fulls_once fulls_apart);
         }
       where
         In : Owner → Type 0
@@ -188,7 +188,7 @@ module _ (s : Store) (sd : Sound s) where
 
         as_block : (y : Owner) → Memᴰ y block_shells → In y
         as_block y m =
-            let w = in_blocks_law y m in
+            let w = in_blocks_lem y m in
             (subst (λ (x : Owner). owner_exists s x ≡ true) (sym w.2) (owner_block s sd w.0 (ok.here w.0 w.1)), (w.0, w.1, inl w.2))
 
         as_op : (y : Owner) → Memᴰ y op_shells → In y

@@ -79,10 +79,10 @@ flag_read true false e = let f : ◌≡◌ {A = ℕ} 1 0 = head-eq_of_cons-eq e 
 flag_read false true e = let f : ◌≡◌ {A = ℕ} 0 1 = head-eq_of_cons-eq e in absurd (omega arith)
 flag_read false false e = (refl, tail-eq_of_cons-eq e)
 
-pub attribute_read_law : (a b : Attribute) {X Y : List ℕ} → attribute_fits a ≡ true → attribute_fits b ≡ true
+pub attribute_read_lem : (a b : Attribute) {X Y : List ℕ} → attribute_fits a ≡ true → attribute_fits b ≡ true
     → attribute_bytes a ++ X ≡ attribute_bytes b ++ Y → (a ≡ b) × (X ≡ Y)
 unfolding attribute_bytes attribute_fits
-attribute_read_law a b {X} {Y} f g e =
+attribute_read_lem a b {X} {Y} f g e =
     let p = passed _ f in
     let q = passed _ g in
     let key = leaf_read a.key b.key p.0 q.0
@@ -135,13 +135,13 @@ pub record BothLocated (a b : Option ℕ) : Type 0 where
   pub left : a ≡ none → b ≡ none
   pub right : b ≡ none → a ≡ none
 
-location_read_law : (a b : Option ℕ) {X Y : List ℕ} → BothLocated a b → ((l : ℕ) → a ≡ some l → fits l ≡ true) → ((l : ℕ) → b ≡ some l → fits l ≡ true)
+location_read_lem : (a b : Option ℕ) {X Y : List ℕ} → BothLocated a b → ((l : ℕ) → a ≡ some l → fits l ≡ true) → ((l : ℕ) → b ≡ some l → fits l ≡ true)
     → location_bytes a ++ X ≡ location_bytes b ++ Y → (a ≡ b) × (X ≡ Y)
 unfolding location_bytes
-location_read_law none none both f g e = (refl, e)
-location_read_law none (some l) both f g e = impossible (let h : some l ≡ none = both.left refl in cc)
-location_read_law (some l) none both f g e = impossible (let h : some l ≡ none = both.right refl in cc)
-location_read_law (some l) (some m) both f g e = let r = leaf_read l m (f l refl) (g m refl) e in (ap some r.0, r.1)
+location_read_lem none none both f g e = (refl, e)
+location_read_lem none (some l) both f g e = impossible (let h : some l ≡ none = both.left refl in cc)
+location_read_lem (some l) none both f g e = impossible (let h : some l ≡ none = both.right refl in cc)
+location_read_lem (some l) (some m) both f g e = let r = leaf_read l m (f l refl) (g m refl) e in (ap some r.0, r.1)
 
 -- part by part: location, attributes behind their number, types behind theirs
 shell_parts : (sh : Shell) (Z : List ℕ)
@@ -157,7 +157,7 @@ shell_parts sh Z =
 pub shell_read : (a b : Shell) {X Y : List ℕ} → BothLocated a.location b.location → ShellFits a → ShellFits b
     → shell_bytes count a ++ X ≡ shell_bytes count b ++ Y → (a ≡ b) × (X ≡ Y)
 shell_read a b {X} {Y} both f g e =
-    let location = location_read_law a.location b.location both f.location g.location (sym (shell_parts a X) ∙ e ∙ shell_parts b Y) in
-    let attributes = list_read attribute_bytes attribute_fits (λ c d Z W. attribute_read_law c d) a.attributes b.attributes f.few_attributes g.few_attributes f.attributes g.attributes location.1 in
+    let location = location_read_lem a.location b.location both f.location g.location (sym (shell_parts a X) ∙ e ∙ shell_parts b Y) in
+    let attributes = list_read attribute_bytes attribute_fits (λ c d Z W. attribute_read_lem c d) a.attributes b.attributes f.few_attributes g.few_attributes f.attributes g.attributes location.1 in
     let types = list_read leaf fits (λ c d Z W. leaf_read c d) a.types b.types f.few_types g.few_types f.types g.types attributes.1 in
     (λ i. record { location = location.0 i; attributes = attributes.0 i; types = types.0 i }, types.1)

@@ -23,7 +23,7 @@ use Rattle.rules.proofs.Form.Tokens.{event_values, event_blocks}
 use Rattle.rules.proofs.Form.Canonical.{all_defined, events_rest, canonical→equal, equal→canonical}
 use Rattle.rules.proofs.Laws.{one_way}
 use Rattle.rules.proofs.Keys.Order.{key_order}
-use Rattle.rules.proofs.Keys.Parts.{Room, events_bytes, events_bytes_law}
+use Rattle.rules.proofs.Keys.Parts.{Room, events_bytes, events_bytes_lem}
 use Rattle.rules.proofs.Keys.Reading.{tells_fragment}
 use Rattle.rules.proofs.Keys.Writing.{canonical→key}
 
@@ -38,7 +38,7 @@ room s sd f n h =
 
 bytes_of : (s : Store) (ig : Ignore) (f : Sort) (n : ℕ) → events_bytes s ig (events s f n) no_numbers ≡ key s ig f n
 unfolding key
-bytes_of s ig f n = events_bytes_law s ig (events s f n) no_numbers ∙ ap (λ (xs : List Step). all_bytes count s ig xs no_numbers) (bare_events s f n)
+bytes_of s ig f n = events_bytes_lem s ig (events s f n) no_numbers ∙ ap (λ (xs : List Step). all_bytes count s ig xs no_numbers) (bare_events s f n)
 
 key→canonical : (s : Store) → sound s ≡ true → fields_fit s ≡ true → (ig : Ignore) (f : Sort) (a b : ℕ) → In s f a → In s f b
     → key s ig f a ≡ key s ig f b → canonical s ig f a ≡ canonical s ig f b

@@ -21,7 +21,7 @@ use Rattle.rules.proofs.Basics.Appended.{mem_get_d}
 use Rattle.rules.proofs.Basics.Filtered.{all_filter}
 use Rattle.rules.proofs.Basics.Pigeons.{pigeons}
 use Rattle.rules.proofs.Soundness.Sound.{Sound, facts}
-use Rattle.rules.proofs.Soundness.Children.{ops_in_law, blocks_in_law, regions_in_law, values_in_law, ops_distinct, blocks_distinct, regions_distinct, values_distinct}
+use Rattle.rules.proofs.Soundness.Children.{ops_in_lem, blocks_in_lem, regions_in_lem, values_in_lem, ops_distinct, blocks_distinct, regions_distinct, values_distinct}
 use Rattle.rules.proofs.Form.Images.{position_some}
 use Rattle.rules.proofs.Keys.Decoding.{name_fits, ShellFits, BothLocated}
 
@@ -59,9 +59,9 @@ all_named p f ok h (n ∷ ns) k = and_both (p (f n)) (all p (map f ns)) (h n (an
 -- ---- names
 
 -- a use of what exists, where so many are numbered
-pub name_fits_law : (defined : List ℕ) (n m : ℕ) → length defined ≤ 4096 → n < m → m ≤ 4096 → name_fits (name_of defined n) ≡ true
+pub name_fits_lem : (defined : List ℕ) (n m : ℕ) → length defined ≤ 4096 → n < m → m ≤ 4096 → name_fits (name_of defined n) ≡ true
 unfolding name_of name_at name_fits
-name_fits_law defined n m few l most = go (position n defined) refl
+name_fits_lem defined n m few l most = go (position n defined) refl
   where
     go : (o : Option ℕ) → position n defined ≡ o → name_fits (name_at o n) ≡ true
     go none e = lt-ltb n (2 ^ 32) (omega arith)
@@ -82,16 +82,16 @@ module _ (s : Store) (sd : sound s ≡ true) where
   -- ---- how many children there are
 
   pub ops_few : (b : ℕ) → length (ops_of s b) ≤ 4096
-  ops_few b = le_trans (pigeons (length s.ops) (ops_of s b) (ops_distinct s b) (λ n m. (ops_in_law s b m).0)) (le_trans so.totals.ops (lit≤ tt))
+  ops_few b = le_trans (pigeons (length s.ops) (ops_of s b) (ops_distinct s b) (λ n m. (ops_in_lem s b m).0)) (le_trans so.totals.ops (lit≤ tt))
 
   pub blocks_few : (r : ℕ) → length (blocks_of s r) ≤ 4096
-  blocks_few r = le_trans (pigeons (length s.blocks) (blocks_of s r) (blocks_distinct s r) (λ n m. (blocks_in_law s r m).0)) (le_trans so.totals.blocks (lit≤ tt))
+  blocks_few r = le_trans (pigeons (length s.blocks) (blocks_of s r) (blocks_distinct s r) (λ n m. (blocks_in_lem s r m).0)) (le_trans so.totals.blocks (lit≤ tt))
 
   pub regions_few : (n : ℕ) → length (regions_of s n) ≤ 4096
-  regions_few n = le_trans (pigeons (length s.regions) (regions_of s n) (regions_distinct s n) (λ r m. (regions_in_law s n m).0)) (le_trans so.totals.regions (lit≤ tt))
+  regions_few n = le_trans (pigeons (length s.regions) (regions_of s n) (regions_distinct s n) (λ r m. (regions_in_lem s n m).0)) (le_trans so.totals.regions (lit≤ tt))
 
   pub values_few : (w : Owner) → length (values_of s w) ≤ 4096
-  values_few w = le_trans (pigeons (length s.values) (values_of s w) (values_distinct s w) (λ v m. (values_in_law s w m).0)) (le_trans so.totals.values (lit≤ tt))
+  values_few w = le_trans (pigeons (length s.values) (values_of s w) (values_distinct s w) (λ v m. (values_in_lem s w m).0)) (le_trans so.totals.values (lit≤ tt))
 
   -- ---- what an operation or a block has
 
@@ -143,13 +143,13 @@ module _ (s : Store) (sd : sound s ≡ true) where
   -- ---- fields
 
   module _ (fit : fields_fit s ≡ true) where
-    op_fits_law : (n : ℕ) → op_fits (op_at s n) ≡ true
+    op_fits_lem : (n : ℕ) → op_fits (op_at s n) ≡ true
     unfolding fields_fit op_at no_op
-    op_fits_law n = all_get_d op_fits s.ops n no_op (passed _ fit).0 no_op_fits
+    op_fits_lem n = all_get_d op_fits s.ops n no_op (passed _ fit).0 no_op_fits
 
-    block_fits_law : (n : ℕ) → block_fits (block_at s n) ≡ true
+    block_fits_lem : (n : ℕ) → block_fits (block_at s n) ≡ true
     unfolding fields_fit block_at
-    block_fits_law n = all_get_d block_fits s.blocks n no_block (passed _ fit).1.0 no_block_fits
+    block_fits_lem n = all_get_d block_fits s.blocks n no_block (passed _ fit).1.0 no_block_fits
 
     type_fits : (v : ℕ) → fits (type_of s v) ≡ true
     unfolding fields_fit type_of value_at no_value value_fits
@@ -157,7 +157,7 @@ module _ (s : Store) (sd : sound s ≡ true) where
 
     pub kind_fits : (n : ℕ) → fits (op_at s n).kind ≡ true
     unfolding op_fits
-    kind_fits n = (passed _ (op_fits_law n)).0
+    kind_fits n = (passed _ (op_fits_lem n)).0
 
     module _ (ig : Ignore) where
       located : (l m : ℕ) → fits l ≡ true → unignored_location ig l ≡ some m → fits m ≡ true
@@ -180,16 +180,16 @@ module _ (s : Store) (sd : sound s ≡ true) where
       unfolding shell_of unignored op_fits block_fits
       shell_fits (of_op n) =
           record {
-            location = λ l e. located (op_at s n).location l (passed _ (op_fits_law n)).1.0 e;
-            attributes = all_filter attribute_fits _ (op_at s n).attributes (passed _ (op_fits_law n)).1.1.0;
+            location = λ l e. located (op_at s n).location l (passed _ (op_fits_lem n)).1.0 e;
+            attributes = all_filter attribute_fits _ (op_at s n).attributes (passed _ (op_fits_lem n)).1.1.0;
             types = all_map fits (type_of s) type_fits (values_of s (of_op n));
             few_attributes = le_trans (filter_most _ (op_at s n).attributes) (op_keys_few n);
             few_types = subst (λ (k : ℕ). k ≤ 4096) (sym (length-map (values_of s (of_op n)) (type_of s))) (values_few (of_op n));
           }
       shell_fits (of_block b) =
           record {
-            location = λ l e. located (block_at s b).location l (passed _ (block_fits_law b)).0 e;
-            attributes = all_filter attribute_fits _ (block_at s b).attributes (passed _ (block_fits_law b)).1.0;
+            location = λ l e. located (block_at s b).location l (passed _ (block_fits_lem b)).0 e;
+            attributes = all_filter attribute_fits _ (block_at s b).attributes (passed _ (block_fits_lem b)).1.0;
             types = all_map fits (type_of s) type_fits (values_of s (of_block b));
             few_attributes = le_trans (filter_most _ (block_at s b).attributes) (block_keys_few b);
             few_types = subst (λ (k : ℕ). k ≤ 4096) (sym (length-map (values_of s (of_block b)) (type_of s))) (values_few (of_block b));

@@ -58,9 +58,9 @@ values_put w (t ∷ ts) h = and_both (fits t) (all value_fits (values_for w ts))
 -- ---- a call
 
 -- the three tables
-fields_of_law : (s : Store) → all op_fits s.ops ≡ true → all block_fits s.blocks ≡ true → all value_fits s.values ≡ true → fields_fit s ≡ true
+fields_of_lem : (s : Store) → all op_fits s.ops ≡ true → all block_fits s.blocks ≡ true → all value_fits s.values ≡ true → fields_fit s ≡ true
 unfolding fields_fit
-fields_of_law s o b v = every_of _ (o, (b, (v, tt)))
+fields_of_lem s o b v = every_of _ (o, (b, (v, tt)))
 
 one_op : (o : Op) → op_fits o ≡ true → all op_fits (o ∷ []) ≡ true
 unfolding all
@@ -76,21 +76,21 @@ applied_fits s (new_operation o) h f =
     let p = passed _ h in
     let q = passed _ f in
     let new : Op = record { kind = o.kind; parent = o.parent; location = o.location; operands = o.operands; successors = o.successors; attributes = [] } in
-    fields_of_law (applied s (new_operation o)) (all_append op_fits s.ops (new ∷ []) p.0 (one_op new (every_of _ (q.0, (q.1.0, (refl, tt)))))) p.1.0 (all_append value_fits s.values _ p.1.1.0 (values_put _ o.types q.1.1.0))
+    fields_of_lem (applied s (new_operation o)) (all_append op_fits s.ops (new ∷ []) p.0 (one_op new (every_of _ (q.0, (q.1.0, (refl, tt)))))) p.1.0 (all_append value_fits s.values _ p.1.1.0 (values_put _ o.types q.1.1.0))
 applied_fits s (new_block b) h f =
     let p = passed _ h in
     let q = passed _ f in
     let new : Block = record { region = b.region; label = b.label; location = b.location; attributes = [] } in
-    fields_of_law (applied s (new_block b)) p.0 (all_append block_fits s.blocks (new ∷ []) p.1.0 (one_block new (every_of _ (q.0, (refl, tt))))) (all_append value_fits s.values _ p.1.1.0 (values_put _ b.types q.1.0))
+    fields_of_lem (applied s (new_block b)) p.0 (all_append block_fits s.blocks (new ∷ []) p.1.0 (one_block new (every_of _ (q.0, (refl, tt))))) (all_append value_fits s.values _ p.1.1.0 (values_put _ b.types q.1.0))
 applied_fits s (set_attribute (of_op n) a) h f =
     let p = passed _ h in
-    fields_of_law (applied s (set_attribute (of_op n) a)) (all_update op_fits (op_with_attribute a) (op_put a f) n s.ops p.0) p.1.0 p.1.1.0
+    fields_of_lem (applied s (set_attribute (of_op n) a)) (all_update op_fits (op_with_attribute a) (op_put a f) n s.ops p.0) p.1.0 p.1.1.0
 applied_fits s (set_attribute (of_block b) a) h f =
     let p = passed _ h in
-    fields_of_law (applied s (set_attribute (of_block b) a)) p.0 (all_update block_fits (block_with_attribute a) (block_put a f) b s.blocks p.1.0) p.1.1.0
+    fields_of_lem (applied s (set_attribute (of_block b) a)) p.0 (all_update block_fits (block_with_attribute a) (block_put a f) b s.blocks p.1.0) p.1.1.0
 applied_fits s (set_operand u) h f =
     let p = passed _ h in
-    fields_of_law (applied s (set_operand u)) (all_update op_fits (op_with_operand u.index u.value) (operand_put u.index u.value) u.operation s.ops p.0) p.1.0 p.1.1.0
+    fields_of_lem (applied s (set_operand u)) (all_update op_fits (op_with_operand u.index u.value) (operand_put u.index u.value) u.operation s.ops p.0) p.1.0 p.1.1.0
 
 pub fields_fit_kept : FieldsFitKept
 unfolding FieldsFitKept built store_by
@@ -123,7 +123,7 @@ pub copy_fits : CopyFits
 unfolding CopyFits fields_fit copied copied_op copied_block copied_value op_at block_at value_at op_fits block_fits value_fits
 copy_fits s n place h =
     let p = passed _ h in
-    fields_of_law (copied s n place)
+    fields_of_lem (copied s n place)
     (copies_fit op_fits no_op past_fits.0 s.ops p.0 (copied_op s n place) (λ m e. e) (fragment_ops s op n))
     (copies_fit block_fits no_block past_fits.1 s.blocks p.1.0 (copied_block s n) (λ m e. e) (defines_blocks s op n))
     (copies_fit value_fits no_value past_fits.2 s.values p.1.1.0 (copied_value s n) (λ m e. e) (defines_values s op n))

@@ -21,9 +21,9 @@ use Rattle.rules.proofs.Basics.Distinct.{Distinct, distinct_concat_map, mem_conc
 use Rattle.rules.proofs.Basics.Appended.{sum_append}
 use Rattle.rules.proofs.Basics.Pigeons.{pigeons}
 use Rattle.rules.proofs.Soundness.Sound.{Sound, facts}
-use Rattle.rules.proofs.Soundness.Children.{regions_in_law, regions_distinct}
+use Rattle.rules.proofs.Soundness.Children.{regions_in_lem, regions_distinct}
 use Rattle.rules.proofs.Form.OnceInLists.{defined}
-use Rattle.rules.proofs.Form.Once.{owners_once, owners_here, blocks_once_law, blocks_here}
+use Rattle.rules.proofs.Form.Once.{owners_once, owners_here, blocks_once_lem, blocks_here}
 use Rattle.rules.proofs.Form.Counted.{values_most, ops_once, ops_here}
 use Rattle.rules.proofs.Keys.Fitting.{filter_most}
 
@@ -386,8 +386,8 @@ module _ (s : Store) where
     regions_few =
         le_trans
         (pigeons (length s.regions) (concat_map (regions_of s) (ops_among ws))
-        (distinct_concat_map (regions_of s) (ops_among ws) ns_once (λ m k. regions_distinct s m) (λ m k mm mk r a b. sym (regions_in_law s m a).1 ∙ (regions_in_law s k b).1))
-        (λ r m. let w = mem_concat_map (regions_of s) (ops_among ws) m in (regions_in_law s w.0 w.2).0))
+        (distinct_concat_map (regions_of s) (ops_among ws) ns_once (λ m k. regions_distinct s m) (λ m k mm mk r a b. sym (regions_in_lem s m a).1 ∙ (regions_in_lem s k b).1))
+        (λ r m. let w = mem_concat_map (regions_of s) (ops_among ws) m in (regions_in_lem s w.0 w.2).0))
         so.totals.regions
 
     ops_charged : over (λ (m : ℕ). op_charge (op_at s m)) (ops_among ws) ≤ over op_charge s.ops
@@ -396,7 +396,7 @@ module _ (s : Store) where
 
     blocks_charged : over (λ (m : ℕ). block_charge (block_at s m)) (concat_map block_owner ws) ≤ over block_charge s.blocks
     unfolding block_at defines_blocks
-    blocks_charged = places_most block_charge s.blocks no_block (concat_map block_owner ws) (blocks_once_law s so f n h) (blocks_here s so f n h)
+    blocks_charged = places_most block_charge s.blocks no_block (concat_map block_owner ws) (blocks_once_lem s so f n h) (blocks_here s so f n h)
 
     all_charged : over (charge s) ws ≤ 78336
     unfolding operand_total successor_total attribute_total over defines_values

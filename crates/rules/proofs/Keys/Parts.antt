@@ -34,31 +34,31 @@ module _ (s : Store) where
     pub blocks : length N.blocks + length (concat_map (event_blocks s) es) ≤ 4096
 
   -- what one event numbers, and what all of them do
-  event_values_law : (e : Event) (N : Numbering) → length (numbered_by s e N).values ≡ length N.values + length (event_values s e)
+  event_values_lem : (e : Event) (N : Numbering) → length (numbered_by s e N).values ≡ length N.values + length (event_values s e)
   unfolding numbered_by numbered event_values
-  event_values_law (step (shell w)) N = length-append N.values (values_of s w)
-  event_values_law (step (names n)) N = omega arith
-  event_values_law (step (counted k)) N = omega arith
-  event_values_law more N = omega arith
-  event_values_law done N = omega arith
+  event_values_lem (step (shell w)) N = length-append N.values (values_of s w)
+  event_values_lem (step (names n)) N = omega arith
+  event_values_lem (step (counted k)) N = omega arith
+  event_values_lem more N = omega arith
+  event_values_lem done N = omega arith
 
-  event_blocks_law : (e : Event) (N : Numbering) → length (numbered_by s e N).blocks ≡ length N.blocks + length (event_blocks s e)
+  event_blocks_lem : (e : Event) (N : Numbering) → length (numbered_by s e N).blocks ≡ length N.blocks + length (event_blocks s e)
   unfolding numbered_by numbered event_blocks
-  event_blocks_law (step (shell w)) N = length-append N.blocks (block_owner w)
-  event_blocks_law (step (names n)) N = omega arith
-  event_blocks_law (step (counted k)) N = omega arith
-  event_blocks_law more N = omega arith
-  event_blocks_law done N = omega arith
+  event_blocks_lem (step (shell w)) N = length-append N.blocks (block_owner w)
+  event_blocks_lem (step (names n)) N = omega arith
+  event_blocks_lem (step (counted k)) N = omega arith
+  event_blocks_lem more N = omega arith
+  event_blocks_lem done N = omega arith
 
   values_after : (es : List Event) (N : Numbering) → length (numbered_after es N).values ≡ length N.values + length (concat_map (event_values s) es)
   unfolding numbered_after concat_map
   values_after [] N = omega arith
-  values_after (e ∷ es) N = omega (arith, values_after es (numbered_by s e N), event_values_law e N, length-append (event_values s e) (concat_map (event_values s) es))
+  values_after (e ∷ es) N = omega (arith, values_after es (numbered_by s e N), event_values_lem e N, length-append (event_values s e) (concat_map (event_values s) es))
 
   blocks_after : (es : List Event) (N : Numbering) → length (numbered_after es N).blocks ≡ length N.blocks + length (concat_map (event_blocks s) es)
   unfolding numbered_after concat_map
   blocks_after [] N = omega arith
-  blocks_after (e ∷ es) N = omega (arith, blocks_after es (numbered_by s e N), event_blocks_law e N, length-append (event_blocks s e) (concat_map (event_blocks s) es))
+  blocks_after (e ∷ es) N = omega (arith, blocks_after es (numbered_by s e N), event_blocks_lem e N, length-append (event_blocks s e) (concat_map (event_blocks s) es))
 
   parted : (f : Event → List ℕ) (es fs : List Event) → length (concat_map f (es ++ fs)) ≡ length (concat_map f es) + length (concat_map f fs)
   parted f es fs = ap length (concat_map_append f es fs) ∙ length-append (concat_map f es) (concat_map f fs)
@@ -85,12 +85,12 @@ module _ (s : Store) (ig : Ignore) where
   events_bytes (e ∷ es) N = event_bytes e N ++ events_bytes es (numbered_by s e N)
 
   -- signs write nothing
-  pub events_bytes_law : (es : List Event) (N : Numbering) → events_bytes es N ≡ all_bytes count s ig (bare_steps es) N
+  pub events_bytes_lem : (es : List Event) (N : Numbering) → events_bytes es N ≡ all_bytes count s ig (bare_steps es) N
   unfolding events_bytes event_bytes all_bytes bare_steps numbered_by
-  events_bytes_law [] N = refl
-  events_bytes_law (step x ∷ es) N = ap (λ (l : List ℕ). feeds count s ig x N ++ l) (events_bytes_law es (numbered_by s (step x) N))
-  events_bytes_law (more ∷ es) N = events_bytes_law es N
-  events_bytes_law (done ∷ es) N = events_bytes_law es N
+  events_bytes_lem [] N = refl
+  events_bytes_lem (step x ∷ es) N = ap (λ (l : List ℕ). feeds count s ig x N ++ l) (events_bytes_lem es (numbered_by s (step x) N))
+  events_bytes_lem (more ∷ es) N = events_bytes_lem es N
+  events_bytes_lem (done ∷ es) N = events_bytes_lem es N
 
   bytes_append : (es fs : List Event) (N : Numbering) (X : List ℕ) → events_bytes (es ++ fs) N ++ X ≡ events_bytes es N ++ (events_bytes fs (numbered_after s es N) ++ X)
   unfolding events_bytes numbered_after

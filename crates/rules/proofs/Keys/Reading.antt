@@ -25,7 +25,7 @@ use Rattle.rules.proofs.Form.SameShells.{values_count}
 use Rattle.rules.proofs.Form.Hashes.{concat_map_map}
 use Rattle.rules.proofs.Keys.Decoding.{leaf_read, count_read, list_read, name_fits, name_read, BothLocated, shell_read}
 use Rattle.rules.proofs.Keys.Fitting as fitting
-use Rattle.rules.proofs.Keys.Fitting.{all_named, name_fits_law, ops_few, regions_few, operands_here, successors_here, operands_few, successors_few, kind_fits, both_located, shell_fits}
+use Rattle.rules.proofs.Keys.Fitting.{all_named, name_fits_lem, ops_few, regions_few, operands_here, successors_here, operands_few, successors_few, kind_fits, both_located, shell_fits}
 use Rattle.rules.proofs.Keys.Paired.{Pairs, Any, pairs_any, pairs_both}
 use Rattle.rules.proofs.Keys.Parts.{numbered_after, Room, event_bytes, events_bytes, tokens_append, Alike, Reads, reads_then, reads_as, Carried, reads_list}
 
@@ -159,9 +159,9 @@ module _ (s : Store) (sd : sound s ≡ true) (fit : fields_fit s ≡ true) (ig :
     operands : length (op_at s n).operands ≡ length (op_at s m).operands
     successors : length (op_at s n).successors ≡ length (op_at s m).successors
 
-  counts_same_law : (n m : ℕ) → HeadSame n m → NamesSame n m → counts_of s (of_op n) ≡ counts_of s (of_op m)
+  counts_same_lem : (n m : ℕ) → HeadSame n m → NamesSame n m → counts_of s (of_op n) ≡ counts_of s (of_op m)
   unfolding counts_of
-  counts_same_law n m h k = λ i. h.kind i ∷ h.regions i ∷ k.successors i ∷ k.operands i ∷ values_count s ig (of_op n) (of_op m) h.shell i ∷ []
+  counts_same_lem n m h k = λ i. h.kind i ∷ h.regions i ∷ k.successors i ∷ k.operands i ∷ values_count s ig (of_op n) (of_op m) h.shell i ∷ []
 
   -- the names that an operation's uses have
   abbrev values : Numbering → ℕ → List Name
@@ -176,32 +176,32 @@ module _ (s : Store) (sd : sound s ≡ true) (fit : fields_fit s ≡ true) (ig :
   blocks_few : (M : Numbering) (k : ℕ) → length (blocks M k) ≤ 4096
   blocks_few M k = subst (λ (j : ℕ). j ≤ 4096) (sym (length-map (op_at s k).successors (name_of M.blocks))) (successors_few s sd k)
 
-  values_fit_law : (M : Numbering) (k : ℕ) (es : List Event) → Room s es M → all name_fits (values M k) ≡ true
+  values_fit_lem : (M : Numbering) (k : ℕ) (es : List Event) → Room s es M → all name_fits (values M k) ≡ true
   unfolding value_exists
-  values_fit_law M k es r =
+  values_fit_lem M k es r =
       all_named name_fits (name_of M.values) (value_exists s)
-      (λ v x. name_fits_law M.values v (length s.values) (omega (arith, r.values)) (ltb-true v (length s.values) x) (le_trans (facts s sd).totals.values (lit≤ tt)))
+      (λ v x. name_fits_lem M.values v (length s.values) (omega (arith, r.values)) (ltb-true v (length s.values) x) (le_trans (facts s sd).totals.values (lit≤ tt)))
       (op_at s k).operands (operands_here s sd k)
 
   blocks_fit : (M : Numbering) (k : ℕ) (es : List Event) → Room s es M → all name_fits (blocks M k) ≡ true
   unfolding block_exists
   blocks_fit M k es r =
       all_named name_fits (name_of M.blocks) (block_exists s)
-      (λ b x. name_fits_law M.blocks b (length s.blocks) (omega (arith, r.blocks)) (ltb-true b (length s.blocks) x) (le_trans (facts s sd).totals.blocks (lit≤ tt)))
+      (λ b x. name_fits_lem M.blocks b (length s.blocks) (omega (arith, r.blocks)) (ltb-true b (length s.blocks) x) (le_trans (facts s sd).totals.blocks (lit≤ tt)))
       (op_at s k).successors (successors_here s sd k)
 
   names_read : (n m : ℕ) → HeadSame n m
       → ReadsOne (step (names n)) (step (names m)) (λ N N'. (token s ig (step (names n)) N ≡ token s ig (step (names m)) N') × NamesSame n m)
   unfolding event_bytes feeds numbered_by numbered token
   names_read n m h N N' X Y alike room room' e =
-      let operands = list_read name_bytes name_fits (λ a b Z W. name_read a b) (values N n) (values N' m) (values_few N n) (values_few N' m) (values_fit_law N n _ room) (values_fit_law N' m _ room')
+      let operands = list_read name_bytes name_fits (λ a b Z W. name_read a b) (values N n) (values N' m) (values_few N n) (values_few N' m) (values_fit_lem N n _ room) (values_fit_lem N' m _ room')
       (sym (parts N n X) ∙ e ∙ parts N' m Y) in
       let successors = list_read name_bytes name_fits (λ a b Z W. name_read a b) (blocks N n) (blocks N' m) (blocks_few N n) (blocks_few N' m) (blocks_fit N n _ room) (blocks_fit N' m _ room') operands.1 in
       let same : NamesSame n m = record {
         operands = sym (length-map (op_at s n).operands (name_of N.values)) ∙ ap length operands.0 ∙ length-map (op_at s m).operands (name_of N'.values);
         successors = sym (length-map (op_at s n).successors (name_of N.blocks)) ∙ ap length successors.0 ∙ length-map (op_at s m).successors (name_of N'.blocks);
       } in
-      ((alike, successors.1), (λ i. names_token (counts_same_law n m h same i) (typed s N N' alike (op_at s n).operands (op_at s m).operands operands.0 i) (successors.0 i), same))
+      ((alike, successors.1), (λ i. names_token (counts_same_lem n m h same i) (typed s N N' alike (op_at s n).operands (op_at s m).operands operands.0 i) (successors.0 i), same))
     where
       parts : (M : Numbering) (k : ℕ) (Z : List ℕ)
           → (list_bytes count (λ (v : ℕ). name_bytes (name_of M.values v)) (op_at s k).operands ++ list_bytes count (λ (b : ℕ). name_bytes (name_of M.blocks b)) (op_at s k).successors) ++ Z
@@ -238,7 +238,7 @@ module _ (s : Store) (sd : sound s ≡ true) (fit : fields_fit s ≡ true) (ig :
 
   same_shell : (n m : ℕ) → HeadSame n m → NamesSame n m → (N N' : Numbering) → Same (one (λ (k : ℕ). shell (of_op k)) n) (one (λ (k : ℕ). shell (of_op k)) m) N N'
   unfolding tokens token
-  same_shell n m h k N N' = λ i. shell_token (counts_same_law n m h k i) (h.shell i) ∷ []
+  same_shell n m h k N N' = λ i. shell_token (counts_same_lem n m h k i) (h.shell i) ∷ []
 
   -- a list of shells, behind its count
   reads_shells : (w : ℕ → Owner) (K : List Event → List Event → Numbering → Numbering → Type 0) → Carried s ig K
@@ -268,9 +268,9 @@ module _ (s : Store) (sd : sound s ≡ true) (fit : fields_fit s ≡ true) (ig :
       same_behind (f l ++ list_events f ls) (f r ++ list_events f rs) N N'
       (same_then (f l) (f r) (list_events f ls) (list_events f rs) N N' (h l r p.0 N N') (same_each f R h ls rs p.1 (numbered_after s (f l) N) (numbered_after s (f r) N')))
 
-  same_shells_law : (ls rs : List ℕ) → Pairs (λ (n m : ℕ). HeadSame n m × NamesSame n m) ls rs → (N N' : Numbering) → Same (shell_events of_op ls) (shell_events of_op rs) N N'
+  same_shells_lem : (ls rs : List ℕ) → Pairs (λ (n m : ℕ). HeadSame n m × NamesSame n m) ls rs → (N N' : Numbering) → Same (shell_events of_op ls) (shell_events of_op rs) N N'
   unfolding shell_events
-  same_shells_law ls rs p N N' =
+  same_shells_lem ls rs p N N' =
       same_ahead (length ls) (length rs) (list_events f ls) (list_events f rs) N N'
       (same_each f (λ (n m : ℕ). HeadSame n m × NamesSame n m) (λ n m h. same_shell n m h.0 h.1) ls rs p N N')
     where
@@ -335,7 +335,7 @@ module _ (s : Store) (sd : sound s ≡ true) (fit : fields_fit s ≡ true) (ig :
       where
         shells_told : Pairs (InBoth HeadSame) ls rs → Pairs (InBoth NamesSame) ls rs → (N N' : Numbering) → Same (list_events ops ls) (list_events ops rs) N N'
         shells_told p q =
-            same_each ops (InBoth (λ (n m : ℕ). HeadSame n m × NamesSame n m)) (λ b c. same_shells_law (ops_of s b) (ops_of s c)) ls rs
+            same_each ops (InBoth (λ (n m : ℕ). HeadSame n m × NamesSame n m)) (λ b c. same_shells_lem (ops_of s b) (ops_of s c)) ls rs
             (pairs_both (InBoth HeadSame) (InBoth NamesSame) (InBoth (λ (n m : ℕ). HeadSame n m × NamesSame n m))
             (λ b c. pairs_both HeadSame NamesSame (λ (n m : ℕ). HeadSame n m × NamesSame n m) (λ n m x y. (x, y)) (ops_of s b) (ops_of s c)) ls rs p q)
 

@@ -10,7 +10,7 @@ use Rattle.rules.specs.Hash.{count, list_bytes, shell_bytes, Numbering, no_numbe
 use Rattle.rules.specs.Keys.{key}
 use Rattle.rules.specs.Form.{Event, step, more, done, list_events, one, shell_events, op_events, blocks_events, region_events, events, Token, shell_token, names_token, counted_token, more_token, done_token, numbered_by, token, tokens, canonical}
 use Rattle.rules.proofs.Form.Events.{bare_steps, bare_events}
-use Rattle.rules.proofs.Form.Hashes.{counts_bytes, concat_map_map, head_bytes_law}
+use Rattle.rules.proofs.Form.Hashes.{counts_bytes, concat_map_map, head_bytes_lem}
 
 -- ---- how many items a list has, from where it begins
 
@@ -102,36 +102,36 @@ key_of (more_token ∷ ts) = key_of ts
 key_of (done_token ∷ ts) = key_of ts
 
 module _ (s : Store) (ig : Ignore) where
-  signs_ahead_law : (es : List Event) (N : Numbering) → signs_ahead (tokens s ig es N) ≡ items_ahead es
+  signs_ahead_lem : (es : List Event) (N : Numbering) → signs_ahead (tokens s ig es N) ≡ items_ahead es
   unfolding signs_ahead items_ahead tokens token
-  signs_ahead_law [] N = refl
-  signs_ahead_law (more ∷ es) N = ap suc (signs_ahead_law es (numbered_by s more N))
-  signs_ahead_law (done ∷ es) N = refl
-  signs_ahead_law (step (shell w) ∷ es) N = signs_ahead_law es (numbered_by s (step (shell w)) N)
-  signs_ahead_law (step (names n) ∷ es) N = signs_ahead_law es (numbered_by s (step (names n)) N)
-  signs_ahead_law (step (counted k) ∷ es) N = signs_ahead_law es (numbered_by s (step (counted k)) N)
+  signs_ahead_lem [] N = refl
+  signs_ahead_lem (more ∷ es) N = ap suc (signs_ahead_lem es (numbered_by s more N))
+  signs_ahead_lem (done ∷ es) N = refl
+  signs_ahead_lem (step (shell w) ∷ es) N = signs_ahead_lem es (numbered_by s (step (shell w)) N)
+  signs_ahead_lem (step (names n) ∷ es) N = signs_ahead_lem es (numbered_by s (step (names n)) N)
+  signs_ahead_lem (step (counted k) ∷ es) N = signs_ahead_lem es (numbered_by s (step (counted k)) N)
 
   by_names : {A : Type 0} (g : A → List ℕ) (f : ℕ → A) (ns : List ℕ) → list_bytes count g (map f ns) ≡ list_bytes count (λ (n : ℕ). g (f n)) ns
   unfolding list_bytes
   by_names g f ns = ap₂ (λ (k : ℕ) (l : List ℕ). count k ++ l) (length-map ns f) (concat_map_map g f ns)
 
-  key_of_law : (es : List Event) (N : Numbering) → Counts es → key_of (tokens s ig es N) ≡ all_bytes count s ig (bare_steps es) N
+  key_of_lem : (es : List Event) (N : Numbering) → Counts es → key_of (tokens s ig es N) ≡ all_bytes count s ig (bare_steps es) N
   unfolding key_of tokens token all_bytes feeds bare_steps numbered_by numbered Counts
-  key_of_law [] N c = refl
-  key_of_law (more ∷ es) N c = key_of_law es N c
-  key_of_law (done ∷ es) N c = key_of_law es N c
-  key_of_law (step (shell w) ∷ es) N c =
-      ap₂ ◌++◌ (ap (λ (l : List ℕ). l ++ shell_bytes count (shell_of s ig w)) (head_bytes_law s ig w)) (key_of_law es (numbered s (shell w) N) c)
-  key_of_law (step (names n) ∷ es) N c =
+  key_of_lem [] N c = refl
+  key_of_lem (more ∷ es) N c = key_of_lem es N c
+  key_of_lem (done ∷ es) N c = key_of_lem es N c
+  key_of_lem (step (shell w) ∷ es) N c =
+      ap₂ ◌++◌ (ap (λ (l : List ℕ). l ++ shell_bytes count (shell_of s ig w)) (head_bytes_lem s ig w)) (key_of_lem es (numbered s (shell w) N) c)
+  key_of_lem (step (names n) ∷ es) N c =
       ap₂ ◌++◌
       (ap₂ ◌++◌ (by_names {A = Name × ℕ} (λ (x : Name × ℕ). name_bytes x.0) (λ (v : ℕ). (name_of N.values v, type_of s v)) (op_at s n).operands) (by_names name_bytes (name_of N.blocks) (op_at s n).successors))
-      (key_of_law es N c)
-  key_of_law (step (counted k) ∷ es) N c = ap₂ (λ (j : ℕ) (l : List ℕ). count j ++ l) (signs_ahead_law es N ∙ c.0) (key_of_law es N c.1)
+      (key_of_lem es N c)
+  key_of_lem (step (counted k) ∷ es) N c = ap₂ (λ (j : ℕ) (l : List ℕ). count j ++ l) (signs_ahead_lem es N ∙ c.0) (key_of_lem es N c.1)
 
   canonical_key : (f : Sort) (n : ℕ) → key s ig f n ≡ key_of (canonical s ig f n)
   unfolding key canonical
   canonical_key f n =
-      ap (λ (xs : List Step). all_bytes count s ig xs no_numbers) (sym (bare_events s f n)) ∙ sym (key_of_law (events s f n) no_numbers (counts_events s f n))
+      ap (λ (xs : List Step). all_bytes count s ig xs no_numbers) (sym (bare_events s f n)) ∙ sym (key_of_lem (events s f n) no_numbers (counts_events s f n))
 
   pub canonical→key : (f : Sort) (a b : ℕ) → canonical s ig f a ≡ canonical s ig f b → key s ig f a ≡ key s ig f b
   canonical→key f a b e = canonical_key f a ∙ ap key_of e ∙ sym (canonical_key f b)

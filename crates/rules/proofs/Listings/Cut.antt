@@ -54,16 +54,16 @@ unfolding longer_by
 longer_weight x [] rest = omega arith
 longer_weight x (p ∷ ps) rest = omega arith
 
-one_more_law : (t : Bool) (x n : ℕ) (p : Pieces) → weight p.whole + length p.rest ≡ n
+one_more_lem : (t : Bool) (x n : ℕ) (p : Pieces) → weight p.whole + length p.rest ≡ n
     → weight (cond t (new_piece p) (longer_by x p.whole p.rest)).whole + length (cond t (new_piece p) (longer_by x p.whole p.rest)).rest ≡ suc n
 unfolding new_piece
-one_more_law true x n p e = omega arith
-one_more_law false x n p e = omega (arith, longer_weight x p.whole p.rest)
+one_more_lem true x n p e = omega arith
+one_more_lem false x n p e = omega (arith, longer_weight x p.whole p.rest)
 
 pub cut_weight : (b : ℕ) (bytes : List ℕ) → weight (cut_at b bytes).whole + length (cut_at b bytes).rest ≡ length bytes
 unfolding cut_at
 cut_weight b [] = refl
-cut_weight b (x ∷ xs) = one_more_law (eqb x b) x (length xs) (cut_at b xs) (cut_weight b xs)
+cut_weight b (x ∷ xs) = one_more_lem (eqb x b) x (length xs) (cut_at b xs) (cut_weight b xs)
 
 pub fields_weight : (line : List ℕ) → weight (fields_of line) ≡ suc (length line)
 unfolding fields_of

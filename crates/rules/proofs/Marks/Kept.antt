@@ -23,7 +23,7 @@ use Rattle.rules.proofs.Keys.Kept.{fields_fit_kept, copy_fits, empty_fits}
 use Rattle.rules.proofs.Copying.Kept.{copy_sound}
 use Rattle.rules.proofs.Marks.Accepted.{marked_cases, back_accepted, build_passed}
 use Rattle.rules.proofs.Marks.Lists.{all_recounted, mark_or_all, all_up_to}
-use Rattle.rules.proofs.Marks.Ordered.{Ordered, ordered, is_mark_law, marks_hold_law, marked_ordered}
+use Rattle.rules.proofs.Marks.Ordered.{Ordered, ordered, is_mark_lem, marks_hold_lem, marked_ordered}
 
 module _ (P : Store → Bool) where
   -- the test passes at each snapshot
@@ -86,7 +86,7 @@ unfolding MarkedSound sound_marked snapshots_sound
 marked_sound t c h =
     let p = passed _ h in
     let q = marked_held sound t c (sound_builds t.store c p.0) (record { now = p.0; before = p.1.0 }) in
-    every_of _ (q.now, (q.before, (marks_hold_law max_remembered (marked t c).marks (marked_ordered t c (ordered max_remembered t.marks p.1.1.0)), tt)))
+    every_of _ (q.now, (q.before, (marks_hold_lem max_remembered (marked t c).marks (marked_ordered t c (ordered max_remembered t.marks p.1.1.0)), tt)))
 
 after_sound : (t : MarkedStore) (cs : List MarkedCall) → sound_marked t ≡ true → sound_marked (after_marked t cs) ≡ true
 unfolding after_marked MarkedSound
@@ -116,12 +116,12 @@ mark_found other {m = m} most ms p (Memᴰ.tail {x = y} {xs = ys} i) = go (eqb y
     go false e r = r
 
 -- going back to a mark gives its snapshot
-gone_back_law : (t : MarkedStore) → Ordered max_remembered t.marks → {m : Mark} → Memᴰ m t.marks → (marked t (go_back m.number)).store ≡ m.snapshot
+gone_back_lem : (t : MarkedStore) → Ordered max_remembered t.marks → {m : Mark} → Memᴰ m t.marks → (marked t (go_back m.number)).store ≡ m.snapshot
 unfolding marked_applied gone_back is_set has_number
-gone_back_law t p {m} i =
+gone_back_lem t p {m} i =
     let k = m.number in
     let set : is_set k t.marks ≡ true = any_at (has_number k) i (eq-eqb k k refl) in
-    ap (λ (u : MarkedStore). u.store) (back_accepted t k (is_mark_law max_remembered t.marks p i) set)
+    ap (λ (u : MarkedStore). u.store) (back_accepted t k (is_mark_lem max_remembered t.marks p i) set)
     ∙ ap (λ (o : Mark). o.snapshot) (mark_found (new_mark k t.store) max_remembered t.marks p i)
 
 pub sound_by_going_back : SoundByGoingBack
@@ -130,7 +130,7 @@ sound_by_going_back t h = (
   λ e ks. now_sound (after_marked t (map go_back ks)) (after_sound t (map go_back ks) e),
   λ each. every_of _ (
     each [],
-    (all_of _ t.marks (λ m i. subst (λ (s : Store). sound s ≡ true) (gone_back_law t (ordered max_remembered t.marks h) i) (each (m.number ∷ []))), (h, tt)),
+    (all_of _ t.marks (λ m i. subst (λ (s : Store). sound s ≡ true) (gone_back_lem t (ordered max_remembered t.marks h) i) (each (m.number ∷ []))), (h, tt)),
   ),
 )
 

@@ -27,14 +27,14 @@ ordered most (m ∷ ms) h =
     let p = passed _ h in
     (p.0, not-true _ p.1.0, leb-true m.since most p.1.1.0, ordered m.since ms p.1.1.1.0)
 
-pub marks_hold_law : (most : ℕ) (ms : List Mark) → Ordered most ms → marks_hold most ms ≡ true
+pub marks_hold_lem : (most : ℕ) (ms : List Mark) → Ordered most ms → marks_hold most ms ≡ true
 unfolding marks_hold
-marks_hold_law most [] p = refl
-marks_hold_law most (m ∷ ms) p = every_of _ (p.0, (ap not p.1, (le-leb m.since most p.2, (marks_hold_law m.since ms p.3, tt))))
+marks_hold_lem most [] p = refl
+marks_hold_lem most (m ∷ ms) p = every_of _ (p.0, (ap not p.1, (le-leb m.since most p.2, (marks_hold_lem m.since ms p.3, tt))))
 
-pub is_mark_law : {m : Mark} (most : ℕ) (ms : List Mark) → Ordered most ms → Memᴰ m ms → is_mark m.number ≡ true
-is_mark_law most ms p (Memᴰ.head {x = y} {xs = ys} e) = subst (λ (o : Mark). is_mark o.number ≡ true) (sym e) p.0
-is_mark_law most ms p (Memᴰ.tail {x = y} {xs = ys} i) = is_mark_law y.since ys p.3 i
+pub is_mark_lem : {m : Mark} (most : ℕ) (ms : List Mark) → Ordered most ms → Memᴰ m ms → is_mark m.number ≡ true
+is_mark_lem most ms p (Memᴰ.head {x = y} {xs = ys} e) = subst (λ (o : Mark). is_mark o.number ≡ true) (sym e) p.0
+is_mark_lem most ms p (Memᴰ.tail {x = y} {xs = ys} i) = is_mark_lem y.since ys p.3 i
 
 -- the bound bears on the oldest alone
 rebound : (most other : ℕ) (ms : List Mark) → remembered ms ≤ other → Ordered most ms → Ordered other ms

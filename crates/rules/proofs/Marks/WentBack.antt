@@ -23,7 +23,7 @@ use Rattle.rules.proofs.Basics.Filtered.{all_filter, filter_append, filter_whole
 use Rattle.rules.proofs.Soundness.Accepted.{failed_cause}
 use Rattle.rules.proofs.Marks.Accepted.{marked_cases, set_accepted, set_refused, back_accepted}
 use Rattle.rules.proofs.Marks.Lists.{set_recounted, unset_without, unset_itself, unset_append, unset_up_to, set_past, cut, recounted_append, recounted_twice, recounted_same, without_recounted, all_recounted, up_to_past, up_to_within, mark_or_past, mark_or_number, mark_or_all, all_up_to}
-use Rattle.rules.proofs.Marks.Ordered.{Ordered, ordered, is_mark_law}
+use Rattle.rules.proofs.Marks.Ordered.{Ordered, ordered, is_mark_lem}
 
 -- the marks of a list that a call does not set, and those that no call of a list does
 abbrev left_by : MarkedCall → List Mark → List Mark
@@ -84,8 +84,8 @@ module _ (k : ℕ) (s : Store) where
         younger_fewer = all_recounted _ _ f (λ m e. le-leb (f m.since) (f r) (rises m.since (leb-true m.since r e))) h.younger h.younger_fewer;
       }
 
-  older_unset_law : (j : ℕ) (older : List Mark) (r : ℕ) → is_set j older ≡ false → is_set j (recounted (λ (n : ℕ). n + r) older) ≡ false
-  older_unset_law j older r u = set_recounted _ j older ∙ u
+  older_unset_lem : (j : ℕ) (older : List Mark) (r : ℕ) → is_set j older ≡ false → is_set j (recounted (λ (n : ℕ). n + r) older) ≡ false
+  older_unset_lem j older r u = set_recounted _ j older ∙ u
 
   -- cut behind it or behind a younger one
   stands_up_to : (j : ℕ) (older : List Mark) (r : ℕ) (marks : List Mark) → is_set j older ≡ false → Stands older r marks → Stands older r (up_to j marks)
@@ -93,7 +93,7 @@ module _ (k : ℕ) (s : Store) where
   stands_up_to j older r marks u h =
       record {
         younger = cond (has_number j (the_mark r)) [] (up_to j h.younger);
-        parts = ap (up_to j) h.parts ∙ up_to_past j (recounted (λ (n : ℕ). n + r) older) (the_mark r ∷ h.younger) (older_unset_law j older r u);
+        parts = ap (up_to j) h.parts ∙ up_to_past j (recounted (λ (n : ℕ). n + r) older) (the_mark r ∷ h.younger) (older_unset_lem j older r u);
         older_unset = h.older_unset;
         older_marks = h.older_marks;
         younger_unset = cut (λ (l : List Mark). is_set k l ≡ false) (has_number j (the_mark r)) (up_to j h.younger) refl (unset_up_to k j h.younger h.younger_unset);
@@ -111,10 +111,10 @@ module _ (k : ℕ) (s : Store) where
       let before = recounted (λ (n : ℕ). n + r) older in
       let rest = the_mark r ∷ h.younger in
       let fewer : Mark → Bool = λ m. leb m.since r in
-      let behind : is_set j rest ≡ true = sym (set_past j before rest (older_unset_law j older r u)) ∙ ap (is_set j) (sym h.parts) ∙ set in
+      let behind : is_set j rest ≡ true = sym (set_past j before rest (older_unset_lem j older r u)) ∙ ap (is_set j) (sym h.parts) ∙ set in
       let all_fewer : all fewer rest ≡ true = and_both (leb r r) _ (le-leb r r (omega arith)) h.younger_fewer in
       subst (λ (l : List Mark). (mark_or other j l).since ≤ r) (sym h.parts)
-      (subst (λ (m : Mark). m.since ≤ r) (sym (mark_or_past other j before rest (older_unset_law j older r u)))
+      (subst (λ (m : Mark). m.since ≤ r) (sym (mark_or_past other j before rest (older_unset_lem j older r u)))
       (leb-true _ r (mark_or_all fewer other j rest behind all_fewer)))
 
   -- another mark set
@@ -197,7 +197,7 @@ module _ (k : ℕ) (s : Store) where
           let before = recounted (λ (n : ℕ). n + r) older in
           ap (λ (l : List Mark). is_set k (up_to j l)) h.parts
           ∙ ap (is_set k) (up_to_within j before (the_mark r ∷ h.younger) (set_recounted _ j older ∙ e))
-          ∙ unset_up_to k j before (older_unset_law k older r h.older_unset)
+          ∙ unset_up_to k j before (older_unset_lem k older r h.older_unset)
 
       go : (is_set j older ≡ true) ⊎ (is_set j older ≡ false) → is_set j t.marks ≡ true → StandsAfter older (go_back j) (marked_applied t (go_back j))
       go (inl e) set = inr (set_recounted _ k (up_to mark.number t.marks) ∙ ap (λ (n : ℕ). is_set k (up_to n t.marks)) its_number ∙ behind e)
@@ -241,7 +241,7 @@ module _ (k : ℕ) (s : Store) where
   unfolding mark_or has_number with_since new_mark
   found other older r marks h =
       ap (mark_or other k) h.parts
-      ∙ mark_or_past other k (recounted (λ (n : ℕ). n + r) older) (the_mark r ∷ h.younger) (older_unset_law k older r h.older_unset)
+      ∙ mark_or_past other k (recounted (λ (n : ℕ). n + r) older) (the_mark r ∷ h.younger) (older_unset_lem k older r h.older_unset)
       ∙ ap (λ (b : Bool). cond b (the_mark r) (mark_or other k h.younger)) (eq-eqb k k refl)
 
   undone : (older : List Mark) (r : ℕ) (marks : List Mark) → Stands older r marks → recounted (λ (n : ℕ). n - r) (up_to k marks) ≡ older ++ (new_mark k s ∷ [])
@@ -251,7 +251,7 @@ module _ (k : ℕ) (s : Store) where
       let fewer : ℕ → ℕ = λ n. n - r in
       let cut_off : up_to k marks ≡ before ++ (the_mark r ∷ []) =
       ap (up_to k) h.parts
-      ∙ up_to_past k before (the_mark r ∷ h.younger) (older_unset_law k older r h.older_unset)
+      ∙ up_to_past k before (the_mark r ∷ h.younger) (older_unset_lem k older r h.older_unset)
       ∙ ap (λ (b : Bool). before ++ (the_mark r ∷ cond b [] (up_to k h.younger))) (eq-eqb k k refl) in
       ap (recounted fewer) cut_off
       ∙ recounted_append fewer before (the_mark r ∷ [])
@@ -279,7 +279,7 @@ module _ (t : MarkedStore) (order : Ordered max_remembered t.marks) (k : ℕ) (n
         younger = [];
         parts = ap (λ (l : List Mark). l ++ (new_mark k t.store ∷ [])) (sym (recounted_same (λ (n : ℕ). n + 0) (λ n. omega arith) older));
         older_unset = unset_itself k t.marks;
-        older_marks = all_filter _ _ t.marks (all_of _ t.marks (λ m i. is_mark_law max_remembered t.marks order i));
+        older_marks = all_filter _ _ t.marks (all_of _ t.marks (λ m i. is_mark_lem max_remembered t.marks order i));
         younger_unset = refl;
         younger_fewer = refl;
       }
@@ -321,9 +321,9 @@ went_back_whole t h k e calls untouched set =
 
 -- ---- a copy among marks
 
-pub copy_uncounted_law : CopyUncounted
+pub copy_uncounted_lem : CopyUncounted
 unfolding CopyUncounted marked_applied
-copy_uncounted_law t ok n place = marked_cases (λ (u : MarkedStore). u.marks ≡ t.marks) t (copy ok n place) refl (λ p. refl)
+copy_uncounted_lem t ok n place = marked_cases (λ (u : MarkedStore). u.marks ≡ t.marks) t (copy ok n place) refl (λ p. refl)
 
 pub copy_never_17 : CopyNever17
 unfolding CopyNever17 marked_tests copy_tests any
@@ -337,4 +337,4 @@ copy_taken_back t h k e ok n place = went_back_whole t h k e (copy ok n place �
     just = set_past k (without k t.marks) (new_mark k t.store ∷ []) (unset_itself k t.marks) ∙ or_left (eqb k k) false (eq-eqb k k refl)
 
     set : is_set k (marked (marked t (set_mark k)) (copy ok n place)).marks ≡ true
-    set = ap (is_set k) (copy_uncounted_law (marked t (set_mark k)) ok n place) ∙ ap (λ (u : MarkedStore). is_set k u.marks) (set_accepted t k e) ∙ just
+    set = ap (is_set k) (copy_uncounted_lem (marked t (set_mark k)) ok n place) ∙ ap (λ (u : MarkedStore). is_set k u.marks) (set_accepted t k e) ∙ just

@@ -18,7 +18,7 @@ use Rattle.rules.specs.Statements.{Apart, RepeatedFound, LongestRun, RepeatedIs}
 use Rattle.rules.proofs.Basics.Tests.{and_both}
 use Rattle.rules.proofs.Basics.Pigeons.{pigeons}
 use Rattle.rules.proofs.Soundness.Accepted.{all_passed}
-use Rattle.rules.proofs.Soundness.Children.{ops_in_law, ops_distinct}
+use Rattle.rules.proofs.Soundness.Children.{ops_in_lem, ops_distinct}
 use Rattle.rules.proofs.Soundness.Sound.{facts}
 use Rattle.rules.proofs.Walking.Answered.{fragment_shallow}
 use Rattle.rules.proofs.Runs.Searched.{repeated_found}
@@ -32,7 +32,7 @@ few_ops s sd b =
   where
     later : (n : ℕ) → Memᴰ n (ops_of s b) → op_around s b < n
     later n m =
-        let i = ops_in_law s b m in
+        let i = ops_in_lem s b m in
         let o = ((facts s sd).op n i.0).later in
         after (subst (λ (p : Option ℕ). op_after s n p ≡ true) i.1 o)
       where
@@ -43,7 +43,7 @@ few_ops s sd b =
     no_zero m = let l = later 0 m in omega arith
 
     within : (n : ℕ) → Memᴰ n (0 ∷ ops_of s b) → n < max_ops
-    within n m = ⊎_elim (λ e. omega (arith, e)) (λ k. let l = (ops_in_law s b k).0 in omega (arith, l, (facts s sd).totals.ops)) (Memᴰ.cases_cons m)
+    within n m = ⊎_elim (λ e. omega (arith, e)) (λ k. let l = (ops_in_lem s b k).0 in omega (arith, l, (facts s sd).totals.ops)) (Memᴰ.cases_cons m)
 
 pub longest_run : LongestRun
 unfolding LongestRun RepeatedFound Apart

@@ -92,10 +92,10 @@ module _ (j : ℕ) (lefts : ℕ → Option ℕ) (e : lefts j ≡ none) where
       go (yes x) = subst (λ (w : ℕ). lefts w ≡ none) x e
       go (no x) = h (omega arith)
 
-run_found_law : (k j : ℕ) (lefts : ℕ → Option ℕ) (r : Run) → first_run k j lefts ≡ some r → FirstRun k j lefts r
+run_found_lem : (k j : ℕ) (lefts : ℕ → Option ℕ) (r : Run) → first_run k j lefts ≡ some r → FirstRun k j lefts r
 unfolding first_run or_later
-run_found_law zero j lefts r h = impossible cc
-run_found_law (suc k) j lefts r h = go (lefts j) refl (run_found_law k (suc j) lefts r) h
+run_found_lem zero j lefts r h = impossible cc
+run_found_lem (suc k) j lefts r h = go (lefts j) refl (run_found_lem k (suc j) lefts r) h
   where
     go : (o : Option ℕ) → lefts j ≡ o → (first_run k (suc j) lefts ≡ some r → FirstRun k (suc j) lefts r)
         → or_later o j (first_run k (suc j) lefts) ≡ some r → FirstRun (suc k) j lefts r
@@ -158,7 +158,7 @@ module _ (s : Store) (ig : Ignore) (b n : ℕ) where
   found : (r : Run) → repeated s ig b n ≡ some r → Apart s b n r × Same s ig b n r × ((q : Run) → Apart s b n q → Same s ig b n q → Before r q)
   unfolding repeated left_start Apart Same
   found r e =
-      let f = run_found_law (suc many - n) 0 (left_start s ig b n) r e in
+      let f = run_found_lem (suc many - n) 0 (left_start s ig b n) r e in
       let g = first_found (suc r.right - n) 0 (λ (u : ℕ). same_runs s ig b n u r.right) r.left f.has in
       let high : r.right < 0 + (suc many - n) = f.high in
       let near : r.left < 0 + (suc r.right - n) = g.high in

@@ -47,6 +47,6 @@ sum_kept w ws v =
     let t = w * fnv_prime ^ length ws in
     ap (λ (n : ℕ). (n * fnv_prime + v) % M) (taken_out t (weighted ws)) ∙ step_mod (weighted ws) fnv_prime v M ∙ sym (weighted_snoc ws v)
 
-pub kept_sum_law : KeptSum
+pub kept_sum_lem : KeptSum
 unfolding KeptSum
-kept_sum_law w ws v = sum_kept w ws v
+kept_sum_lem w ws v = sum_kept w ws v

@@ -19,9 +19,9 @@ use Rattle.rules.specs.Rust.{next, Zipped, zip, differ, count_from, up_to, EqRes
 use Rattle.rules.specs.Agreement.{named_by, named, result_of, answered, met_one_longer, ComparesAsTheRust}
 use Rattle.rules.proofs.Basics.Tests.{clash}
 use Rattle.rules.proofs.Soundness.Sound.{Sound, facts}
-use Rattle.rules.proofs.Soundness.KeptAttributes.{none_hold, keys_rise_law}
+use Rattle.rules.proofs.Soundness.KeptAttributes.{none_hold, keys_rise_lem}
 use Rattle.rules.proofs.Form.Tested.{Pairs, gained, testing, same_length, Counts, paired_counts, regions_count}
-use Rattle.rules.proofs.Rust.Shells.{Opposite, answered_expect, ops_map, blocks_map, operands_agree_law, successors_agree_law}
+use Rattle.rules.proofs.Rust.Shells.{Opposite, answered_expect, ops_map, blocks_map, operands_agree_lem, successors_agree_lem}
 
 -- ---- the Rust's returns
 
@@ -182,16 +182,16 @@ module _ (s : Store) (sd : Sound s) where
   op_keys n = go (ltb n (length s.ops)) refl
     where
       go : (t : Bool) → ltb n (length s.ops) ≡ t → keys_rise (get_or s.ops n no_op).attributes ≡ true
-      go true e = keys_rise_law _ (sd.op n (ltb-true _ _ e)).attributes_fit
-      go false e = rw (get_or-eq_default s.ops no_op (ltb-false _ _ e)) (keys_rise_law [] none_hold)
+      go true e = keys_rise_lem _ (sd.op n (ltb-true _ _ e)).attributes_fit
+      go false e = rw (get_or-eq_default s.ops no_op (ltb-false _ _ e)) (keys_rise_lem [] none_hold)
 
-  pub block_keys_law : (n : ℕ) → keys_rise (block_at s n).attributes ≡ true
+  pub block_keys_lem : (n : ℕ) → keys_rise (block_at s n).attributes ≡ true
   unfolding block_at no_block
-  block_keys_law n = go (ltb n (length s.blocks)) refl
+  block_keys_lem n = go (ltb n (length s.blocks)) refl
     where
       go : (t : Bool) → ltb n (length s.blocks) ≡ t → keys_rise (get_or s.blocks n no_block).attributes ≡ true
-      go true e = keys_rise_law _ (sd.block n (ltb-true _ _ e)).attributes_fit
-      go false e = rw (get_or-eq_default s.blocks no_block (ltb-false _ _ e)) (keys_rise_law [] none_hold)
+      go true e = keys_rise_lem _ (sd.block n (ltb-true _ _ e)).attributes_fit
+      go false e = rw (get_or-eq_default s.blocks no_block (ltb-false _ _ e)) (keys_rise_lem [] none_hold)
 
 module _ (s : Store) (sd : Sound s) (ig : Ignore) where
   -- pass 2 of two blocks, and what it has shown where it goes on
@@ -221,7 +221,7 @@ module _ (s : Store) (sd : Sound s) (ig : Ignore) where
         let neq = answers (FirstNEQOps l r) m in
         subst (Agree (check_names s l r st >>= each_pair regions (regions_of s l) (regions_of s r)))
         (ap (λ (ps : List (ℕ × ℕ)). and_then (cond (operands_agree s m l r && successors_agree s m l r) (answers Eq m) neq) (for_each region_eq' ps)) (sym pairs)
-        ∙ names_tests _ _ _ _ m neq (for_each region_eq' (region_pairs s l r)) refl (operands_agree_law s m l r) (successors_agree_law s m l r))
+        ∙ names_tests _ _ _ _ m neq (for_each region_eq' (region_pairs s l r)) refl (operands_agree_lem s m l r) (successors_agree_lem s m l r))
         (agree_bind (check_names s l r st) _ _ _ (inr (answered_expect _ (pair_of op l r) st st))
         (λ st' e. agree_each regions region_eq' (λ (a b : ℕ). Unit {0}) (λ a b u. same a b) (regions_of s l) (regions_of s r)
         (same_length (regions_of s l) (regions_of s r) (regions_count s ig l r c)) st'))
@@ -240,7 +240,7 @@ module _ (s : Store) (sd : Sound s) (ig : Ignore) where
         rest m = and_then (for_each (ops_of_blocks s ig) (zip ls rs).pairs m) (for_each (full_ops_of_blocks s region_eq') (zip ls rs).pairs)
 
         first : Agree (pass1 s ig p ls rs st) (and_then (for_each (block_eq_map s ig) (zip ls rs).pairs st.mapping) (same_ends (zip ls rs) (named p) (answers Eq)))
-        first = agree_pairwise (pair_blocks s ig) (block_eq_map s ig) (λ a b t. inr (blocks_map s ig a b (block_keys_law s sd a) (block_keys_law s sd b) t)) p ls rs st
+        first = agree_pairwise (pair_blocks s ig) (block_eq_map s ig) (λ a b t. inr (blocks_map s ig a b (block_keys_lem s sd a) (block_keys_lem s sd b) t)) p ls rs st
 
         third : Pairs Inside ls rs → (st₂ : State) → Agree (pass3 s (check_ops s regions) ls rs st₂) (for_each (full_ops_of_blocks s region_eq') (zip ls rs).pairs st₂.mapping)
         third q st₂ =

@@ -17,11 +17,11 @@ use Rattle.rules.specs.Agreement.{HashesAsTheRust}
 use Rattle.rules.proofs.Soundness.Sound.{Sound, facts}
 use Rattle.rules.proofs.Basics.Distinct.{Distinct, distinct_left, concat_map_concat_map, concat_map_same, concat_map_cong}
 use Rattle.rules.proofs.Form.Hashes.{fnv_append}
-use Rattle.rules.proofs.Form.Once.{values_once_law, blocks_once_law}
+use Rattle.rules.proofs.Form.Once.{values_once_lem, blocks_once_lem}
 use Rattle.rules.proofs.Attributes.{filter_rises}
 use Rattle.rules.proofs.Rust.Attributes.{sort_same}
-use Rattle.rules.proofs.Rust.Comparison.{op_keys, block_keys_law, places}
-use Rattle.rules.proofs.Rust.Numbering.{indexed, lookup_place, define_all_law}
+use Rattle.rules.proofs.Rust.Comparison.{op_keys, block_keys_lem, places}
+use Rattle.rules.proofs.Rust.Numbering.{indexed, lookup_place, define_all_lem}
 
 -- ---- loops
 
@@ -120,9 +120,9 @@ module _ (s : Store) (ig : Ignore) where
 unfoldable lent : Numbering → ℕ → HashState
 lent N w = record { numbering = record { values = indexed 0 N.values; blocks = indexed 0 N.blocks }; state = w }
 
-name_bytes_law : (defined : List ℕ) (n : ℕ) → use_bytes (lookup n (indexed 0 defined)) n ≡ rules.name_bytes (name_of defined n)
+name_bytes_lem : (defined : List ℕ) (n : ℕ) → use_bytes (lookup n (indexed 0 defined)) n ≡ rules.name_bytes (name_of defined n)
 unfolding name_of name_at use_bytes rules.name_bytes
-name_bytes_law defined n = rw (lookup_place n defined) (go (position n defined))
+name_bytes_lem defined n = rw (lookup_place n defined) (go (position n defined))
   where
     go : (o : Option ℕ) → use_bytes o n ≡ rules.name_bytes (name_at o n)
     go none = refl
@@ -141,7 +141,7 @@ define_fed : (bs cs vs : List ℕ) (N : Numbering) (w : ℕ) → Distinct (N.val
 unfolding defining feed lent
 define_fed bs cs vs N w dv db =
     ap₂ (λ (es fs : List (ℕ × ℕ)). record { numbering = record { values = es; blocks = fs }; state = fnv_from w bs })
-    (define_all_law N.values vs dv) (define_all_law N.blocks cs db)
+    (define_all_lem N.values vs dv) (define_all_lem N.blocks cs db)
 
 module _ (s : Store) (sd : Sound s) (ig : Ignore) where
   -- one step, as the Rust makes it
@@ -172,7 +172,7 @@ module _ (s : Store) (sd : Sound s) (ig : Ignore) where
       ap (for_in hash_block ss) (feed_each hash_value (λ M v. use_bytes (lookup v M.values) v) value_fed os (lent N w))
       ∙ feed_each hash_block (λ M b. use_bytes (lookup b M.blocks) b) block_fed ss (feed vs (lent N w))
       ∙ feed_feed vs bs (lent N w)
-      ∙ ap₂ (λ (xs ys : List ℕ). feed (xs ++ ys) (lent N w)) (concat_map_cong _ _ (name_bytes_law N.values) os) (concat_map_cong _ _ (name_bytes_law N.blocks) ss)
+      ∙ ap₂ (λ (xs ys : List ℕ). feed (xs ++ ys) (lent N w)) (concat_map_cong _ _ (name_bytes_lem N.values) os) (concat_map_cong _ _ (name_bytes_lem N.blocks) ss)
 
   counted_fed : (k : ℕ) (N : Numbering) (w : ℕ) → stepped (counted k) (lent N w) ≡ lent N (fnv_from w (feeds uncounted s ig (counted k) N))
   unfolding stepped feeds fnv_from
@@ -193,7 +193,7 @@ module _ (s : Store) (sd : Sound s) (ig : Ignore) where
       ∙ define_fed (head ++ shell_bytes uncounted (shell_of s ig (of_op n))) [] (values_of s (of_op n)) N w dv db
   step_fed (shell (of_block b)) N w dv db =
       ap (defining (b ∷ []) (values_of s (of_block b)))
-      (shell_fed s ig (block_at s b).location (block_at s b).attributes (block_keys_law s sd b) (values_of s (of_block b)) (lent N w))
+      (shell_fed s ig (block_at s b).location (block_at s b).attributes (block_keys_lem s sd b) (values_of s (of_block b)) (lent N w))
       ∙ define_fed (shell_bytes uncounted (shell_of s ig (of_block b))) (b ∷ []) (values_of s (of_block b)) N w dv db
 
   -- ---- all steps
@@ -226,11 +226,11 @@ module _ (s : Store) (sd : Sound s) (ig : Ignore) where
 
   -- ---- the Rust's functions go through these steps
 
-  full_steps_law : (hash_blocks : List ℕ → HashState → HashState) (in_region : ℕ → List Step)
+  full_steps_lem : (hash_blocks : List ℕ → HashState → HashState) (in_region : ℕ → List Step)
       → ((r : ℕ) (h : HashState) → hash_blocks (blocks_of s r) h ≡ for_in stepped (in_region r) h)
       → (n : ℕ) (h : HashState) → hash_op_full s hash_blocks n h ≡ for_in stepped (full_op s in_region n) h
   unfolding hash_op_full full_op for_in stepped
-  full_steps_law hash_blocks in_region same n h =
+  full_steps_lem hash_blocks in_region same n h =
       let k = stepped (names n) h in
       let f : ℕ → HashState → HashState = λ r. hash_blocks (blocks_of s r) in
       sym (in_map f (λ (i : ℕ). get_or (regions_of s n) i 0) (up_to (length (regions_of s n))) k)
@@ -238,12 +238,12 @@ module _ (s : Store) (sd : Sound s) (ig : Ignore) where
       ∙ in_same f (λ (r : ℕ). for_in stepped (in_region r)) same (regions_of s n) k
       ∙ sym (in_concat stepped in_region (regions_of s n) k)
 
-  list_steps_law : (hash_full : ℕ → HashState → HashState) (full : ℕ → List Step) → ((n : ℕ) (h : HashState) → hash_full n h ≡ for_in stepped (full n) h)
+  list_steps_lem : (hash_full : ℕ → HashState → HashState) (full : ℕ → List Step) → ((n : ℕ) (h : HashState) → hash_full n h ≡ for_in stepped (full n) h)
       → (bs : List ℕ) (h : HashState)
       → for_in (λ (b : ℕ). for_in hash_full (ops_of s b)) bs (for_in (λ (b : ℕ). for_in (hash_op_shell s ig) (ops_of s b)) bs (for_in (hash_block_shell s ig) bs h))
       ≡ for_in stepped (list_steps s full bs) h
   unfolding list_steps shells for_in stepped
-  list_steps_law hash_full full same bs h =
+  list_steps_lem hash_full full same bs h =
       ap (λ (k : HashState). for_in (λ (b : ℕ). for_in hash_full (ops_of s b)) bs (for_in (λ (b : ℕ). for_in (hash_op_shell s ig) (ops_of s b)) bs k)) (sym (in_map stepped _ bs h))
       ∙ ap (for_in (λ (b : ℕ). for_in hash_full (ops_of s b)) bs) (second (for_in stepped one h))
       ∙ third (for_in stepped two (for_in stepped one h))
@@ -270,33 +270,33 @@ module _ (s : Store) (sd : Sound s) (ig : Ignore) where
   lists_steps : (k : ℕ) → ((r : ℕ) (h : HashState) → hash_blocks_full k s ig (blocks_of s r) h ≡ for_in stepped (region_steps k s r) h)
       → (bs : List ℕ) (h : HashState) → hash_blocks_full (suc k) s ig bs h ≡ for_in stepped (list_steps s (full_op s (region_steps k s)) bs) h
   unfolding hash_blocks_full
-  lists_steps k same = list_steps_law (hash_op_full s (hash_blocks_full k s ig)) (full_op s (region_steps k s)) (full_steps_law (hash_blocks_full k s ig) (region_steps k s) same)
+  lists_steps k same = list_steps_lem (hash_op_full s (hash_blocks_full k s ig)) (full_op s (region_steps k s)) (full_steps_lem (hash_blocks_full k s ig) (region_steps k s) same)
 
-  region_steps_law : (k r : ℕ) (h : HashState) → hash_blocks_full k s ig (blocks_of s r) h ≡ for_in stepped (region_steps k s r) h
+  region_steps_lem : (k r : ℕ) (h : HashState) → hash_blocks_full k s ig (blocks_of s r) h ≡ for_in stepped (region_steps k s r) h
   unfolding hash_blocks_full region_steps for_in
-  region_steps_law zero r h = refl
-  region_steps_law (suc k) r h = lists_steps k (region_steps_law k) (blocks_of s r) h
+  region_steps_lem zero r h = refl
+  region_steps_lem (suc k) r h = lists_steps k (region_steps_lem k) (blocks_of s r) h
 
   all_steps : (f : Sort) (n : ℕ) → rust_hash s ig f n ≡ (for_in stepped (steps s f n) new_hash_state).state
   unfolding rust_hash steps for_in stepped
-  all_steps op n = ap (λ (h : HashState). h.state) (full_steps_law (hash_blocks_full levels s ig) (region_steps levels s) (region_steps_law levels) n (hash_op_shell s ig n new_hash_state))
-  all_steps block n = ap (λ (h : HashState). h.state) (lists_steps levels (region_steps_law levels) (n ∷ []) new_hash_state)
-  all_steps region n = ap (λ (h : HashState). h.state) (region_steps_law levels n new_hash_state)
+  all_steps op n = ap (λ (h : HashState). h.state) (full_steps_lem (hash_blocks_full levels s ig) (region_steps levels s) (region_steps_lem levels) n (hash_op_shell s ig n new_hash_state))
+  all_steps block n = ap (λ (h : HashState). h.state) (lists_steps levels (region_steps_lem levels) (n ∷ []) new_hash_state)
+  all_steps region n = ap (λ (h : HashState). h.state) (region_steps_lem levels n new_hash_state)
 
   -- ---- a fragment defines nothing twice
 
-  defines_values_law : (f : Sort) (n : ℕ) → defines_values s f n ≡ concat_map step_values (steps s f n)
+  defines_values_lem : (f : Sort) (n : ℕ) → defines_values s f n ≡ concat_map step_values (steps s f n)
   unfolding defines_values defines_owners step_values step_defines concat_map
-  defines_values_law f n = concat_map_concat_map (values_of s) step_defines (steps s f n) ∙ concat_map_same _ step_values (steps s f n) (λ x m. go x)
+  defines_values_lem f n = concat_map_concat_map (values_of s) step_defines (steps s f n) ∙ concat_map_same _ step_values (steps s f n) (λ x m. go x)
     where
       go : (x : Step) → concat_map (values_of s) (step_defines x) ≡ step_values x
       go (shell w) = append-nil (values_of s w)
       go (names k) = refl
       go (counted k) = refl
 
-  defines_blocks_law : (f : Sort) (n : ℕ) → defines_blocks s f n ≡ concat_map step_blocks (steps s f n)
+  defines_blocks_lem : (f : Sort) (n : ℕ) → defines_blocks s f n ≡ concat_map step_blocks (steps s f n)
   unfolding defines_blocks defines_owners step_blocks step_defines concat_map
-  defines_blocks_law f n = concat_map_concat_map block_owner step_defines (steps s f n) ∙ concat_map_same _ step_blocks (steps s f n) (λ x m. go x)
+  defines_blocks_lem f n = concat_map_concat_map block_owner step_defines (steps s f n) ∙ concat_map_same _ step_blocks (steps s f n) (λ x m. go x)
     where
       go : (x : Step) → concat_map block_owner (step_defines x) ≡ step_blocks x
       go (shell w) = append-nil (block_owner w)
@@ -309,4 +309,4 @@ hashes_as_the_rust s sd ig f n e =
     let u = facts s sd in
     all_steps s u ig f n
     ∙ walked s u ig (steps s f n) no_numbers fnv_start
-    (subst Distinct (defines_values_law s u ig f n) (values_once_law s u f n e), subst Distinct (defines_blocks_law s u ig f n) (blocks_once_law s u f n e))
+    (subst Distinct (defines_values_lem s u ig f n) (values_once_lem s u f n e), subst Distinct (defines_blocks_lem s u ig f n) (blocks_once_lem s u f n e))

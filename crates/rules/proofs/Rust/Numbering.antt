@@ -69,11 +69,11 @@ not_before [] k ks d m = elim m [ ]
 not_before (x ∷ xs) k ks d (Memᴰ.head e) = d.0 (Memᴰ.append_right xs (Memᴰ.head (sym e)))
 not_before (x ∷ xs) k ks d (Memᴰ.tail m) = not_before xs k ks d.1 m
 
-pub define_all_law : (xs ks : List ℕ) → Distinct (xs ++ ks) → define_all (indexed 0 xs) ks ≡ indexed 0 (xs ++ ks)
+pub define_all_lem : (xs ks : List ℕ) → Distinct (xs ++ ks) → define_all (indexed 0 xs) ks ≡ indexed 0 (xs ++ ks)
 unfolding define_all define
-define_all_law xs [] d = ap (indexed 0) (sym (append-nil xs))
-define_all_law xs (k ∷ ks) d =
+define_all_lem xs [] d = ap (indexed 0) (sym (append-nil xs))
+define_all_lem xs (k ∷ ks) d =
     let e : xs ++ (k ∷ ks) ≡ (xs ++ (k ∷ [])) ++ ks = sym (append_assoc xs (k ∷ []) ks) in
     ap (λ (es : List (ℕ × ℕ)). define_all es ks) (insert_new k 0 _ xs (not_before xs k ks d) (indexed_length 0 xs ∙ omega arith))
-    ∙ define_all_law (xs ++ (k ∷ [])) ks (subst Distinct e d)
+    ∙ define_all_lem (xs ++ (k ∷ [])) ks (subst Distinct e d)
     ∙ ap (indexed 0) (sym e)

@@ -150,14 +150,14 @@ module _ (s : Store) (ig : Ignore) where
 -- ---- what two operations name
 
 module _ (s : Store) (m : Mapping) (l r : ℕ) where
-  pub operands_agree_law : Opposite (operands_agree s m l r) (operands_differ s m (zip (op_at s l).operands (op_at s r).operands).pairs)
+  pub operands_agree_lem : Opposite (operands_agree s m l r) (operands_differ s m (zip (op_at s l).operands (op_at s r).operands).pairs)
   unfolding operands_agree operands_differ Opposite
-  operands_agree_law = pairs_agree _ _ (λ a b. go (eqb (image m.values a) b) (eqb (type_of s a) (type_of s b))) (op_at s l).operands (op_at s r).operands
+  operands_agree_lem = pairs_agree _ _ (λ a b. go (eqb (image m.values a) b) (eqb (type_of s a) (type_of s b))) (op_at s l).operands (op_at s r).operands
     where
       go : (a b : Bool) → not (a && b) ≡ (not a || not b)
       go true b = refl
       go false b = refl
 
-  pub successors_agree_law : Opposite (successors_agree s m l r) (successors_differ m (zip (op_at s l).successors (op_at s r).successors).pairs)
+  pub successors_agree_lem : Opposite (successors_agree s m l r) (successors_differ m (zip (op_at s l).successors (op_at s r).successors).pairs)
   unfolding successors_agree successors_differ Opposite
-  successors_agree_law = pairs_agree _ _ (λ a b. refl) (op_at s l).successors (op_at s r).successors
+  successors_agree_lem = pairs_agree _ _ (λ a b. refl) (op_at s l).successors (op_at s r).successors

@@ -67,33 +67,33 @@ module _ {A : Type 0} (p : A → Bool) (d : A) where
   unfolding numbers_where
   where_distinct xs = numbers_distinct 0 xs
 
-pub same_owner_law : (a b : Owner) → same_owner a b ≡ true → a ≡ b
+pub same_owner_lem : (a b : Owner) → same_owner a b ≡ true → a ≡ b
 unfolding same_owner
-same_owner_law (of_op a) (of_op b) e = ap of_op (eqb-true a b e)
-same_owner_law (of_op a) (of_block b) e = clash e refl
-same_owner_law (of_block a) (of_op b) e = clash e refl
-same_owner_law (of_block a) (of_block b) e = ap of_block (eqb-true a b e)
+same_owner_lem (of_op a) (of_op b) e = ap of_op (eqb-true a b e)
+same_owner_lem (of_op a) (of_block b) e = clash e refl
+same_owner_lem (of_block a) (of_op b) e = clash e refl
+same_owner_lem (of_block a) (of_block b) e = ap of_block (eqb-true a b e)
 
 module _ (s : Store) where
-  pub ops_in_law : (b : ℕ) {n : ℕ} → Memᴰ n (ops_of s b) → (n < length s.ops) × (parent_of s n ≡ some b)
+  pub ops_in_lem : (b : ℕ) {n : ℕ} → Memᴰ n (ops_of s b) → (n < length s.ops) × (parent_of s n ≡ some b)
   unfolding ops_of parent_of op_at is_parent
-  ops_in_law b {n} m = let a = where_at (λ (o : Op). is_parent b o.parent) no_op s.ops m in (a.0, parent (get_or s.ops n no_op).parent a.1)
+  ops_in_lem b {n} m = let a = where_at (λ (o : Op). is_parent b o.parent) no_op s.ops m in (a.0, parent (get_or s.ops n no_op).parent a.1)
     where
       parent : (q : Option ℕ) → is_parent b q ≡ true → q ≡ some b
       parent none h = clash h refl
       parent (some q) h = ap {B = Option ℕ} some (eqb-true q b h)
 
-  pub blocks_in_law : (r : ℕ) {b : ℕ} → Memᴰ b (blocks_of s r) → (b < length s.blocks) × ((block_at s b).region ≡ r)
+  pub blocks_in_lem : (r : ℕ) {b : ℕ} → Memᴰ b (blocks_of s r) → (b < length s.blocks) × ((block_at s b).region ≡ r)
   unfolding blocks_of block_at
-  blocks_in_law r {b} m = let a = where_at (λ (o : Block). eqb o.region r) no_block s.blocks m in (a.0, eqb-true _ r a.1)
+  blocks_in_lem r {b} m = let a = where_at (λ (o : Block). eqb o.region r) no_block s.blocks m in (a.0, eqb-true _ r a.1)
 
-  pub regions_in_law : (n : ℕ) {r : ℕ} → Memᴰ r (regions_of s n) → (r < length s.regions) × (get_or s.regions r 0 ≡ n)
+  pub regions_in_lem : (n : ℕ) {r : ℕ} → Memᴰ r (regions_of s n) → (r < length s.regions) × (get_or s.regions r 0 ≡ n)
   unfolding regions_of
-  regions_in_law n {r} m = let a = where_at (λ (o : ℕ). eqb o n) 0 s.regions m in (a.0, eqb-true _ n a.1)
+  regions_in_lem n {r} m = let a = where_at (λ (o : ℕ). eqb o n) 0 s.regions m in (a.0, eqb-true _ n a.1)
 
-  pub values_in_law : (w : Owner) {v : ℕ} → Memᴰ v (values_of s w) → (v < length s.values) × ((value_at s v).owner ≡ w)
+  pub values_in_lem : (w : Owner) {v : ℕ} → Memᴰ v (values_of s w) → (v < length s.values) × ((value_at s v).owner ≡ w)
   unfolding values_of value_at
-  values_in_law w {v} m = let a = where_at (λ (o : Value). same_owner o.owner w) no_value s.values m in (a.0, same_owner_law (get_or s.values v no_value).owner w a.1)
+  values_in_lem w {v} m = let a = where_at (λ (o : Value). same_owner o.owner w) no_value s.values m in (a.0, same_owner_lem (get_or s.values v no_value).owner w a.1)
 
   pub ops_distinct : (b : ℕ) → Distinct (ops_of s b)
   unfolding ops_of

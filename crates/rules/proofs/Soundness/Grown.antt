@@ -57,17 +57,17 @@ module _ (s : Store) (h : Sound s) where
       record { operands_in = o.operands_in; successors_in = o.successors_in; operands_fit = o.operands_fit; successors_fit = o.successors_fit; attributes_fit = o.attributes_fit }
 
   -- the operation that a region belongs to exists
-  pub region_op_law : (r : ℕ) → r < length s.regions → get_or s.regions r 0 < length s.ops
+  pub region_op_lem : (r : ℕ) → r < length s.regions → get_or s.regions r 0 < length s.ops
   unfolding op_exists
-  region_op_law r l = ltb-true _ _ (all_at (op_exists s) s.regions h.regions_in (mem_get_d s.regions r 0 l))
+  region_op_lem r l = ltb-true _ _ (all_at (op_exists s) s.regions h.regions_in (mem_get_d s.regions r 0 l))
 
-  block_region_law : (b : ℕ) → b < length s.blocks → (block_at s b).region < length s.regions
+  block_region_lem : (b : ℕ) → b < length s.blocks → (block_at s b).region < length s.regions
   unfolding region_exists
-  block_region_law b l = ltb-true _ _ (h.block b l).region_in
+  block_region_lem b l = ltb-true _ _ (h.block b l).region_in
 
   pub around_in : (b : ℕ) → b < length s.blocks → op_around s b < length s.ops
   unfolding op_around
-  around_in b l = region_op_law _ (block_region_law b l)
+  around_in b l = region_op_lem _ (block_region_lem b l)
 
   pub owner_op : (n : ℕ) → n < length s.ops → owner_exists s (of_op n) ≡ true
   unfolding owner_exists op_exists
@@ -78,8 +78,8 @@ module _ (s : Store) (h : Sound s) where
   owner_block b l = lt-ltb b _ l
 
   -- the block around an operation exists
-  pub parent_in_law : (n : ℕ) → n < length s.ops → parent_exists s (parent_of s n) ≡ true
-  parent_in_law n l = (h.op n l).parent_in
+  pub parent_in_lem : (n : ℕ) → n < length s.ops → parent_exists s (parent_of s n) ≡ true
+  parent_in_lem n l = (h.op n l).parent_in
 
 module _ (s t : Store) (g : Grown s t) where
   pub value_kept : (v : ℕ) → value_exists s v ≡ true → value_exists t v ≡ true
@@ -117,7 +117,7 @@ module _ (s t : Store) (g : Grown s t) where
   module _ (h : Sound s) where
     around_kept : (b : ℕ) → b < length s.blocks → op_around t b ≡ op_around s b
     unfolding op_around
-    around_kept b l = ap (λ (r : ℕ). get_or t.regions r 0) (g.region b l) ∙ g.around _ (block_region_law s h b l)
+    around_kept b l = ap (λ (r : ℕ). get_or t.regions r 0) (g.region b l) ∙ g.around _ (block_region_lem s h b l)
 
     -- the block around the operation around a block
     outer_kept : (b : ℕ) → b < length s.blocks → parent_of t (op_around t b) ≡ parent_of s (op_around s b)
@@ -130,7 +130,7 @@ module _ (s t : Store) (g : Grown s t) where
     levels_kept (suc k) none e = refl
     levels_kept (suc k) (some b) e =
         let l : b < length s.blocks = ltb-true _ _ e in
-        ap (levels_left k t) (outer_kept b l) ∙ levels_kept k (parent_of s (op_around s b)) (parent_in_law s h _ (around_in s h b l))
+        ap (levels_left k t) (outer_kept b l) ∙ levels_kept k (parent_of s (op_around s b)) (parent_in_lem s h _ (around_in s h b l))
 
     pub nesting_kept : (p : Option ℕ) → parent_exists s p ≡ true → nesting_holds s p ≡ true → nesting_holds t p ≡ true
     unfolding nesting_holds

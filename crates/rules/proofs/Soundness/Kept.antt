@@ -17,8 +17,8 @@ use Rattle.rules.proofs.Basics.Appended.{all_set}
 use Rattle.rules.proofs.Soundness.Grown.{OpFits, fits}
 use Rattle.rules.proofs.Soundness.Accepted.{AllPassed, first_failed_none}
 use Rattle.rules.proofs.Soundness.KeptAttributes.{none_hold, put_within, put_holds}
-use Rattle.rules.proofs.Soundness.KeptNewOperation.{with_operation_law}
-use Rattle.rules.proofs.Soundness.KeptNewBlock.{with_block_law}
+use Rattle.rules.proofs.Soundness.KeptNewOperation.{with_operation_lem}
+use Rattle.rules.proofs.Soundness.KeptNewBlock.{with_block_lem}
 use Rattle.rules.proofs.Soundness.KeptSet.{op_set, block_set}
 
 pub applied_sound : (s : Store) (c : Call) → Sound s → AllPassed (tests s c) → Sound (applied s c)
@@ -27,7 +27,7 @@ applied_sound s (new_operation o) h p =
     let names = passed _ p.0 in
     let own = passed _ p.1.0 in
     let left = passed _ p.1.1.1.0 in
-    with_operation_law s _ o.regions o.types h (
+    with_operation_lem s _ o.regions o.types h (
     record {
       fit =
           record {
@@ -51,7 +51,7 @@ applied_sound s (new_operation o) h p =
     )
 applied_sound s (new_block b) h p =
     let left = passed _ p.1.1.0 in
-    with_block_law s _ b.types h (
+    with_block_lem s _ b.types h (
     record {
       region_in = p.0;
       bare = refl;

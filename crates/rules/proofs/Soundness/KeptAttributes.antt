@@ -18,9 +18,9 @@ pub none_hold : attributes_hold [] ≡ true
 unfolding attributes_hold every keys_rise all
 none_hold = refl
 
-pub keys_rise_law : (bs : List Attribute) → attributes_hold bs ≡ true → keys_rise bs ≡ true
+pub keys_rise_lem : (bs : List Attribute) → attributes_hold bs ≡ true → keys_rise bs ≡ true
 unfolding attributes_hold
-keys_rise_law bs h = (passed _ h).0
+keys_rise_lem bs h = (passed _ h).0
 
 -- before the head, in its place, or behind it
 pub put_cases {ℓ} : (P : List Attribute → Type ℓ) (a b : Attribute) (bs : List Attribute) → (a.key < b.key → P (a ∷ b ∷ bs))
@@ -111,7 +111,7 @@ pub put_within : (a : Attribute) (bs : List Attribute) (m n : ℕ) → attribute
 put_within a bs m n h t l = go (or_cases _ _ t)
   where
     go : (has_key a.key bs ≡ true) ⊎ (leb (m + 1) n ≡ true) → m + length (put_attribute a bs) ≤ n + length bs
-    go (inl e) = omega (arith, put_replaced a bs (keys_rise_law bs h) e)
+    go (inl e) = omega (arith, put_replaced a bs (keys_rise_lem bs h) e)
     go (inr e) = omega (arith, put_longer a bs, leb-true (m + 1) n e)
 
 pub put_holds : (a : Attribute) (bs : List Attribute) → leb a.kind max_attribute_kind ≡ true

@@ -16,8 +16,8 @@ use Rattle.rules.specs.Building.{values_for}
 use Rattle.rules.proofs.Soundness.Sound.{Sound, OpSound, BlockSound, TotalsSound}
 use Rattle.rules.proofs.Basics.Appended.{sum_append}
 use Rattle.rules.proofs.Soundness.KeptAttributes.{none_hold}
-use Rattle.rules.proofs.Soundness.Grown.{Grown, appended_grown, fits, fits_kept, owner_op, owner_block, region_op_law, parent_in_law, op_kept, block_kept, regions_kept}
-use Rattle.rules.proofs.Soundness.NewValues.{length_values_for, values_before, values_new, values_in_law}
+use Rattle.rules.proofs.Soundness.Grown.{Grown, appended_grown, fits, fits_kept, owner_op, owner_block, region_op_lem, parent_in_lem, op_kept, block_kept, regions_kept}
+use Rattle.rules.proofs.Soundness.NewValues.{length_values_for, values_before, values_new, values_in_lem}
 
 -- the store with one more block and its arguments
 abbrev pub with_block : Store → Block → List ℕ → Store
@@ -65,12 +65,12 @@ module _ (s : Store) (b : Block) (types : List ℕ) (h : Sound s) (c : BlockAllo
   unfolding parent_of op_at op_around
   new_outer = rw new_block_at refl
 
-  new_block_law : BlockSound t (length s.blocks)
+  new_block_lem : BlockSound t (length s.blocks)
   unfolding arguments_of region_exists
-  new_block_law =
+  new_block_lem =
       record {
         region_in = rw new_block_at c.region_in;
-        later = rw new_outer (later_than _ (parent_in_law s h _ (region_op_law s h b.region (ltb-true _ _ c.region_in))));
+        later = rw new_outer (later_than _ (parent_in_lem s h _ (region_op_lem s h b.region (ltb-true _ _ c.region_in))));
         arguments_fit = rw (values_new s t h (of_block (length s.blocks)) types refl fresh) c.own_arguments;
         attributes_fit = rw (new_block_at, c.bare) none_hold;
       }
@@ -80,9 +80,9 @@ module _ (s : Store) (b : Block) (types : List ℕ) (h : Sound s) (c : BlockAllo
   old_block m l =
       block_kept s t block_grown h m l (rw (values_before s t h _ types refl fresh (of_block m) (owner_block s h m l)) (h.block m l).arguments_fit) (rw (old_block_at m l) (h.block m l).attributes_fit)
 
-  block_at_law : (m : ℕ) → m < length t.blocks → Dec (m ≡ length s.blocks) → BlockSound t m
-  block_at_law m l (yes e) = rw e new_block_law
-  block_at_law m l (no ne) = old_block m (omega (arith, length-append s.blocks (b ∷ [])))
+  block_at_lem : (m : ℕ) → m < length t.blocks → Dec (m ≡ length s.blocks) → BlockSound t m
+  block_at_lem m l (yes e) = rw e new_block_lem
+  block_at_lem m l (no ne) = old_block m (omega (arith, length-append s.blocks (b ∷ [])))
 
   old_op : (n : ℕ) → n < length s.ops → OpSound t n
   unfolding results_of regions_of op_at
@@ -104,12 +104,12 @@ module _ (s : Store) (b : Block) (types : List ℕ) (h : Sound s) (c : BlockAllo
         attributes = omega (arith, sum_append (λ (x : Block). length x.attributes) s.blocks (b ∷ []), ap (λ (as' : List Attribute). length as') c.bare, h.totals.attributes);
       }
 
-  pub with_block_law : Sound (with_block s b types)
-  with_block_law =
+  pub with_block_lem : Sound (with_block s b types)
+  with_block_lem =
       record {
         op = old_op;
-        block = λ m l. block_at_law m l (ℕ_discrete m (length s.blocks));
+        block = λ m l. block_at_lem m l (ℕ_discrete m (length s.blocks));
         regions_in = regions_kept s t block_grown h;
-        values_in = values_in_law s t h (of_block (length s.blocks)) types refl fresh block_grown block_there;
+        values_in = values_in_lem s t h (of_block (length s.blocks)) types refl fresh block_grown block_there;
         totals = block_totals;
       }

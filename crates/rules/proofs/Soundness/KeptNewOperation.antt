@@ -17,7 +17,7 @@ use Rattle.rules.proofs.Basics.Tests.{all_at, all_of}
 use Rattle.rules.proofs.Soundness.Sound.{Sound, OpSound, BlockSound, TotalsSound}
 use Rattle.rules.proofs.Basics.Appended.{numbers_before, numbers_new, all_append, mem_replicate, sum_append}
 use Rattle.rules.proofs.Soundness.Grown.{Grown, appended_grown, OpFits, fits, fits_kept, owner_op, owner_block, around_in, parent_kept, after_kept, nesting_kept, op_kept, block_kept, regions_kept}
-use Rattle.rules.proofs.Soundness.NewValues.{length_values_for, values_before, values_new, values_in_law}
+use Rattle.rules.proofs.Soundness.NewValues.{length_values_for, values_before, values_new, values_in_lem}
 
 -- the store with one more operation, its regions and its results
 abbrev pub with_operation : Store → Op → ℕ → List ℕ → Store
@@ -114,9 +114,9 @@ module _ (s : Store) (o : Op) (regions : ℕ) (types : List ℕ) (h : Sound s) (
         attributes_fit = f.attributes_fit;
       }
 
-  op_at_law : (n : ℕ) → n < length t.ops → Dec (n ≡ length s.ops) → OpSound t n
-  op_at_law n l (yes e) = rw e new_op
-  op_at_law n l (no ne) = old_op n (omega (arith, length-append s.ops (o ∷ [])))
+  op_at_lem : (n : ℕ) → n < length t.ops → Dec (n ≡ length s.ops) → OpSound t n
+  op_at_lem n l (yes e) = rw e new_op
+  op_at_lem n l (no ne) = old_op n (omega (arith, length-append s.ops (o ∷ [])))
 
   old_block : (m : ℕ) → m < length s.blocks → BlockSound t m
   unfolding arguments_of block_at
@@ -136,13 +136,13 @@ module _ (s : Store) (o : Op) (regions : ℕ) (types : List ℕ) (h : Sound s) (
         attributes = omega (arith, sum_append (λ (x : Op). length x.attributes) s.ops (o ∷ []), ap (λ (as' : List Attribute). length as') c.bare, h.totals.attributes);
       }
 
-  pub with_operation_law : Sound (with_operation s o regions types)
+  pub with_operation_lem : Sound (with_operation s o regions types)
   unfolding owner_exists
-  with_operation_law =
+  with_operation_lem =
       record {
-        op = λ n l. op_at_law n l (ℕ_discrete n (length s.ops));
+        op = λ n l. op_at_lem n l (ℕ_discrete n (length s.ops));
         block = old_block;
         regions_in = all_append _ s.regions _ (regions_kept s t op_grown h) (all_of _ _ (λ x m. rw (mem_replicate regions (length s.ops) x m) op_there));
-        values_in = values_in_law s t h (of_op (length s.ops)) types refl (fresh_op s) op_grown op_there;
+        values_in = values_in_lem s t h (of_op (length s.ops)) types refl (fresh_op s) op_grown op_there;
         totals = op_totals;
       }

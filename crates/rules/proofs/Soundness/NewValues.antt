@@ -12,7 +12,7 @@ use Rattle.rules.specs.Lists.{all}
 use Rattle.rules.specs.Store.{Store, Value, Owner, of_op, of_block, same_owner, owner_exists, values_of}
 use Rattle.rules.specs.Building.{values_for}
 use Rattle.rules.proofs.Basics.Tests.{all_at, all_of, decided, clash}
-use Rattle.rules.proofs.Soundness.Children.{same_owner_law}
+use Rattle.rules.proofs.Soundness.Children.{same_owner_lem}
 use Rattle.rules.proofs.Soundness.Sound.{Sound}
 use Rattle.rules.proofs.Basics.Appended.{numbers_before, numbers_new, all_append}
 use Rattle.rules.proofs.Soundness.Grown.{Grown, values_kept}
@@ -35,7 +35,7 @@ differ : (p : Owner → Bool) (a b : Owner) → (p a ≡ p b → ⊥) → same_o
 differ p a b n = go (decided (same_owner a b))
   where
     go : (same_owner a b ≡ true) ⊎ (same_owner a b ≡ false) → same_owner a b ≡ false
-    go (inl e) = absurd (n (ap p (same_owner_law a b e)))
+    go (inl e) = absurd (n (ap p (same_owner_lem a b e)))
     go (inr e) = e
 
 module _ (s t : Store) (h : Sound s) (w : Owner) (types : List ℕ) (grew : t.values ≡ s.values ++ values_for w types) (new : owner_exists s w ≡ false) where
@@ -47,5 +47,5 @@ module _ (s t : Store) (h : Sound s) (w : Owner) (types : List ℕ) (grew : t.va
   unfolding values_of
   values_new = rw grew (numbers_new _ s.values (values_for w types) (λ v m. differ (owner_exists s) v.owner w (λ q. clash (all_at _ s.values h.values_in m) (q ∙ new))) (λ v m. rw (mem_values_for w types v m) (same_self w)) ∙ length_values_for w types)
 
-  pub values_in_law : Grown s t → owner_exists t w ≡ true → all (λ (v : Value). owner_exists t v.owner) t.values ≡ true
-  values_in_law g e = subst (λ (vs : List Value). all (λ (v : Value). owner_exists t v.owner) vs ≡ true) (sym grew) (all_append _ s.values (values_for w types) (values_kept s t g h) (all_of _ _ (λ v m. rw (mem_values_for w types v m) e)))
+  pub values_in_lem : Grown s t → owner_exists t w ≡ true → all (λ (v : Value). owner_exists t v.owner) t.values ≡ true
+  values_in_lem g e = subst (λ (vs : List Value). all (λ (v : Value). owner_exists t v.owner) vs ≡ true) (sym grew) (all_append _ s.values (values_for w types) (values_kept s t g h) (all_of _ _ (λ v m. rw (mem_values_for w types v m) e)))

@@ -59,9 +59,9 @@ op_facts s n h =
       attributes_fit = p.1.1.1.1.1.1.1.1.1.0;
     }
 
-op_holds_law : (s : Store) (n : ℕ) → OpSound s n → op_holds s n ≡ true
+op_holds_lem : (s : Store) (n : ℕ) → OpSound s n → op_holds s n ≡ true
 unfolding op_holds parent_of
-op_holds_law s n p =
+op_holds_lem s n p =
     every_of _ (
       p.parent_in,
       (
@@ -85,9 +85,9 @@ block_facts s m h =
     let p = passed _ h in
     record { region_in = p.0; later = p.1.0; arguments_fit = leb-true _ _ p.1.1.0; attributes_fit = p.1.1.1.0 }
 
-block_holds_law : (s : Store) (m : ℕ) → BlockSound s m → block_holds s m ≡ true
+block_holds_lem : (s : Store) (m : ℕ) → BlockSound s m → block_holds s m ≡ true
 unfolding block_holds
-block_holds_law s m p = every_of _ (p.region_in, (p.later, (le-leb _ _ p.arguments_fit, (p.attributes_fit, tt))))
+block_holds_lem s m p = every_of _ (p.region_in, (p.later, (le-leb _ _ p.arguments_fit, (p.attributes_fit, tt))))
 
 pub totals_facts : (s : Store) → totals_hold s ≡ true → TotalsSound s
 unfolding totals_hold
@@ -103,9 +103,9 @@ totals_facts s h =
       attributes = leb-true _ _ p.1.1.1.1.1.1.0;
     }
 
-pub totals_hold_law : (s : Store) → TotalsSound s → totals_hold s ≡ true
+pub totals_hold_lem : (s : Store) → TotalsSound s → totals_hold s ≡ true
 unfolding totals_hold
-totals_hold_law s p =
+totals_hold_lem s p =
     every_of _ (
       le-leb _ _ p.ops,
       (
@@ -136,6 +136,6 @@ pub sound_of : (s : Store) → Sound s → sound s ≡ true
 unfolding sound
 sound_of s p =
     every_of _ (
-      all_below_of _ _ (λ n l. op_holds_law s n (p.op n l)),
-      (all_below_of _ _ (λ m l. block_holds_law s m (p.block m l)), (p.regions_in, (p.values_in, (totals_hold_law s p.totals, tt)))),
+      all_below_of _ _ (λ n l. op_holds_lem s n (p.op n l)),
+      (all_below_of _ _ (λ m l. block_holds_lem s m (p.block m l)), (p.regions_in, (p.values_in, (totals_hold_lem s p.totals, tt)))),
     )

@@ -16,7 +16,7 @@ use Rattle.rules.specs.Hash.{Numbering, numbered}
 use Rattle.rules.specs.Types.{present, renamed_value, renamed}
 use Rattle.rules.specs.Entered.{owner_entry, EnteredBy}
 use Rattle.rules.proofs.Basics.Tests.{and_left, and_right, and_both}
-use Rattle.rules.proofs.Soundness.Children.{values_in_law}
+use Rattle.rules.proofs.Soundness.Children.{values_in_lem}
 use Rattle.rules.proofs.Soundness.Sound.{OpSound, BlockSound, facts, sound_of}
 
 -- ---- lists of values
@@ -57,16 +57,16 @@ module _ (rows : List ℕ) (s : Store) where
 
   -- ---- steps of a walk
 
-  region_steps_law : (k r : ℕ) → region_steps k other r ≡ region_steps k s r
+  region_steps_lem : (k r : ℕ) → region_steps k other r ≡ region_steps k s r
   unfolding renamed region_steps list_steps full_op ops_of blocks_of regions_of
-  region_steps_law zero r = refl
-  region_steps_law (suc k) r = λ i. list_steps s (full_op s (λ (q : ℕ). region_steps_law k q i)) (blocks_of s r)
+  region_steps_lem zero r = refl
+  region_steps_lem (suc k) r = λ i. list_steps s (full_op s (λ (q : ℕ). region_steps_lem k q i)) (blocks_of s r)
 
   pub steps_renamed : (f : Sort) (n : ℕ) → steps other f n ≡ steps s f n
   unfolding renamed steps list_steps full_op ops_of blocks_of regions_of
-  steps_renamed op n = λ i. shell (of_op n) ∷ full_op s (λ (q : ℕ). region_steps_law levels q i) n
-  steps_renamed block n = λ i. list_steps s (full_op s (λ (q : ℕ). region_steps_law levels q i)) (n ∷ [])
-  steps_renamed region n = region_steps_law levels n
+  steps_renamed op n = λ i. shell (of_op n) ∷ full_op s (λ (q : ℕ). region_steps_lem levels q i) n
+  steps_renamed block n = λ i. list_steps s (full_op s (λ (q : ℕ). region_steps_lem levels q i)) (n ∷ [])
+  steps_renamed region n = region_steps_lem levels n
 
   -- ---- soundness
 
@@ -144,12 +144,12 @@ module _ (rows : List ℕ) (s : Store) where
 
   value_renamed : (v : ℕ) → (value_at other v).owner ≡ (value_at s v).owner
   unfolding renamed renamed_value value_at no_value
-  value_renamed v = owner_at_law s.values v
+  value_renamed v = owner_at_lem s.values v
     where
-      owner_at_law : (vs : List Value) (n : ℕ) → (get_or (map (renamed_value rows) vs) n no_value).owner ≡ (get_or vs n no_value).owner
-      owner_at_law [] n = refl
-      owner_at_law (v ∷ vs) zero = refl
-      owner_at_law (v ∷ vs) (suc n) = owner_at_law vs n
+      owner_at_lem : (vs : List Value) (n : ℕ) → (get_or (map (renamed_value rows) vs) n no_value).owner ≡ (get_or vs n no_value).owner
+      owner_at_lem [] n = refl
+      owner_at_lem (v ∷ vs) zero = refl
+      owner_at_lem (v ∷ vs) (suc n) = owner_at_lem vs n
 
   pub entered_renamed : {m : Mapping} {paired : ℕ} → EnteredBy other m paired → EnteredBy s m paired
   entered_renamed {m} h =
@@ -181,9 +181,9 @@ module _ (rows : List ℕ) (s : Store) where
   types_renamed (v ∷ vs) h = ap₂ ◌∷◌ (type_renamed v (h v (Memᴰ.head refl))) (types_renamed vs (λ u m. h u (Memᴰ.tail m)))
 
   own_renamed : (w : Owner) → map (type_of other) (values_of other w) ≡ map (present rows) (map (type_of s) (values_of s w))
-  own_renamed w = ap (map (type_of other)) (values_renamed w) ∙ types_renamed (values_of s w) (λ v m. (values_in_law s w m).0)
+  own_renamed w = ap (map (type_of other)) (values_renamed w) ∙ types_renamed (values_of s w) (λ v m. (values_in_lem s w m).0)
 
-  pub shell_renamed_law : (ig : Ignore) (w : Owner) → shell_of other ig w ≡ shell_renamed rows (shell_of s ig w)
+  pub shell_renamed_lem : (ig : Ignore) (w : Owner) → shell_of other ig w ≡ shell_renamed rows (shell_of s ig w)
   unfolding renamed shell_of shell_renamed op_at block_at
-  shell_renamed_law ig (of_op n) = λ i. record { location = unignored_location ig (op_at s n).location; attributes = unignored ig (op_at s n).attributes; types = own_renamed (of_op n) i }
-  shell_renamed_law ig (of_block b) = λ i. record { location = unignored_location ig (block_at s b).location; attributes = unignored ig (block_at s b).attributes; types = own_renamed (of_block b) i }
+  shell_renamed_lem ig (of_op n) = λ i. record { location = unignored_location ig (op_at s n).location; attributes = unignored ig (op_at s n).attributes; types = own_renamed (of_op n) i }
+  shell_renamed_lem ig (of_block b) = λ i. record { location = unignored_location ig (block_at s b).location; attributes = unignored ig (block_at s b).attributes; types = own_renamed (of_block b) i }

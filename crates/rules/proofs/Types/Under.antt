@@ -124,17 +124,17 @@ present_fits (old ∷ now ∷ rows) h t ft =
     go true k l = k
     go false k l = l
 
-values_fit_law : (types : List ℕ) → all fits types ≡ true → (vs : List Value) → all value_fits vs ≡ true → all value_fits (map (renamed_value types) vs) ≡ true
+values_fit_lem : (types : List ℕ) → all fits types ≡ true → (vs : List Value) → all value_fits vs ≡ true → all value_fits (map (renamed_value types) vs) ≡ true
 unfolding all value_fits renamed_value
-values_fit_law types h [] k = refl
-values_fit_law types h (v ∷ vs) k =
-    and_both _ _ (present_fits types h v.type (and_left (value_fits v) (all value_fits vs) k)) (values_fit_law types h vs (and_right (value_fits v) _ k))
+values_fit_lem types h [] k = refl
+values_fit_lem types h (v ∷ vs) k =
+    and_both _ _ (present_fits types h v.type (and_left (value_fits v) (all value_fits vs) k)) (values_fit_lem types h vs (and_right (value_fits v) _ k))
 
 pub renamed_fits : (types : List ℕ) → all fits types ≡ true → (s : Store) → fields_fit s ≡ true → fields_fit (renamed types s) ≡ true
 unfolding fields_fit renamed
 renamed_fits types h s k =
     let p = passed _ k in
-    every_of _ (p.0, (p.1.0, (values_fit_law types h s.values p.1.1.0, tt)))
+    every_of _ (p.0, (p.1.0, (values_fit_lem types h s.values p.1.1.0, tt)))
 
 pub filers_law_renamed : FilersLawRenamed
 unfolding FilersLawRenamed FilersLaw RenamedSound

@@ -20,7 +20,7 @@ use Rattle.rules.specs.Answers.{compare_tests, comparison_of, comparison_by, com
 use Rattle.rules.proofs.Types.Renamed.{exists_renamed, allowed_renamed}
 use Rattle.rules.proofs.Basics.Tests.{and_left, and_right, and_both, or_right, passed, every_of}
 use Rattle.rules.proofs.Soundness.Accepted.{first_failed_none}
-use Rattle.rules.proofs.Soundness.Children.{values_in_law}
+use Rattle.rules.proofs.Soundness.Children.{values_in_lem}
 use Rattle.rules.proofs.Walking.Keeping.{keeps_fragments}
 
 -- the entry of one number
@@ -62,7 +62,7 @@ module _ (s : Store) where
   -- the values of two owners
   values_allowed : (a b : Owner) (es : List ℕ) → table_allowed 2048 (length s.values) es ≡ true
       → table_allowed 2048 (length s.values) (enter_all (values_of s a) (values_of s b) es) ≡ true
-  values_allowed a b es h = all_allowed _ _ (values_of s a) (values_of s b) es (λ v m. (values_in_law s a m).0) (λ v m. (values_in_law s b m).0) h
+  values_allowed a b es h = all_allowed _ _ (values_of s a) (values_of s b) es (λ v m. (values_in_lem s a m).0) (λ v m. (values_in_lem s b m).0) h
 
   ops_allowed : (l r : ℕ) → l < length s.ops → r < length s.ops → (st : State) → allowed s st.mapping ≡ true
       → allowed s (enter_ops s l r st).mapping ≡ true

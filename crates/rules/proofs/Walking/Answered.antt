@@ -24,7 +24,7 @@ use Rattle.rules.specs.Laws.{succeeds, equal}
 use Rattle.rules.specs.MappingLaws.{filed}
 use Rattle.rules.proofs.Types.Renamed.{exists_renamed, renamed_sound}
 use Rattle.rules.proofs.Basics.Tests.{and_both, every_of, clash, impossible}
-use Rattle.rules.proofs.Soundness.Children.{ops_in_law}
+use Rattle.rules.proofs.Soundness.Children.{ops_in_lem}
 use Rattle.rules.proofs.Soundness.Accepted.{all_passed}
 use Rattle.rules.proofs.Basics.Distinct.{mem_concat_map}
 use Rattle.rules.proofs.Walking.Levels.{Leaves, op_leaves, nested_leaves}
@@ -53,30 +53,30 @@ module _ (s : Store) (sd : sound s ≡ true) where
       let b = mem_concat_map (ops_of s) (blocks_of s r.0) r.2 in
       nested_leaves s sd n j h r.1 b.1 b.2
 
-  op_size_law : (k n : ℕ) → Leaves s max_nesting (parent_of s n) k → is_some (op_size k s n) ≡ true
+  op_size_lem : (k n : ℕ) → Leaves s max_nesting (parent_of s n) k → is_some (op_size k s n) ≡ true
   unfolding op_size is_some
-  op_size_law zero n h =
+  op_size_lem zero n h =
       plus_some (some 1) _ refl (sizes_some _ (ops_inside s n) (λ m m∈. let w = inside_leaves n zero h m m∈ in
       let e : 0 ≡ suc w.0 = w.2 in
       absurd (omega arith)))
-  op_size_law (suc k) n h =
+  op_size_lem (suc k) n h =
       plus_some (some 1) _ refl (sizes_some _ (ops_inside s n) (λ m m∈. let w = inside_leaves n (suc k) h m m∈ in
       let e : k ≡ w.0 = omega (arith, w.2) in
-      op_size_law k m (rw e w.1)))
+      op_size_lem k m (rw e w.1)))
 
-  own_size_law : (n : ℕ) → op_exists s n ≡ true → is_some (own_size s n) ≡ true
+  own_size_lem : (n : ℕ) → op_exists s n ≡ true → is_some (own_size s n) ≡ true
   unfolding own_size op_exists size_within
-  own_size_law n e = let w = op_leaves s sd n (ltb-true _ _ e) in rw w.1 (op_size_law w.0 n w.1)
+  own_size_lem n e = let w = op_leaves s sd n (ltb-true _ _ e) in rw w.1 (op_size_lem w.0 n w.1)
 
   outermost_exist : (f : Sort) (n : ℕ) → exists s f n ≡ true → (m : ℕ) → Memᴰ m (outermost s f n) → op_exists s m ≡ true
   unfolding outermost exists ops_in_blocks op_exists
   outermost_exist op n e m m∈ = rw (Memᴰ.eq_of_singleton m∈) e
-  outermost_exist block n e m m∈ = lt-ltb _ _ (ops_in_law s n m∈).0
-  outermost_exist region n e m m∈ = let b = mem_concat_map (ops_of s) (blocks_of s n) m∈ in lt-ltb _ _ (ops_in_law s b.0 b.2).0
+  outermost_exist block n e m m∈ = lt-ltb _ _ (ops_in_lem s n m∈).0
+  outermost_exist region n e m m∈ = let b = mem_concat_map (ops_of s) (blocks_of s n) m∈ in lt-ltb _ _ (ops_in_lem s b.0 b.2).0
 
   pub fragment_shallow : (f : Sort) (n : ℕ) → exists s f n ≡ true → shallow s f n ≡ true
   unfolding shallow fragment_size
-  fragment_shallow f n e = sizes_some (own_size s) (outermost s f n) (λ m m∈. own_size_law m (outermost_exist f n e m m∈))
+  fragment_shallow f n e = sizes_some (own_size s) (outermost s f n) (λ m m∈. own_size_lem m (outermost_exist f n e m m∈))
 
 -- ---- answers
 
@@ -116,13 +116,13 @@ unfolding entries_allowed
 none_allowed count n zero = refl
 none_allowed count n (suc size) = none_allowed count (suc n) size
 
-table_allowed_law : (size count : ℕ) → table_allowed size count (replicate size no_image) ≡ true
+table_allowed_lem : (size count : ℕ) → table_allowed size count (replicate size no_image) ≡ true
 unfolding table_allowed
-table_allowed_law size count = and_both _ _ (eq-eqb _ size (length-replicate size no_image)) (none_allowed count 0 size)
+table_allowed_lem size count = and_both _ _ (eq-eqb _ size (length-replicate size no_image)) (none_allowed count 0 size)
 
 pub empty_allowed : (s : Store) → allowed s empty_mapping ≡ true
 unfolding allowed empty_mapping
-empty_allowed s = every_of _ (table_allowed_law _ _, (table_allowed_law _ _, (table_allowed_law _ _, tt)))
+empty_allowed s = every_of _ (table_allowed_lem _ _, (table_allowed_lem _ _, (table_allowed_lem _ _, tt)))
 
 eq_answer : (w : Walk) (m : Mapping) → (succeeds w ≡ true) ↔ ((p : ℕ) × ((comparison_of w m).answer ≡ eq p))
 unfolding succeeds comparison_of

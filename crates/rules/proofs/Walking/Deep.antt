@@ -34,17 +34,17 @@ passes = record { stays = λ xs st. tt; named = λ xs st p. tt; longer = λ xs s
     behind (ended why t) f a b = a
 
 module _ (s : Store) (sd : sound s ≡ true) (ig : Ignore) where
-  pub pair_ops_law : (l r : ℕ) → Always Shallow [] (pair_ops s ig l r)
+  pub pair_ops_lem : (l r : ℕ) → Always Shallow [] (pair_ops s ig l r)
   unfolding NotDeep pair_ops
-  pair_ops_law l r st = always_expect Shallow passes [] _ (pair_of op l r) st _ tt
+  pair_ops_lem l r st = always_expect Shallow passes [] _ (pair_of op l r) st _ tt
 
-  pair_blocks_law : (l r : ℕ) → Always Shallow [] (pair_blocks s ig l r)
+  pair_blocks_lem : (l r : ℕ) → Always Shallow [] (pair_blocks s ig l r)
   unfolding NotDeep pair_blocks
-  pair_blocks_law l r st = always_expect Shallow passes [] _ (pair_of block l r) st _ tt
+  pair_blocks_lem l r st = always_expect Shallow passes [] _ (pair_of block l r) st _ tt
 
   lists_deep : (f : ℕ → ℕ → State → Walk) (p : Pair) (ls rs : List ℕ)
       → ((b : ℕ) → Memᴰ b ls → (n : ℕ) → Memᴰ n (ops_of s b) → (r : ℕ) → Always Shallow [] (f n r)) → Always Shallow [] (compare_lists s ig f p ls rs)
-  lists_deep f = always_lists Shallow passes s ig pair_ops_law pair_blocks_law f no_steps
+  lists_deep f = always_lists Shallow passes s ig pair_ops_lem pair_blocks_lem f no_steps
 
   -- with one region more to enter than the operation leaves levels
   ops_deep : (k j : ℕ) → j < k → (n : ℕ) → Leaves s max_nesting (parent_of s n) j → (r : ℕ) → Always Shallow [] (check_ops s (compare_regions k s ig) n r)
@@ -62,7 +62,7 @@ module _ (s : Store) (sd : sound s ≡ true) (ig : Ignore) where
   fragments_deep op l r e =
       let w = op_leaves s sd l (ltb-true _ _ e) in
       let b : w.0 ≤ max_nesting = leaves_most s max_nesting (parent_of s l) w.0 w.1 in
-      always_then Shallow passes [] [] (pair_ops s ig l r) _ (pair_ops_law l r) (ops_deep levels w.0 (omega arith) l w.1 r)
+      always_then Shallow passes [] [] (pair_ops s ig l r) _ (pair_ops_lem l r) (ops_deep levels w.0 (omega arith) l w.1 r)
   fragments_deep block l r e =
       lists_deep (check_ops s (compare_regions levels s ig)) (pair_of block l r) (l ∷ []) (r ∷ [])
       (λ b b∈ m m∈. let w = block_leaves s sd b m∈ in

@@ -16,11 +16,11 @@ TooDeep (one_longer p) = ⊥
 TooDeep too_deep = Unit {0}
 
 module _ (s : Store) (ig : Ignore) where
-  one_more_law : (k : ℕ) → Agreeing TooDeep (compare_regions k s ig) (compare_regions (suc k) s ig)
+  one_more_lem : (k : ℕ) → Agreeing TooDeep (compare_regions k s ig) (compare_regions (suc k) s ig)
   unfolding compare_regions
-  one_more_law zero l r st = inl tt
-  one_more_law (suc k) l r st =
-      agree_lists TooDeep s ig _ _ (agree_ops TooDeep s _ _ (one_more_law k)) (pair_of region l r) (blocks_of s l) (blocks_of s r) st
+  one_more_lem zero l r st = inl tt
+  one_more_lem (suc k) l r st =
+      agree_lists TooDeep s ig _ _ (agree_ops TooDeep s _ _ (one_more_lem k)) (pair_of region l r) (blocks_of s l) (blocks_of s r) st
 
   module _ (k l r : ℕ) (st : State) (enough : (t : State) → compare_regions k s ig l r st ≡ ended too_deep t → ⊥) where
     not_deep : (w : Walk) → compare_regions k s ig l r st ≡ w → EndedBy TooDeep w → ⊥
@@ -30,7 +30,7 @@ module _ (s : Store) (ig : Ignore) where
     not_deep (ended too_deep t) e d = enough t e
 
     pub enough_one : compare_regions (suc k) s ig l r st ≡ compare_regions k s ig l r st
-    enough_one = go (one_more_law k l r st)
+    enough_one = go (one_more_lem k l r st)
       where
         go : Agree TooDeep (compare_regions k s ig l r st) (compare_regions (suc k) s ig l r st)
             → compare_regions (suc k) s ig l r st ≡ compare_regions k s ig l r st

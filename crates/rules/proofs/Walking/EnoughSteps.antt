@@ -52,6 +52,6 @@ module _ (s : Store) (sd : sound s ≡ true) where
   steps_enough (suc k) (suc l) a b r = lists_enough k l (omega arith) (omega arith) (blocks_of s r)
 
   -- what stands in a region is gone through as where a walk begins
-  pub region_steps_law : (r : ℕ) → region_steps levels s r ≡ list_steps s (full_op s (region_steps levels s)) (blocks_of s r)
+  pub region_steps_lem : (r : ℕ) → region_steps levels s r ≡ list_steps s (full_op s (region_steps levels s)) (blocks_of s r)
   unfolding region_steps
-  region_steps_law r = lists_enough max_nesting levels (omega arith) (omega arith) (blocks_of s r)
+  region_steps_lem r = lists_enough max_nesting levels (omega arith) (omega arith) (blocks_of s r)

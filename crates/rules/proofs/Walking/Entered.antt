@@ -27,16 +27,16 @@ use Rattle.rules.proofs.Basics.Counts.{count_more, count_zero}
 use Rattle.rules.proofs.Basics.Entries.{none_at, enter_other}
 use Rattle.rules.proofs.Basics.Tests.{and_left, and_right}
 use Rattle.rules.proofs.Soundness.Accepted.{first_failed_none}
-use Rattle.rules.proofs.Soundness.Children.{values_in_law}
+use Rattle.rules.proofs.Soundness.Children.{values_in_lem}
 use Rattle.rules.proofs.Soundness.Sound.{Sound, facts}
 use Rattle.rules.proofs.Walking.Keeping.{keeps_fragments, keeps_runs}
 
 -- ---- entries made
 
 -- at most one more has an image
-one_more_law : (size : ℕ) (es : List ℕ) (l r : ℕ) → count_below size (mapped (set es l r)) ≤ count_below size (mapped es) + 1
+one_more_lem : (size : ℕ) (es : List ℕ) (l r : ℕ) → count_below size (mapped (set es l r)) ≤ count_below size (mapped es) + 1
 unfolding mapped
-one_more_law size es l r =
+one_more_lem size es l r =
     count_more (mapped (set es l r)) (mapped es) l size (λ k ne h. subst (λ (e : ℕ). not (eqb e no_image) ≡ true) (get_or-set_other es l k r no_image ne) h)
 
 -- of the numbers of a table, the one entered has an image if that is one; of the others what there was
@@ -64,10 +64,10 @@ module _ (s : Store) (sd : Sound s) where
 
   -- a value of another owner
   not_of : (w : Owner) (v : ℕ) → ((value_at s v).owner ≡ w → ⊥) → Memᴰ v (values_of s w) → ⊥
-  not_of w v ne m = ne (values_in_law s w m).1
+  not_of w v ne m = ne (values_in_lem s w m).1
 
   past : (w : Owner) (v : ℕ) → length s.values ≤ v → Memᴰ v (values_of s w) → ⊥
-  past w v h m = let l : v < length s.values = (values_in_law s w m).0 in omega arith
+  past w v h m = let l : v < length s.values = (values_in_lem s w m).0 in omega arith
 
   module _ (l r : ℕ) (st : State) where
     ops_entered : l < length s.ops → r < length s.ops → Entering s st → Entering s (enter_ops s l r st)
@@ -78,7 +78,7 @@ module _ (s : Store) (sd : Sound s) where
           blocks = h.blocks;
           by =
               record {
-                owners = let few = h.by.owners in omega (arith, one_more_law max_ops st.mapping.ops l r);
+                owners = let few = h.by.owners in omega (arith, one_more_lem max_ops st.mapping.ops l r);
                 values = λ v e. go v (value_at s v).owner refl e;
                 beyond = λ v b. enter_other (values_of s (of_op l)) (values_of s (of_op r)) st.mapping.values v (past (of_op l) v b) ∙ h.by.beyond v b;
               };
@@ -107,7 +107,7 @@ module _ (s : Store) (sd : Sound s) where
           blocks = length-set st.mapping.blocks l r ∙ h.blocks;
           by =
               record {
-                owners = let few = h.by.owners in omega (arith, one_more_law max_blocks st.mapping.blocks l r);
+                owners = let few = h.by.owners in omega (arith, one_more_lem max_blocks st.mapping.blocks l r);
                 values = λ v e. go v (value_at s v).owner refl e;
                 beyond = λ v b. enter_other (values_of s (of_block l)) (values_of s (of_block r)) st.mapping.values v (past (of_block l) v b) ∙ h.by.beyond v b;
               };
@@ -134,9 +134,9 @@ none_mapped : (size : ℕ) (k : ℕ) → mapped (replicate size no_image) k ≡ 
 unfolding mapped
 none_mapped size k = rw (none_at size k) (ap not (eq-eqb no_image no_image refl))
 
-at_start_law : (s : Store) → Entering s (start empty_mapping)
+at_start_lem : (s : Store) → Entering s (start empty_mapping)
 unfolding start empty_mapping
-at_start_law s =
+at_start_lem s =
     record {
       ops = length-replicate max_ops no_image;
       blocks = length-replicate max_blocks no_image;
@@ -151,7 +151,7 @@ at_start_law s =
 
 pub none_entered : (s : Store) → EnteredBy s empty_mapping 0
 unfolding start
-none_entered s = (at_start_law s).by
+none_entered s = (at_start_lem s).by
 
 pub entered_by : (s : Store) → sound s ≡ true → (ig : Ignore) (f : Sort) (l r : ℕ) → exists s f l ≡ true → exists s f r ≡ true
     → EnteredBy s (standing (compare s ig f l r empty_mapping)).mapping (standing (compare s ig f l r empty_mapping)).paired
@@ -160,7 +160,7 @@ entered_by s sd ig f l r el er =
     (keeps_fragments (Entering s) s ig
     (λ a b ha hb st h. ops_entered s (facts s sd) a b st ha hb h)
     (λ a b ha hb st h. blocks_entered s (facts s sd) a b st ha hb h)
-    f l r el er (start empty_mapping) (at_start_law s)).by
+    f l r el er (start empty_mapping) (at_start_lem s)).by
 
 -- the same of two runs of operations
 pub runs_entered : (s : Store) → sound s ≡ true → (ig : Ignore) (b : ℕ) (ls rs : List ℕ)
@@ -171,7 +171,7 @@ runs_entered s sd ig b ls rs el er =
     (keeps_runs (Entering s) s ig
     (λ a c ha hb st h. ops_entered s (facts s sd) a c st ha hb h)
     (λ a c ha hb st h. blocks_entered s (facts s sd) a c st ha hb h)
-    (pair_of block b b) ls rs el er (start empty_mapping) (at_start_law s)).by
+    (pair_of block b b) ls rs el er (start empty_mapping) (at_start_lem s)).by
 
 -- answered or refused
 module _ (s : Store) (sd : sound s ≡ true) (lent : Bool) (types : List ℕ) (ig : Ignore) (f : Sort) (l r : ℕ) where

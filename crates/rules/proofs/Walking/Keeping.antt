@@ -11,7 +11,7 @@ use Rattle.rules.specs.Store.{Store, ops_of, blocks_of, regions_of, op_exists, b
 use Rattle.rules.specs.Fragments.{Sort, op, block, region, exists, levels}
 use Rattle.rules.specs.Shells.{Ignore}
 use Rattle.rules.specs.Comparison.{State, Pair, Walk, on, ended, standing, ◌>>=◌, pairwise, each_pair, pair_of, expect, enter_ops, enter_blocks, pair_ops, pair_blocks, check_names, check_ops, pass1, pass2, pass3, compare_lists, compare_regions, compare_by}
-use Rattle.rules.proofs.Soundness.Children.{ops_in_law, blocks_in_law}
+use Rattle.rules.proofs.Soundness.Children.{ops_in_lem, blocks_in_lem}
 
 -- from whatever state it begins
 abbrev pub Keeps : (State → Type 0) → (State → Walk) → Type 0
@@ -79,7 +79,7 @@ module _ (I : State → Type 0) where
         (keeps_pairwise (pair_blocks s ig) p ls rs (λ l r i j. keeps_blocks l r (el l i) (er r j)) st h)
         (keeps_each _ ls rs
         (λ l r i j. keeps_pairwise (pair_ops s ig) (pair_of block l r) (ops_of s l) (ops_of s r)
-        (λ m n u v. keeps_ops m n (ops_in_law s l u).0 (ops_in_law s r v).0))))
+        (λ m n u v. keeps_ops m n (ops_in_lem s l u).0 (ops_in_lem s r v).0))))
         (keeps_each _ ls rs (λ l r i j. keeps_each f (ops_of s l) (ops_of s r) (λ m n u v. a m n)))
 
     keeps_regions : (k l r : ℕ) → Keeps I (compare_regions k s ig l r)
@@ -87,8 +87,8 @@ module _ (I : State → Type 0) where
     keeps_regions zero l r st h = h
     keeps_regions (suc k) l r st h =
         keeps_lists (check_ops s (compare_regions k s ig)) (keeps_check (compare_regions k s ig) (keeps_regions k)) (pair_of region l r) (blocks_of s l) (blocks_of s r)
-        (λ b m. (blocks_in_law s l m).0)
-        (λ b m. (blocks_in_law s r m).0)
+        (λ b m. (blocks_in_lem s l m).0)
+        (λ b m. (blocks_in_lem s r m).0)
         st h
 
     pub keeps_fragments : (f : Sort) (l r : ℕ) → exists s f l ≡ true → exists s f r ≡ true → Keeps I (compare_by s ig f l r)

@@ -11,12 +11,12 @@ use Rattle.rules.specs.Lists.{is_some}
 use Rattle.rules.specs.Store.{Store, parent_of, op_around, levels_left, max_nesting, nesting_holds, regions_of, blocks_of, ops_of, sound}
 use Rattle.rules.proofs.Basics.Tests.{clash, impossible}
 use Rattle.rules.proofs.Soundness.Sound.{facts}
-use Rattle.rules.proofs.Soundness.Children.{ops_in_law, blocks_in_law, regions_in_law}
+use Rattle.rules.proofs.Soundness.Children.{ops_in_lem, blocks_in_lem, regions_in_lem}
 
-is_some_law : (q : Option ℕ) → is_some q ≡ true → (j : ℕ) × (q ≡ some j)
+is_some_lem : (q : Option ℕ) → is_some q ≡ true → (j : ℕ) × (q ≡ some j)
 unfolding is_some
-is_some_law none h = clash h refl
-is_some_law (some j) h = (j, refl)
+is_some_lem none h = clash h refl
+is_some_lem (some j) h = (j, refl)
 
 module _ (s : Store) where
   -- of so many levels an operation with this parent leaves j
@@ -44,29 +44,29 @@ module _ (s : Store) where
 
   around_block : (n : ℕ) {r b : ℕ} → Memᴰ r (regions_of s n) → Memᴰ b (blocks_of s r) → op_around s b ≡ n
   unfolding op_around
-  around_block n r∈ b∈ = rw (blocks_in_law s _ b∈).1 (regions_in_law s n r∈).1
+  around_block n r∈ b∈ = rw (blocks_in_lem s _ b∈).1 (regions_in_lem s n r∈).1
 
 module _ (s : Store) (sd : sound s ≡ true) where
   -- the levels that an operation leaves
   pub op_leaves : (n : ℕ) → n < length s.ops → (j : ℕ) × Leaves s max_nesting (parent_of s n) j
   unfolding nesting_holds
-  op_leaves n l = is_some_law _ ((facts s sd).op n l).nesting
+  op_leaves n l = is_some_lem _ ((facts s sd).op n l).nesting
 
   -- an operation inside another leaves one less
   pub nested_leaves : (n j : ℕ) → Leaves s max_nesting (parent_of s n) j
       → {r b m : ℕ} → Memᴰ r (regions_of s n) → Memᴰ b (blocks_of s r) → Memᴰ m (ops_of s b)
       → (i : ℕ) × Leaves s max_nesting (parent_of s m) i × (j ≡ suc i)
   nested_leaves n j h {b} {m} r∈ b∈ m∈ =
-      let i = op_leaves m (ops_in_law s b m∈).0 in
+      let i = op_leaves m (ops_in_lem s b m∈).0 in
       let around : Leaves s max_nesting (parent_of s (op_around s b)) j = rw (around_block s n r∈ b∈) h in
-      let inside : Leaves s max_nesting (some b) i.0 = rw (ops_in_law s b m∈).1 at i.1 in
+      let inside : Leaves s max_nesting (some b) i.0 = rw (ops_in_lem s b m∈).1 at i.1 in
       (i.0, i.1, leaves_inside s 31 b i.0 j around inside)
 
   -- in a block one level is taken
   pub block_leaves : (b : ℕ) {m : ℕ} → Memᴰ m (ops_of s b) → (i : ℕ) × Leaves s max_nesting (parent_of s m) i × (i < max_nesting)
   unfolding levels_left
   block_leaves b {m} m∈ =
-      let i = op_leaves m (ops_in_law s b m∈).0 in
-      let inside : Leaves s max_nesting (some b) i.0 = rw (ops_in_law s b m∈).1 at i.1 in
+      let i = op_leaves m (ops_in_lem s b m∈).0 in
+      let inside : Leaves s max_nesting (some b) i.0 = rw (ops_in_lem s b m∈).1 at i.1 in
       let l : i.0 ≤ 31 = leaves_most s 31 (parent_of s (op_around s b)) i.0 inside in
       (i.0, i.1, omega arith)

@@ -4,7 +4,7 @@ use mathlib.Core.Path.{sym, ◌∙◌}
 use Rattle.layout.specs.Reading.{block_count, value_count}
 use Rattle.layout.specs.Causes.{cause_of}
 use Rattle.calling.proofs.Facts.{laid}
-use Rattle.adding.proofs.BlockCauses.{no_region, many_arguments, many_blocks, many_values, block_fits_law}
+use Rattle.adding.proofs.BlockCauses.{no_region, many_arguments, many_blocks, many_values, block_fits_lem}
 use Rattle.adding.proofs.blocks.block_cause.Goals as goal
 
 pub returns-then-not-region_exists : goal.returns-then-not-region_exists
@@ -43,5 +43,5 @@ pub returns : goal.returns
 unfolding cause_of block_count value_count
 returns c =
     let a = c.args in
-    λ label location. sym (block_fits_law a.store.now c.requires _ (sym c.region_exists.ensures ∙ c.if-not-region_exists.false) (omega arith)
+    λ label location. sym (block_fits_lem a.store.now c.requires _ (sym c.region_exists.ensures ∙ c.if-not-region_exists.false) (omega arith)
     (record { blocks = omega arith; values = omega arith }))

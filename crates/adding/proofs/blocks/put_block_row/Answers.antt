@@ -7,7 +7,7 @@ use Rattle.rules.specs.Lists.{all_below}
 use Rattle.layout.specs.Columns.{columns, block_region}
 use Rattle.layout.specs.Reading.{value_count}
 use Rattle.adding.specs.Raw.{with_row, block_written}
-use Rattle.adding.proofs.RowWritten.{row_fits_law}
+use Rattle.adding.proofs.RowWritten.{row_fits_lem}
 use Rattle.adding.proofs.blocks.put_block_row.Goals as goal
 
 pub overflow_add-end : goal.overflow_add-end
@@ -28,7 +28,7 @@ put_row-requires c =
     record {
       store_len = omega (arith, c.requires.store_len);
       row_bound = omega arith;
-      by_index = row_fits_law block_region 8 256 c.args.m refl c.requires.m_bound;
+      by_index = row_fits_lem block_region 8 256 c.args.m refl c.requires.m_bound;
     }
 
 pub returns : goal.returns

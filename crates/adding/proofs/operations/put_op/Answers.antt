@@ -6,7 +6,7 @@ use Rattle.layout.specs.Columns.{Cols, columns, at, write, op_kind, op_region_fi
 use Rattle.layout.specs.Reading.{op_count, region_count, value_count, operand_count, successor_count}
 use Rattle.calling.specs.Types.{parent_of}
 use Rattle.adding.specs.Raw.{with_row, op_head, op_ranges, op_slices, op_row, op_placed, op_written}
-use Rattle.adding.proofs.Operating.{parent_below_law}
+use Rattle.adding.proofs.Operating.{parent_below_lem}
 use Rattle.adding.proofs.operations.put_op.Goals as goal
 
 -- the row, part by part
@@ -36,7 +36,7 @@ whole_row C n kind parent location depth regions results operands successors = r
 
 pub parent_word-word-requires : goal.parent_word-word-requires
 parent_word-word-requires c =
-    parent_below_law c.args.store.now c.requires.arranged (parent_of c.args.fields.parent) c.requires.parent_value
+    parent_below_lem c.args.store.now c.requires.arranged (parent_of c.args.fields.parent) c.requires.parent_value
 
 pub put_op_head-requires : goal.put_op_head-requires
 unfolding op_count
@@ -73,7 +73,7 @@ unfolding op_count
 place_op-requires c = record {
   store_len = omega
       (arith, c.requires.arranged.sized, c.put_op_head.auto.store, c.put_op_ranges.auto.store, c.put_op_slices.auto.store);
-  parent_below = parent_below_law c.args.store.now c.requires.arranged (parent_of c.args.fields.parent) c.requires.parent_value;
+  parent_below = parent_below_lem c.args.store.now c.requires.arranged (parent_of c.args.fields.parent) c.requires.parent_value;
   n_bound = omega (arith, c.requires.op_room.ops, c.number-n.ensures);
 }
 

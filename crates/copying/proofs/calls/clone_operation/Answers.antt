@@ -3,7 +3,7 @@
 use mathlib.Core.Path.{sym, ◌∙◌}
 use Rattle.calling.specs.Types.{parent_of}
 use Rattle.marks.proofs.Lent.{lent_facts}
-use Rattle.copying.proofs.Offered.{unsound, not_allowed_law, done}
+use Rattle.copying.proofs.Offered.{unsound, not_allowed_lem, done}
 use Rattle.copying.proofs.calls.clone_operation.Goals as goal
 
 pub returns-then-not-is_sound : goal.returns-then-not-is_sound
@@ -19,7 +19,7 @@ is_allowed-requires c =
 pub returns-then-not-is_allowed : goal.returns-then-not-is_allowed
 returns-then-not-is_allowed c =
     let a = c.args in
-    not_allowed_law a.store.now (sym c.is_sound.ensures ∙ c.if-not-is_sound.false) a.mapping.now a.op (parent_of a.parent)
+    not_allowed_lem a.store.now (sym c.is_sound.ensures ∙ c.if-not-is_sound.false) a.mapping.now a.op (parent_of a.parent)
     (sym c.is_allowed.ensures ∙ c.if-not-is_allowed.true)
 
 pub returns : goal.returns

@@ -4,7 +4,7 @@ use Rattle.rules.specs.Store.{Store, of_op, of_block}
 use Rattle.rules.specs.Fragments.{Step, shell, names, op, steps}
 use Rattle.layout.specs.Columns.{Cols, columns}
 use Rattle.layout.specs.Reading.{op_count, store_in}
-use Rattle.layout.proofs.Tabulate.{op_exists_law}
+use Rattle.layout.proofs.Tabulate.{op_exists_lem}
 use Rattle.numbering.specs.Numbered.{Numbers}
 use Rattle.copying.proofs.Words.{are_words, none_left, op_left, block_left, names_left, op_there, block_there, names_there}
 use Rattle.copying.proofs.InTime.{timely_begun, timely_over, timely_fits, timely_late, timely_next, names_number, shell_timely}
@@ -15,7 +15,7 @@ pub loop-i-init : goal.loop-i-init
 loop-i-init c =
     let C : Cols = columns c.args.store.now in
     let n : ℕ = c.args.n in
-    timely_begun (store_in c.args.store.now) n c.requires.sound.ruled (op_exists_law C n ∙ lt-ltb n (op_count C) c.requires.n_bound)
+    timely_begun (store_in c.args.store.now) n c.requires.sound.ruled (op_exists_lem C n ∙ lt-ltb n (op_count C) c.requires.n_bound)
 
 pub names_in_time-requires-clause-m_bound : goal.names_in_time-requires-clause-m_bound
 names_in_time-requires-clause-m_bound c =

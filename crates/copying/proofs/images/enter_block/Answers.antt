@@ -5,7 +5,7 @@ use Rattle.layout.specs.Columns.{columns}
 use Rattle.layout.specs.Reading.{store_in, consecutive}
 use Rattle.layout.proofs.Laid.{laid_facts}
 use Rattle.mapping.specs.MappingWords.{values_mapped}
-use Rattle.copying.proofs.Imaged.{run_fits, block_entered, block_counted_law}
+use Rattle.copying.proofs.Imaged.{run_fits, block_entered, block_counted_lem}
 use Rattle.copying.proofs.images.enter_block.Goals as goal
 
 pub map_block-requires-clause-l_bound : goal.map_block-requires-clause-l_bound
@@ -28,4 +28,4 @@ returns-clause-entered c =
 pub returns-clause-counted : goal.returns-clause-counted
 returns-clause-counted c =
     let row = c.block_row-row in
-    block_counted_law (store_in c.args.store.now) c.args.b c.args.next row.result.value row.result.values row.ensures.values
+    block_counted_lem (store_in c.args.store.now) c.args.b c.args.next row.result.value row.result.values row.ensures.values

@@ -6,7 +6,7 @@ use Rattle.rules.specs.Fragments.{Step, op, steps}
 use Rattle.rules.proofs.Soundness.Sound.{facts}
 use Rattle.layout.specs.Columns.{Cols, columns}
 use Rattle.layout.specs.Reading.{op_count, block_count, value_count, store_in}
-use Rattle.layout.proofs.Tabulate.{op_exists_law, ops_length, blocks_length, values_length}
+use Rattle.layout.proofs.Tabulate.{op_exists_lem, ops_length, blocks_length, values_length}
 use Rattle.mapping.specs.MappingWords.{mapping_of}
 use Rattle.copying.proofs.Words.{are_words, no_owners_left, op_owner_left, block_owner_left, names_owners_left, op_there, block_there}
 use Rattle.copying.proofs.Imaged.{emptied, entering_begun, entering_over, entering_past, entering_fits, entering_next}
@@ -19,7 +19,7 @@ loop-i-init c =
     let C : Cols = columns c.args.store.now in
     let S : Store = store_in c.args.store.now in
     let n : ℕ = c.args.n in
-    entering_begun S n (facts S c.requires.sound.ruled) (op_exists_law C n ∙ lt-ltb n (op_count C) c.requires.n_bound) c.requires.totals_hold
+    entering_begun S n (facts S c.requires.sound.ruled) (op_exists_lem C n ∙ lt-ltb n (op_count C) c.requires.n_bound) c.requires.totals_hold
     (c.number.ensures ∙ sym (ops_length C), c.number-2.ensures ∙ sym (blocks_length C), c.number-3.ensures ∙ sym (values_length C))
     c.fill_at.new.to
     (ap mapping_of c.fill_at.ensures ∙ emptied c.args.mapping.now c.requires.mapping_len)

@@ -5,7 +5,7 @@ use Rattle.layout.specs.Columns.{columns}
 use Rattle.layout.specs.Reading.{store_in, consecutive}
 use Rattle.layout.proofs.Laid.{laid_facts}
 use Rattle.mapping.specs.MappingWords.{values_mapped}
-use Rattle.copying.proofs.Imaged.{run_fits, op_entered, op_counted_law}
+use Rattle.copying.proofs.Imaged.{run_fits, op_entered, op_counted_lem}
 use Rattle.copying.proofs.images.enter_op.Goals as goal
 
 pub map_op-requires-clause-l_bound : goal.map_op-requires-clause-l_bound
@@ -28,4 +28,4 @@ returns-clause-entered c =
 pub returns-clause-counted : goal.returns-clause-counted
 returns-clause-counted c =
     let row = c.op_row-row in
-    op_counted_law (store_in c.args.store.now) c.args.m c.args.next row.result.value row.result.values row.ensures.values
+    op_counted_lem (store_in c.args.store.now) c.args.m c.args.next row.result.value row.result.values row.ensures.values

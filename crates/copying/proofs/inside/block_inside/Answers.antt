@@ -3,7 +3,7 @@ use Rattle.std.proofs.Common.{ap, sym, ◌∙◌, arith}
 use Rattle.rules.specs.Fragments.{op, fragment_ops}
 use Rattle.rules.specs.Copying.{has_place}
 use Rattle.layout.specs.Reading.{store_in}
-use Rattle.copying.proofs.Upward.{around_op, block_in_law}
+use Rattle.copying.proofs.Upward.{around_op, block_in_lem}
 use Rattle.copying.proofs.inside.block_inside.Goals as goal
 
 pub op_inside-requires-clause-m_bound : goal.op_inside-requires-clause-m_bound
@@ -14,4 +14,4 @@ pub returns : goal.returns
 returns c =
     c.op_inside.ensures
     ∙ ap (has_place (fragment_ops (store_in c.args.store.now) op c.args.n)) c.op_around.ensures
-    ∙ sym (block_in_law c.args.store.now c.requires.sound c.args.n c.requires.n_bound c.args.b c.requires.b_bound)
+    ∙ sym (block_in_lem c.args.store.now c.requires.sound c.args.n c.requires.n_bound c.args.b c.requires.b_bound)

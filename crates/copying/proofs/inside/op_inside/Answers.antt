@@ -6,7 +6,7 @@ use Rattle.rules.specs.Copying.{has_place}
 use Rattle.layout.specs.Columns.{columns}
 use Rattle.layout.specs.Reading.{store_in}
 use Rattle.layout.proofs.Laid.{laid_facts}
-use Rattle.copying.proofs.Upward.{stopped, op_alone, op_in_law, around_op}
+use Rattle.copying.proofs.Upward.{stopped, op_alone, op_in_lem, around_op}
 use Rattle.copying.proofs.inside.op_inside.Goals as goal
 
 pub number-parent-requires-clause-n_bound : goal.number-parent-requires-clause-n_bound
@@ -20,13 +20,13 @@ returns-then-parent-eq0 c =
 
 pub op_around-at-requires-clause-block_bound : goal.op_around-at-requires-clause-block_bound
 op_around-at-requires-clause-block_bound c =
-    (op_in_law c.args.store.now c.requires.sound c.args.n c.requires.n_bound
+    (op_in_lem c.args.store.now c.requires.sound c.args.n c.requires.n_bound
     c.loop-at.at c.number-parent.result c.loop-at.invariant.bound c.loop-at-test.true
     c.number-parent.ensures c.if-parent-eq0.false).block_in
 
 pub loop-at-smaller : goal.loop-at-smaller
 loop-at-smaller c =
-    let p = op_in_law c.args.store.now c.requires.sound c.args.n c.requires.n_bound
+    let p = op_in_lem c.args.store.now c.requires.sound c.args.n c.requires.n_bound
     c.loop-at.at c.number-parent.result c.loop-at.invariant.bound c.loop-at-test.true
     c.number-parent.ensures c.if-parent-eq0.false in
     omega (arith, p.smaller, c.op_around-at.ensures)
@@ -34,7 +34,7 @@ loop-at-smaller c =
 pub loop-at-preserved : goal.loop-at-preserved
 loop-at-preserved c =
     let b = c.args.store.now in
-    let p = op_in_law b c.requires.sound c.args.n c.requires.n_bound c.loop-at.at c.number-parent.result c.loop-at.invariant.bound c.loop-at-test.true
+    let p = op_in_lem b c.requires.sound c.args.n c.requires.n_bound c.loop-at.at c.number-parent.result c.loop-at.invariant.bound c.loop-at-test.true
     c.number-parent.ensures c.if-parent-eq0.false in
     record {
       bound = omega (arith, around_op b c.requires.sound c.args.n c.requires.n_bound (c.number-parent.result - 1) p.block_in, c.op_around-at.ensures);

@@ -5,14 +5,14 @@ use Rattle.rules.specs.Store.{parent_exists}
 use Rattle.rules.specs.Copying.{placed_outside}
 use Rattle.layout.specs.Columns.{columns}
 use Rattle.layout.specs.Reading.{store_in}
-use Rattle.layout.proofs.Tabulate.{block_in_law}
+use Rattle.layout.proofs.Tabulate.{block_in_lem}
 use Rattle.calling.specs.Types.{parent_of}
 use Rattle.copying.proofs.inside.placed_outside.Goals as goal
 
 pub block_inside-requires-clause-b_bound : goal.block_inside-requires-clause-b_bound
 unfolding parent_exists parent_of
 block_inside-requires-clause-b_bound c =
-    block_in_law (columns c.args.store.now) c.in-Block.b
+    block_in_lem (columns c.args.store.now) c.in-Block.b
     (subst (λ p. parent_exists (store_in c.args.store.now) (parent_of p) ≡ true) c.in-Block.is c.requires.parent_value)
 
 pub returns-in-None : goal.returns-in-None

@@ -5,7 +5,7 @@ use Rattle.layout.specs.Columns.{columns}
 use Rattle.layout.proofs.Laid.{laid_facts}
 use Rattle.calling.specs.Types.{parent_of}
 use Rattle.copying.proofs.Words.{op_there}
-use Rattle.copying.proofs.Nested.{under_most, depth_fits, own_below, left_first, left_last, too_deep_law, not_too_deep, passed_over}
+use Rattle.copying.proofs.Nested.{under_most, depth_fits, own_below, left_first, left_last, too_deep_lem, not_too_deep, passed_over}
 use Rattle.copying.proofs.nesting.copy_nests.Goals as goal
 use Rattle.copying.proofs.nesting.copy_nests.Goals.{else-word-eq0-via-then-word-eq0+else-under-number-gt32, else-word-eq0-via-else-word-eq0}
 
@@ -51,7 +51,7 @@ overflow_add-under c =
 pub returns-then-under-number-gt32 : goal.returns-then-under-number-gt32
 returns-then-under-number-gt32 c =
     let r = c.requires in
-    too_deep_law c.args.store.now r.sound c.args.n r.n_bound (parent_of c.args.parent) r.parent_value
+    too_deep_lem c.args.store.now r.sound c.args.n r.n_bound (parent_of c.args.parent) r.parent_value
     c.args.steps.now r.are_steps c.loop-i.i c.loop-i.invariant
     c.loop-i-test.true c.if-word-eq0.true (omega (arith, c.depth_under-under.ensures, c.number.ensures, c.number-own.ensures, c.if-under-number-gt32.true))
 

@@ -6,7 +6,7 @@ use Rattle.layout.specs.Reading.{block_count, store_in}
 use Rattle.layout.proofs.Laid.{laid_facts}
 use Rattle.layout.proofs.Seeking.{NextChild, none_next}
 use Rattle.fragments.specs.Order.{block_list}
-use Rattle.fragments.proofs.Ordered.{next_in_list, block_in_law}
+use Rattle.fragments.proofs.Ordered.{next_in_list, block_in_lem}
 use Rattle.numbering.specs.Parts.{op_shells}
 use Rattle.numbering.proofs.Passing.{StepRelation, pass_begun, pass_over, pass_room, pass_again}
 use Rattle.numbering.proofs.Rounds.{each}
@@ -40,7 +40,7 @@ list_op_shells_in-end-requires c =
     let cols : Cols = columns c.args.store.now in
     let n : ℕ = c.in-At.b in
     let found : NextChild list c.loop-b.from n = next_in_list store c.args.blocks c.loop-b.from n _ c.next_in.ensures c.in-At.is in
-    let here : n < block_count cols = block_in_law cols c.args.blocks n c.requires.blocks_exist found.child in
+    let here : n < block_count cols = block_in_lem cols c.args.blocks n c.requires.blocks_exist found.child in
     let m = c.loop-b in
     record { sound = c.requires.sound; b_bound = here; steps_fit = pass_room walk (each (op_shells store)) list m.from m.invariant found c.requires.steps_fit }
 
@@ -51,7 +51,7 @@ overflow_add-from c =
     let cols : Cols = columns c.args.store.now in
     let n : ℕ = c.in-At.b in
     let found : NextChild list c.loop-b.from n = next_in_list store c.args.blocks c.loop-b.from n _ c.next_in.ensures c.in-At.is in
-    let here : n < block_count cols = block_in_law cols c.args.blocks n c.requires.blocks_exist found.child in
+    let here : n < block_count cols = block_in_lem cols c.args.blocks n c.requires.blocks_exist found.child in
     let few : n < 256 = omega (arith, here, (laid_facts cols c.requires.sound.laid).counts.blocks) in
     record { fits = omega (arith, few) }
 
@@ -62,7 +62,7 @@ loop-b-smaller c =
     let cols : Cols = columns c.args.store.now in
     let n : ℕ = c.in-At.b in
     let found : NextChild list c.loop-b.from n = next_in_list store c.args.blocks c.loop-b.from n _ c.next_in.ensures c.in-At.is in
-    let here : n < block_count cols = block_in_law cols c.args.blocks n c.requires.blocks_exist found.child in
+    let here : n < block_count cols = block_in_lem cols c.args.blocks n c.requires.blocks_exist found.child in
     let few : n < 256 = omega (arith, here, (laid_facts cols c.requires.sound.laid).counts.blocks) in
     omega (arith, few, found.later)
 

@@ -6,10 +6,10 @@ use Rattle.layout.specs.Columns.{Cols, columns}
 use Rattle.layout.specs.Reading.{op_count, store_in}
 use Rattle.layout.proofs.Laid.{laid_facts}
 use Rattle.layout.proofs.Seeking.{NextChild, none_next, next_op}
-use Rattle.fragments.proofs.Ordered.{op_in_law}
+use Rattle.fragments.proofs.Ordered.{op_in_lem}
 use Rattle.numbering.specs.Parts.{op_shells}
 use Rattle.numbering.proofs.Passing.{StepRelation, pass_begun, pass_over, pass_room, pass_again}
-use Rattle.numbering.proofs.Rounds.{each_shell_law}
+use Rattle.numbering.proofs.Rounds.{each_shell_lem}
 use Rattle.copying.proofs.Listing.{list_walk, shells_fit, shells_listed, fits_one, listed_one, op_word}
 use Rattle.copying.proofs.steps.list_op_shells_in.Goals as goal
 
@@ -19,7 +19,7 @@ loop-n-init c =
     let store : Store = store_in c.args.store.now in
     let walk : StepRelation (List ℕ × ℕ) = list_walk in
     let list : List ℕ = ops_of store c.args.b in
-    pass_begun walk (each_shell_law of_op) list
+    pass_begun walk (each_shell_lem of_op) list
 
 pub next_op-requires : goal.next_op-requires
 next_op-requires c =
@@ -33,7 +33,7 @@ returns-in_default c =
     let list : List ℕ = ops_of store c.args.b in
     let m = c.loop-n in
     shells_listed of_op list
-    (pass_over walk (each_shell_law of_op) list m.from m.invariant (none_next m.from list _ c.next_op.ensures c.in_default.is))
+    (pass_over walk (each_shell_lem of_op) list m.from m.invariant (none_next m.from list _ c.next_op.ensures c.in_default.is))
 
 pub add_step-end-requires : goal.add_step-end-requires
 unfolding op_shells
@@ -44,9 +44,9 @@ add_step-end-requires c =
     let cols : Cols = columns c.args.store.now in
     let n : ℕ = c.in-At.n in
     let found : NextChild list c.loop-n.from n = next_op store c.args.b c.loop-n.from n _ c.next_op.ensures c.in-At.is in
-    let here : n < op_count cols = op_in_law cols c.args.b n found.child in
+    let here : n < op_count cols = op_in_lem cols c.args.b n found.child in
     let m = c.loop-n in
-    fits_one (shell (of_op n)) _ (op_word n) m.list m.end (pass_room walk (each_shell_law of_op) list m.from m.invariant found (shells_fit of_op list c.requires.steps_fit))
+    fits_one (shell (of_op n)) _ (op_word n) m.list m.end (pass_room walk (each_shell_lem of_op) list m.from m.invariant found (shells_fit of_op list c.requires.steps_fit))
 
 pub overflow_add-from : goal.overflow_add-from
 overflow_add-from c =
@@ -55,7 +55,7 @@ overflow_add-from c =
     let cols : Cols = columns c.args.store.now in
     let n : ℕ = c.in-At.n in
     let found : NextChild list c.loop-n.from n = next_op store c.args.b c.loop-n.from n _ c.next_op.ensures c.in-At.is in
-    let here : n < op_count cols = op_in_law cols c.args.b n found.child in
+    let here : n < op_count cols = op_in_lem cols c.args.b n found.child in
     let few : n < 512 = omega (arith, here, (laid_facts cols c.requires.sound.laid).counts.ops) in
     record { fits = omega (arith, few) }
 
@@ -66,7 +66,7 @@ loop-n-smaller c =
     let cols : Cols = columns c.args.store.now in
     let n : ℕ = c.in-At.n in
     let found : NextChild list c.loop-n.from n = next_op store c.args.b c.loop-n.from n _ c.next_op.ensures c.in-At.is in
-    let here : n < op_count cols = op_in_law cols c.args.b n found.child in
+    let here : n < op_count cols = op_in_lem cols c.args.b n found.child in
     let few : n < 512 = omega (arith, here, (laid_facts cols c.requires.sound.laid).counts.ops) in
     omega (arith, few, found.later)
 
@@ -79,8 +79,8 @@ loop-n-preserved c =
     let n : ℕ = c.in-At.n in
     let found : NextChild list c.loop-n.from n = next_op store c.args.b c.loop-n.from n _ c.next_op.ensures c.in-At.is in
     let m = c.loop-n in
-    let here = fits_one (shell (of_op n)) _ (op_word n) m.list m.end (pass_room walk (each_shell_law of_op) list m.from m.invariant found (shells_fit of_op list c.requires.steps_fit)) in
-    pass_again walk (each_shell_law of_op) list m.from m.invariant found (listed_one (shell (of_op n)) _ (op_word n) m.list c.add_step-end.new.list m.end c.add_step-end.result here c.add_step-end.ensures.list c.add_step-end.ensures.end)
+    let here = fits_one (shell (of_op n)) _ (op_word n) m.list m.end (pass_room walk (each_shell_lem of_op) list m.from m.invariant found (shells_fit of_op list c.requires.steps_fit)) in
+    pass_again walk (each_shell_lem of_op) list m.from m.invariant found (listed_one (shell (of_op n)) _ (op_word n) m.list c.add_step-end.new.list m.end c.add_step-end.result here c.add_step-end.ensures.list c.add_step-end.ensures.end)
 
 pub overflow_mul-n : goal.overflow_mul-n
 overflow_mul-n c =
@@ -89,7 +89,7 @@ overflow_mul-n c =
     let cols : Cols = columns c.args.store.now in
     let n : ℕ = c.in-At.n in
     let found : NextChild list c.loop-n.from n = next_op store c.args.b c.loop-n.from n _ c.next_op.ensures c.in-At.is in
-    let here : n < op_count cols = op_in_law cols c.args.b n found.child in
+    let here : n < op_count cols = op_in_lem cols c.args.b n found.child in
     let few : n < 512 = omega (arith, here, (laid_facts cols c.requires.sound.laid).counts.ops) in
     record { fits = omega (arith, few) }
 
@@ -100,6 +100,6 @@ overflow_cast-n c =
     let cols : Cols = columns c.args.store.now in
     let n : ℕ = c.in-At.n in
     let found : NextChild list c.loop-n.from n = next_op store c.args.b c.loop-n.from n _ c.next_op.ensures c.in-At.is in
-    let here : n < op_count cols = op_in_law cols c.args.b n found.child in
+    let here : n < op_count cols = op_in_lem cols c.args.b n found.child in
     let few : n < 512 = omega (arith, here, (laid_facts cols c.requires.sound.laid).counts.ops) in
     record { fits = omega (arith, few) }

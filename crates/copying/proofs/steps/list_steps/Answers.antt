@@ -6,7 +6,7 @@ use Rattle.rules.specs.Fragments.{Step, shell, op, steps}
 use Rattle.layout.specs.Columns.{columns}
 use Rattle.layout.specs.Reading.{store_in}
 use Rattle.layout.proofs.Laid.{laid_facts}
-use Rattle.layout.proofs.Tabulate.{op_exists_law}
+use Rattle.layout.proofs.Tabulate.{op_exists_lem}
 use Rattle.numbering.specs.Parts.{full_steps}
 use Rattle.numbering.proofs.Rounds.{op_steps}
 use Rattle.copying.specs.Steps.{step_words, StepsFit}
@@ -28,7 +28,7 @@ pub list_op_full-requires-clause-steps_fit : goal.list_op_full-requires-clause-s
 list_op_full-requires-clause-steps_fit c =
     let S = store_in c.args.store.now in
     let n = c.args.n in
-    let few = few_steps S c.requires.sound.ruled n (op_exists_law (columns c.args.store.now) n ∙ lt-ltb n _ c.requires.n_bound) in
+    let few = few_steps S c.requires.sound.ruled n (op_exists_lem (columns c.args.store.now) n ∙ lt-ltb n _ c.requires.n_bound) in
     let all : StepsFit (steps S op n) c.args.list.now 0 = record { room = omega (arith, few, c.requires.list_len) } in
     let parts = subst (λ (xs : List Step). StepsFit xs c.args.list.now 0) (op_steps S n) all in
     let room = fits_one (shell (of_op n)) _ (op_word n) c.args.list.now 0 (fit_first (shell (of_op n) ∷ []) (full_steps S n) parts) in

@@ -9,7 +9,7 @@ use Rattle.layout.proofs.Laid.{laid_facts}
 use Rattle.layout.proofs.Tabulate.{block_read, ops_length}
 use Rattle.mapping.specs.MappingWords.{mapping_of}
 use Rattle.copying.specs.Written.{region_by}
-use Rattle.copying.proofs.Making.{block_low, arguments_rise, arguments_end, arguments_few, block_room_law, block_set, block_done}
+use Rattle.copying.proofs.Making.{block_low, arguments_rise, arguments_end, arguments_few, block_room_lem, block_set, block_done}
 use Rattle.copying.proofs.Asked.{BlockTaken, argument_types_asked, region_there, block_row_wrote}
 use Rattle.copying.proofs.writing.copy_block.Goals as goal
 
@@ -108,7 +108,7 @@ put_block-requires-clause-region_bound c =
 
 pub put_block-requires-clause-store_bound : goal.put_block-requires-clause-store_bound
 put_block-requires-clause-store_bound c =
-    (block_room_law c.args.store.now c.requires.arranged (mapping_of c.args.mapping.now) c.args.b c.requires.b_bound c.requires.ready).blocks
+    (block_room_lem c.args.store.now c.requires.arranged (mapping_of c.args.mapping.now) c.args.b c.requires.b_bound c.requires.ready).blocks
 
 pub put_block-requires-clause-types_bound : goal.put_block-requires-clause-types_bound
 unfolding block_of
@@ -125,7 +125,7 @@ put_block-requires-clause-types_bound c =
       types = c.types_of-arguments.ensures.read;
       region_read = c.region_copy-region.ensures ∙ ap (region_by (store_in a) (mapping_of c.args.mapping.now)) region;
     } in
-    omega (arith, ap length (argument_types_asked a r.arranged c.args.mapping.now c.args.b r.b_bound r.ready taken), (block_room_law a r.arranged (mapping_of c.args.mapping.now) c.args.b r.b_bound r.ready).values)
+    omega (arith, ap length (argument_types_asked a r.arranged c.args.mapping.now c.args.b r.b_bound r.ready taken), (block_room_lem a r.arranged (mapping_of c.args.mapping.now) c.args.b r.b_bound r.ready).values)
 
 pub overflow_cast-b : goal.overflow_cast-b
 overflow_cast-b c =

@@ -6,7 +6,7 @@ use Rattle.layout.specs.Reading.{op_count}
 use Rattle.layout.proofs.Laid.{laid_facts}
 use Rattle.mapping.specs.MappingWords.{mapping_of}
 use Rattle.copying.proofs.Named.{op_image}
-use Rattle.copying.proofs.Regions.{around_read, around_low, behind_first_law, first_low, region_by_law}
+use Rattle.copying.proofs.Regions.{around_read, around_low, behind_first_lem, first_low, region_by_lem}
 use Rattle.copying.proofs.writing.region_copy.Goals as goal
 
 pub at-m-requires-clause-n_bound : goal.at-m-requires-clause-n_bound
@@ -36,7 +36,7 @@ pub overflow_sub-result : goal.overflow_sub-result
 overflow_sub-result c =
     let h = laid_facts (columns c.args.store.now) c.requires.arranged.laid in
     let e = c.at-2.ensures ∙ ap (at (columns c.args.store.now) op_region_first) c.at-m.ensures in
-    omega (arith, e, behind_first_law (columns c.args.store.now) h (mapping_of c.args.mapping.now) c.args.r c.requires.r_bound)
+    omega (arith, e, behind_first_lem (columns c.args.store.now) h (mapping_of c.args.mapping.now) c.args.r c.requires.r_bound)
 
 pub overflow_add-result : goal.overflow_add-result
 overflow_add-result c =
@@ -60,4 +60,4 @@ returns c =
     ap₂ (λ (x y : ℕ). x + (c.args.r - y))
     (c.at.ensures ∙ ap (at (columns c.args.store.now) op_region_first) e)
     (c.at-2.ensures ∙ ap (at (columns c.args.store.now) op_region_first) c.at-m.ensures)
-    ∙ region_by_law (columns c.args.store.now) h M c.args.r c.requires.r_bound c.requires.copy_bound c.requires.some
+    ∙ region_by_lem (columns c.args.store.now) h M c.args.r c.requires.r_bound c.requires.copy_bound c.requires.some

@@ -25,7 +25,7 @@ use Rattle.pairing.specs.declared.types.EqResult.TheVariants.{FirstNEQOps}
 use Rattle.pairing.proofs.Alike.{kinds_unlike}
 use Rattle.pairing.proofs.Paired.{ops_unlike}
 use Rattle.equivalence.proofs.Telling.{ops_not_eq, told_ended}
-use Rattle.equivalence.proofs.Answering.{pair_exists, refused_pair, walked, few_walk, op_walk_law}
+use Rattle.equivalence.proofs.Answering.{pair_exists, refused_pair, walked, few_walk, op_walk_lem}
 use Rattle.mapping.proofs.Entries.{allowed_long}
 use Rattle.equivalence.proofs.comparison.operations_eq.Goals as goal
 
@@ -88,7 +88,7 @@ returns-then-at c =
     told_ended (pair_ops (under o S) o.ignore a.lhs a.rhs st) (op_walk S o a.lhs a.rhs) q m (ops_not_eq a.lhs a.rhs 0)
     (ops_unlike S o a.lhs a.rhs m 0 unlike) in
     walked b (list_in a.types.now) m o.ignore op a.lhs a.rhs c.requires.mapping_value (index_holds _ c.requires.readable.indexed)
-    c.requires.readable.sound q m passed (subst (λ (w : Walk). Told w q m) (sym (op_walk_law S o a.lhs a.rhs st)) told)
+    c.requires.readable.sound q m passed (subst (λ (w : Walk). Told w q m) (sym (op_walk_lem S o a.lhs a.rhs st)) told)
 
 pub ops_eq-requires : goal.ops_eq-requires
 unfolding cause_of sort_of

@@ -7,7 +7,7 @@ use Rattle.fragments.specs.Options.{Options, options_of, under}
 use Rattle.pairing.specs.Told.{state_of, Told, PairedFits}
 use Rattle.equivalence.specs.Walked.{op_walk}
 use Rattle.equivalence.proofs.Telling.{still_ready, told_ended, told_bind}
-use Rattle.equivalence.proofs.Answering.{op_walk_law}
+use Rattle.equivalence.proofs.Answering.{op_walk_lem}
 use Rattle.equivalence.proofs.comparison.ops_eq.Goals as goal
 
 pub op_eq_map-mapped-requires : goal.op_eq_map-mapped-requires
@@ -30,7 +30,7 @@ returns-in_default c =
     let o = rule in
     let st = state_of a.mapping.now 0 in
     let m = c.op_eq_map-mapped in
-    subst (λ (w : Walk). Told w m.result m.new.mapping) (sym (op_walk_law S o a.pair.lhs a.pair.rhs st))
+    subst (λ (w : Walk). Told w m.result m.new.mapping) (sym (op_walk_lem S o a.pair.lhs a.pair.rhs st))
     (told_ended (pair_ops (under o S) o.ignore a.pair.lhs a.pair.rhs st) (op_walk S o a.pair.lhs a.pair.rhs) m.result m.new.mapping c.in_default.not-Eq m.ensures)
 
 pub op_eq_mapped-requires : goal.op_eq_mapped-requires
@@ -42,7 +42,7 @@ op_eq_mapped-requires c =
     let st = state_of a.mapping.now 0 in
     let m = c.op_eq_map-mapped in
     let next =
-    op_walk_law S o a.pair.lhs a.pair.rhs st ∙ told_bind (pair_ops (under o S) o.ignore a.pair.lhs a.pair.rhs st) (op_walk S o a.pair.lhs a.pair.rhs)
+    op_walk_lem S o a.pair.lhs a.pair.rhs st ∙ told_bind (pair_ops (under o S) o.ignore a.pair.lhs a.pair.rhs st) (op_walk S o a.pair.lhs a.pair.rhs)
     m.new.mapping c.in-Eq.is m.ensures in
     record {
       ready_to_compare = still_ready m.auto.mapping c.requires.ready_to_compare;
@@ -63,7 +63,7 @@ returns c =
     let st = state_of a.mapping.now 0 in
     let m = c.op_eq_map-mapped in
     let next =
-    op_walk_law S o a.pair.lhs a.pair.rhs st ∙ told_bind (pair_ops (under o S) o.ignore a.pair.lhs a.pair.rhs st) (op_walk S o a.pair.lhs a.pair.rhs)
+    op_walk_lem S o a.pair.lhs a.pair.rhs st ∙ told_bind (pair_ops (under o S) o.ignore a.pair.lhs a.pair.rhs st) (op_walk S o a.pair.lhs a.pair.rhs)
     m.new.mapping c.in-Eq.is m.ensures in
     let r = c.op_eq_mapped in
     subst (λ (w : Walk). Told w r.result r.new.mapping) (sym next) r.ensures

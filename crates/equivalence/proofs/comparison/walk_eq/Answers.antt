@@ -11,7 +11,7 @@ use Rattle.fragments.specs.Order.{BlocksExist}
 use Rattle.fragments.proofs.There.{there}
 use Rattle.pairing.specs.Told.{state_of, Told, PairedFits}
 use Rattle.equivalence.specs.Walked.{left_of, right_of}
-use Rattle.equivalence.proofs.Answering.{few_walk, block_walk, region_walk_law}
+use Rattle.equivalence.proofs.Answering.{few_walk, block_walk, region_walk_lem}
 use Rattle.equivalence.proofs.comparison.walk_eq.Goals as goal
 
 pub ops_eq-requires : goal.ops_eq-requires
@@ -60,7 +60,7 @@ region_eq-requires c =
       ready_to_compare = c.requires.ready_to_compare;
       lhs_bound = there (columns b) region a.of.lhs el;
       rhs_bound = there (columns b) region a.of.rhs er;
-      paired_fits = subst (λ (w : Walk). PairedFits w) (region_walk_law (store_in b) o a.of.lhs a.of.rhs (state_of a.mapping.now 0)) few;
+      paired_fits = subst (λ (w : Walk). PairedFits w) (region_walk_lem (store_in b) o a.of.lhs a.of.rhs (state_of a.mapping.now 0)) few;
     }
 
 pub returns-in-Op : goal.returns-in-Op
@@ -81,4 +81,4 @@ returns-in-Region c =
     let a = c.args in
     let r = c.region_eq in
     rw c.in-Region.is
-    (subst (λ (w : Walk). Told w r.result r.new.mapping) (sym (region_walk_law (store_in a.store.now) (options_of a.ignore a.types.now) a.of.lhs a.of.rhs (state_of a.mapping.now 0))) r.ensures)
+    (subst (λ (w : Walk). Told w r.result r.new.mapping) (sym (region_walk_lem (store_in a.store.now) (options_of a.ignore a.types.now) a.of.lhs a.of.rhs (state_of a.mapping.now 0))) r.ensures)

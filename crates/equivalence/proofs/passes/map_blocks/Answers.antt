@@ -11,7 +11,7 @@ use Rattle.layout.specs.Reading.{block_count, store_in}
 use Rattle.layout.proofs.Laid.{laid_facts}
 use Rattle.layout.proofs.Seeking.{Rising}
 use Rattle.fragments.specs.Options.{Options, options_of, under}
-use Rattle.fragments.proofs.Ordered.{block_list_rises, block_in_law}
+use Rattle.fragments.proofs.Ordered.{block_list_rises, block_in_lem}
 use Rattle.pairing.specs.Told.{answer_of}
 use Rattle.equivalence.specs.Walked.{left_of, right_of, lefts, rights, pair_of_lists}
 use Rattle.equivalence.proofs.Ordered.{bounded}
@@ -48,8 +48,8 @@ block_eq_map-mapped-requires c =
     let l : ℕ = c.in-Both.l in
     let r : ℕ = c.in-Both.r in
     let here = turn zips c.loop-l.invariant.1 l_rise r_rise c.next_blocks.ensures c.in-Both.is in
-    let l_here = block_in_law cols (left_of c.args.lists) l c.requires.lists_exist.0 here.l_in in
-    let r_here = block_in_law cols (right_of c.args.lists) r c.requires.lists_exist.1 here.r_in in
+    let l_here = block_in_lem cols (left_of c.args.lists) l c.requires.lists_exist.0 here.l_in in
+    let r_here = block_in_lem cols (right_of c.args.lists) r c.requires.lists_exist.1 here.r_in in
     let m = c.loop-l in
     record {
       ready_to_compare = still_ready m.invariant.0 c.requires.ready_to_compare;
@@ -89,7 +89,7 @@ overflow_add-a c =
     let few : block_count cols ≤ 256 = (laid_facts cols c.requires.ready_to_compare.sound.laid).counts.blocks in
     let l : ℕ = c.in-Both.l in
     let here = turn zips c.loop-l.invariant.1 l_rise r_rise c.next_blocks.ensures c.in-Both.is in
-    let l_here = block_in_law cols (left_of c.args.lists) l c.requires.lists_exist.0 here.l_in in
+    let l_here = block_in_lem cols (left_of c.args.lists) l c.requires.lists_exist.0 here.l_in in
     record { fits = omega (arith, l_here, few) }
 
 pub overflow_add-b : goal.overflow_add-b
@@ -106,7 +106,7 @@ overflow_add-b c =
     let few : block_count cols ≤ 256 = (laid_facts cols c.requires.ready_to_compare.sound.laid).counts.blocks in
     let r : ℕ = c.in-Both.r in
     let here = turn zips c.loop-l.invariant.1 l_rise r_rise c.next_blocks.ensures c.in-Both.is in
-    let r_here = block_in_law cols (right_of c.args.lists) r c.requires.lists_exist.1 here.r_in in
+    let r_here = block_in_lem cols (right_of c.args.lists) r c.requires.lists_exist.1 here.r_in in
     record { fits = omega (arith, r_here, few) }
 
 pub loop-l-smaller : goal.loop-l-smaller
@@ -123,7 +123,7 @@ loop-l-smaller c =
     let few : block_count cols ≤ 256 = (laid_facts cols c.requires.ready_to_compare.sound.laid).counts.blocks in
     let l : ℕ = c.in-Both.l in
     let here = turn zips c.loop-l.invariant.1 l_rise r_rise c.next_blocks.ensures c.in-Both.is in
-    let l_here = block_in_law cols (left_of c.args.lists) l c.requires.lists_exist.0 here.l_in in
+    let l_here = block_in_lem cols (left_of c.args.lists) l c.requires.lists_exist.0 here.l_in in
     omega (arith, l_here, few, here.l_from)
 
 pub loop-l-preserved : goal.loop-l-preserved

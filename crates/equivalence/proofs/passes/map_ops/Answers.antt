@@ -12,7 +12,7 @@ use Rattle.layout.specs.Columns.{Cols, columns}
 use Rattle.layout.specs.Reading.{block_count, store_in}
 use Rattle.layout.proofs.Laid.{laid_facts}
 use Rattle.fragments.specs.Options.{Options, options_of, under}
-use Rattle.fragments.proofs.Ordered.{block_list_rises, block_in_law}
+use Rattle.fragments.proofs.Ordered.{block_list_rises, block_in_lem}
 use Rattle.equivalence.specs.Walked.{left_of, right_of, lefts, rights, pairs_walk}
 use Rattle.equivalence.proofs.Telling.{still_ready}
 use Rattle.equivalence.proofs.Zipped.{each_zips, rest_begins, turn, step_fits, turn_ends, turn_rest, each_ends}
@@ -55,8 +55,8 @@ map_ops_in-mapped-requires c =
     let here =
     turn zips c.loop-l.invariant.1 (block_list_rises store (left_of c.args.lists)) (block_list_rises store (right_of c.args.lists))
     c.next_blocks-next.ensures c.in-Both.is in
-    let l_here = block_in_law cols (left_of c.args.lists) l c.requires.lists_exist.0 here.l_in in
-    let r_here = block_in_law cols (right_of c.args.lists) r c.requires.lists_exist.1 here.r_in in
+    let l_here = block_in_lem cols (left_of c.args.lists) l c.requires.lists_exist.0 here.l_in in
+    let r_here = block_in_lem cols (right_of c.args.lists) r c.requires.lists_exist.1 here.r_in in
     let m = c.loop-l in
     record {
       ready_to_compare = still_ready m.invariant.0 c.requires.ready_to_compare;
@@ -92,7 +92,7 @@ overflow_add-lfrom c =
     let here =
     turn zips c.loop-l.invariant.1 (block_list_rises store (left_of c.args.lists)) (block_list_rises store (right_of c.args.lists))
     c.next_blocks-next.ensures c.in-Both.is in
-    let l_here = block_in_law cols (left_of c.args.lists) l c.requires.lists_exist.0 here.l_in in
+    let l_here = block_in_lem cols (left_of c.args.lists) l c.requires.lists_exist.0 here.l_in in
     record { fits = omega (arith, l_here, few) }
 
 pub overflow_add-rfrom : goal.overflow_add-rfrom
@@ -107,7 +107,7 @@ overflow_add-rfrom c =
     let here =
     turn zips c.loop-l.invariant.1 (block_list_rises store (left_of c.args.lists)) (block_list_rises store (right_of c.args.lists))
     c.next_blocks-next.ensures c.in-Both.is in
-    let r_here = block_in_law cols (right_of c.args.lists) r c.requires.lists_exist.1 here.r_in in
+    let r_here = block_in_lem cols (right_of c.args.lists) r c.requires.lists_exist.1 here.r_in in
     record { fits = omega (arith, r_here, few) }
 
 pub loop-l-smaller : goal.loop-l-smaller
@@ -122,7 +122,7 @@ loop-l-smaller c =
     let here =
     turn zips c.loop-l.invariant.1 (block_list_rises store (left_of c.args.lists)) (block_list_rises store (right_of c.args.lists))
     c.next_blocks-next.ensures c.in-Both.is in
-    let l_here = block_in_law cols (left_of c.args.lists) l c.requires.lists_exist.0 here.l_in in
+    let l_here = block_in_lem cols (left_of c.args.lists) l c.requires.lists_exist.0 here.l_in in
     omega (arith, l_here, few, here.l_from)
 
 pub loop-l-preserved : goal.loop-l-preserved

@@ -12,7 +12,7 @@ use Rattle.layout.specs.Reading.{op_count, store_in}
 use Rattle.layout.proofs.Laid.{laid_facts}
 use Rattle.layout.proofs.Seeking.{ops_rise}
 use Rattle.fragments.specs.Options.{Options, options_of, under}
-use Rattle.fragments.proofs.Ordered.{op_in_law}
+use Rattle.fragments.proofs.Ordered.{op_in_lem}
 use Rattle.pairing.specs.Told.{answer_of}
 use Rattle.pairing.specs.declared.types.EqResult.TheVariants.{FirstNEQBlocks}
 use Rattle.equivalence.proofs.Telling.{still_ready}
@@ -47,8 +47,8 @@ op_eq_map-mapped-requires c =
     let l : ℕ = c.in-Both.l in
     let r : ℕ = c.in-Both.r in
     let here = turn zips c.loop-l.invariant.1 (ops_rise store c.args.pair.lhs) (ops_rise store c.args.pair.rhs) c.next_ops.ensures c.in-Both.is in
-    let l_here : l < op_count cols = op_in_law cols c.args.pair.lhs l here.l_in in
-    let r_here : r < op_count cols = op_in_law cols c.args.pair.rhs r here.r_in in
+    let l_here : l < op_count cols = op_in_lem cols c.args.pair.lhs l here.l_in in
+    let r_here : r < op_count cols = op_in_lem cols c.args.pair.rhs r here.r_in in
     let m = c.loop-l in
     record {
       ready_to_compare = still_ready m.invariant.0 c.requires.ready_to_compare;
@@ -84,7 +84,7 @@ overflow_add-a c =
     let few : op_count cols ≤ 512 = (laid_facts cols c.requires.ready_to_compare.sound.laid).counts.ops in
     let l : ℕ = c.in-Both.l in
     let here = turn zips c.loop-l.invariant.1 (ops_rise store c.args.pair.lhs) (ops_rise store c.args.pair.rhs) c.next_ops.ensures c.in-Both.is in
-    let l_here : l < op_count cols = op_in_law cols c.args.pair.lhs l here.l_in in
+    let l_here : l < op_count cols = op_in_lem cols c.args.pair.lhs l here.l_in in
     record { fits = omega (arith, l_here, few) }
 
 pub overflow_add-b : goal.overflow_add-b
@@ -99,7 +99,7 @@ overflow_add-b c =
     let few : op_count cols ≤ 512 = (laid_facts cols c.requires.ready_to_compare.sound.laid).counts.ops in
     let r : ℕ = c.in-Both.r in
     let here = turn zips c.loop-l.invariant.1 (ops_rise store c.args.pair.lhs) (ops_rise store c.args.pair.rhs) c.next_ops.ensures c.in-Both.is in
-    let r_here : r < op_count cols = op_in_law cols c.args.pair.rhs r here.r_in in
+    let r_here : r < op_count cols = op_in_lem cols c.args.pair.rhs r here.r_in in
     record { fits = omega (arith, r_here, few) }
 
 pub loop-l-smaller : goal.loop-l-smaller
@@ -114,7 +114,7 @@ loop-l-smaller c =
     let few : op_count cols ≤ 512 = (laid_facts cols c.requires.ready_to_compare.sound.laid).counts.ops in
     let l : ℕ = c.in-Both.l in
     let here = turn zips c.loop-l.invariant.1 (ops_rise store c.args.pair.lhs) (ops_rise store c.args.pair.rhs) c.next_ops.ensures c.in-Both.is in
-    let l_here : l < op_count cols = op_in_law cols c.args.pair.lhs l here.l_in in
+    let l_here : l < op_count cols = op_in_lem cols c.args.pair.lhs l here.l_in in
     omega (arith, l_here, few, here.l_from)
 
 pub loop-l-preserved : goal.loop-l-preserved

@@ -17,7 +17,7 @@ use Rattle.layout.proofs.Seeking.{ops_rise}
 use Rattle.layout.proofs.Tabulate.{regions_length}
 use Rattle.fragments.specs.Options.{Options, options_of}
 use Rattle.fragments.specs.Order.{BlocksExist}
-use Rattle.fragments.proofs.Ordered.{op_in_law, block_in_law, block_list_rises}
+use Rattle.fragments.proofs.Ordered.{op_in_lem, block_in_lem, block_list_rises}
 use Rattle.fragments.proofs.Below.{below, around_list, around_region}
 use Rattle.pairing.specs.Told.{state_of, Told, PairedFits}
 use Rattle.equivalence.specs.Walked.{left_of, right_of, lefts, rights, region_walk, op_walk, ops_walk, lists_walk}
@@ -127,8 +127,8 @@ blocks_eq-check_ops_in-compared-requires t c =
     let here =
     zipped.turn zips left (block_list_rises store (left_of c.args.lists)) (block_list_rises store (right_of c.args.lists))
     c.next_blocks-next.ensures c.in-Both.is in
-    let l_here = block_in_law (columns c.args.store.now) (left_of c.args.lists) l c.requires.lists_exist.0 here.l_in in
-    let r_here = block_in_law (columns c.args.store.now) (right_of c.args.lists) r c.requires.lists_exist.1 here.r_in in
+    let l_here = block_in_lem (columns c.args.store.now) (left_of c.args.lists) l c.requires.lists_exist.0 here.l_in in
+    let r_here = block_in_lem (columns c.args.store.now) (right_of c.args.lists) r c.requires.lists_exist.1 here.r_in in
     let S = store in
     let same : below S (op_around S l) ≡ below S (around_list S (left_of c.args.lists)) = block_around S (left_of c.args.lists) l here.l_in in
     let falls : 4 * below S (op_around S l) < 4 * below S (around_list S (left_of c.args.lists)) + 1 = omega arith in (
@@ -184,7 +184,7 @@ blocks_eq-overflow_add-lfrom t c =
     let here =
     zipped.turn zips left (block_list_rises store (left_of c.args.lists)) (block_list_rises store (right_of c.args.lists))
     c.next_blocks-next.ensures c.in-Both.is in
-    let l_here = block_in_law (columns c.args.store.now) (left_of c.args.lists) l c.requires.lists_exist.0 here.l_in in
+    let l_here = block_in_lem (columns c.args.store.now) (left_of c.args.lists) l c.requires.lists_exist.0 here.l_in in
     record { fits = omega (arith, l_here, few_blocks) }
 
 pub blocks_eq-overflow_add-rfrom : goal.blocks_eq-overflow_add-rfrom
@@ -206,7 +206,7 @@ blocks_eq-overflow_add-rfrom t c =
     let here =
     zipped.turn zips left (block_list_rises store (left_of c.args.lists)) (block_list_rises store (right_of c.args.lists))
     c.next_blocks-next.ensures c.in-Both.is in
-    let r_here = block_in_law (columns c.args.store.now) (right_of c.args.lists) r c.requires.lists_exist.1 here.r_in in
+    let r_here = block_in_lem (columns c.args.store.now) (right_of c.args.lists) r c.requires.lists_exist.1 here.r_in in
     record { fits = omega (arith, r_here, few_blocks) }
 
 pub blocks_eq-loop-l-smaller : goal.blocks_eq-loop-l-smaller
@@ -228,7 +228,7 @@ blocks_eq-loop-l-smaller t c =
     let here =
     zipped.turn zips left (block_list_rises store (left_of c.args.lists)) (block_list_rises store (right_of c.args.lists))
     c.next_blocks-next.ensures c.in-Both.is in
-    let l_here = block_in_law (columns c.args.store.now) (left_of c.args.lists) l c.requires.lists_exist.0 here.l_in in
+    let l_here = block_in_lem (columns c.args.store.now) (left_of c.args.lists) l c.requires.lists_exist.0 here.l_in in
     omega (arith, l_here, few_blocks, here.l_from)
 
 pub blocks_eq-loop-l-preserved : goal.blocks_eq-loop-l-preserved
@@ -287,8 +287,8 @@ check_ops_in-op_eq_mapped-compared-requires t c =
     let here_ops =
     zipped.turn zips_ops c.loop-l.invariant.1 (ops_rise (store_in c.args.store.now) c.args.pair.lhs)
     (ops_rise (store_in c.args.store.now) c.args.pair.rhs) c.next_ops-next.ensures c.in-Both.is in
-    let lop_here = op_in_law (columns c.args.store.now) c.args.pair.lhs lop here_ops.l_in in
-    let rop_here = op_in_law (columns c.args.store.now) c.args.pair.rhs rop here_ops.r_in in
+    let lop_here = op_in_lem (columns c.args.store.now) c.args.pair.lhs lop here_ops.l_in in
+    let rop_here = op_in_lem (columns c.args.store.now) c.args.pair.rhs rop here_ops.r_in in
     let S = store_in c.args.store.now in
     let fewer : below S lop < below S (op_around S c.args.pair.lhs) =
     op_behind S c.requires.ready_to_compare.sound.ruled c.args.pair.lhs lop here_ops.l_in in
@@ -325,7 +325,7 @@ check_ops_in-overflow_add-lfrom t c =
     let here_ops =
     zipped.turn zips_ops c.loop-l.invariant.1 (ops_rise (store_in c.args.store.now) c.args.pair.lhs)
     (ops_rise (store_in c.args.store.now) c.args.pair.rhs) c.next_ops-next.ensures c.in-Both.is in
-    let lop_here = op_in_law (columns c.args.store.now) c.args.pair.lhs lop here_ops.l_in in
+    let lop_here = op_in_lem (columns c.args.store.now) c.args.pair.lhs lop here_ops.l_in in
     record { fits = omega (arith, lop_here, few_ops) }
 
 pub check_ops_in-overflow_add-rfrom : goal.check_ops_in-overflow_add-rfrom
@@ -339,7 +339,7 @@ check_ops_in-overflow_add-rfrom t c =
     let here_ops =
     zipped.turn zips_ops c.loop-l.invariant.1 (ops_rise (store_in c.args.store.now) c.args.pair.lhs)
     (ops_rise (store_in c.args.store.now) c.args.pair.rhs) c.next_ops-next.ensures c.in-Both.is in
-    let rop_here = op_in_law (columns c.args.store.now) c.args.pair.rhs rop here_ops.r_in in
+    let rop_here = op_in_lem (columns c.args.store.now) c.args.pair.rhs rop here_ops.r_in in
     record { fits = omega (arith, rop_here, few_ops) }
 
 pub check_ops_in-loop-l-smaller : goal.check_ops_in-loop-l-smaller
@@ -353,7 +353,7 @@ check_ops_in-loop-l-smaller t c =
     let here_ops =
     zipped.turn zips_ops c.loop-l.invariant.1 (ops_rise (store_in c.args.store.now) c.args.pair.lhs)
     (ops_rise (store_in c.args.store.now) c.args.pair.rhs) c.next_ops-next.ensures c.in-Both.is in
-    let lop_here = op_in_law (columns c.args.store.now) c.args.pair.lhs lop here_ops.l_in in
+    let lop_here = op_in_lem (columns c.args.store.now) c.args.pair.lhs lop here_ops.l_in in
     omega (arith, lop_here, few_ops, here_ops.l_from)
 
 pub check_ops_in-loop-l-preserved : goal.check_ops_in-loop-l-preserved

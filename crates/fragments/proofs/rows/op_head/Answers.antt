@@ -3,7 +3,7 @@ use Prim.Native.Nat.{◌<◌}
 use native.Mathlib.Omega.{arith}
 use Rattle.layout.specs.Columns.{Cols, columns}
 use Rattle.layout.proofs.Laid.{Laid, laid_facts}
-use Rattle.fragments.proofs.ByRows.{op_head_law}
+use Rattle.fragments.proofs.ByRows.{op_head_lem}
 use Rattle.fragments.proofs.rows.op_head.Goals as goal
 
 pub at-requires : goal.at-requires
@@ -47,4 +47,4 @@ span-requires-2 c =
 
 pub returns : goal.returns
 returns c =
-    op_head_law c.args.store.now c.requires.sound c.args.n c.requires.n_bound c.at.ensures c.op_regions.ensures c.span.ensures c.span-2.ensures
+    op_head_lem c.args.store.now c.requires.sound c.args.n c.requires.n_bound c.at.ensures c.op_regions.ensures c.span.ensures c.span-2.ensures

@@ -6,7 +6,7 @@ use Rattle.layout.specs.Columns.{Cols, columns}
 use Rattle.layout.specs.Owners.{owner_of}
 use Rattle.layout.proofs.Laid.{Laid, laid_facts}
 use Rattle.layout.proofs.OwnerKeys.{in_exists}
-use Rattle.fragments.proofs.ByRows.{op_row_law}
+use Rattle.fragments.proofs.ByRows.{op_row_lem}
 use Rattle.fragments.proofs.rows.op_row.Goals as goal
 
 pub overflow_cast-owner : goal.overflow_cast-owner
@@ -53,5 +53,5 @@ span-requires c =
 pub returns : goal.returns
 unfolding owner_of
 returns c =
-    op_row_law c.args.store.now c.requires.sound c.args.n c.requires.n_bound c.at.ensures c.first_slot.ensures c.key_count.ensures
+    op_row_lem c.args.store.now c.requires.sound c.args.n c.requires.n_bound c.at.ensures c.first_slot.ensures c.key_count.ensures
     c.number.ensures c.span.ensures

@@ -9,7 +9,7 @@ use Rattle.fragments.specs.Order.{BlocksExist}
 use Rattle.fragments.proofs.There.{there}
 use Rattle.numbering.specs.Numbered.{DefinitionsFit}
 use Rattle.fragments.specs.Options.{options_of}
-use Rattle.numbering.proofs.Rounds.{block_steps, region_steps_law, steps_room, steps_done}
+use Rattle.numbering.proofs.Rounds.{block_steps, region_steps_lem, steps_room, steps_done}
 use Rattle.hashing.proofs.Parting.{hash_walk}
 use Rattle.hashing.proofs.hashes.hash_steps.Goals as goal
 
@@ -51,7 +51,7 @@ hash_blocks_full-requires-in-Region c =
     record {
       readable = c.requires.readable;
       blocks_exist = there (columns b) region n e;
-      definitions_fit = steps_room (hash_walk (store_in b) (options_of c.args.ignore c.args.types.now)) (store_in b) region n _ (region_steps_law (store_in b) c.requires.readable.sound.ruled n) {a = (c.args.numbers.now, fnv_start)} room;
+      definitions_fit = steps_room (hash_walk (store_in b) (options_of c.args.ignore c.args.types.now)) (store_in b) region n _ (region_steps_lem (store_in b) c.requires.readable.sound.ruled n) {a = (c.args.numbers.now, fnv_start)} room;
     }
 
 pub returns-in-Op : goal.returns-in-Op
@@ -68,4 +68,4 @@ pub returns-in-Region : goal.returns-in-Region
 unfolding sort_of
 returns-in-Region c =
     let S = store_in c.args.store.now in
-    rw c.in-Region.is (steps_done (hash_walk S (options_of c.args.ignore c.args.types.now)) S region c.args.n _ (region_steps_law S c.requires.readable.sound.ruled c.args.n) c.hash_blocks_full-in-Region.ensures)
+    rw c.in-Region.is (steps_done (hash_walk S (options_of c.args.ignore c.args.types.now)) S region c.args.n _ (region_steps_lem S c.requires.readable.sound.ruled c.args.n) c.hash_blocks_full-in-Region.ensures)

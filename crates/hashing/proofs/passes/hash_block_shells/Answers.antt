@@ -7,10 +7,10 @@ use Rattle.layout.proofs.Laid.{laid_facts}
 use Rattle.layout.proofs.Seeking.{NextChild, none_next}
 use Rattle.fragments.specs.Options.{options_of}
 use Rattle.fragments.specs.Order.{block_list}
-use Rattle.fragments.proofs.Ordered.{next_in_list, block_in_law}
+use Rattle.fragments.proofs.Ordered.{next_in_list, block_in_lem}
 use Rattle.numbering.specs.Parts.{block_shells}
 use Rattle.numbering.proofs.Passing.{StepRelation, pass_begun, pass_over, pass_room, pass_again}
-use Rattle.numbering.proofs.Rounds.{each_shell_law}
+use Rattle.numbering.proofs.Rounds.{each_shell_lem}
 use Rattle.hashing.proofs.Parting.{hash_walk, shells_room, shells_fed}
 use Rattle.hashing.proofs.passes.hash_block_shells.Goals as goal
 
@@ -19,7 +19,7 @@ loop-b-init c =
     let store : Store = store_in c.args.store.now in
     let walk : StepRelation (List ℕ × ℕ) = hash_walk store (options_of c.args.ignore c.args.types.now) in
     let list : List ℕ = block_list store c.args.blocks in
-    pass_begun walk (each_shell_law of_block) list
+    pass_begun walk (each_shell_lem of_block) list
 
 pub next_in-requires : goal.next_in-requires
 next_in-requires c =
@@ -33,7 +33,7 @@ returns-in_default c =
     let list : List ℕ = block_list store c.args.blocks in
     let m = c.loop-b in
     shells_fed of_block list
-    (pass_over walk (each_shell_law of_block) list m.from m.invariant (none_next m.from list _ c.next_in.ensures c.in_default.is))
+    (pass_over walk (each_shell_lem of_block) list m.from m.invariant (none_next m.from list _ c.next_in.ensures c.in_default.is))
 
 pub hash_block_shell-fed-requires : goal.hash_block_shell-fed-requires
 unfolding block_shells
@@ -44,12 +44,12 @@ hash_block_shell-fed-requires c =
     let cols : Cols = columns c.args.store.now in
     let n : ℕ = c.in-At.b in
     let found : NextChild list c.loop-b.from n = next_in_list store c.args.blocks c.loop-b.from n _ c.next_in.ensures c.in-At.is in
-    let here : n < block_count cols = block_in_law cols c.args.blocks n c.requires.blocks_exist found.child in
+    let here : n < block_count cols = block_in_lem cols c.args.blocks n c.requires.blocks_exist found.child in
     let m = c.loop-b in
     record {
       readable = c.requires.readable;
       n_bound = here;
-      definitions_fit = pass_room walk (each_shell_law of_block) list m.from m.invariant found (shells_room of_block list c.requires.definitions_fit);
+      definitions_fit = pass_room walk (each_shell_lem of_block) list m.from m.invariant found (shells_room of_block list c.requires.definitions_fit);
     }
 
 pub overflow_add-from : goal.overflow_add-from
@@ -59,7 +59,7 @@ overflow_add-from c =
     let cols : Cols = columns c.args.store.now in
     let n : ℕ = c.in-At.b in
     let found : NextChild list c.loop-b.from n = next_in_list store c.args.blocks c.loop-b.from n _ c.next_in.ensures c.in-At.is in
-    let here : n < block_count cols = block_in_law cols c.args.blocks n c.requires.blocks_exist found.child in
+    let here : n < block_count cols = block_in_lem cols c.args.blocks n c.requires.blocks_exist found.child in
     let few : n < 256 = omega (arith, here, (laid_facts cols c.requires.readable.sound.laid).counts.blocks) in
     record { fits = omega (arith, few) }
 
@@ -70,7 +70,7 @@ loop-b-smaller c =
     let cols : Cols = columns c.args.store.now in
     let n : ℕ = c.in-At.b in
     let found : NextChild list c.loop-b.from n = next_in_list store c.args.blocks c.loop-b.from n _ c.next_in.ensures c.in-At.is in
-    let here : n < block_count cols = block_in_law cols c.args.blocks n c.requires.blocks_exist found.child in
+    let here : n < block_count cols = block_in_lem cols c.args.blocks n c.requires.blocks_exist found.child in
     let few : n < 256 = omega (arith, here, (laid_facts cols c.requires.readable.sound.laid).counts.blocks) in
     omega (arith, few, found.later)
 
@@ -82,4 +82,4 @@ loop-b-preserved c =
     let n : ℕ = c.in-At.b in
     let found : NextChild list c.loop-b.from n = next_in_list store c.args.blocks c.loop-b.from n _ c.next_in.ensures c.in-At.is in
     let m = c.loop-b in
-    pass_again walk (each_shell_law of_block) list m.from m.invariant found c.hash_block_shell-fed.ensures
+    pass_again walk (each_shell_lem of_block) list m.from m.invariant found c.hash_block_shell-fed.ensures

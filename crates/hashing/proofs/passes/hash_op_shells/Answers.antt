@@ -7,7 +7,7 @@ use Rattle.layout.proofs.Laid.{laid_facts}
 use Rattle.layout.proofs.Seeking.{NextChild, none_next}
 use Rattle.fragments.specs.Options.{options_of}
 use Rattle.fragments.specs.Order.{block_list}
-use Rattle.fragments.proofs.Ordered.{next_in_list, block_in_law}
+use Rattle.fragments.proofs.Ordered.{next_in_list, block_in_lem}
 use Rattle.numbering.specs.Parts.{op_shells}
 use Rattle.numbering.proofs.Passing.{StepRelation, pass_begun, pass_over, pass_room, pass_again}
 use Rattle.numbering.proofs.Rounds.{each}
@@ -41,7 +41,7 @@ hash_op_shells_in-fed-requires c =
     let cols : Cols = columns c.args.store.now in
     let n : ℕ = c.in-At.b in
     let found : NextChild list c.loop-b.from n = next_in_list store c.args.blocks c.loop-b.from n _ c.next_in.ensures c.in-At.is in
-    let here : n < block_count cols = block_in_law cols c.args.blocks n c.requires.blocks_exist found.child in
+    let here : n < block_count cols = block_in_lem cols c.args.blocks n c.requires.blocks_exist found.child in
     let m = c.loop-b in
     record {
       readable = c.requires.readable;
@@ -56,7 +56,7 @@ overflow_add-from c =
     let cols : Cols = columns c.args.store.now in
     let n : ℕ = c.in-At.b in
     let found : NextChild list c.loop-b.from n = next_in_list store c.args.blocks c.loop-b.from n _ c.next_in.ensures c.in-At.is in
-    let here : n < block_count cols = block_in_law cols c.args.blocks n c.requires.blocks_exist found.child in
+    let here : n < block_count cols = block_in_lem cols c.args.blocks n c.requires.blocks_exist found.child in
     let few : n < 256 = omega (arith, here, (laid_facts cols c.requires.readable.sound.laid).counts.blocks) in
     record { fits = omega (arith, few) }
 
@@ -67,7 +67,7 @@ loop-b-smaller c =
     let cols : Cols = columns c.args.store.now in
     let n : ℕ = c.in-At.b in
     let found : NextChild list c.loop-b.from n = next_in_list store c.args.blocks c.loop-b.from n _ c.next_in.ensures c.in-At.is in
-    let here : n < block_count cols = block_in_law cols c.args.blocks n c.requires.blocks_exist found.child in
+    let here : n < block_count cols = block_in_lem cols c.args.blocks n c.requires.blocks_exist found.child in
     let few : n < 256 = omega (arith, here, (laid_facts cols c.requires.readable.sound.laid).counts.blocks) in
     omega (arith, few, found.later)
 

@@ -6,10 +6,10 @@ use Rattle.layout.specs.Reading.{op_count, store_in}
 use Rattle.layout.proofs.Laid.{laid_facts}
 use Rattle.layout.proofs.Seeking.{NextChild, none_next, next_op}
 use Rattle.fragments.specs.Options.{options_of}
-use Rattle.fragments.proofs.Ordered.{op_in_law}
+use Rattle.fragments.proofs.Ordered.{op_in_lem}
 use Rattle.numbering.specs.Parts.{op_shells}
 use Rattle.numbering.proofs.Passing.{StepRelation, pass_begun, pass_over, pass_room, pass_again}
-use Rattle.numbering.proofs.Rounds.{each_shell_law}
+use Rattle.numbering.proofs.Rounds.{each_shell_lem}
 use Rattle.hashing.proofs.Parting.{hash_walk, shells_room, shells_fed}
 use Rattle.hashing.proofs.passes.hash_op_shells_in.Goals as goal
 
@@ -19,7 +19,7 @@ loop-n-init c =
     let store : Store = store_in c.args.store.now in
     let walk : StepRelation (List ℕ × ℕ) = hash_walk store (options_of c.args.ignore c.args.types.now) in
     let list : List ℕ = ops_of store c.args.b in
-    pass_begun walk (each_shell_law of_op) list
+    pass_begun walk (each_shell_lem of_op) list
 
 pub next_op-requires : goal.next_op-requires
 next_op-requires c =
@@ -36,7 +36,7 @@ returns-in_default c =
     let list : List ℕ = ops_of store c.args.b in
     let m = c.loop-n in
     shells_fed of_op list
-    (pass_over walk (each_shell_law of_op) list m.from m.invariant (none_next m.from list _ c.next_op.ensures c.in_default.is))
+    (pass_over walk (each_shell_lem of_op) list m.from m.invariant (none_next m.from list _ c.next_op.ensures c.in_default.is))
 
 pub hash_op_shell-fed-requires : goal.hash_op_shell-fed-requires
 unfolding op_shells
@@ -47,12 +47,12 @@ hash_op_shell-fed-requires c =
     let cols : Cols = columns c.args.store.now in
     let n : ℕ = c.in-At.n in
     let found : NextChild list c.loop-n.from n = next_op store c.args.b c.loop-n.from n _ c.next_op.ensures c.in-At.is in
-    let here : n < op_count cols = op_in_law cols c.args.b n found.child in
+    let here : n < op_count cols = op_in_lem cols c.args.b n found.child in
     let m = c.loop-n in
     record {
       readable = c.requires.readable;
       n_bound = here;
-      definitions_fit = pass_room walk (each_shell_law of_op) list m.from m.invariant found (shells_room of_op list c.requires.definitions_fit);
+      definitions_fit = pass_room walk (each_shell_lem of_op) list m.from m.invariant found (shells_room of_op list c.requires.definitions_fit);
     }
 
 pub overflow_add-from : goal.overflow_add-from
@@ -62,7 +62,7 @@ overflow_add-from c =
     let cols : Cols = columns c.args.store.now in
     let n : ℕ = c.in-At.n in
     let found : NextChild list c.loop-n.from n = next_op store c.args.b c.loop-n.from n _ c.next_op.ensures c.in-At.is in
-    let here : n < op_count cols = op_in_law cols c.args.b n found.child in
+    let here : n < op_count cols = op_in_lem cols c.args.b n found.child in
     let few : n < 512 = omega (arith, here, (laid_facts cols c.requires.readable.sound.laid).counts.ops) in
     record { fits = omega (arith, few) }
 
@@ -73,7 +73,7 @@ loop-n-smaller c =
     let cols : Cols = columns c.args.store.now in
     let n : ℕ = c.in-At.n in
     let found : NextChild list c.loop-n.from n = next_op store c.args.b c.loop-n.from n _ c.next_op.ensures c.in-At.is in
-    let here : n < op_count cols = op_in_law cols c.args.b n found.child in
+    let here : n < op_count cols = op_in_lem cols c.args.b n found.child in
     let few : n < 512 = omega (arith, here, (laid_facts cols c.requires.readable.sound.laid).counts.ops) in
     omega (arith, few, found.later)
 
@@ -86,4 +86,4 @@ loop-n-preserved c =
     let n : ℕ = c.in-At.n in
     let found : NextChild list c.loop-n.from n = next_op store c.args.b c.loop-n.from n _ c.next_op.ensures c.in-At.is in
     let m = c.loop-n in
-    pass_again walk (each_shell_law of_op) list m.from m.invariant found c.hash_op_shell-fed.ensures
+    pass_again walk (each_shell_lem of_op) list m.from m.invariant found c.hash_op_shell-fed.ensures

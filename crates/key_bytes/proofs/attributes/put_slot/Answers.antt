@@ -9,7 +9,7 @@ use Rattle.rules.specs.Hash.{bytes, leaf, flag}
 use Rattle.layout.specs.Columns.{columns}
 use Rattle.layout.specs.Reading.{kind_from, inherent_from, attribute_at}
 use Rattle.key_bytes.proofs.Putting.{put_then, put_rest, put_as}
-use Rattle.key_bytes.proofs.Shelling.{attribute_bytes_law}
+use Rattle.key_bytes.proofs.Shelling.{attribute_bytes_lem}
 use Rattle.key_bytes.proofs.attributes.put_slot.Goals as goal
 
 pub overflow_add-result : goal.overflow_add-result
@@ -24,7 +24,7 @@ returns c =
     let a = c.args in
     let word = c.at-kind.ensures in
     put_as
-    (attribute_bytes_law (attribute_at (columns a.store.now) a.slot)
+    (attribute_bytes_lem (attribute_at (columns a.store.now) a.slot)
     c.at-name.ensures
     (c.kind_from.ensures ∙ ap kind_from word)
     c.at-content.ensures

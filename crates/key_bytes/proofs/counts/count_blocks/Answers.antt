@@ -8,7 +8,7 @@ use Rattle.layout.specs.Reading.{store_in}
 use Rattle.layout.proofs.Laid.{laid_facts}
 use Rattle.layout.proofs.Seeking.{NextChild, none_next}
 use Rattle.fragments.specs.Order.{block_list}
-use Rattle.fragments.proofs.Ordered.{next_in_list, block_in_law}
+use Rattle.fragments.proofs.Ordered.{next_in_list, block_in_lem}
 use Rattle.key_bytes.proofs.Counting.{passed_none, passed_next, passed_all}
 use Rattle.key_bytes.proofs.counts.count_blocks.Goals as goal
 
@@ -39,7 +39,7 @@ overflow_add-passed c =
     let few : n < 256 =
     omega (
       arith,
-      block_in_law cols c.args.blocks n c.requires.blocks_exist found.child,
+      block_in_lem cols c.args.blocks n c.requires.blocks_exist found.child,
       (laid_facts cols c.requires.sound.laid).counts.blocks,
     ) in
     let m = c.loop-b in
@@ -55,7 +55,7 @@ overflow_add-from c =
     let few : n < 256 =
     omega (
       arith,
-      block_in_law cols c.args.blocks n c.requires.blocks_exist found.child,
+      block_in_lem cols c.args.blocks n c.requires.blocks_exist found.child,
       (laid_facts cols c.requires.sound.laid).counts.blocks,
     ) in
     record { fits = omega (arith, few) }
@@ -70,7 +70,7 @@ loop-b-smaller c =
     let few : n < 256 =
     omega (
       arith,
-      block_in_law cols c.args.blocks n c.requires.blocks_exist found.child,
+      block_in_lem cols c.args.blocks n c.requires.blocks_exist found.child,
       (laid_facts cols c.requires.sound.laid).counts.blocks,
     ) in
     omega (arith, few, found.later)

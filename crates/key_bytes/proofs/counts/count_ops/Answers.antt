@@ -7,7 +7,7 @@ use Rattle.layout.specs.Columns.{Cols, columns}
 use Rattle.layout.specs.Reading.{store_in}
 use Rattle.layout.proofs.Laid.{laid_facts}
 use Rattle.layout.proofs.Seeking.{NextChild, none_next, next_op}
-use Rattle.fragments.proofs.Ordered.{op_in_law}
+use Rattle.fragments.proofs.Ordered.{op_in_lem}
 use Rattle.key_bytes.proofs.Counting.{passed_none, passed_next, passed_all}
 use Rattle.key_bytes.proofs.counts.count_ops.Goals as goal
 
@@ -35,7 +35,7 @@ overflow_add-passed c =
     let cols : Cols = columns c.args.store.now in
     let n : ℕ = c.in-At.n in
     let found : NextChild list c.loop-n.from n = next_op store c.args.b c.loop-n.from n _ c.next_op.ensures c.in-At.is in
-    let few : n < 512 = omega (arith, op_in_law cols c.args.b n found.child, (laid_facts cols c.requires.sound.laid).counts.ops) in
+    let few : n < 512 = omega (arith, op_in_lem cols c.args.b n found.child, (laid_facts cols c.requires.sound.laid).counts.ops) in
     let m = c.loop-n in
     record { fits = omega (arith, few, found.later, m.invariant.few) }
 
@@ -46,7 +46,7 @@ overflow_add-from c =
     let cols : Cols = columns c.args.store.now in
     let n : ℕ = c.in-At.n in
     let found : NextChild list c.loop-n.from n = next_op store c.args.b c.loop-n.from n _ c.next_op.ensures c.in-At.is in
-    let few : n < 512 = omega (arith, op_in_law cols c.args.b n found.child, (laid_facts cols c.requires.sound.laid).counts.ops) in
+    let few : n < 512 = omega (arith, op_in_lem cols c.args.b n found.child, (laid_facts cols c.requires.sound.laid).counts.ops) in
     record { fits = omega (arith, few) }
 
 pub loop-n-smaller : goal.loop-n-smaller
@@ -56,7 +56,7 @@ loop-n-smaller c =
     let cols : Cols = columns c.args.store.now in
     let n : ℕ = c.in-At.n in
     let found : NextChild list c.loop-n.from n = next_op store c.args.b c.loop-n.from n _ c.next_op.ensures c.in-At.is in
-    let few : n < 512 = omega (arith, op_in_law cols c.args.b n found.child, (laid_facts cols c.requires.sound.laid).counts.ops) in
+    let few : n < 512 = omega (arith, op_in_lem cols c.args.b n found.child, (laid_facts cols c.requires.sound.laid).counts.ops) in
     omega (arith, few, found.later)
 
 pub loop-n-preserved : goal.loop-n-preserved

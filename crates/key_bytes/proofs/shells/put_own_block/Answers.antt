@@ -2,7 +2,7 @@
 use Rattle.rules.specs.Hash.{head_bytes}
 use Rattle.fragments.specs.Options.{options_of}
 use Rattle.key_bytes.proofs.Putting.{put_as}
-use Rattle.key_bytes.proofs.Shelling.{owner_bytes_law}
+use Rattle.key_bytes.proofs.Shelling.{owner_bytes_lem}
 use Rattle.key_bytes.proofs.shells.put_own_block.Goals as goal
 
 pub block_row-requires : goal.block_row-requires
@@ -18,4 +18,4 @@ pub returns : goal.returns
 unfolding head_bytes
 returns c =
     let a = c.args in
-    put_as (owner_bytes_law c.block_row.ensures (options_of a.ignore a.types.now)) c.put_row.ensures
+    put_as (owner_bytes_lem c.block_row.ensures (options_of a.ignore a.types.now)) c.put_row.ensures

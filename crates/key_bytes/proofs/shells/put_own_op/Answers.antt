@@ -10,7 +10,7 @@ use Rattle.fragments.specs.Options.{options_of, under}
 use Rattle.fragments.specs.Rows.{row_shell}
 use Rattle.key_bytes.proofs.Lengths.{row_few}
 use Rattle.key_bytes.proofs.Putting.{put_then, put_rest, put_as}
-use Rattle.key_bytes.proofs.Shelling.{head_bytes_law, owner_bytes_law}
+use Rattle.key_bytes.proofs.Shelling.{head_bytes_lem, owner_bytes_lem}
 use Rattle.key_bytes.proofs.shells.put_own_op.Goals as goal
 
 pub at-kind-requires : goal.at-kind-requires
@@ -56,7 +56,7 @@ returns c =
     let o = options_of a.ignore a.types.now in
     let row = c.op_row in
     let shell = shell_bytes count (row_shell C o row.result) in
-    let head = put_as (head_bytes_law C o a.n c.requires.n_bound c.at-kind.ensures c.op_regions.ensures) c.put_head-at.ensures in
-    put_as (owner_bytes_law row.ensures o)
+    let head = put_as (head_bytes_lem C o a.n c.requires.n_bound c.at-kind.ensures c.op_regions.ensures) c.put_head-at.ensures in
+    put_as (owner_bytes_lem row.ensures o)
     (put_then (head_bytes (under o (store_in a.store.now)) (of_op a.n)) shell head
     (put_rest shell _ _ _ c.least-rest.ensures c.put_row.ensures))

@@ -13,7 +13,7 @@ use Rattle.fragments.specs.Options.{options_of}
 use Rattle.fragments.specs.Rows.{row_shell}
 use Rattle.key_bytes.specs.Put.{place_bytes}
 use Rattle.key_bytes.proofs.Lengths.{leaves, place_few, types_few}
-use Rattle.key_bytes.proofs.Shelling.{shell_bytes_law}
+use Rattle.key_bytes.proofs.Shelling.{shell_bytes_lem}
 use Rattle.key_bytes.proofs.Putting.{put_then, put_rest, put_as}
 use Rattle.key_bytes.proofs.shells.put_row.Goals as goal
 
@@ -71,7 +71,7 @@ returns c =
     let C = columns a.store.now in
     let o = options_of a.ignore a.types.now in
     let bytes = list_bytes count leaf (now_of a.types.now words.result.now) in
-    put_as (shell_bytes_law C o a.row)
+    put_as (shell_bytes_lem C o a.row)
     (put_then (place_bytes C (ignore_of a.ignore) a.row) (list_bytes count leaf (row_shell C o a.row).types) c.put_place-at.ensures
     (put_as (ap (λ (own : List ℕ). list_bytes count leaf (now_of a.types.now own)) words.ensures)
     (put_rest bytes _ _ _ c.least-rest.ensures c.put_types.ensures)))

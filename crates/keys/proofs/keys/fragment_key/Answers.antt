@@ -10,7 +10,7 @@ use Rattle.renaming.proofs.Indexed.{index_holds}
 use Rattle.fragments.specs.Ignoring.{ignore_of}
 use Rattle.fragments.specs.Options.{options_of}
 use Rattle.fragments.specs.Sorts.{sort_of}
-use Rattle.keys.proofs.Answering.{longest, missing, too_short_law, given}
+use Rattle.keys.proofs.Answering.{longest, missing, too_short_lem, given}
 use Rattle.keys.proofs.keys.fragment_key.Goals as goal
 
 pub exists-requires : goal.exists-requires
@@ -31,7 +31,7 @@ pub returns-then-not-key_fits : goal.returns-then-not-key_fits
 returns-then-not-key_fits c =
     let listed : types_hold (list_in c.args.types.now) ≡ true = index_holds c.args.types.now c.requires.indexed in
     let a = c.args in
-    too_short_law a.store.now (list_in a.types.now) (ignore_of a.ignore) (sort_of a.sort) a.n a.key.now c.requires.sound listed
+    too_short_lem a.store.now (list_in a.types.now) (ignore_of a.ignore) (sort_of a.sort) a.n a.key.now c.requires.sound listed
     (sym c.exists.ensures ∙ c.if-not-exists.false) (sym c.key_fits.ensures ∙ c.if-not-key_fits.true)
 
 pub put_fragment-requires : goal.put_fragment-requires

@@ -11,7 +11,7 @@ use Rattle.fragments.specs.Order.{BlocksExist}
 use Rattle.fragments.specs.Sorts.{sort_of}
 use Rattle.fragments.proofs.There.{there}
 use Rattle.numbering.proofs.Counting.{no_words}
-use Rattle.numbering.proofs.Rounds.{block_steps, region_steps_law, steps_room, steps_done}
+use Rattle.numbering.proofs.Rounds.{block_steps, region_steps_lem, steps_room, steps_done}
 use Rattle.keys.specs.Written.{from, KeyFits}
 use Rattle.keys.proofs.Answering.{whole_fits, wrote_whole}
 use Rattle.key_bytes.proofs.Putting.{put_as}
@@ -74,7 +74,7 @@ put_blocks_full-requires-in-Region c =
     record {
       readable = c.requires.readable;
       blocks_exist = there cols region c.args.n e;
-      key_fits = steps_room (key_walk store options) store region c.args.n _ (region_steps_law store c.requires.readable.sound.ruled c.args.n)
+      key_fits = steps_room (key_walk store options) store region c.args.n _ (region_steps_lem store c.requires.readable.sound.ruled c.args.n)
           (whole region e);
     }
 
@@ -114,7 +114,7 @@ shape_of-key-in-Region c =
     let options : Options = options_of c.args.ignore c.args.types.now in
     (wrote_whole store options region c.args.n
     (steps_done (key_walk store options) store region c.args.n _
-    (region_steps_law store c.requires.readable.sound.ruled c.args.n) c.put_blocks_full-in-Region.ensures)).long
+    (region_steps_lem store c.requires.readable.sound.ruled c.args.n) c.put_blocks_full-in-Region.ensures)).long
 
 pub returns-in-Region : goal.returns-in-Region
 unfolding sort_of
@@ -124,4 +124,4 @@ returns-in-Region c =
     let told = c.in-Region.is in
     rw told (wrote_whole store options region c.args.n
     (steps_done (key_walk store options) store region c.args.n _
-    (region_steps_law store c.requires.readable.sound.ruled c.args.n) c.put_blocks_full-in-Region.ensures))
+    (region_steps_lem store c.requires.readable.sound.ruled c.args.n) c.put_blocks_full-in-Region.ensures))

@@ -11,10 +11,10 @@ use Rattle.layout.proofs.Laid.{laid_facts}
 use Rattle.layout.proofs.Seeking.{NextChild, none_next}
 use Rattle.fragments.specs.Options.{Options, options_of}
 use Rattle.fragments.specs.Order.{block_list}
-use Rattle.fragments.proofs.Ordered.{next_in_list, block_in_law}
+use Rattle.fragments.proofs.Ordered.{next_in_list, block_in_lem}
 use Rattle.numbering.specs.Parts.{block_shells}
 use Rattle.numbering.proofs.Passing.{pass_begun, pass_over, pass_room, pass_again}
-use Rattle.numbering.proofs.Rounds.{each_shell, each_shell_law}
+use Rattle.numbering.proofs.Rounds.{each_shell, each_shell_lem}
 use Rattle.keys.specs.Written.{from, up_to, Wrote, KeyFits}
 use Rattle.key_bytes.proofs.Putting.{put_counted}
 use Rattle.keys.proofs.Writing.{wrote_then, fits_rest, key_walk, wrote_lent, lent_short, wrote_long, wrote_counted}
@@ -29,7 +29,7 @@ loop-b-init c =
     let store : Store = store_in c.args.store.now in
     let options : Options = options_of c.args.ignore c.args.types.now in
     let list : List ℕ = block_list store c.args.blocks in
-    pass_begun (key_walk store options) (each_shell_law of_block) list
+    pass_begun (key_walk store options) (each_shell_lem of_block) list
 
 pub next_in-requires : goal.next_in-requires
 next_in-requires c =
@@ -46,7 +46,7 @@ shape_of-key-in_default c =
     let m = c.loop-b in
     wrote_then store options (counted (length list) ∷ []) (each_shell of_block list)
     (wrote_counted store options (length list) (put_counted c.blocks_counted.ensures c.put_count-at.ensures))
-    (pass_over (key_walk store options) (each_shell_law of_block) list m.from m.invariant
+    (pass_over (key_walk store options) (each_shell_lem of_block) list m.from m.invariant
     (none_next m.from list _ c.next_in.ensures c.in_default.is)) in
     wrote_long store options _ _ c.requires.key_fits done
 
@@ -61,7 +61,7 @@ returns-in_default c =
     let m = c.loop-b in
     wrote_then store options (counted (length list) ∷ []) (each_shell of_block list)
     (wrote_counted store options (length list) (put_counted c.blocks_counted.ensures c.put_count-at.ensures))
-    (pass_over (key_walk store options) (each_shell_law of_block) list m.from m.invariant
+    (pass_over (key_walk store options) (each_shell_lem of_block) list m.from m.invariant
     (none_next m.from list _ c.next_in.ensures c.in_default.is)) in
     done
 
@@ -74,11 +74,11 @@ put_block_shell-at-requires c =
     let cols : Cols = columns c.args.store.now in
     let n : ℕ = c.in-At.b in
     let found : NextChild list c.loop-b.from n = next_in_list store c.args.blocks c.loop-b.from n _ c.next_in.ensures c.in-At.is in
-    let here : n < block_count cols = block_in_law cols c.args.blocks n c.requires.blocks_exist found.child in
+    let here : n < block_count cols = block_in_lem cols c.args.blocks n c.requires.blocks_exist found.child in
     let steps : List Step = shell (of_block n) ∷ [] in
     let room : let m = c.loop-b in KeyFits store options steps (up_to m.numbers m.key m.at) =
     let m = c.loop-b in
-    pass_room (key_walk store options) (each_shell_law of_block) list m.from m.invariant found
+    pass_room (key_walk store options) (each_shell_lem of_block) list m.from m.invariant found
     (fits_rest store options (counted (length list) ∷ []) (each_shell of_block list) c.requires.key_fits
     (wrote_counted store options (length list) (put_counted c.blocks_counted.ensures c.put_count-at.ensures))) in
     record { readable = c.requires.readable; n_bound = here; definitions_fit = room.definitions }
@@ -94,7 +94,7 @@ overflow_add-at c =
     let steps : List Step = shell (of_block n) ∷ [] in
     let room : let m = c.loop-b in KeyFits store options steps (up_to m.numbers m.key m.at) =
     let m = c.loop-b in
-    pass_room (key_walk store options) (each_shell_law of_block) list m.from m.invariant found
+    pass_room (key_walk store options) (each_shell_lem of_block) list m.from m.invariant found
     (fits_rest store options (counted (length list) ∷ []) (each_shell of_block list) c.requires.key_fits
     (wrote_counted store options (length list) (put_counted c.blocks_counted.ensures c.put_count-at.ensures))) in
     record { fits = omega (arith, lent_short store options steps room c.put_block_shell-at.ensures) }
@@ -106,7 +106,7 @@ overflow_add-from c =
     let cols : Cols = columns c.args.store.now in
     let n : ℕ = c.in-At.b in
     let found : NextChild list c.loop-b.from n = next_in_list store c.args.blocks c.loop-b.from n _ c.next_in.ensures c.in-At.is in
-    let here : n < block_count cols = block_in_law cols c.args.blocks n c.requires.blocks_exist found.child in
+    let here : n < block_count cols = block_in_lem cols c.args.blocks n c.requires.blocks_exist found.child in
     let few : n < 256 = omega (arith, here, (laid_facts cols c.requires.readable.sound.laid).counts.blocks) in
     record { fits = omega (arith, few) }
 
@@ -117,7 +117,7 @@ loop-b-smaller c =
     let cols : Cols = columns c.args.store.now in
     let n : ℕ = c.in-At.b in
     let found : NextChild list c.loop-b.from n = next_in_list store c.args.blocks c.loop-b.from n _ c.next_in.ensures c.in-At.is in
-    let here : n < block_count cols = block_in_law cols c.args.blocks n c.requires.blocks_exist found.child in
+    let here : n < block_count cols = block_in_lem cols c.args.blocks n c.requires.blocks_exist found.child in
     let few : n < 256 = omega (arith, here, (laid_facts cols c.requires.readable.sound.laid).counts.blocks) in
     omega (arith, few, found.later)
 
@@ -131,5 +131,5 @@ loop-b-preserved c =
     let steps : List Step = shell (of_block n) ∷ [] in
     let m = c.loop-b in
     let least = c.least-rest in
-    pass_again (key_walk store options) (each_shell_law of_block) list m.from m.invariant found
+    pass_again (key_walk store options) (each_shell_lem of_block) list m.from m.invariant found
     (wrote_lent store options steps m.key m.at least.result least.ensures c.put_block_shell-at.ensures)

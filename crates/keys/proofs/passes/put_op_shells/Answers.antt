@@ -11,7 +11,7 @@ use Rattle.layout.proofs.Laid.{laid_facts}
 use Rattle.layout.proofs.Seeking.{NextChild, none_next}
 use Rattle.fragments.specs.Options.{Options, options_of}
 use Rattle.fragments.specs.Order.{block_list}
-use Rattle.fragments.proofs.Ordered.{next_in_list, block_in_law}
+use Rattle.fragments.proofs.Ordered.{next_in_list, block_in_lem}
 use Rattle.numbering.specs.Parts.{op_shells}
 use Rattle.numbering.proofs.Passing.{pass_begun, pass_over, pass_room, pass_again}
 use Rattle.numbering.proofs.Rounds.{each}
@@ -66,7 +66,7 @@ put_op_shells_in-at-requires c =
     let found : NextChild list c.loop-b.from n =
     let from = c.loop-b.from in
     next_in_list store c.args.blocks from n _ c.next_in.ensures c.in-At.is in
-    let here : n < block_count cols = block_in_law cols c.args.blocks n c.requires.blocks_exist found.child in
+    let here : n < block_count cols = block_in_lem cols c.args.blocks n c.requires.blocks_exist found.child in
     let steps : List Step = op_shells store n in
     let room : let m = c.loop-b in KeyFits store options steps (up_to m.numbers m.key m.at) =
     let S = store in
@@ -101,7 +101,7 @@ overflow_add-from c =
     let found : NextChild list c.loop-b.from n =
     let from = c.loop-b.from in
     next_in_list store c.args.blocks from n _ c.next_in.ensures c.in-At.is in
-    let here : n < block_count cols = block_in_law cols c.args.blocks n c.requires.blocks_exist found.child in
+    let here : n < block_count cols = block_in_lem cols c.args.blocks n c.requires.blocks_exist found.child in
     let few : n < 256 = omega (arith, here, (laid_facts cols c.requires.readable.sound.laid).counts.blocks) in
     record { fits = omega (arith, few) }
 
@@ -114,7 +114,7 @@ loop-b-smaller c =
     let found : NextChild list c.loop-b.from n =
     let from = c.loop-b.from in
     next_in_list store c.args.blocks from n _ c.next_in.ensures c.in-At.is in
-    let here : n < block_count cols = block_in_law cols c.args.blocks n c.requires.blocks_exist found.child in
+    let here : n < block_count cols = block_in_lem cols c.args.blocks n c.requires.blocks_exist found.child in
     let few : n < 256 = omega (arith, here, (laid_facts cols c.requires.readable.sound.laid).counts.blocks) in
     omega (arith, few, found.later)
 

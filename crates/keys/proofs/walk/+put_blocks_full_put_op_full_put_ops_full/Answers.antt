@@ -15,7 +15,7 @@ use Rattle.layout.proofs.Seeking.{NextChild, none_next, next_op}
 use Rattle.fragments.specs.Options.{Options, options_of}
 use Rattle.fragments.specs.Order.{block_list, BlocksExist}
 use Rattle.fragments.specs.declared.types.Blocks.TheVariants.{InRegion, Alone}
-use Rattle.fragments.proofs.Ordered.{next_in_list, block_in_law, op_in_law}
+use Rattle.fragments.proofs.Ordered.{next_in_list, block_in_lem, op_in_lem}
 use Rattle.fragments.proofs.Below.{below, around_list, around_block, op_falls, around_region}
 use Rattle.numbering.specs.Parts.{full_steps, ops_in_full, listed_steps}
 use Rattle.numbering.proofs.Passing.{StepRelation, none_done, all_done, part_room, part_done, pass_begun, pass_over, pass_room, pass_again}
@@ -116,7 +116,7 @@ put_blocks_full-put_ops_full-at-requires t c =
     let b : ℕ = c.in-At.b in
     let block_found : NextChild list c.loop-b.from b = next_in_list store c.args.blocks c.loop-b.from b _ c.next_in.ensures c.in-At.is in
     let block_here : b < block_count (columns c.args.store.now) =
-    block_in_law (columns c.args.store.now) c.args.blocks b c.requires.blocks_exist block_found.child in
+    block_in_lem (columns c.args.store.now) c.args.blocks b c.requires.blocks_exist block_found.child in
     let block_room : let m = c.loop-b in KeyFits store options (ops_in_full store b) (up_to m.numbers m.key m.at) =
     let S = store in
     let m = c.loop-b in
@@ -153,7 +153,7 @@ put_blocks_full-overflow_add-from t c =
     let b : ℕ = c.in-At.b in
     let block_found : NextChild list c.loop-b.from b = next_in_list store c.args.blocks c.loop-b.from b _ c.next_in.ensures c.in-At.is in
     let block_here : b < block_count (columns c.args.store.now) =
-    block_in_law (columns c.args.store.now) c.args.blocks b c.requires.blocks_exist block_found.child in
+    block_in_lem (columns c.args.store.now) c.args.blocks b c.requires.blocks_exist block_found.child in
     let block_few : b < 256 =
     omega (arith, block_here, (laid_facts (columns c.args.store.now) c.requires.readable.sound.laid).counts.blocks) in
     record { fits = omega (arith, block_few) }
@@ -165,7 +165,7 @@ put_blocks_full-loop-b-smaller t c =
     let b : ℕ = c.in-At.b in
     let block_found : NextChild list c.loop-b.from b = next_in_list store c.args.blocks c.loop-b.from b _ c.next_in.ensures c.in-At.is in
     let block_here : b < block_count (columns c.args.store.now) =
-    block_in_law (columns c.args.store.now) c.args.blocks b c.requires.blocks_exist block_found.child in
+    block_in_lem (columns c.args.store.now) c.args.blocks b c.requires.blocks_exist block_found.child in
     let block_few : b < 256 =
     omega (arith, block_here, (laid_facts (columns c.args.store.now) c.requires.readable.sound.laid).counts.blocks) in
     omega (arith, block_few, block_found.later)
@@ -207,8 +207,8 @@ pub put_op_full-loop-r-init : goal.put_op_full-loop-r-init
 put_op_full-loop-r-init t c =
     let op_store : Store = store_in c.args.store.now in
     let op_options : Options = options_of c.args.ignore c.args.types.now in
-    let op_walk_law : StepRelation Place = key_walk op_store op_options in
-    (omega arith, none_done op_walk_law _ _)
+    let op_walk_lem : StepRelation Place = key_walk op_store op_options in
+    (omega arith, none_done op_walk_lem _ _)
 
 pub put_op_full-put_blocks_full-at-requires : goal.put_op_full-put_blocks_full-at-requires
 unfolding BlocksExist
@@ -216,21 +216,21 @@ put_op_full-put_blocks_full-at-requires t c =
     let cols : Cols = columns c.args.store.now in
     let op_store : Store = store_in c.args.store.now in
     let op_options : Options = options_of c.args.ignore c.args.types.now in
-    let op_walk_law : StepRelation Place = key_walk op_store op_options in
+    let op_walk_lem : StepRelation Place = key_walk op_store op_options in
     let laid : Laid cols = laid_facts cols c.requires.readable.sound.laid in
     let regions : regions_of op_store c.args.n ≡ range c.number-r.result c.number-end.result =
     regions_range cols laid c.args.n c.requires.n_bound ∙ ap₂ range (sym c.number-r.ensures) (sym c.number-end.ensures) in
     let region_here : c.loop-r.r < region_count cols =
     omega (arith, c.loop-r-test.true, c.number-end.ensures, (laid.op c.args.n c.requires.n_bound).regions.range.fits) in
-    let region_steps_law : List Step = listed_steps op_store (block_list op_store (InRegion c.loop-r.r)) in
-    let region_room_law : let m = c.loop-r in KeyFits op_store op_options region_steps_law (up_to m.numbers m.key m.at) =
+    let region_steps_lem : List Step = listed_steps op_store (block_list op_store (InRegion c.loop-r.r)) in
+    let region_room_lem : let m = c.loop-r in KeyFits op_store op_options region_steps_lem (up_to m.numbers m.key m.at) =
     let S = op_store in
     let m = c.loop-r in
     let end = c.number-end.result in
     let all =
-    regions_room op_walk_law S c.args.n (c.put_names-at.ensures op_options) (range c.number-r.result end) regions c.requires.key_fits in
+    regions_room op_walk_lem S c.args.n (c.put_names-at.ensures op_options) (range c.number-r.result end) regions c.requires.key_fits in
     let room =
-    part_room op_walk_law m.invariant.1 (in_region S m.r) (concat_map (in_region S) (range (m.r + 1) end))
+    part_room op_walk_lem m.invariant.1 (in_region S m.r) (concat_map (in_region S) (range (m.r + 1) end))
     (range_left (in_region S) m.r end c.loop-r-test.true) all in
     subst (λ (xs : List Step). KeyFits S op_options xs (up_to m.numbers m.key m.at))
     (region_list S c.requires.readable.sound.ruled m.r) room in
@@ -243,7 +243,7 @@ put_op_full-put_blocks_full-at-requires t c =
     let around : around_list S (InRegion m.r) ≡ n = around_region S n m.r inside in
     let falls : 3 * below S (around_list S (InRegion m.r)) + 1 < 3 * below S n + 2 = omega arith in (
       subst (λ (j : ℕ). 3 * below S (around_list S (InRegion m.r)) + 1 < j) c.decreases falls,
-      (c.requires.readable, (region_here, fits_lent S op_options region_steps_law region_room_law)),
+      (c.requires.readable, (region_here, fits_lent S op_options region_steps_lem region_room_lem)),
     )
 
 pub put_op_full-overflow_add-at : goal.put_op_full-overflow_add-at
@@ -251,23 +251,23 @@ put_op_full-overflow_add-at t c =
     let cols : Cols = columns c.args.store.now in
     let op_store : Store = store_in c.args.store.now in
     let op_options : Options = options_of c.args.ignore c.args.types.now in
-    let op_walk_law : StepRelation Place = key_walk op_store op_options in
+    let op_walk_lem : StepRelation Place = key_walk op_store op_options in
     let laid : Laid cols = laid_facts cols c.requires.readable.sound.laid in
     let regions : regions_of op_store c.args.n ≡ range c.number-r.result c.number-end.result =
     regions_range cols laid c.args.n c.requires.n_bound ∙ ap₂ range (sym c.number-r.ensures) (sym c.number-end.ensures) in
-    let region_steps_law : List Step = listed_steps op_store (block_list op_store (InRegion c.loop-r.r)) in
-    let region_room_law : let m = c.loop-r in KeyFits op_store op_options region_steps_law (up_to m.numbers m.key m.at) =
+    let region_steps_lem : List Step = listed_steps op_store (block_list op_store (InRegion c.loop-r.r)) in
+    let region_room_lem : let m = c.loop-r in KeyFits op_store op_options region_steps_lem (up_to m.numbers m.key m.at) =
     let S = op_store in
     let m = c.loop-r in
     let end = c.number-end.result in
     let all =
-    regions_room op_walk_law S c.args.n (c.put_names-at.ensures op_options) (range c.number-r.result end) regions c.requires.key_fits in
+    regions_room op_walk_lem S c.args.n (c.put_names-at.ensures op_options) (range c.number-r.result end) regions c.requires.key_fits in
     let room =
-    part_room op_walk_law m.invariant.1 (in_region S m.r) (concat_map (in_region S) (range (m.r + 1) end))
+    part_room op_walk_lem m.invariant.1 (in_region S m.r) (concat_map (in_region S) (range (m.r + 1) end))
     (range_left (in_region S) m.r end c.loop-r-test.true) all in
     subst (λ (xs : List Step). KeyFits S op_options xs (up_to m.numbers m.key m.at))
     (region_list S c.requires.readable.sound.ruled m.r) room in
-    record { fits = omega (arith, lent_short op_store op_options region_steps_law region_room_law c.put_blocks_full-at.ensures) }
+    record { fits = omega (arith, lent_short op_store op_options region_steps_lem region_room_lem c.put_blocks_full-at.ensures) }
 
 pub put_op_full-overflow_add-r : goal.put_op_full-overflow_add-r
 put_op_full-overflow_add-r t c =
@@ -284,16 +284,16 @@ pub put_op_full-loop-r-preserved : goal.put_op_full-loop-r-preserved
 put_op_full-loop-r-preserved t c =
     let op_store : Store = store_in c.args.store.now in
     let op_options : Options = options_of c.args.ignore c.args.types.now in
-    let op_walk_law : StepRelation Place = key_walk op_store op_options in
-    let region_steps_law : List Step = listed_steps op_store (block_list op_store (InRegion c.loop-r.r)) in
+    let op_walk_lem : StepRelation Place = key_walk op_store op_options in
+    let region_steps_lem : List Step = listed_steps op_store (block_list op_store (InRegion c.loop-r.r)) in
     let least = c.least-rest in
     let S = op_store in
     let m = c.loop-r in
     let end = c.number-end.result in
-    let lent = wrote_lent S op_options region_steps_law m.key m.at least.result least.ensures c.put_blocks_full-at.ensures in
+    let lent = wrote_lent S op_options region_steps_lem m.key m.at least.result least.ensures c.put_blocks_full-at.ensures in
     let one = wrote_as S op_options (sym (region_list S c.requires.readable.sound.ruled m.r)) lent in (
       omega (arith, m.invariant.0),
-      part_done op_walk_law m.invariant.1 (in_region S m.r) (concat_map (in_region S) (range (m.r + 1) end))
+      part_done op_walk_lem m.invariant.1 (in_region S m.r) (concat_map (in_region S) (range (m.r + 1) end))
           (range_left (in_region S) m.r end c.loop-r-test.true) one,
     )
 
@@ -302,7 +302,7 @@ put_op_full-shape_of-key t c =
     let cols : Cols = columns c.args.store.now in
     let op_store : Store = store_in c.args.store.now in
     let op_options : Options = options_of c.args.ignore c.args.types.now in
-    let op_walk_law : StepRelation Place = key_walk op_store op_options in
+    let op_walk_lem : StepRelation Place = key_walk op_store op_options in
     let laid : Laid cols = laid_facts cols c.requires.readable.sound.laid in
     let regions : regions_of op_store c.args.n ≡ range c.number-r.result c.number-end.result =
     regions_range cols laid c.args.n c.requires.n_bound ∙ ap₂ range (sym c.number-r.ensures) (sym c.number-end.ensures) in
@@ -311,8 +311,8 @@ put_op_full-shape_of-key t c =
     let S = op_store in
     let end = c.number-end.result in
     let m = c.loop-r in
-    full_done op_walk_law S c.args.n (c.put_names-at.ensures op_options) (range c.number-r.result end) regions
-    (all_done op_walk_law m.invariant.1 (range_over (in_region S) m.r end c.loop-r-test.false)) in
+    full_done op_walk_lem S c.args.n (c.put_names-at.ensures op_options) (range c.number-r.result end) regions
+    (all_done op_walk_lem m.invariant.1 (range_over (in_region S) m.r end c.loop-r-test.false)) in
     wrote_long op_store op_options _ _ c.requires.key_fits op_done
 
 pub put_op_full-returns : goal.put_op_full-returns
@@ -320,7 +320,7 @@ put_op_full-returns t c =
     let cols : Cols = columns c.args.store.now in
     let op_store : Store = store_in c.args.store.now in
     let op_options : Options = options_of c.args.ignore c.args.types.now in
-    let op_walk_law : StepRelation Place = key_walk op_store op_options in
+    let op_walk_lem : StepRelation Place = key_walk op_store op_options in
     let laid : Laid cols = laid_facts cols c.requires.readable.sound.laid in
     let regions : regions_of op_store c.args.n ≡ range c.number-r.result c.number-end.result =
     regions_range cols laid c.args.n c.requires.n_bound ∙ ap₂ range (sym c.number-r.ensures) (sym c.number-end.ensures) in
@@ -329,8 +329,8 @@ put_op_full-returns t c =
     let S = op_store in
     let end = c.number-end.result in
     let m = c.loop-r in
-    full_done op_walk_law S c.args.n (c.put_names-at.ensures op_options) (range c.number-r.result end) regions
-    (all_done op_walk_law m.invariant.1 (range_over (in_region S) m.r end c.loop-r-test.false)) in
+    full_done op_walk_lem S c.args.n (c.put_names-at.ensures op_options) (range c.number-r.result end) regions
+    (all_done op_walk_lem m.invariant.1 (range_over (in_region S) m.r end c.loop-r-test.false)) in
     op_done
 
 -- ---- the operations of a block
@@ -339,9 +339,9 @@ pub put_ops_full-loop-n-init : goal.put_ops_full-loop-n-init
 put_ops_full-loop-n-init t c =
     let ops_store : Store = store_in c.args.store.now in
     let ops_options : Options = options_of c.args.ignore c.args.types.now in
-    let ops_walk_law : StepRelation Place = key_walk ops_store ops_options in
+    let ops_walk_lem : StepRelation Place = key_walk ops_store ops_options in
     let ops_list : List ℕ = ops_of ops_store c.args.b in
-    pass_begun ops_walk_law (each (full_steps ops_store)) ops_list
+    pass_begun ops_walk_lem (each (full_steps ops_store)) ops_list
 
 pub put_ops_full-next_op-requires : goal.put_ops_full-next_op-requires
 put_ops_full-next_op-requires t c =
@@ -355,12 +355,12 @@ unfolding ops_in_full
 put_ops_full-shape_of-key-in_default t c =
     let ops_store : Store = store_in c.args.store.now in
     let ops_options : Options = options_of c.args.ignore c.args.types.now in
-    let ops_walk_law : StepRelation Place = key_walk ops_store ops_options in
+    let ops_walk_lem : StepRelation Place = key_walk ops_store ops_options in
     let ops_list : List ℕ = ops_of ops_store c.args.b in
     let ops_done : let m = c.loop-n in Wrote ops_store ops_options (ops_in_full ops_store c.args.b) (from c.args.numbers.now c.args.key.now)
     (up_to m.numbers m.key m.at) =
     let m = c.loop-n in
-    pass_over ops_walk_law (each (full_steps ops_store)) ops_list m.from m.invariant
+    pass_over ops_walk_lem (each (full_steps ops_store)) ops_list m.from m.invariant
     (none_next m.from ops_list _ c.next_op.ensures c.in_default.is) in
     wrote_long ops_store ops_options _ _ c.requires.key_fits ops_done
 
@@ -369,12 +369,12 @@ unfolding ops_in_full
 put_ops_full-returns-in_default t c =
     let ops_store : Store = store_in c.args.store.now in
     let ops_options : Options = options_of c.args.ignore c.args.types.now in
-    let ops_walk_law : StepRelation Place = key_walk ops_store ops_options in
+    let ops_walk_lem : StepRelation Place = key_walk ops_store ops_options in
     let ops_list : List ℕ = ops_of ops_store c.args.b in
     let ops_done : let m = c.loop-n in Wrote ops_store ops_options (ops_in_full ops_store c.args.b) (from c.args.numbers.now c.args.key.now)
     (up_to m.numbers m.key m.at) =
     let m = c.loop-n in
-    pass_over ops_walk_law (each (full_steps ops_store)) ops_list m.from m.invariant
+    pass_over ops_walk_lem (each (full_steps ops_store)) ops_list m.from m.invariant
     (none_next m.from ops_list _ c.next_op.ensures c.in_default.is) in
     ops_done
 
@@ -383,14 +383,14 @@ unfolding block_list ops_in_full
 put_ops_full-put_op_full-at-requires t c =
     let ops_store : Store = store_in c.args.store.now in
     let ops_options : Options = options_of c.args.ignore c.args.types.now in
-    let ops_walk_law : StepRelation Place = key_walk ops_store ops_options in
+    let ops_walk_lem : StepRelation Place = key_walk ops_store ops_options in
     let ops_list : List ℕ = ops_of ops_store c.args.b in
     let n : ℕ = c.in-At.n in
     let op_found : NextChild ops_list c.loop-n.from n = next_op ops_store c.args.b c.loop-n.from n _ c.next_op.ensures c.in-At.is in
-    let op_here : n < op_count (columns c.args.store.now) = op_in_law (columns c.args.store.now) c.args.b n op_found.child in
+    let op_here : n < op_count (columns c.args.store.now) = op_in_lem (columns c.args.store.now) c.args.b n op_found.child in
     let op_room : let m = c.loop-n in KeyFits ops_store ops_options (full_steps ops_store n) (up_to m.numbers m.key m.at) =
     let m = c.loop-n in
-    pass_room ops_walk_law (each (full_steps ops_store)) ops_list m.from m.invariant op_found c.requires.key_fits in
+    pass_room ops_walk_lem (each (full_steps ops_store)) ops_list m.from m.invariant op_found c.requires.key_fits in
     let S = ops_store in
     let fewer : below S n < below S (around_list S (Alone c.args.b)) =
     op_falls S c.requires.readable.sound.ruled (Alone c.args.b) c.args.b n (Memᴰ.head refl) op_found.child in
@@ -404,13 +404,13 @@ unfolding ops_in_full
 put_ops_full-overflow_add-at t c =
     let ops_store : Store = store_in c.args.store.now in
     let ops_options : Options = options_of c.args.ignore c.args.types.now in
-    let ops_walk_law : StepRelation Place = key_walk ops_store ops_options in
+    let ops_walk_lem : StepRelation Place = key_walk ops_store ops_options in
     let ops_list : List ℕ = ops_of ops_store c.args.b in
     let n : ℕ = c.in-At.n in
     let op_found : NextChild ops_list c.loop-n.from n = next_op ops_store c.args.b c.loop-n.from n _ c.next_op.ensures c.in-At.is in
     let op_room : let m = c.loop-n in KeyFits ops_store ops_options (full_steps ops_store n) (up_to m.numbers m.key m.at) =
     let m = c.loop-n in
-    pass_room ops_walk_law (each (full_steps ops_store)) ops_list m.from m.invariant op_found c.requires.key_fits in
+    pass_room ops_walk_lem (each (full_steps ops_store)) ops_list m.from m.invariant op_found c.requires.key_fits in
     record { fits = omega (arith, lent_short ops_store ops_options (full_steps ops_store n) op_room c.put_op_full-at.ensures) }
 
 pub put_ops_full-overflow_add-from : goal.put_ops_full-overflow_add-from
@@ -419,7 +419,7 @@ put_ops_full-overflow_add-from t c =
     let ops_list : List ℕ = ops_of ops_store c.args.b in
     let n : ℕ = c.in-At.n in
     let op_found : NextChild ops_list c.loop-n.from n = next_op ops_store c.args.b c.loop-n.from n _ c.next_op.ensures c.in-At.is in
-    let op_here : n < op_count (columns c.args.store.now) = op_in_law (columns c.args.store.now) c.args.b n op_found.child in
+    let op_here : n < op_count (columns c.args.store.now) = op_in_lem (columns c.args.store.now) c.args.b n op_found.child in
     let op_few : n < 512 = omega (arith, op_here, (laid_facts (columns c.args.store.now) c.requires.readable.sound.laid).counts.ops) in
     record { fits = omega (arith, op_few) }
 
@@ -429,7 +429,7 @@ put_ops_full-loop-n-smaller t c =
     let ops_list : List ℕ = ops_of ops_store c.args.b in
     let n : ℕ = c.in-At.n in
     let op_found : NextChild ops_list c.loop-n.from n = next_op ops_store c.args.b c.loop-n.from n _ c.next_op.ensures c.in-At.is in
-    let op_here : n < op_count (columns c.args.store.now) = op_in_law (columns c.args.store.now) c.args.b n op_found.child in
+    let op_here : n < op_count (columns c.args.store.now) = op_in_lem (columns c.args.store.now) c.args.b n op_found.child in
     let op_few : n < 512 = omega (arith, op_here, (laid_facts (columns c.args.store.now) c.requires.readable.sound.laid).counts.ops) in
     omega (arith, op_few, op_found.later)
 
@@ -437,11 +437,11 @@ pub put_ops_full-loop-n-preserved : goal.put_ops_full-loop-n-preserved
 put_ops_full-loop-n-preserved t c =
     let ops_store : Store = store_in c.args.store.now in
     let ops_options : Options = options_of c.args.ignore c.args.types.now in
-    let ops_walk_law : StepRelation Place = key_walk ops_store ops_options in
+    let ops_walk_lem : StepRelation Place = key_walk ops_store ops_options in
     let ops_list : List ℕ = ops_of ops_store c.args.b in
     let n : ℕ = c.in-At.n in
     let op_found : NextChild ops_list c.loop-n.from n = next_op ops_store c.args.b c.loop-n.from n _ c.next_op.ensures c.in-At.is in
     let least = c.least-rest in
     let m = c.loop-n in
-    pass_again ops_walk_law (each (full_steps ops_store)) ops_list m.from m.invariant op_found
+    pass_again ops_walk_lem (each (full_steps ops_store)) ops_list m.from m.invariant op_found
     (wrote_lent ops_store ops_options (full_steps ops_store n) m.key m.at least.result least.ensures c.put_op_full-at.ensures)

@@ -16,8 +16,8 @@ use Rattle.layout.proofs.checks.attribute_sum.Goals as goal
 op_keys : (C : Cols) → all_below (op_count C) (op_laid C) ≡ true → (i : ℕ) → i < op_count C → at C op_attributes i ≤ 8
 op_keys C h i l = (op_facts C i (all_below_at (op_count C) (op_laid C) h i l)).keys
 
-block_keys_law : (C : Cols) → all_below (block_count C) (block_laid C) ≡ true → (i : ℕ) → i < block_count C → at C block_attributes i ≤ 8
-block_keys_law C h i l = (block_facts C i (all_below_at (block_count C) (block_laid C) h i l)).keys
+block_keys_lem : (C : Cols) → all_below (block_count C) (block_laid C) ≡ true → (i : ℕ) → i < block_count C → at C block_attributes i ≤ 8
+block_keys_lem C h i l = (block_facts C i (all_below_at (block_count C) (block_laid C) h i l)).keys
 
 pub sum_of-requires : goal.sum_of-requires
 unfolding op_count
@@ -40,7 +40,7 @@ sum_of-requires-2 c =
       store_len = c.requires.counts_bounded.sized;
       column_lt_column_count = omega arith;
       n_bound = omega (arith, k.blocks);
-      i_value = all_below_of c.number-blocks.result _ (λ i l. le-leb (at C block_attributes i) 8 (block_keys_law C c.requires.store_value_2 i (omega arith)));
+      i_value = all_below_of c.number-blocks.result _ (λ i l. le-leb (at C block_attributes i) 8 (block_keys_lem C c.requires.store_value_2 i (omega arith)));
     }
 
 pub overflow_add-result : goal.overflow_add-result
@@ -50,7 +50,7 @@ overflow_add-result c =
     let k = counts_facts C c.requires.counts_bounded.counted in
     let ops = c.sum_of.ensures ∙ ap (λ (n : ℕ). sum (tabulate n (at C op_attributes))) c.number-ops.ensures in
     let blocks = c.sum_of-2.ensures ∙ ap (λ (n : ℕ). sum (tabulate n (at C block_attributes))) c.number-blocks.ensures in
-    omega (arith, ops, blocks, k.ops, k.blocks, sum_bound (at C 0 0) (at C op_attributes) (op_keys C c.requires.store_value), sum_bound (at C 0 1) (at C block_attributes) (block_keys_law C c.requires.store_value_2))
+    omega (arith, ops, blocks, k.ops, k.blocks, sum_bound (at C 0 0) (at C op_attributes) (op_keys C c.requires.store_value), sum_bound (at C 0 1) (at C block_attributes) (block_keys_lem C c.requires.store_value_2))
 
 pub returns : goal.returns
 unfolding attribute_sum op_count block_count

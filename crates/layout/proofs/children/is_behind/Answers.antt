@@ -4,7 +4,7 @@ use native.Mathlib.Omega.{arith}
 use mathlib.Core.Path.{sym, ap, ◌∙◌}
 use lib.Dec.{eqb}
 use Rattle.layout.specs.Columns.{columns}
-use Rattle.layout.proofs.Linking.{behind_none, behind_high, behind_by_law}
+use Rattle.layout.proofs.Linking.{behind_none, behind_high, behind_by_lem}
 use Rattle.layout.proofs.children.is_behind.Goals as goal
 
 pub returns-then-from-eq0 : goal.returns-then-from-eq0
@@ -19,4 +19,4 @@ pub returns : goal.returns
 returns c =
     let a = c.args in
     ap (λ (x : ℕ). eqb x a.w) c.at.ensures
-    ∙ sym (behind_by_law (columns a.store.now) a.owners a.count a.w a.from c.if-from-eq0.false (omega arith))
+    ∙ sym (behind_by_lem (columns a.store.now) a.owners a.count a.w a.from c.if-from-eq0.false (omega arith))

@@ -7,7 +7,7 @@ use Rattle.layout.specs.Columns.{columns}
 use Rattle.layout.specs.Reading.{op_count}
 use Rattle.layout.proofs.Laid.{Laid, laid_facts}
 use Rattle.layout.proofs.Linking.{behind_facts}
-use Rattle.layout.proofs.Following.{ops_of_law, by_link, by_search}
+use Rattle.layout.proofs.Following.{ops_of_lem, by_link, by_search}
 use Rattle.layout.proofs.children.next_op.Goals as goal
 
 pub overflow_cast-parent : goal.overflow_cast-parent
@@ -51,7 +51,7 @@ pub returns-then-is_behind : goal.returns-then-is_behind
 unfolding op_count
 returns-then-is_behind c =
     let laid : Laid (columns c.args.store.now) = laid_facts _ c.requires.arranged.laid in
-    by_link (ops_of_law _ laid c.args.block c.requires.block_bound) c.args.from c.number-ops.ensures c.is_behind.ensures c.if-is_behind.true
+    by_link (ops_of_lem _ laid c.args.block c.requires.block_bound) c.args.from c.number-ops.ensures c.is_behind.ensures c.if-is_behind.true
     c.number.ensures c.linked.ensures
 
 pub number-requires-2 : goal.number-requires-2
@@ -79,4 +79,4 @@ first_at-requires c =
 pub returns : goal.returns
 returns c =
     let laid : Laid (columns c.args.store.now) = laid_facts _ c.requires.arranged.laid in
-    by_search (ops_of_law _ laid c.args.block c.requires.block_bound) c.args.from c.number-2.ensures c.larger-start.ensures c.number-end.ensures c.first_at.ensures
+    by_search (ops_of_lem _ laid c.args.block c.requires.block_bound) c.args.from c.number-2.ensures c.larger-start.ensures c.number-end.ensures c.first_at.ensures

@@ -5,7 +5,7 @@ use mathlib.Core.Path.{sym, ap₂, ◌∙◌}
 use Rattle.layout.specs.Columns.{columns}
 use Rattle.layout.specs.Reading.{parent_from}
 use Rattle.layout.specs.Soundness.{link_holds, parent_linked}
-use Rattle.layout.proofs.Linking.{parent_linked_law}
+use Rattle.layout.proofs.Linking.{parent_linked_lem}
 use borrow.Author.Rules.{rules}
 use Rattle.layout.proofs.links.op_linked.Goals as goal
 
@@ -34,4 +34,4 @@ returns c =
     let a = c.args in
     c.link_holds.ensures
     ∙ ap₂ (λ (l e : ℕ). link_holds a.next l e a.n) c.at.ensures c.number-end.ensures
-    ∙ sym (parent_linked_law (columns a.store.now) a.n (a.parent - 1) a.parent a.next (omega (arith, c.if-parent-eq0.false)))
+    ∙ sym (parent_linked_lem (columns a.store.now) a.n (a.parent - 1) a.parent a.next (omega (arith, c.if-parent-eq0.false)))

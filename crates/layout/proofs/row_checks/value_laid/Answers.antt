@@ -18,13 +18,13 @@ module _ (C : Cols) (v w : ℕ) (e : w ≡ at C value_owner v) where
   unfolding value_laid
   laid_by u h = ap (λ (x : ℕ). in_owner C v (owner_from x)) (sym e) ∙ ap (in_owner C v) h
 
-  op_laid_law : w % 2 ≡ 0 → value_laid C v ≡ (ltb (w / 2) (op_count C) && within (at C op_result_first (w / 2)) (at C op_result_end (w / 2)) v)
+  op_laid_lem : w % 2 ≡ 0 → value_laid C v ≡ (ltb (w / 2) (op_count C) && within (at C op_result_first (w / 2)) (at C op_result_end (w / 2)) v)
   unfolding owner_from in_owner
-  op_laid_law h = laid_by (of_op (w / 2)) (ap (λ (b : Bool). cond b (of_op (w / 2)) (of_block (w / 2))) (eq-eqb (w % 2) 0 h))
+  op_laid_lem h = laid_by (of_op (w / 2)) (ap (λ (b : Bool). cond b (of_op (w / 2)) (of_block (w / 2))) (eq-eqb (w % 2) 0 h))
 
-  block_laid_law : (w % 2 ≡ 0 → ⊥) → value_laid C v ≡ (ltb (w / 2) (block_count C) && within (at C block_argument_first (w / 2)) (at C block_argument_end (w / 2)) v)
+  block_laid_lem : (w % 2 ≡ 0 → ⊥) → value_laid C v ≡ (ltb (w / 2) (block_count C) && within (at C block_argument_first (w / 2)) (at C block_argument_end (w / 2)) v)
   unfolding owner_from in_owner
-  block_laid_law h = laid_by (of_block (w / 2)) (ap (λ (b : Bool). cond b (of_op (w / 2)) (of_block (w / 2))) (ne_eqb (w % 2) 0 h))
+  block_laid_lem h = laid_by (of_block (w / 2)) (ap (λ (b : Bool). cond b (of_op (w / 2)) (of_block (w / 2))) (ne_eqb (w % 2) 0 h))
 
 outside : (n k : ℕ) (b : Bool) → n ≤ k → (ltb k n && b) ≡ false
 outside n k b h = ap (λ (t : Bool). t && b) (le-ltb k n h)
@@ -37,7 +37,7 @@ unfolding op_count block_count
 returns-then-owner-number c =
     let a = c.args in
     let C = columns a.store.now in
-    let laid = op_laid_law C a.v _ c.number-w.ensures c.if-w-eq0.true in
+    let laid = op_laid_lem C a.v _ c.number-w.ensures c.if-w-eq0.true in
     sym (laid ∙ outside (op_count C) (c.number-w.result / 2) _ (omega arith))
 
 pub holds-requires : goal.holds-requires
@@ -57,7 +57,7 @@ unfolding op_count block_count
 returns-then-w-eq0 c =
     let a = c.args in
     let C = columns a.store.now in
-    let laid = op_laid_law C a.v _ c.number-w.ensures c.if-w-eq0.true in
+    let laid = op_laid_lem C a.v _ c.number-w.ensures c.if-w-eq0.true in
     c.holds.ensures ∙ sym (laid ∙ inside (op_count C) (c.number-w.result / 2) _ (omega arith))
 
 pub returns-then-owner-number-2 : goal.returns-then-owner-number-2
@@ -65,7 +65,7 @@ unfolding op_count block_count
 returns-then-owner-number-2 c =
     let a = c.args in
     let C = columns a.store.now in
-    let laid = block_laid_law C a.v _ c.number-w.ensures c.if-w-eq0.false in
+    let laid = block_laid_lem C a.v _ c.number-w.ensures c.if-w-eq0.false in
     sym (laid ∙ outside (block_count C) (c.number-w.result / 2) _ (omega arith))
 
 pub holds-requires-2 : goal.holds-requires-2
@@ -85,5 +85,5 @@ unfolding op_count block_count
 returns c =
     let a = c.args in
     let C = columns a.store.now in
-    let laid = block_laid_law C a.v _ c.number-w.ensures c.if-w-eq0.false in
+    let laid = block_laid_lem C a.v _ c.number-w.ensures c.if-w-eq0.false in
     c.holds-2.ensures ∙ sym (laid ∙ inside (block_count C) (c.number-w.result / 2) _ (omega arith))

@@ -8,7 +8,7 @@ use Rattle.lines.specs.Reading.{fields_left}
 use Rattle.lines.specs.Parsing.{three_of, owner_fields, owner_read, attribute_line_of}
 use Rattle.calling.specs.Types.{attribute_of}
 use Rattle.lines.proofs.Answers.{told}
-use Rattle.lines.proofs.Meaning.{unread, more_left, all_read_law, attribute_ownerless, attribute_bad, attribute_read_law}
+use Rattle.lines.proofs.Meaning.{unread, more_left, all_read_lem, attribute_ownerless, attribute_bad, attribute_read_lem}
 use Rattle.lines.proofs.parsing.attribute_line.Goals as goal
 use Rattle.lines.proofs.parsing.attribute_line.Goals.{In-At, In-At-read_three}
 
@@ -42,12 +42,12 @@ pub returns-then-not-ended_at : goal.returns-then-not-ended_at
 unfolding attribute_line_of
 returns-then-not-ended_at c =
     let known = goal.at.returns-then-not-ended_at c in
-    let read = attribute_read_law (fields_left c.args.line.now c.args.at) (owner_is known.In-At) (three_are known.In-At-read_three) in
+    let read = attribute_read_lem (fields_left c.args.line.now c.args.at) (owner_is known.In-At) (three_are known.In-At-read_three) in
     more_left _ read (sym c.ended_at.ensures ∙ c.if-not-ended_at.true)
 
 pub returns : goal.returns
 unfolding attribute_line_of attribute_of
 returns c =
     let known = goal.at.returns c in
-    let read = attribute_read_law (fields_left c.args.line.now c.args.at) (owner_is known.In-At) (three_are known.In-At-read_three) in
-    all_read_law _ read (sym c.ended_at.ensures ∙ c.if-not-ended_at.false)
+    let read = attribute_read_lem (fields_left c.args.line.now c.args.at) (owner_is known.In-At) (three_are known.In-At-read_three) in
+    all_read_lem _ read (sym c.ended_at.ensures ∙ c.if-not-ended_at.false)

@@ -3,7 +3,7 @@ use mathlib.Core.Path.{sym, ◌∙◌}
 use Rattle.lines.specs.Reading.{fields_left}
 use Rattle.lines.specs.Parsing.{three_of, block_line_of, ArgumentsFit}
 use Rattle.lines.proofs.Answers.{told, read_items, items_fit, items_nothing}
-use Rattle.lines.proofs.Meaning.{unread, more_left, all_read_law, block_bad, block_untyped, block_read}
+use Rattle.lines.proofs.Meaning.{unread, more_left, all_read_lem, block_bad, block_untyped, block_read}
 use Rattle.lines.proofs.parsing.block_line.Goals as goal
 
 pub returns-in_default : goal.returns-in_default
@@ -35,5 +35,5 @@ returns c =
     let line = c.args.line.now in
     let t = told (three_of line) c.read_three.ensures c.in-At.is in
     let i = read_items c.items_at.ensures _ _ c.in-At-items_at.is in
-    let all = all_read_law _ (block_read (fields_left line c.args.at) t i) (sym c.ended_at.ensures ∙ c.if-not-ended_at.false) in
+    let all = all_read_lem _ (block_read (fields_left line c.args.at) t i) (sym c.ended_at.ensures ∙ c.if-not-ended_at.false) in
     record { same = all; fit = items_fit c.items_at.ensures _ _ c.in-At-items_at.is }

@@ -3,7 +3,7 @@ use mathlib.Core.Path.{sym, ◌∙◌}
 use Rattle.lines.specs.Reading.{fields_left}
 use Rattle.lines.specs.Parsing.{three_of, operand_line_of}
 use Rattle.lines.proofs.Answers.{told}
-use Rattle.lines.proofs.Meaning.{unread, more_left, all_read_law, operand_bad, operand_read}
+use Rattle.lines.proofs.Meaning.{unread, more_left, all_read_lem, operand_bad, operand_read}
 use Rattle.lines.proofs.parsing.operand_line.Goals as goal
 
 pub returns-in_default : goal.returns-in_default
@@ -24,4 +24,4 @@ unfolding three_of operand_line_of
 returns c =
     let line = c.args.line.now in
     let t = told (three_of line) c.read_three.ensures c.in-At.is in
-    all_read_law _ (operand_read (fields_left line c.args.at) t) (sym c.ended_at.ensures ∙ c.if-not-ended_at.false)
+    all_read_lem _ (operand_read (fields_left line c.args.at) t) (sym c.ended_at.ensures ∙ c.if-not-ended_at.false)

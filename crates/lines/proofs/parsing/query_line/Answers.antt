@@ -8,7 +8,7 @@ use Rattle.fragments.specs.Ignoring.{ignore_of}
 use Rattle.lines.specs.Reading.{fields_left, bits_of}
 use Rattle.lines.specs.Parsing.{three_of, sort_read, query_of, query_line_of}
 use Rattle.lines.proofs.Answers.{told}
-use Rattle.lines.proofs.Meaning.{unread, more_left, all_read_law, query_sortless, query_bad, query_flag, query_bitless, query_read}
+use Rattle.lines.proofs.Meaning.{unread, more_left, all_read_lem, query_sortless, query_bad, query_flag, query_bitless, query_read}
 use Rattle.lines.proofs.parsing.query_line.Goals as goal
 use Rattle.lines.proofs.parsing.query_line.Goals.{In-At, In-At-read_three, In-At-bits_at}
 
@@ -74,4 +74,4 @@ returns c =
     let fields = fields_left c.args.line.now c.args.at in
     let three = three_are known.In-At-read_three in
     let read = query_read fields (sort_is known.In-At) three c.if-flag-gt1.false (bits_are known.In-At-bits_at) in
-    all_read_law _ read (sym c.ended_at.ensures ∙ c.if-not-ended_at.false)
+    all_read_lem _ read (sym c.ended_at.ensures ∙ c.if-not-ended_at.false)

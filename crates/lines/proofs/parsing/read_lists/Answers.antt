@@ -2,7 +2,7 @@
 use mathlib.Core.Path.{refl, sym, ◌∙◌}
 use Rattle.lines.specs.Parsing.{operation_lists, lists_of, ListsFit}
 use Rattle.lines.proofs.Answers.{read_items, items_fit, items_nothing}
-use Rattle.lines.proofs.Meaning.{stops, goes, unread, more_left, all_read_law}
+use Rattle.lines.proofs.Meaning.{stops, goes, unread, more_left, all_read_lem}
 use Rattle.lines.proofs.parsing.read_lists.Goals as goal
 
 pub returns-in_default : goal.returns-in_default
@@ -40,6 +40,6 @@ returns c =
     let fits_o = items_fit c.items_at-2.ensures _ _ c.in-At-items_at.is in
     let fits_s = items_fit c.items_at-3.ensures _ _ c.in-At-items_at-2.is in
     record {
-      same = all_read_law _ (goes _ t (goes _ o (goes _ s refl))) (sym c.ended_at.ensures ∙ c.if-not-ended_at.false);
+      same = all_read_lem _ (goes _ t (goes _ o (goes _ s refl))) (sym c.ended_at.ensures ∙ c.if-not-ended_at.false);
       fit = (fits_t, fits_o, fits_s);
     }

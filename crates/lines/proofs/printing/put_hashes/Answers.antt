@@ -1,7 +1,7 @@
 -- `put_hashes` meets its contract: its four pieces are the line. Assumes nothing.
 use native.Mathlib.Omega.{arith}
 use Rattle.lines.proofs.Joined.{then, said}
-use Rattle.lines.proofs.Lines.{hashes_line_law}
+use Rattle.lines.proofs.Lines.{hashes_line_lem}
 use Rattle.lines.proofs.printing.put_hashes.Goals as goal
 
 pub returns : goal.returns
@@ -9,4 +9,4 @@ returns c =
     let a = c.args in
     let two = then c.put_hexadecimal-parted.ensures c.put_byte-right.ensures (omega arith) in
     let three = then two c.put_hexadecimal-end.ensures (omega arith) in
-    said (then three c.put_byte.ensures (omega arith)) (hashes_line_law a.l a.r)
+    said (then three c.put_byte.ensures (omega arith)) (hashes_line_lem a.l a.r)

@@ -2,7 +2,7 @@
 use native.Mathlib.Omega.{arith}
 use Rattle.lines.proofs.Joined.{then, said}
 use Rattle.fragments.specs.Sorts.{sort_of}
-use Rattle.lines.proofs.Lines.{unequal_line_law}
+use Rattle.lines.proofs.Lines.{unequal_line_lem}
 use Rattle.lines.proofs.printing.put_unequal.Goals as goal
 
 pub returns : goal.returns
@@ -10,4 +10,4 @@ returns c =
     let a = c.args in
     let two = then c.put_sort-left.ensures c.put_field-right.ensures (omega arith) in
     let three = then two c.put_field-last.ensures (omega arith) in
-    said (then three c.put_last.ensures (omega arith)) (unequal_line_law (sort_of a.sort) a.l a.r a.paired)
+    said (then three c.put_last.ensures (omega arith)) (unequal_line_lem (sort_of a.sort) a.l a.r a.paired)

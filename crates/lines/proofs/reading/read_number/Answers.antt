@@ -9,7 +9,7 @@ use Rattle.rules.specs.Lines.{number}
 use Rattle.layout.specs.Reading.{slice}
 use Rattle.lines.specs.Reading.{FieldEnd, number_of, read_of, ReadOn}
 use Rattle.lines.proofs.Answers.{no_field, field_good, field_bad}
-use Rattle.lines.proofs.Numbers.{number_below_law}
+use Rattle.lines.proofs.Numbers.{number_below_lem}
 use Rattle.lines.proofs.reading.read_number.Goals as goal
 
 pub returns-then-at-line : goal.returns-then-at-line
@@ -27,7 +27,7 @@ overflow_cast-result c =
     let e = c.field_end-e.result in
     let n = c.in-Is.n in
     let q : number_below (2 ^ 32) (slice line at e) ≡ some n = sym c.number_to.ensures ∙ ap number_of c.in-Is.is in
-    record { fits = number_below_law (2 ^ 32) (slice line at e) n q }
+    record { fits = number_below_lem (2 ^ 32) (slice line at e) n q }
 
 pub returns-in-Is : goal.returns-in-Is
 unfolding read_of ReadOn number_of number

@@ -1,5 +1,5 @@
 -- `read_word` meets its contract: the field has one byte, or it has not. Assumes nothing.
-use Rattle.lines.proofs.Answers.{no_field, field_bad, field_good, one_byte_law, not_one_byte}
+use Rattle.lines.proofs.Answers.{no_field, field_bad, field_good, one_byte_lem, not_one_byte}
 use Rattle.lines.specs.Reading.{one_byte, word_of}
 use Rattle.lines.proofs.reading.read_word.Goals as goal
 
@@ -20,4 +20,4 @@ unfolding word_of
 returns c =
     let line = c.args.line.now in
     let h = c.field_end-e.ensures in
-    field_good one_byte line c.args.at _ h _ (one_byte_law line c.args.at _ h.from h.within c.if-e-at-ne1.false)
+    field_good one_byte line c.args.at _ h _ (one_byte_lem line c.args.at _ h.from h.within c.if-e-at-ne1.false)

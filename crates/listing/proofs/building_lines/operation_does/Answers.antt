@@ -2,7 +2,7 @@
 use mathlib.Core.Path.{sym}
 use lib.Seq.{length-take-le}
 use Rattle.listing.proofs.Built.{unread, line_built}
-use Rattle.listing.proofs.Meant.{headless, listless, operation_meant, types_fit_law, operands_fit_law, successors_fit_law}
+use Rattle.listing.proofs.Meant.{headless, listless, operation_meant, types_fit_lem, operands_fit_lem, successors_fit_lem}
 use Rattle.listing.proofs.building_lines.operation_does.Goals as goal
 
 pub returns-in_default : goal.returns-in_default
@@ -15,24 +15,24 @@ returns-in_default-lists c =
 
 pub slice_bounds-types-end : goal.slice_bounds-types-end
 slice_bounds-types-end c =
-    types_fit_law c.read_lists-lists.ensures c.in-Are.is
+    types_fit_lem c.read_lists-lists.ensures c.in-Are.is
 
 pub slice_bounds-new_operation-end : goal.slice_bounds-new_operation-end
-slice_bounds-new_operation-end c = sym (length-take-le _ _ (types_fit_law c.read_lists-lists.ensures c.in-Are.is))
+slice_bounds-new_operation-end c = sym (length-take-le _ _ (types_fit_lem c.read_lists-lists.ensures c.in-Are.is))
 
 pub slice_bounds-operands-end : goal.slice_bounds-operands-end
 slice_bounds-operands-end c =
-    operands_fit_law c.read_lists-lists.ensures c.in-Are.is
+    operands_fit_lem c.read_lists-lists.ensures c.in-Are.is
 
 pub slice_bounds-new_operation-end-2 : goal.slice_bounds-new_operation-end-2
-slice_bounds-new_operation-end-2 c = sym (length-take-le _ _ (operands_fit_law c.read_lists-lists.ensures c.in-Are.is))
+slice_bounds-new_operation-end-2 c = sym (length-take-le _ _ (operands_fit_lem c.read_lists-lists.ensures c.in-Are.is))
 
 pub slice_bounds-successors-end : goal.slice_bounds-successors-end
 slice_bounds-successors-end c =
-    successors_fit_law c.read_lists-lists.ensures c.in-Are.is
+    successors_fit_lem c.read_lists-lists.ensures c.in-Are.is
 
 pub slice_bounds-new_operation-end-3 : goal.slice_bounds-new_operation-end-3
-slice_bounds-new_operation-end-3 c = sym (length-take-le _ _ (successors_fit_law c.read_lists-lists.ensures c.in-Are.is))
+slice_bounds-new_operation-end-3 c = sym (length-take-le _ _ (successors_fit_lem c.read_lists-lists.ensures c.in-Are.is))
 
 pub returns : goal.returns
 returns c =

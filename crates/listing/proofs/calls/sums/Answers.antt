@@ -3,7 +3,7 @@ use Rattle.rules.specs.Listings.{sums_program}
 use Rattle.mapping.specs.MappingWords.{empty_words}
 use Rattle.listing.specs.Progress.{program_of}
 use Rattle.listing.proofs.Emptied.{empty_length}
-use Rattle.listing.proofs.Whole.{wrong_store, no_room_law, answered, unmapped}
+use Rattle.listing.proofs.Whole.{wrong_store, no_room_lem, answered, unmapped}
 use Rattle.listing.proofs.calls.sums.Goals as goal
 
 pub returns-then-store-ne-STORE : goal.returns-then-store-ne-STORE
@@ -20,7 +20,7 @@ returns-then-out-lt-ROOM c =
     let listing = a.listing.now in
     let store = a.store.now in
     let out = a.out.now in
-    no_room_law sums_program listing store empty_words out c.if-store-ne-STORE.false empty_length c.if-out-lt-ROOM.true
+    no_room_lem sums_program listing store empty_words out c.if-store-ne-STORE.false empty_length c.if-out-lt-ROOM.true
 
 pub returns : goal.returns
 unfolding program_of empty_words

@@ -1,7 +1,7 @@
 -- `twins` meets its contract: it tests the lent buffers, and then the listing is printed. Assumes nothing.
 use Rattle.rules.specs.Listings.{twins_program}
 use Rattle.listing.specs.Progress.{program_of}
-use Rattle.listing.proofs.Whole.{wrong_store, wrong_mapping, no_room_law, answered}
+use Rattle.listing.proofs.Whole.{wrong_store, wrong_mapping, no_room_lem, answered}
 use Rattle.listing.proofs.calls.twins.Goals as goal
 
 pub returns-then-store-ne-STORE : goal.returns-then-store-ne-STORE
@@ -29,7 +29,7 @@ returns-then-out-lt-ROOM c =
     let store = a.store.now in
     let mapping = a.mapping.now in
     let out = a.out.now in
-    no_room_law twins_program listing store mapping out c.if-store-ne-STORE.false c.if-mapping-ne-MAPPING.false c.if-out-lt-ROOM.true
+    no_room_lem twins_program listing store mapping out c.if-store-ne-STORE.false c.if-mapping-ne-MAPPING.false c.if-out-lt-ROOM.true
 
 pub returns : goal.returns
 unfolding program_of

@@ -8,12 +8,12 @@ use Rattle.rules.specs.Shells.{Ignore}
 use Rattle.rules.specs.Entered.{EnteredBy}
 use Rattle.layout.specs.Reading.{store_in}
 use Rattle.renaming.specs.Index.{list_in}
-use Rattle.renaming.proofs.Indexed.{no_words_law, no_list}
+use Rattle.renaming.proofs.Indexed.{no_words_lem, no_list}
 use Rattle.mapping.specs.MappingWords.{mapping_of}
 use Rattle.equivalence.specs.Calls.{Answered}
 use Rattle.pairing.specs.declared.types.EqResult.{EqResult}
 use Rattle.equivalence.proofs.AfterEmpty.{answered_entered}
-use Rattle.listing.proofs.Verdicts.{entries_allowed_law, as_many, compares}
+use Rattle.listing.proofs.Verdicts.{entries_allowed_lem, as_many, compares}
 use Rattle.listing.proofs.comparing.compare.Goals as goal
 
 -- as a list that is empty
@@ -26,8 +26,8 @@ pub fragments_eq-result-requires : goal.fragments_eq-result-requires
 fragments_eq-result-requires c =
     let a = c.args in
     record {
-      readable = record { sound = c.requires.sound; indexed = no_words_law };
-      mapping_value = entries_allowed_law (store_in a.store.now) a.mapping.now c.requires.mapping_value;
+      readable = record { sound = c.requires.sound; indexed = no_words_lem };
+      mapping_value = entries_allowed_lem (store_in a.store.now) a.mapping.now c.requires.mapping_value;
     }
 
 pub unmap_entered-requires : goal.unmap_entered-requires

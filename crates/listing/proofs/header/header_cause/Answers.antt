@@ -1,13 +1,13 @@
 -- `header_cause` meets its contract: its tests are the rules', in their order. Assumes nothing.
 use mathlib.Core.Path.{sym, ◌∙◌}
 use lib.Seq.{length-take-le}
-use Rattle.listing.proofs.Heading.{too_long_law, nothing, unended, line_too_long, other_line, header}
+use Rattle.listing.proofs.Heading.{too_long_lem, nothing, unended, line_too_long, other_line, header}
 use Rattle.listing.proofs.header.header_cause.Goals as goal
 
 pub returns-then-listing-gt-MAX_LISTING : goal.returns-then-listing-gt-MAX_LISTING
 returns-then-listing-gt-MAX_LISTING c =
     let listing = c.args.listing.now in
-    too_long_law listing c.if-listing-gt-MAX_LISTING.true
+    too_long_lem listing c.if-listing-gt-MAX_LISTING.true
 
 pub returns-then-listing-eq0 : goal.returns-then-listing-eq0
 returns-then-listing-eq0 c =

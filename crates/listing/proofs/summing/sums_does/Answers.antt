@@ -6,7 +6,7 @@ use mathlib.Core.Path.{subst}
 use Rattle.rules.specs.Fragments.{Sort}
 use Rattle.rules.specs.Shells.{Ignore}
 use Rattle.renaming.specs.Index.{list_in}
-use Rattle.renaming.proofs.Indexed.{no_words_law, no_list}
+use Rattle.renaming.proofs.Indexed.{no_words_lem, no_list}
 use Rattle.hashing.specs.Calls.{Answered}
 use Rattle.hashing.specs.declared.types.Hashed.{Hashed}
 use Rattle.listing.proofs.Hashes.{left_stops, right_stops, sums_goes}
@@ -18,11 +18,11 @@ unlisted {b} {ig} {f} {n} {h} a = subst (λ (ts : List ℕ). Answered true b ts 
 
 pub fragment_hash-left-requires : goal.fragment_hash-left-requires
 fragment_hash-left-requires c =
-    record { sound = c.requires.sound; indexed = no_words_law }
+    record { sound = c.requires.sound; indexed = no_words_lem }
 
 pub fragment_hash-right-requires : goal.fragment_hash-right-requires
 fragment_hash-right-requires c =
-    record { sound = c.requires.sound; indexed = no_words_law }
+    record { sound = c.requires.sound; indexed = no_words_lem }
 
 pub returns-in-Refused : goal.returns-in-Refused
 returns-in-Refused c =

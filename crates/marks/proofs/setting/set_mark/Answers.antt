@@ -5,7 +5,7 @@ use Rattle.rules.specs.Marks.{set_mark}
 use Rattle.calling.specs.Types.{built_of}
 use Rattle.marks.proofs.Lent.{lent_facts}
 use Rattle.marks.proofs.Doing.{marked_refuse}
-use Rattle.marks.proofs.SetMark.{is_mark_law, no_mark_low, no_mark_high, mark_done}
+use Rattle.marks.proofs.SetMark.{is_mark_lem, no_mark_low, no_mark_high, mark_done}
 use Rattle.marks.proofs.setting.set_mark.Goals as goal
 
 pub returns-then-mark-lt1 : goal.returns-then-mark-lt1
@@ -22,10 +22,10 @@ returns-then-mark-gt8 c =
 
 pub put_mark-requires : goal.put_mark-requires
 put_mark-requires c =
-    record { lent = c.requires; mark_value = is_mark_law c.args.mark (omega arith) (omega arith) }
+    record { lent = c.requires; mark_value = is_mark_lem c.args.mark (omega arith) (omega arith) }
 
 pub returns : goal.returns
 returns c =
     let a = c.args in
     mark_done a.store.now (lent_facts a.store.now c.requires) a.mark
-    (is_mark_law a.mark (omega arith) (omega arith)) c.put_mark.new.store c.put_mark.auto.store c.put_mark.ensures
+    (is_mark_lem a.mark (omega arith) (omega arith)) c.put_mark.new.store c.put_mark.auto.store c.put_mark.ensures

@@ -4,7 +4,7 @@ use Rattle.layout.specs.Columns.{columns}
 use Rattle.layout.specs.Reading.{store_of}
 use Rattle.layout.proofs.Laid.{laid_facts}
 use Rattle.numbering.proofs.Defining.{count_kept, block_numbered}
-use Rattle.numbering.proofs.Reading.{row_room, block_room_law, block_there}
+use Rattle.numbering.proofs.Reading.{row_room, block_room_lem, block_there}
 use Rattle.numbering.proofs.words.define_block.Goals as goal
 
 pub overflow_mul-b : goal.overflow_mul-b
@@ -26,7 +26,7 @@ define_run-requires c =
     let here : c.args.b < 256 =
     omega (arith, c.requires.b_bound, (laid_facts (columns c.args.store.now) c.requires.sound.laid).counts.blocks) in
     let l = here in
-    let room = block_room_law c.requires.definitions_fit in
+    let room = block_room_lem c.requires.definitions_fit in
     record {
       place_lt_numbers_length = omega arith;
       counter_lt_numbers_length = omega arith;

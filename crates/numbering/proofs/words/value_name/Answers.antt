@@ -5,7 +5,7 @@ use Rattle.layout.specs.Reading.{store_of}
 use Rattle.layout.proofs.Laid.{laid_facts}
 use Rattle.layout.proofs.Tabulate.{values_length}
 use Rattle.numbering.proofs.Naming.{value_named}
-use Rattle.numbering.proofs.Reading.{owner_code_law, owner_low}
+use Rattle.numbering.proofs.Reading.{owner_code_lem, owner_low}
 use Rattle.numbering.proofs.words.value_name.Goals as goal
 
 pub number-owner-requires : goal.number-owner-requires
@@ -37,4 +37,4 @@ name_by-requires c =
 pub returns : goal.returns
 returns c =
     let C = columns c.args.store.now in
-    value_named c.args.numbers.now c.args.v c.name_by.result (store_of C) (subst (λ (k : ℕ). c.args.v < k) (sym (values_length C)) c.requires.v_bound) (owner_code_law C c.args.v c.requires.v_bound ∙ sym c.number-owner.ensures) c.name_by.ensures
+    value_named c.args.numbers.now c.args.v c.name_by.result (store_of C) (subst (λ (k : ℕ). c.args.v < k) (sym (values_length C)) c.requires.v_bound) (owner_code_lem C c.args.v c.requires.v_bound ∙ sym c.number-owner.ensures) c.name_by.ensures

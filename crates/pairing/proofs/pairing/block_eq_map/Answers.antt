@@ -8,7 +8,7 @@ use Rattle.layout.specs.Reading.{store_in, consecutive}
 use Rattle.layout.proofs.Laid.{laid_facts}
 use Rattle.fragments.specs.Options.{Options, options_of}
 use Rattle.mapping.specs.MappingWords.{values_mapped}
-use Rattle.pairing.proofs.Alike.{block_shells_law}
+use Rattle.pairing.proofs.Alike.{block_shells_lem}
 use Rattle.pairing.proofs.Paired.{Side, block_side, blocks_unlike, blocks_alike}
 use Rattle.pairing.proofs.pairing.block_eq_map.Goals as goal
 
@@ -48,7 +48,7 @@ returns-then-not-rows_eq c =
     let rule : Options = options_of c.args.ignore c.args.types.now in
     let a = c.args in
     blocks_unlike (store_in a.store.now) rule a.pair.lhs a.pair.rhs a.mapping.now a.paired
-    (block_shells_law rule c.block_row-l.ensures c.block_row-r.ensures ∙ sym c.rows_eq.ensures ∙ c.if-not-rows_eq.true)
+    (block_shells_lem rule c.block_row-l.ensures c.block_row-r.ensures ∙ sym c.rows_eq.ensures ∙ c.if-not-rows_eq.true)
 
 pub overflow_cast-rhs : goal.overflow_cast-rhs
 overflow_cast-rhs c =
@@ -68,7 +68,7 @@ pub overflow_cast-r : goal.overflow_cast-r
 overflow_cast-r c =
     let cols : Cols = columns c.args.store.now in
     let rule : Options = options_of c.args.ignore c.args.types.now in
-    let alike = block_shells_law rule c.block_row-l.ensures c.block_row-r.ensures ∙ sym c.rows_eq.ensures ∙ c.if-not-rows_eq.false in
+    let alike = block_shells_lem rule c.block_row-l.ensures c.block_row-r.ensures ∙ sym c.rows_eq.ensures ∙ c.if-not-rows_eq.false in
     let sides : Side cols (of_block c.args.pair.lhs) (of_block c.args.pair.rhs) c.block_row-l.result c.block_row-r.result =
     let a = c.args in block_side a.store.now rule a.pair.lhs a.pair.rhs c.block_row-l.ensures c.block_row-r.ensures alike in
     omega (arith, sides.right_fits)
@@ -77,7 +77,7 @@ pub map_values-requires : goal.map_values-requires
 map_values-requires c =
     let cols : Cols = columns c.args.store.now in
     let rule : Options = options_of c.args.ignore c.args.types.now in
-    let alike = block_shells_law rule c.block_row-l.ensures c.block_row-r.ensures ∙ sym c.rows_eq.ensures ∙ c.if-not-rows_eq.false in
+    let alike = block_shells_lem rule c.block_row-l.ensures c.block_row-r.ensures ∙ sym c.rows_eq.ensures ∙ c.if-not-rows_eq.false in
     let sides : Side cols (of_block c.args.pair.lhs) (of_block c.args.pair.rhs) c.block_row-l.result c.block_row-r.result =
     let a = c.args in block_side a.store.now rule a.pair.lhs a.pair.rhs c.block_row-l.ensures c.block_row-r.ensures alike in
     record {
@@ -93,7 +93,7 @@ pub returns : goal.returns
 returns c =
     let cols : Cols = columns c.args.store.now in
     let rule : Options = options_of c.args.ignore c.args.types.now in
-    let alike = block_shells_law rule c.block_row-l.ensures c.block_row-r.ensures ∙ sym c.rows_eq.ensures ∙ c.if-not-rows_eq.false in
+    let alike = block_shells_lem rule c.block_row-l.ensures c.block_row-r.ensures ∙ sym c.rows_eq.ensures ∙ c.if-not-rows_eq.false in
     let sides : Side cols (of_block c.args.pair.lhs) (of_block c.args.pair.rhs) c.block_row-l.result c.block_row-r.result =
     let a = c.args in block_side a.store.now rule a.pair.lhs a.pair.rhs c.block_row-l.ensures c.block_row-r.ensures alike in
     let a = c.args in

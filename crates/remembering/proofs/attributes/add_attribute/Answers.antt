@@ -8,7 +8,7 @@ use Rattle.setting.proofs.Placed.{PlaceMeans, told}
 use Rattle.marks.proofs.Lent.{lent_facts}
 use Rattle.remembering.specs.Raw.{with_entry, key_entry}
 use Rattle.remembering.proofs.Room.{new_fits}
-use Rattle.remembering.proofs.WasAttribute.{adds_new, owner_small, key_replaced, key_entry_law, attribute_room_law, attribute_remembered}
+use Rattle.remembering.proofs.WasAttribute.{adds_new, owner_small, key_replaced, key_entry_lem, attribute_room_lem, attribute_remembered}
 use Rattle.remembering.proofs.attributes.add_attribute.Goals as goal
 
 pub key_was_none-was-requires : goal.key_was_none-was-requires
@@ -40,9 +40,9 @@ remember-requires c =
     let x = attribute_of a.attribute in
     let p = told b t w x _ c.requires.slot_value in
     let k = adds_new (columns b) w x _ _ c.requires.slot_value in
-    let rest = attribute_room_law b h w x c.requires.nonzero p.clear
+    let rest = attribute_room_lem b h w x c.requires.nonzero p.clear
     (new_fits b h c.requires.nonzero (set_attribute w x) (key_replaced b t w p.owner x _ k)) (key_entry w x.key)
-    (key_entry_law b t w p.owner x k) c.put_added.new.store c.put_added.auto.store (c.put_added.ensures ∙ p.written) in
+    (key_entry_lem b t w p.owner x k) c.put_added.new.store c.put_added.auto.store (c.put_added.ensures ∙ p.written) in
     record { store_len = rest.0; store_bound = rest.1.0; store_bound_2 = rest.1.1 }
 
 pub returns : goal.returns
@@ -58,7 +58,7 @@ returns c =
     let k = adds_new (columns b) w x _ _ c.requires.slot_value in
     attribute_remembered b h w x c.requires.nonzero p.clear
     (new_fits b h c.requires.nonzero (set_attribute w x) (key_replaced b t w p.owner x _ k))
-    (key_entry w x.key) (key_entry_law b t w p.owner x k)
+    (key_entry w x.key) (key_entry_lem b t w p.owner x k)
     c.put_added.new.store c.put_added.auto.store (c.put_added.ensures ∙ p.written)
     c.remember.new.store c.remember.auto.store (c.remember.ensures
     ∙ ap (with_entry (columns c.put_added.new.store)) c.key_was_none-was.ensures)

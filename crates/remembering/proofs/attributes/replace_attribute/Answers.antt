@@ -10,7 +10,7 @@ use Rattle.marks.proofs.Lent.{lent_facts}
 use Rattle.remembering.specs.Raw.{with_entry, attribute_entry}
 use Rattle.remembering.proofs.Done.{marked_full}
 use Rattle.remembering.proofs.Room.{one_fits, none_fits}
-use Rattle.remembering.proofs.WasAttribute.{replaces_there, owner_small, key_replaced, attribute_entry_law, attribute_room_law, attribute_remembered}
+use Rattle.remembering.proofs.WasAttribute.{replaces_there, owner_small, key_replaced, attribute_entry_lem, attribute_room_lem, attribute_remembered}
 use Rattle.remembering.proofs.attributes.replace_attribute.Goals as goal
 
 pub is_full-requires : goal.is_full-requires
@@ -63,9 +63,9 @@ remember-requires c =
     let x = attribute_of a.attribute in
     let p = told b t w x _ c.requires.slot_value in
     let k = replaces_there (columns b) w x _ _ c.requires.slot_value in
-    let rest = attribute_room_law b h w x c.requires.nonzero p.clear
+    let rest = attribute_room_lem b h w x c.requires.nonzero p.clear
     (one_fits b h c.requires.nonzero (set_attribute w x) (sym c.is_full.ensures ∙ c.if-is_full.false)) (attribute_entry (columns b) w a.slot)
-    (attribute_entry_law b t w (owner_there b t w x p.clear) x a.slot k.0 k.1) c.put_replaced.new.store c.put_replaced.auto.store
+    (attribute_entry_lem b t w (owner_there b t w x p.clear) x a.slot k.0 k.1) c.put_replaced.new.store c.put_replaced.auto.store
     (c.put_replaced.ensures ∙ p.written) in
     record { store_len = rest.0; store_bound = rest.1.0; store_bound_2 = rest.1.1 }
 
@@ -82,7 +82,7 @@ returns c =
     let k = replaces_there (columns b) w x _ _ c.requires.slot_value in
     attribute_remembered b h w x c.requires.nonzero p.clear
     (one_fits b h c.requires.nonzero (set_attribute w x) (sym c.is_full.ensures ∙ c.if-is_full.false))
-    (attribute_entry (columns b) w a.slot) (attribute_entry_law b t w (owner_there b t w x p.clear) x a.slot k.0 k.1)
+    (attribute_entry (columns b) w a.slot) (attribute_entry_lem b t w (owner_there b t w x p.clear) x a.slot k.0 k.1)
     c.put_replaced.new.store c.put_replaced.auto.store (c.put_replaced.ensures ∙ p.written)
     c.remember.new.store c.remember.auto.store (c.remember.ensures
     ∙ ap (with_entry (columns c.put_replaced.new.store)) c.attribute_was-was.ensures)

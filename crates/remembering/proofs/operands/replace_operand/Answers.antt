@@ -9,7 +9,7 @@ use Rattle.marks.proofs.Lent.{lent_facts}
 use Rattle.remembering.specs.Raw.{with_entry}
 use Rattle.remembering.proofs.Done.{marked_full}
 use Rattle.remembering.proofs.Room.{none_fits}
-use Rattle.remembering.proofs.WasOperand.{operand_room_law, operand_remembered}
+use Rattle.remembering.proofs.WasOperand.{operand_room_lem, operand_remembered}
 use Rattle.remembering.proofs.operands.replace_operand.Goals as goal
 
 pub is_full-requires : goal.is_full-requires
@@ -42,7 +42,7 @@ pub remember-requires : goal.remember-requires
 remember-requires c =
     let a = c.args in
     let full = sym c.is_full.ensures ∙ c.if-is_full.false in
-    let rest = operand_room_law a.store.now c.requires.lent a.n a.i a.v c.requires.nonzero c.requires.v_value full c.put_operand.new.store
+    let rest = operand_room_lem a.store.now c.requires.lent a.n a.i a.v c.requires.nonzero c.requires.v_value full c.put_operand.new.store
     c.put_operand.auto.store c.put_operand.ensures in
     record { store_len = rest.0; store_bound = rest.1.0; store_bound_2 = rest.1.1 }
 

@@ -7,7 +7,7 @@ use Rattle.layout.specs.Soundness.{IsSound}
 use Rattle.journal.specs.Words.{sound_lent}
 use Rattle.marks.proofs.Lent.{lent_facts}
 use Rattle.renaming.specs.Index.{list_in, IsIndex}
-use Rattle.renaming.proofs.Indexed.{no_words_law, no_list}
+use Rattle.renaming.proofs.Indexed.{no_words_lem, no_list}
 use Rattle.fragments.specs.Ignoring.{ignore_of}
 use Rattle.numbering.proofs.Lone.{no_children}
 use Rattle.runs.specs.Calls.{Answered}
@@ -24,7 +24,7 @@ block_runs-requires c =
     let lent : sound_lent c.args.store.now ≡ true = sym c.is_sound.ensures ∙ c.if-not-is_sound.false in
     let sound : IsSound c.args.store.now = (lent_facts c.args.store.now lent).tables in
     let a = c.args in
-    record { sound = sound; indexed = subst IsIndex (sym (no_children a.types.now c.if-types-eq0.true)) no_words_law }
+    record { sound = sound; indexed = subst IsIndex (sym (no_children a.types.now c.if-types-eq0.true)) no_words_lem }
 
 pub returns-then-types-eq0 : goal.returns-then-types-eq0
 returns-then-types-eq0 c =

@@ -12,7 +12,7 @@ use Rattle.rules.specs.Lists.{all}
 use Rattle.rules.proofs.Basics.Tests.{all_of}
 use Rattle.layout.specs.Columns.{columns}
 use Rattle.layout.specs.Reading.{op_count}
-use Rattle.fragments.proofs.Ordered.{op_in_law}
+use Rattle.fragments.proofs.Ordered.{op_in_lem}
 use Rattle.mapping.specs.MappingWords.{empty_words}
 use Rattle.runs.proofs.Stepping.{few}
 use Rattle.runs.proofs.finding.found_among.Goals as goal
@@ -20,7 +20,7 @@ use Rattle.runs.proofs.finding.found_among.Goals as goal
 pub window_sums-requires : goal.window_sums-requires
 window_sums-requires c =
     let exist : all (λ (k : ℕ). ltb k (op_count (columns c.args.store.now))) c.args.ops.now ≡ true =
-    all_of _ c.args.ops.now (λ k m. lt-ltb k _ (op_in_law (columns c.args.store.now) c.args.runs.block k (subst (Memᴰ k) c.requires.ops_of.all m))) in
+    all_of _ c.args.ops.now (λ k m. lt-ltb k _ (op_in_lem (columns c.args.store.now) c.args.runs.block k (subst (Memᴰ k) c.requires.ops_of.all m))) in
     record {
       readable = c.requires.readable;
       ops_value = exist;

@@ -17,7 +17,7 @@ use Rattle.windows.specs.Chains.{bucket_of, Follows}
 use Rattle.runs.specs.Walked.{start_of}
 use Rattle.runs.specs.Calls.{found_of}
 use Rattle.runs.proofs.Stepping.{few}
-use Rattle.runs.proofs.Searched.{right_begins, right_here_law, right_later, right_over, left_whole, first_low, earlier_differ}
+use Rattle.runs.proofs.Searched.{right_begins, right_here_lem, right_later, right_over, left_whole, first_low, earlier_differ}
 use Rattle.runs.proofs.searching.first_run.Goals as goal
 
 pub loop-j-init : goal.loop-j-init
@@ -89,7 +89,7 @@ overflow_cast-result c =
     let i : ℕ = c.in-At.i in
     let both : Run = record { left = i; right = j } in
     let repeats : repeated store rule.ignore b n ≡ some both =
-    c.loop-j.invariant.2 ∙ right_here_law store rule.ignore b n j j_in (sym left_is ∙ ap start_of c.in-At.is) in
+    c.loop-j.invariant.2 ∙ right_here_lem store rule.ignore b n j j_in (sym left_is ∙ ap start_of c.in-At.is) in
     let apart : Apart store b n both = (repeated_found store rule.ignore b n both repeats).0 in
     let i_small : i < 512 = omega (arith, apart.0, apart.1, many, short) in
     record { fits = omega (arith, i_small) }
@@ -127,7 +127,7 @@ returns-in-At c =
     let i : ℕ = c.in-At.i in
     let both : Run = record { left = i; right = j } in
     let repeats : repeated store rule.ignore b n ≡ some both =
-    c.loop-j.invariant.2 ∙ right_here_law store rule.ignore b n j j_in (sym left_is ∙ ap start_of c.in-At.is) in
+    c.loop-j.invariant.2 ∙ right_here_lem store rule.ignore b n j j_in (sym left_is ∙ ap start_of c.in-At.is) in
     sym (ap repeated_of repeats)
 
 pub loop-j-smaller : goal.loop-j-smaller

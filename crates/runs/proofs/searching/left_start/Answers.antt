@@ -13,7 +13,7 @@ use Rattle.windows.specs.Chains.{bucket_of, Follows}
 use Rattle.runs.specs.Walked.{RunsIn, start_of, left_from}
 use Rattle.runs.specs.declared.types.TwoRuns.{TwoRuns}
 use Rattle.runs.proofs.Stepping.{few}
-use Rattle.runs.proofs.Searched.{sums_differ, left_on, left_here_law, left_later, left_over, left_on_law}
+use Rattle.runs.proofs.Searched.{sums_differ, left_on, left_here_lem, left_later, left_over, left_on_lem}
 use Rattle.runs.proofs.searching.left_start.Invariants.{LeftOn, equals}
 use Rattle.runs.proofs.searching.left_start.Goals as goal
 use Rattle.runs.proofs.searching.left_start.Goals.{then-sums-i+else-equal_runs, else-sums-i}
@@ -78,7 +78,7 @@ returns-then-equal_runs c =
     let i_fits : i + x.n ≤ x.right = c.loop-i-test.true in
     let q = c.equal_runs in
     record {
-      result_value = sym (c.loop-i.invariant.2 ∙ left_here_law test x.n x.right i i_fits (sym q.ensures.value ∙ c.if-equal_runs.true));
+      result_value = sym (c.loop-i.invariant.2 ∙ left_here_lem test x.n x.right i i_fits (sym q.ensures.value ∙ c.if-equal_runs.true));
       mapping_after = q.ensures.mapping_after;
     }
 
@@ -126,7 +126,7 @@ loop-i-preserved c =
     λ k. λ a. λ b. λ l. sums_differ sums rule x.n runs.listed c.requires.sums_of k x.right (omega (arith, runs.right)) runs.right (λ e. follows.none k a b (omega (arith, l, runs.right, runs.some)) (ap bucket_of e ∙ sym own)) in
     let next : ℕ = get_or sums (512 + i) 0 in
     let on : (e : ℕ) → e ≡ next → test i ≡ false → LeftOn (store_in c.args.store.now) rule x e =
-    λ e. λ there. λ unlike. c.loop-i.invariant.2 ∙ left_later test x.n x.right i i_fits unlike ∙ left_on_law test x.n x.right (i + 1) next follows.from others ∙ ap (left_on test x.n x.right) (sym there) in
+    λ e. λ there. λ unlike. c.loop-i.invariant.2 ∙ left_later test x.n x.right i i_fits unlike ∙ left_on_lem test x.n x.right (i + 1) next follows.from others ∙ ap (left_on test x.n x.right) (sym there) in
     let in_bucket : (e : ℕ) → e ≡ next → e < starts → bucket_of (get_or sums e 0) ≡ bucket_of (get_or sums x.right 0) =
     λ e. λ there. λ l. ap (λ (k : ℕ). bucket_of (get_or sums k 0)) there ∙ follows.own (omega (arith, there)) ∙ own in
     let there = c.next_start-i.ensures in

@@ -50,17 +50,17 @@ bounds-ops-right c =
 pub overflow_cast-ops-2 : goal.overflow_cast-ops-2
 overflow_cast-ops-2 c =
     let runs : RunsIn c.args.store.now c.args.ops.now c.args.two = c.requires.runs_in in
-    let right_here_law : get_or c.args.ops.now c.args.two.right 0 < op_count (columns c.args.store.now) =
+    let right_here_lem : get_or c.args.ops.now c.args.two.right 0 < op_count (columns c.args.store.now) =
     op_here c.requires.sound runs.listed c.args.two.right (omega (arith, runs.some, runs.right)) in
     let ops_fit : op_count (columns c.args.store.now) ≤ 512 = (laid_facts _ c.requires.sound.laid).counts.ops in
-    record { fits = omega (arith, right_here_law, ops_fit) }
+    record { fits = omega (arith, right_here_lem, ops_fit) }
 
 pub operands_of-r-requires : goal.operands_of-r-requires
 operands_of-r-requires c =
     let runs : RunsIn c.args.store.now c.args.ops.now c.args.two = c.requires.runs_in in
-    let right_here_law : get_or c.args.ops.now c.args.two.right 0 < op_count (columns c.args.store.now) =
+    let right_here_lem : get_or c.args.ops.now c.args.two.right 0 < op_count (columns c.args.store.now) =
     op_here c.requires.sound runs.listed c.args.two.right (omega (arith, runs.some, runs.right)) in
-    record { arranged = record { sized = c.requires.sound.sized; laid = c.requires.sound.laid }; n_bound = right_here_law }
+    record { arranged = record { sized = c.requires.sound.sized; laid = c.requires.sound.laid }; n_bound = right_here_lem }
 
 pub returns-then-l-r : goal.returns-then-l-r
 returns-then-l-r c types e = absurd (true≢false e)

@@ -29,8 +29,7 @@ pub bounds-table-first-in-loop-i : goal.bounds-table-first-in-loop-i
 bounds-table-first-in-loop-i c =
     let words : List ℕ = c.loop-i.table in
     let at : ℕ = c.loop-i.i - 1 in
-    let into : ℕ = c.bucket-first.result in
-    omega (arith, c.bucket-first.ensures.upper_bound, c.loop-i.invariant.1.0, length-set words (512 + at) (get_or words (1024 + into) 0))
+    omega (arith, c.bucket-first.ensures.upper_bound, c.loop-i.invariant.1.0, length-set words (512 + at) _)
 
 pub loop-i-preserved : goal.loop-i-preserved
 loop-i-preserved c =

@@ -5,7 +5,7 @@ use Rattle.layout.specs.Columns.{Cols, columns}
 use Rattle.layout.specs.Reading.{store_in}
 use Rattle.layout.proofs.Laid.{laid_facts}
 use Rattle.layout.proofs.Seeking.{NextChild, none_next, next_op}
-use Rattle.fragments.proofs.Ordered.{op_in_law}
+use Rattle.fragments.proofs.Ordered.{op_in_lem}
 use Rattle.windows.proofs.Listed.{listed_none, listed_next, listed_all}
 use Rattle.windows.proofs.listing.ops_in.Goals as goal
 
@@ -38,7 +38,7 @@ overflow_cast-ops c =
     let cols : Cols = columns c.args.store.now in
     let n : ℕ = c.in-At.n in
     let found : NextChild list c.loop-n.from n = next_op store c.args.b c.loop-n.from n _ c.next_op.ensures c.in-At.is in
-    let few : n < 512 = omega (arith, op_in_law cols c.args.b n found.child, (laid_facts cols c.requires.sound.laid).counts.ops) in
+    let few : n < 512 = omega (arith, op_in_lem cols c.args.b n found.child, (laid_facts cols c.requires.sound.laid).counts.ops) in
     record { fits = omega (arith, few) }
 
 pub offset_bounds-ops-passed : goal.offset_bounds-ops-passed
@@ -48,7 +48,7 @@ offset_bounds-ops-passed c =
     let cols : Cols = columns c.args.store.now in
     let n : ℕ = c.in-At.n in
     let found : NextChild list c.loop-n.from n = next_op store c.args.b c.loop-n.from n _ c.next_op.ensures c.in-At.is in
-    let few : n < 512 = omega (arith, op_in_law cols c.args.b n found.child, (laid_facts cols c.requires.sound.laid).counts.ops) in
+    let few : n < 512 = omega (arith, op_in_lem cols c.args.b n found.child, (laid_facts cols c.requires.sound.laid).counts.ops) in
     omega (arith, few, found.later, c.loop-n.invariant.few)
 
 pub bounds-ops-passed : goal.bounds-ops-passed
@@ -58,7 +58,7 @@ bounds-ops-passed c =
     let cols : Cols = columns c.args.store.now in
     let n : ℕ = c.in-At.n in
     let found : NextChild list c.loop-n.from n = next_op store c.args.b c.loop-n.from n _ c.next_op.ensures c.in-At.is in
-    let few : n < 512 = omega (arith, op_in_law cols c.args.b n found.child, (laid_facts cols c.requires.sound.laid).counts.ops) in
+    let few : n < 512 = omega (arith, op_in_lem cols c.args.b n found.child, (laid_facts cols c.requires.sound.laid).counts.ops) in
     omega (arith, few, found.later, c.loop-n.invariant.few, c.loop-n.invariant.room)
 
 pub overflow_add-passed : goal.overflow_add-passed
@@ -68,7 +68,7 @@ overflow_add-passed c =
     let cols : Cols = columns c.args.store.now in
     let n : ℕ = c.in-At.n in
     let found : NextChild list c.loop-n.from n = next_op store c.args.b c.loop-n.from n _ c.next_op.ensures c.in-At.is in
-    let few : n < 512 = omega (arith, op_in_law cols c.args.b n found.child, (laid_facts cols c.requires.sound.laid).counts.ops) in
+    let few : n < 512 = omega (arith, op_in_lem cols c.args.b n found.child, (laid_facts cols c.requires.sound.laid).counts.ops) in
     record { fits = omega (arith, few, found.later, c.loop-n.invariant.few) }
 
 pub overflow_add-from : goal.overflow_add-from
@@ -78,7 +78,7 @@ overflow_add-from c =
     let cols : Cols = columns c.args.store.now in
     let n : ℕ = c.in-At.n in
     let found : NextChild list c.loop-n.from n = next_op store c.args.b c.loop-n.from n _ c.next_op.ensures c.in-At.is in
-    let few : n < 512 = omega (arith, op_in_law cols c.args.b n found.child, (laid_facts cols c.requires.sound.laid).counts.ops) in
+    let few : n < 512 = omega (arith, op_in_lem cols c.args.b n found.child, (laid_facts cols c.requires.sound.laid).counts.ops) in
     record { fits = omega (arith, few) }
 
 pub loop-n-smaller : goal.loop-n-smaller
@@ -88,7 +88,7 @@ loop-n-smaller c =
     let cols : Cols = columns c.args.store.now in
     let n : ℕ = c.in-At.n in
     let found : NextChild list c.loop-n.from n = next_op store c.args.b c.loop-n.from n _ c.next_op.ensures c.in-At.is in
-    let few : n < 512 = omega (arith, op_in_law cols c.args.b n found.child, (laid_facts cols c.requires.sound.laid).counts.ops) in
+    let few : n < 512 = omega (arith, op_in_lem cols c.args.b n found.child, (laid_facts cols c.requires.sound.laid).counts.ops) in
     omega (arith, few, found.later)
 
 pub loop-n-preserved : goal.loop-n-preserved
@@ -98,6 +98,6 @@ loop-n-preserved c =
     let cols : Cols = columns c.args.store.now in
     let n : ℕ = c.in-At.n in
     let found : NextChild list c.loop-n.from n = next_op store c.args.b c.loop-n.from n _ c.next_op.ensures c.in-At.is in
-    let few : n < 512 = omega (arith, op_in_law cols c.args.b n found.child, (laid_facts cols c.requires.sound.laid).counts.ops) in
+    let few : n < 512 = omega (arith, op_in_lem cols c.args.b n found.child, (laid_facts cols c.requires.sound.laid).counts.ops) in
     let l = c.loop-n in
     listed_next list l.ops l.passed l.from l.invariant found few

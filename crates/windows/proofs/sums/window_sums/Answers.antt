@@ -4,7 +4,7 @@ use Rattle.rules.specs.Store.{Store}
 use Rattle.layout.specs.Reading.{store_in}
 use Rattle.fragments.specs.Options.{Options, options_of}
 use Rattle.windows.specs.Powers.{chained}
-use Rattle.windows.proofs.Summed.{hashes_long, sums_of_law}
+use Rattle.windows.proofs.Summed.{hashes_long, sums_of_lem}
 use Rattle.windows.proofs.Weights.{powers_chained}
 use Rattle.windows.proofs.sums.window_sums.Goals as goal
 
@@ -52,5 +52,5 @@ returns c =
     let ops : List ℕ = c.args.ops.now in
     let hashes : List ℕ = c.shell_hashes.new.hashes in
     let sums = c.sum_windows.new.sums in
-    let of = sums_of_law store options ops hashes c.shell_hashes.ensures in
+    let of = sums_of_lem store options ops hashes c.shell_hashes.ensures in
     record { sums_of = of sums c.args.n c.sum_windows.ensures; sums_len_2 = c.sum_windows.auto.sums ∙ c.requires.sums_len }
