@@ -1,5 +1,5 @@
 -- `chain_starts` meets its contract: after each turn one start more is chained. Assumes nothing.
-use Rattle.std.proofs.Common.{◌≡◌, ℕ, suc, ◌+◌, ◌-◌, ◌<◌, List, get_or, set, sym, refl, ◌∙◌, subst, arith, length-set}
+use Rattle.std.proofs.Common.{◌≡◌, ℕ, suc, ◌+◌, ◌-◌, ◌<◌, List, length, get_or, set, sym, refl, ◌∙◌, subst, arith, length-set}
 use Rattle.windows.proofs.Linking.{Linked, linked_none, linked_next, linked_all, sum_kept}
 use Rattle.windows.proofs.chains.chain_starts.Goals as goal
 
@@ -29,7 +29,11 @@ pub bounds-table-first-in-loop-i : goal.bounds-table-first-in-loop-i
 bounds-table-first-in-loop-i c =
     let words : List ℕ = c.loop-i.table in
     let at : ℕ = c.loop-i.i - 1 in
-    omega (arith, c.bucket-first.ensures.upper_bound, c.loop-i.invariant.1.0, length-set words (512 + at) _)
+    let into : ℕ = c.bucket-first.result in
+    let whatever : (v : ℕ) → 1024 + into < length (set words (512 + at) v) =
+    λ v. omega (arith, c.bucket-first.ensures.upper_bound, c.loop-i.invariant.1.0, length-set words (512 + at) v)
+    in
+    whatever _
 
 pub loop-i-preserved : goal.loop-i-preserved
 loop-i-preserved c =
