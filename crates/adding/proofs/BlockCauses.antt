@@ -1,22 +1,19 @@
--- The cause for which a new block is refused, read off the counts of a sound buffer: the first test that fails gives it, and where none does, all have passed. Assumes nothing.
+-- Where no test refuses a new block, its region is there, and there is room for it. Assumes nothing.
 use Prim.Native.Nat.{ℕ, ◌+◌, ◌<◌, ◌≤◌}
-use mathlib.Core.Bool.{true, false}
-use mathlib.Core.Option.{Option, none, some}
-use mathlib.Core.List.{List, [], ◌∷◌}
+use mathlib.Core.Option.{Option, none}
+use mathlib.Core.List.{List}
 use mathlib.Core.Path.{◌≡◌, sym, ap, ◌∙◌}
-use borrow.Author.Tests.{ltb-true, lt-leb, le-leb, leb-true}
+use borrow.Author.Tests.{ltb-true, leb-true}
 use lib.Dec.{leb}
 use lib.ListN.{length}
-use Rattle.rules.specs.Store.{region_exists, max_blocks, max_values, max_own_values}
+use Rattle.rules.specs.Store.{max_blocks, max_values, max_own_values}
 use Rattle.rules.specs.Building.{NewBlock, new_block, block_room, tests, first_failed}
 use Rattle.rules.proofs.Basics.Tests.{passed}
 use Rattle.rules.proofs.Soundness.Accepted.{first_failed_none}
 use Rattle.layout.specs.Columns.{columns}
 use Rattle.layout.specs.Reading.{block_count, region_count, value_count, store_in}
 use Rattle.layout.specs.Soundness.{IsSound}
-use Rattle.layout.proofs.Scans.{stop, next, last}
 use Rattle.layout.proofs.Tabulate.{blocks_length, values_length, region_exists_lem}
-use Rattle.calling.proofs.Causes.{none_fail, fails, passes}
 use Rattle.adding.proofs.BlockAdded.{BlockRoom}
 
 -- the region is there, and there is room for the block
@@ -34,35 +31,6 @@ module _ (b : List ℕ) (h : IsSound b) (new : NewBlock) where
 
   values_fit_lem : leb (length (store_in b).values + length new.types) max_values ≡ leb (value_count (columns b) + length new.types) max_values
   values_fit_lem = ap (λ (n : ℕ). leb (n + length new.types) max_values) (values_length (columns b))
-
-  pub no_region : region_exists (store_in b) new.region ≡ false → failing_block ≡ some 2
-  unfolding tests
-  no_region l = fails _ 2 _ l
-
-  module _ (l : region_exists (store_in b) new.region ≡ true) where
-    pub many_arguments : max_own_values < length new.types → failing_block ≡ some 4
-    unfolding tests
-    many_arguments m = passes _ 2 _ l (fails _ 4 _ (lt-leb _ _ m))
-
-    pub many_blocks : length new.types ≤ max_own_values → max_blocks < block_count (columns b) + 1 → failing_block ≡ some 3
-    unfolding tests block_room
-    many_blocks m u = passes _ 2 _ l (passes _ 4 _ (le-leb _ _ m) (fails _ 3 _ (stop _ (leb (length (store_in b).values + length new.types) max_values ∷ []) (blocks_fit ∙ lt-leb _ _ u))))
-
-    pub many_values : length new.types ≤ max_own_values → block_count (columns b) + 1 ≤ max_blocks → max_values < value_count (columns b) + length new.types → failing_block ≡ some 3
-    unfolding tests block_room
-    many_values m u w =
-        passes _ 2 _ l
-        (passes _ 4 _ (le-leb _ _ m)
-        (fails _ 3 _ (next _ (leb (length (store_in b).values + length new.types) max_values ∷ []) (blocks_fit ∙ le-leb _ _ u) (last _ (values_fit_lem ∙ lt-leb _ _ w)))))
-
-    pub block_fits_lem : length new.types ≤ max_own_values → BlockRoom (columns b) new.types → failing_block ≡ none
-    unfolding tests block_room
-    block_fits_lem m room =
-        passes _ 2 _ l
-        (passes _ 4 _ (le-leb _ _ m)
-        (passes _ 3 _
-        (next _ (leb (length (store_in b).values + length new.types) max_values ∷ []) (blocks_fit ∙ le-leb _ _ room.blocks) (last _ (values_fit_lem ∙ le-leb _ _ room.values)))
-        none_fail))
 
   pub fits_block : failing_block ≡ none → BlockFits b new
   unfolding tests block_room

@@ -4,14 +4,12 @@ use mathlib.Core.List.{List}
 use mathlib.Core.Option.{none}
 use mathlib.Core.Path.{◌≡◌, sym, ap, subst, ◌∙◌}
 use lib.ListN.{length}
-use Rattle.rules.specs.Building.{NewOperation, NewBlock, new_operation, new_block, made, tests, first_failed, acceptance}
+use Rattle.rules.specs.Building.{NewOperation, NewBlock, Built, new_operation, new_block, made, tests, first_failed, acceptance}
 use Rattle.layout.specs.Columns.{Cols, columns}
 use Rattle.layout.specs.Reading.{op_count, block_count, store_of, store_in}
 use Rattle.layout.specs.Soundness.{IsSound}
 use Rattle.layout.proofs.Laid.{Laid}
 use Rattle.layout.proofs.Tabulate.{ops_length, blocks_length}
-use Rattle.calling.specs.declared.types.Built.{Built}
-use Rattle.calling.specs.Types.{built_of}
 use Rattle.calling.specs.Doing.{Behind, Did}
 use Rattle.calling.proofs.Facts.{shaped, laid}
 use Rattle.calling.proofs.Doing.{did_work}
@@ -25,7 +23,7 @@ module _ (b : List ℕ) (h : IsSound b) (exit : List ℕ) (len : length exit ≡
   abbrev C : Cols
   C = columns b
 
-  pub operation_done : (new : NewOperation) → first_failed (tests (store_in b) (new_operation new)) ≡ none → columns exit ≡ with_operation C new → built_of r ≡ made (op_count C) → Did b exit (new_operation new) r
+  pub operation_done : (new : NewOperation) → first_failed (tests (store_in b) (new_operation new)) ≡ none → columns exit ≡ with_operation C new → r ≡ made (op_count C) → Did b exit (new_operation new) r
   unfolding acceptance
   operation_done new clear q e =
       let ok = allowed b h new clear in
@@ -35,7 +33,7 @@ module _ (b : List ℕ) (h : IsSound b) (exit : List ℕ) (len : length exit ≡
       (subst (Behind C) (sym q) (operation_behind C new (shaped b h) ok.room (laid b h)))
       (e ∙ ap made (sym (ops_length C)))
 
-  pub block_done : (new : NewBlock) → first_failed (tests (store_in b) (new_block new)) ≡ none → columns exit ≡ with_block C new → built_of r ≡ made (block_count C) → Did b exit (new_block new) r
+  pub block_done : (new : NewBlock) → first_failed (tests (store_in b) (new_block new)) ≡ none → columns exit ≡ with_block C new → r ≡ made (block_count C) → Did b exit (new_block new) r
   unfolding acceptance
   block_done new clear q e =
       let f = fits_block b h new clear in

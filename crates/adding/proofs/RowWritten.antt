@@ -31,9 +31,6 @@ module _ (C : Cols) (first n : ℕ) (row : List ℕ) where
   abbrev pub Writing : Cols → ℕ → Type 0
   Writing D j = (j ≤ length row) × (with_row D (first + j) n (drop j row) ≡ with_row C first n row)
 
-  pub row_starts : Writing C 0
-  row_starts = (omega arith, ap (λ (k : ℕ). with_row C k n row) (let e : first + 0 ≡ first = omega arith in e))
-
   module _ (D : Cols) (j : ℕ) (inv : Writing D j) where
     step : j < length row → with_row D (first + j) n (drop j row) ≡ with_row (write D (first + j) n (get_or row j 0)) (first + (j + 1)) n (drop (j + 1) row)
     unfolding with_row

@@ -3,9 +3,10 @@ use Rattle.std.specs.Prelude.{ℕ, suc, ◌+◌, ◌-◌, ◌<◌, ◌≤◌, co
 use Rattle.std.proofs.Math.Option.{Option, none, some}
 use Rattle.rules.specs.Store.{Owner, of_op, of_block, max_ops, max_regions, max_values, max_operands, max_successors}
 use Rattle.rules.specs.Building.{NewOperation, NewBlock}
-use Rattle.layout.specs.Columns.{Cols, at, write, write_range, counts, op_kind, op_parent, op_depth, region_op, region_block_first, region_block_end, block_region, block_op_first, block_op_end, value_type, value_owner, operand_words, successor_words, op_next, block_next}
+use Rattle.layout.specs.Columns.{Cols, column_count, column_size, at, write, write_range, counts, op_kind, op_parent, op_depth, region_op, region_block_first, region_block_end, block_region, block_op_first, block_op_end, value_type, value_owner, operand_words, successor_words, op_next, block_next}
 use Rattle.layout.specs.Reading.{op_count, block_count, region_count, value_count, operand_count, successor_count, around, owner_code}
 use Rattle.layout.specs.Children.{behind_child}
+use Rattle.layout.specs.declared.families.Family.{Family}
 
 -- row n: its words, one to a column, from column k on
 unfoldable pub with_row : Cols → ℕ → ℕ → List ℕ → Cols
@@ -47,6 +48,19 @@ pub record OpRoom (C : Cols) (r v o s : ℕ) : Type 0 where
 unfoldable pub depth_under : Cols → Option ℕ → ℕ
 depth_under C none = 0
 depth_under C (some b) = at C op_depth (around C b) + 1
+
+-- the columns of a sort of child are there, and long enough for child n and for its owner
+pub record Placeable (f : Family) (owner n : ℕ) : Type 0 where
+  pub owners : f.owners < column_count
+  pub links : f.links < column_count
+  pub firsts : f.firsts < column_count
+  pub ends : f.ends < column_count
+  pub word : owner + f.shift ≤ 512
+  pub owned : n < column_size f.owners
+  pub linked : n < column_size f.links
+  pub begun : owner < column_size f.firsts
+  pub ended : owner < column_size f.ends
+  pub few : n < 512
 
 -- where a range of children begins once n is in it: with n if it was empty
 unfoldable pub begun : ℕ → ℕ → ℕ → ℕ

@@ -6,19 +6,17 @@ ghost use Rattle.layout.specs.Reading.{block_count, value_count, store_in};
 ghost use Rattle.layout.specs.Soundness.{IsSound};
 ghost use Rattle.layout.specs.Causes.{cause_of};
 ghost use Rattle.adding.specs.Raw.{block_written, block_placed, with_block};
+ghost use Rattle.calling.specs.Types.{made_of};
 ghost use Rattle.calling.specs.Doing.{Did};
 
-use crate::writes::{extend, link_child, put_row, put_values};
-use calling::types::Built;
+use crate::writes::{place_child, put_row, put_values};
 use layout::causes::Cause;
-use layout::columns::{
-    BLOCK_NEXT, BLOCK_REGION, BLOCKS, COUNTS, REGION_BLOCK_END, REGION_BLOCK_FIRST, VALUES, at,
-    number, put,
-};
+use layout::columns::{BLOCK_REGION, BLOCKS, COUNTS, VALUES, at, number, put};
 use layout::existing::region_exists;
+use layout::families::BLOCKS_IN_REGIONS;
 
 // The cause for which the call is refused, if there is one. It does not depend on label and location.
-fn block_cause(store: &[u32], region: u32, types: &[u32]) -> Cause
+fn block_cause(store: &[u32], region: u32, types: &[u32]) -> Result<(), Cause>
     requires { IsSound store.now }
     ensures { (label location : ℕ) → cause_of result ≡ first_failed (tests (store_in store.now) (new_block (record {
       region = region;
@@ -28,21 +26,19 @@ fn block_cause(store: &[u32], region: u32, types: &[u32]) -> Cause
     }))) }
 {
     if !region_exists(store, region) {
-        return Cause::Is(2);
+        return Err(Cause::NotThere);
     }
     if types.len() > 16 {
-        return Cause::Is(4);
+        return Err(Cause::OwnerFull);
     }
-    if number(store, COUNTS, BLOCKS) >= 256 {
-        return Cause::Is(3);
+    if number(store, COUNTS, BLOCKS) >= 256 || number(store, COUNTS, VALUES) + types.len() > 2048 {
+        return Err(Cause::StoreFull);
     }
-    if number(store, COUNTS, VALUES) + types.len() > 2048 {
-        return Cause::Is(3);
-    }
-    Cause::None
+    Ok(())
 }
 
 // Writes the row of a new block, m: its arguments are the next `arguments` values of the store, and it has no operations or attributes yet.
+#[tactic(auto, unfolding(layout::specs::Reading::value_count, crate::specs::Raw::block_written))]
 fn put_block_row(
     store: &mut [u32],
     m: usize,
@@ -69,13 +65,11 @@ fn place_block(store: &mut [u32], region: u32, m: usize)
     requires m_bound { m < 256 }
     ensures { columns store.new ≡ block_placed (columns store.old) region m }
 {
-    let r = region as usize;
-    let end = number(store, REGION_BLOCK_END, r);
-    link_child(store, BLOCK_REGION, BLOCK_NEXT, end, region, m);
-    extend(store, REGION_BLOCK_FIRST, REGION_BLOCK_END, r, m);
+    place_child(store, BLOCKS_IN_REGIONS, region as usize, m);
 }
 
 // Writes all of a new block: its row, its number into its region's range, its arguments, and the count of blocks.
+#[tactic(auto, unfolding(layout::specs::Reading::block_count, layout::specs::Reading::value_count))]
 pub fn put_block(store: &mut [u32], region: u32, label: u32, location: u32, types: &[u32])
     requires store_len { length store.old ≡ buffer_length }
     requires region_bound { region < 256 }
@@ -96,21 +90,23 @@ pub fn put_block(store: &mut [u32], region: u32, label: u32, location: u32, type
 }
 
 // The call, on a sound buffer.
-pub fn new_block(store: &mut [u32], region: u32, label: u32, location: u32, types: &[u32]) -> Built
+pub fn new_block(
+    store: &mut [u32],
+    region: u32,
+    label: u32,
+    location: u32,
+    types: &[u32],
+) -> Result<u32, Cause>
     requires { IsSound store.old }
     ensures { Did store.old store.new (new_block (record {
       region = region;
       label = label;
       location = location;
       types = types.now;
-    })) result }
+    })) (made_of result) }
 {
-    match block_cause(store, region, types) {
-        Cause::Is(k) => Built::Refused(k),
-        Cause::None => {
-            let m = at(store, COUNTS, BLOCKS);
-            put_block(store, region, label, location, types);
-            Built::Made(m)
-        }
-    }
+    block_cause(store, region, types)?;
+    let m = at(store, COUNTS, BLOCKS);
+    put_block(store, region, label, location, types);
+    Ok(m)
 }

@@ -2,27 +2,28 @@
 ghost use Rattle.std.specs.Prelude.{◌≡◌, true, ◌+◌, ◌<◌, ◌≤◌, length};
 ghost use Rattle.rules.specs.Store.{parent_exists};
 ghost use Rattle.rules.specs.Building.{new_operation, tests, first_failed};
-ghost use Rattle.layout.specs.Reading.{region_count, value_count, operand_count, successor_count, store_in};
-ghost use Rattle.layout.specs.Columns.{buffer_length, columns, op_kind, op_region_first, op_operand_first};
+ghost use Rattle.layout.specs.Reading.{store_in};
+ghost use Rattle.layout.specs.Columns.{buffer_length, columns, op_kind};
 ghost use Rattle.layout.specs.Soundness.{IsSound, Arranged};
-ghost use Rattle.calling.specs.Types.{parent_of, operation_of};
+ghost use Rattle.calling.specs.Types.{parent_of, operation_of, made_of};
 ghost use Rattle.layout.specs.Causes.{cause_of};
-ghost use Rattle.adding.specs.Raw.{OpRoom, with_row, ParentBelow, parent_code, op_head, op_ranges, op_slices, op_placed, op_written, with_operation};
+ghost use Rattle.adding.specs.Raw.{OpRoom, ParentBelow, parent_code, depth_under, op_row, op_placed, op_written, with_operation, with_row};
 ghost use Rattle.calling.specs.Doing.{Did};
 
 use crate::tests::{depth_under, nesting_holds, operation_fits, operation_names, operation_room};
-use crate::writes::{extend, link_child, put_regions, put_slice, put_values};
-use calling::types::{Built, OpFields, Parent};
+use crate::writes::{place_child, put_regions, put_slice, put_values};
+use calling::types::OpFields;
 use layout::causes::Cause;
 use layout::columns::{
-    BLOCK_OP_END, BLOCK_OP_FIRST, COUNTS, OP_ATTRIBUTES, OP_DEPTH, OP_KIND, OP_LOCATION, OP_NEXT,
-    OP_OPERAND_END, OP_OPERAND_FIRST, OP_PARENT, OP_REGION_END, OP_REGION_FIRST, OP_RESULT_END,
-    OP_RESULT_FIRST, OP_SUCCESSOR_END, OP_SUCCESSOR_FIRST, OPERAND_WORDS, OPERANDS, OPS, REGIONS,
-    SUCCESSOR_WORDS, SUCCESSORS, VALUES, at, number, put,
+    COUNTS, OP_ATTRIBUTES, OP_DEPTH, OP_KIND, OP_LOCATION, OP_OPERAND_END, OP_OPERAND_FIRST,
+    OP_PARENT, OP_REGION_END, OP_REGION_FIRST, OP_RESULT_END, OP_RESULT_FIRST, OP_SUCCESSOR_END,
+    OP_SUCCESSOR_FIRST, OPERAND_WORDS, OPERANDS, OPS, REGIONS, SUCCESSOR_WORDS, SUCCESSORS, VALUES,
+    at, number, put,
 };
+use layout::families::OPS_IN_BLOCKS;
 
 // How many regions, results, operands and successors a new operation has.
-#[derive(Clone, Copy)]
+#[derive(Clone, Copy, PartialEq, Eq, Debug)]
 struct Sizes {
     regions: usize,
     results: usize,
@@ -37,100 +38,106 @@ fn operation_cause(
     types: &[u32],
     operands: &[u32],
     successors: &[u32],
-) -> Cause
+) -> Result<(), Cause>
     requires { IsSound store.now }
     ensures { cause_of result ≡ first_failed (tests (store_in store.now) (new_operation (operation_of fields types.now operands.now successors.now))) }
 {
     if !operation_names(store, fields, operands, successors) {
-        return Cause::Is(2);
+        return Err(Cause::NotThere);
     }
     if !operation_fits(fields, types, operands, successors) {
-        return Cause::Is(4);
+        return Err(Cause::OwnerFull);
     }
-    let parent = fields.parent;
-    if !nesting_holds(store, parent) {
-        return Cause::Is(5);
+    if !nesting_holds(store, fields.parent) {
+        return Err(Cause::TooDeep);
     }
     if !operation_room(store, fields, types, operands, successors) {
-        return Cause::Is(3);
+        return Err(Cause::StoreFull);
     }
-    Cause::None
-}
-
-// Writes the first words of operation n's row.
-fn put_op_head(store: &mut [u32], n: usize, kind: u32, parent: u32, location: u32, depth: u32)
-    requires store_len { length store.old ≡ buffer_length }
-    requires n_bound { n < 512 }
-    ensures { columns store.new ≡ with_row (columns store.old) op_kind n (op_head kind parent location depth) }
-{
-    put(store, OP_KIND, n, kind);
-    put(store, OP_PARENT, n, parent);
-    put(store, OP_LOCATION, n, location);
-    put(store, OP_DEPTH, n, depth);
-}
-
-// Its regions and results are the next of the store.
-fn put_op_ranges(store: &mut [u32], n: usize, sizes: Sizes)
-    requires store_len { length store.old ≡ buffer_length }
-    requires n_bound { n < 512 }
-    requires regions_bound { region_count (columns store.old) + sizes.regions ≤ 256 }
-    requires results_bound { value_count (columns store.old) + sizes.results ≤ 2048 }
-    ensures { columns store.new ≡ with_row (columns store.old) op_region_first n (op_ranges (columns store.old) sizes.regions sizes.results) }
-{
-    let r = number(store, COUNTS, REGIONS);
-    let v = number(store, COUNTS, VALUES);
-    put(store, OP_REGION_FIRST, n, r as u32);
-    put(store, OP_REGION_END, n, (r + sizes.regions) as u32);
-    put(store, OP_RESULT_FIRST, n, v as u32);
-    put(store, OP_RESULT_END, n, (v + sizes.results) as u32);
-}
-
-// Its operands and successors are the next of the shared lists, and it has no attributes yet.
-fn put_op_slices(store: &mut [u32], n: usize, sizes: Sizes)
-    requires store_len { length store.old ≡ buffer_length }
-    requires n_bound { n < 512 }
-    requires operands_bound { operand_count (columns store.old) + sizes.operands ≤ 2048 }
-    requires successors_bound { successor_count (columns store.old) + sizes.successors ≤ 512 }
-    ensures { columns store.new ≡ with_row (columns store.old) op_operand_first n (op_slices (columns store.old) sizes.operands sizes.successors) }
-{
-    let o = number(store, COUNTS, OPERANDS);
-    let s = number(store, COUNTS, SUCCESSORS);
-    put(store, OP_OPERAND_FIRST, n, o as u32);
-    put(store, OP_OPERAND_END, n, (o + sizes.operands) as u32);
-    put(store, OP_SUCCESSOR_FIRST, n, s as u32);
-    put(store, OP_SUCCESSOR_END, n, (s + sizes.successors) as u32);
-    put(store, OP_ATTRIBUTES, n, 0);
+    Ok(())
 }
 
 // Operation n goes to the end of its block's range, if it has a block, and the one before it is linked to it.
-fn place_op(store: &mut [u32], parent: Parent, n: usize)
+#[tactic(auto, unfolding(crate::specs::Raw::ParentBelow, calling::specs::Types::parent_of, crate::specs::Raw::op_placed))]
+fn place_op(store: &mut [u32], parent: Option<u32>, n: usize)
     requires store_len { length store.old ≡ buffer_length }
     requires parent_below { ParentBelow 256 (parent_of parent) }
     requires n_bound { n < 512 }
     ensures { columns store.new ≡ op_placed (columns store.old) (parent_of parent) n }
 {
-    match parent {
-        Parent::None => {}
-        Parent::Block(b) => {
-            let end = number(store, BLOCK_OP_END, b as usize);
-            link_child(store, OP_PARENT, OP_NEXT, end, b + 1, n);
-            extend(store, BLOCK_OP_FIRST, BLOCK_OP_END, b as usize, n);
-        }
+    if let Some(b) = parent {
+        place_child(store, OPS_IN_BLOCKS, b as usize, n);
     }
 }
 
 // A parent as a word of the store: 0 for none, else the block's number and one.
-fn parent_word(parent: Parent) -> u32
+#[tactic(auto, unfolding(crate::specs::Raw::ParentBelow, calling::specs::Types::parent_of, crate::specs::Raw::parent_code))]
+fn parent_word(parent: Option<u32>) -> u32
     requires { ParentBelow 256 (parent_of parent) }
     ensures { result ≡ parent_code (parent_of parent) }
 {
     match parent {
-        Parent::None => 0,
-        Parent::Block(b) => b + 1,
+        None => 0,
+        Some(b) => b + 1,
     }
 }
 
+// The words of a new operation's row: its regions and results are the next of the store, its operands and successors the next of the shared
+// lists, and it has no attributes yet.
+#[tactic(auto, unfolding(layout::specs::Reading::region_count, layout::specs::Reading::value_count, layout::specs::Reading::operand_count, layout::specs::Reading::successor_count))]
+fn op_row(store: &[u32], fields: OpFields, sizes: Sizes) -> [u32; 13]
+    requires arranged { Arranged store.now }
+    requires parent_value { parent_exists (store_in store.now) (parent_of fields.parent) ≡ true }
+    requires op_room { OpRoom (columns store.now) sizes.regions sizes.results sizes.operands sizes.successors }
+    ensures { result ≡ op_row (columns store.now) fields.kind (parent_code (parent_of fields.parent)) fields.location (depth_under (columns store.now) (parent_of fields.parent)) sizes.regions sizes.results sizes.operands sizes.successors }
+{
+    let parent = parent_word(fields.parent);
+    let depth = depth_under(store, fields.parent);
+    let region = number(store, COUNTS, REGIONS);
+    let value = number(store, COUNTS, VALUES);
+    let operand = number(store, COUNTS, OPERANDS);
+    let successor = number(store, COUNTS, SUCCESSORS);
+    [
+        fields.kind,
+        parent,
+        fields.location,
+        depth,
+        region as u32,
+        (region + sizes.regions) as u32,
+        value as u32,
+        (value + sizes.results) as u32,
+        operand as u32,
+        (operand + sizes.operands) as u32,
+        successor as u32,
+        (successor + sizes.successors) as u32,
+        0,
+    ]
+}
+
+// Writes an operation's row, as `put_row` does. (By constant columns: a loop over as many finds each of them anew, and takes twice as long.)
+#[inline(always)]
+fn put_op_row(store: &mut [u32], n: usize, row: &[u32; 13])
+    requires store_len { length store.old ≡ buffer_length }
+    requires n_bound { n < 512 }
+    ensures { columns store.new ≡ with_row (columns store.old) op_kind n row.now }
+{
+    put(store, OP_KIND, n, row[0]);
+    put(store, OP_PARENT, n, row[1]);
+    put(store, OP_LOCATION, n, row[2]);
+    put(store, OP_DEPTH, n, row[3]);
+    put(store, OP_REGION_FIRST, n, row[4]);
+    put(store, OP_REGION_END, n, row[5]);
+    put(store, OP_RESULT_FIRST, n, row[6]);
+    put(store, OP_RESULT_END, n, row[7]);
+    put(store, OP_OPERAND_FIRST, n, row[8]);
+    put(store, OP_OPERAND_END, n, row[9]);
+    put(store, OP_SUCCESSOR_FIRST, n, row[10]);
+    put(store, OP_SUCCESSOR_END, n, row[11]);
+    put(store, OP_ATTRIBUTES, n, row[12]);
+}
+
 // Writes a new operation's row, and its number into its block's range.
+#[tactic(auto, unfolding(layout::specs::Reading::op_count))]
 fn put_op(store: &mut [u32], fields: OpFields, sizes: Sizes)
     requires arranged { Arranged store.old }
     requires parent_value { parent_exists (store_in store.old) (parent_of fields.parent) ≡ true }
@@ -138,17 +145,14 @@ fn put_op(store: &mut [u32], fields: OpFields, sizes: Sizes)
     ensures { columns store.new ≡ op_written (columns store.old) fields.kind (parent_of fields.parent) fields.location sizes.regions sizes.results sizes.operands sizes.successors }
 {
     let n = number(store, COUNTS, OPS);
-    let parent = fields.parent;
-    let depth = depth_under(store, parent);
-    let word = parent_word(parent);
-    put_op_head(store, n, fields.kind, word, fields.location, depth);
-    put_op_ranges(store, n, sizes);
-    put_op_slices(store, n, sizes);
-    place_op(store, parent, n);
+    let row = op_row(store, fields, sizes);
+    put_op_row(store, n, &row);
+    place_op(store, fields.parent, n);
 }
 
 // Writes all of a new operation: its row, its regions, its results, its operands and successors, and the count of operations. What is named
 // need not be there yet.
+#[tactic(auto, unfolding(layout::specs::Reading::op_count))]
 pub fn put_operation(
     store: &mut [u32],
     fields: OpFields,
@@ -176,23 +180,19 @@ pub fn put_operation(
     put(store, COUNTS, OPS, (n + 1) as u32);
 }
 
-// The call, on a sound buffer.
+// The call, on a sound buffer. Its lists stand beside its fields, as the interface lends them.
 pub fn new_operation(
     store: &mut [u32],
     fields: OpFields,
     types: &[u32],
     operands: &[u32],
     successors: &[u32],
-) -> Built
+) -> Result<u32, Cause>
     requires { IsSound store.old }
-    ensures { Did store.old store.new (new_operation (operation_of fields types.now operands.now successors.now)) result }
+    ensures { Did store.old store.new (new_operation (operation_of fields types.now operands.now successors.now)) (made_of result) }
 {
-    match operation_cause(store, fields, types, operands, successors) {
-        Cause::Is(cause) => Built::Refused(cause),
-        Cause::None => {
-            let n = at(store, COUNTS, OPS);
-            put_operation(store, fields, types, operands, successors);
-            Built::Made(n)
-        }
-    }
+    operation_cause(store, fields, types, operands, successors)?;
+    let n = at(store, COUNTS, OPS);
+    put_operation(store, fields, types, operands, successors);
+    Ok(n)
 }

@@ -9,7 +9,7 @@ ghost use Rattle.layout.specs.Soundness.{IsSound, Arranged};
 ghost use Rattle.calling.specs.Types.{parent_of, operation_of};
 ghost use Rattle.adding.specs.Raw.{depth_under};
 
-use calling::types::{OpFields, Parent};
+use calling::types::OpFields;
 use layout::children::op_around;
 use layout::columns::{
     BLOCKS, COUNTS, OP_DEPTH, OPERANDS, OPS, REGIONS, SUCCESSORS, VALUES, at, number,
@@ -18,13 +18,14 @@ use layout::existing::block_exists;
 use layout::lists::all_below;
 
 // The parent, if there is one, exists.
-pub fn parent_exists(store: &[u32], parent: Parent) -> bool
+#[tactic(auto, unfolding(rules::specs::Store::parent_exists, calling::specs::Types::parent_of))]
+pub fn parent_exists(store: &[u32], parent: Option<u32>) -> bool
     requires { IsSound store.now }
     ensures { result ≡ parent_exists (store_in store.now) (parent_of parent) }
 {
     match parent {
-        Parent::None => true,
-        Parent::Block(b) => block_exists(store, b),
+        None => true,
+        Some(b) => block_exists(store, b),
     }
 }
 
@@ -38,33 +39,21 @@ pub fn operation_names(
     requires { IsSound store.now }
     ensures { (types : List ℕ) → result ≡ operation_names (store_in store.now) (operation_of fields types operands.now successors.now) }
 {
-    let parent = fields.parent;
-    if !parent_exists(store, parent) {
-        return false;
-    }
-    if !all_below(operands, at(store, COUNTS, VALUES)) {
-        return false;
-    }
-    all_below(successors, at(store, COUNTS, BLOCKS))
+    parent_exists(store, fields.parent)
+        && all_below(operands, at(store, COUNTS, VALUES))
+        && all_below(successors, at(store, COUNTS, BLOCKS))
 }
 
 // Its lists and regions are within the limits of one owner.
+#[tactic(auto, unfolding(rules::specs::Building::operation_fits, rules::specs::Lists::every))]
 pub fn operation_fits(fields: OpFields, types: &[u32], operands: &[u32], successors: &[u32]) -> bool
     ensures { result ≡ operation_fits (operation_of fields types.now operands.now successors.now) }
 {
-    if fields.regions > 8 {
-        return false;
-    }
-    if types.len() > 16 {
-        return false;
-    }
-    if operands.len() > 16 {
-        return false;
-    }
-    successors.len() <= 8
+    fields.regions <= 8 && types.len() <= 16 && operands.len() <= 16 && successors.len() <= 8
 }
 
 // The nesting of an operation in block b.
+#[tactic(auto, using(crate::proofs::Operating::in_block, layout::proofs::Laid::laid_facts))]
 fn depth_in(store: &[u32], b: usize) -> u32
     requires arranged { Arranged store.now }
     requires b_value { block_exists (store_in store.now) b ≡ true }
@@ -74,19 +63,20 @@ fn depth_in(store: &[u32], b: usize) -> u32
 }
 
 // The nesting of an operation with this parent.
-pub fn depth_under(store: &[u32], parent: Parent) -> u32
+#[tactic(auto, unfolding(rules::specs::Store::parent_exists, calling::specs::Types::parent_of, crate::specs::Raw::depth_under))]
+pub fn depth_under(store: &[u32], parent: Option<u32>) -> u32
     requires arranged { Arranged store.now }
     requires parent_value { parent_exists (store_in store.now) (parent_of parent) ≡ true }
     ensures { result ≡ depth_under (columns store.now) (parent_of parent) }
 {
     match parent {
-        Parent::None => 0,
-        Parent::Block(b) => depth_in(store, b as usize),
+        None => 0,
+        Some(b) => depth_in(store, b as usize),
     }
 }
 
 // The nesting of an operation with this parent is at most 32.
-pub fn nesting_holds(store: &[u32], parent: Parent) -> bool
+pub fn nesting_holds(store: &[u32], parent: Option<u32>) -> bool
     requires sound { IsSound store.now }
     requires parent_value { parent_exists (store_in store.now) (parent_of parent) ≡ true }
     ensures { result ≡ nesting_holds (store_in store.now) (parent_of parent) }
@@ -106,17 +96,9 @@ pub fn operation_room(
     requires successors_value { operation_fits (operation_of fields types.now operands.now successors.now) ≡ true }
     ensures { result ≡ operation_room (store_in store.now) (operation_of fields types.now operands.now successors.now) }
 {
-    if number(store, COUNTS, OPS) + 1 > 512 {
-        return false;
-    }
-    if number(store, COUNTS, REGIONS) + fields.regions as usize > 256 {
-        return false;
-    }
-    if number(store, COUNTS, VALUES) + types.len() > 2048 {
-        return false;
-    }
-    if number(store, COUNTS, OPERANDS) + operands.len() > 2048 {
-        return false;
-    }
-    number(store, COUNTS, SUCCESSORS) + successors.len() <= 512
+    number(store, COUNTS, OPS) < 512
+        && number(store, COUNTS, REGIONS) + fields.regions as usize <= 256
+        && number(store, COUNTS, VALUES) + types.len() <= 2048
+        && number(store, COUNTS, OPERANDS) + operands.len() <= 2048
+        && number(store, COUNTS, SUCCESSORS) + successors.len() <= 512
 }

@@ -1,14 +1,15 @@
 // What an accepted call writes. Each function writes what the definition of its contract says, column by column, and nothing else.
 ghost use Rattle.std.specs.Prelude.{◌≡◌, ℕ, ◌+◌, ◌<◌, ◌≤◌, length};
-ghost use Rattle.layout.specs.Columns.{buffer_length, column_size, columns, counts, column_count};
+ghost use Rattle.layout.specs.Columns.{buffer_length, column_size, columns, at, counts, column_count};
 ghost use Rattle.layout.specs.Reading.{region_count, value_count};
-ghost use Rattle.adding.specs.Raw.{with_row, begun, last_linked, child_linked, extended, with_slice, with_regions, with_values_by};
+ghost use Rattle.adding.specs.Raw.{with_row, begun, Placeable, last_linked, extended, child_placed, with_slice, with_regions, with_values_by};
 
 use layout::children::is_behind;
 use layout::columns::{
     COUNTS, REGION_BLOCK_END, REGION_BLOCK_FIRST, REGION_OP, REGIONS, VALUE_OWNER, VALUE_TYPE,
     VALUES, at, number, put, put_all, put_same,
 };
+use layout::families::Family;
 
 // Writes row n of a table: its words, one to a column, from column `first` on.
 pub fn put_row(store: &mut [u32], first: usize, n: usize, row: &[u32])
@@ -17,14 +18,13 @@ pub fn put_row(store: &mut [u32], first: usize, n: usize, row: &[u32])
     requires by_index { (j : ℕ) → j < length row.now → n < column_size (first + j) }
     ensures { columns store.new ≡ with_row (columns store.old) first n row.now }
 {
-    let mut j = 0;
-    while j < row.len() {
-        put(store, first + j, n, row[j]);
-        j += 1;
+    for (j, word) in row.iter().enumerate() {
+        put(store, first + j, n, *word);
     }
 }
 
 // Where a range of children begins once n is in it: at n if it was empty, else where it began before.
+#[tactic(auto, unfolding(crate::specs::Raw::begun))]
 fn begin(first: u32, end: u32, n: u32) -> u32
     ensures { result ≡ begun first end n }
 {
@@ -34,51 +34,49 @@ fn begin(first: u32, end: u32, n: u32) -> u32
     first
 }
 
-// The last child before n, with which its owner's range ends, is linked to n. `w` is the owner's word in the column `owners`.
-fn link_last(store: &mut [u32], owners: usize, links: usize, end: usize, w: u32, n: usize)
+// The last child before n, with which its owner's range ends, is linked to n.
+#[inline(always)]
+#[tactic(auto, using(layout::proofs::Linking::behind_facts), unfolding(crate::specs::Raw::last_linked))]
+fn link_last(store: &mut [u32], family: Family, owner: usize, n: usize)
     requires store_len { length store.old ≡ buffer_length }
-    requires owners_lt_column_count { owners < column_count }
-    requires links_lt_column_count { links < column_count }
-    requires n_bound { n < column_size owners }
-    requires n_bound_2 { n < column_size links }
-    requires n_bound_3 { n < 512 }
-    ensures { columns store.new ≡ last_linked (columns store.old) owners links end w n }
+    requires placeable { Placeable family owner n }
+    ensures { columns store.new ≡ last_linked (columns store.old) family.owners family.links (at (columns store.old) family.ends owner) (owner + family.shift) n }
 {
-    if is_behind(store, owners, n, w, end) {
-        put(store, links, end - 1, n as u32);
+    let end = number(store, family.ends, owner);
+    let word = (owner + family.shift) as u32;
+    if is_behind(store, family.owners, n, word, end) {
+        put(store, family.links, end - 1, n as u32);
     }
 }
 
-// The same, and n is linked to no child yet.
-pub fn link_child(store: &mut [u32], owners: usize, links: usize, end: usize, w: u32, n: usize)
+// A new child, number n, goes to the end of its owner's range.
+#[inline(always)]
+fn extend(store: &mut [u32], family: Family, owner: usize, n: usize)
     requires store_len { length store.old ≡ buffer_length }
-    requires owners_lt_column_count { owners < column_count }
-    requires links_lt_column_count { links < column_count }
-    requires n_bound { n < column_size owners }
-    requires n_bound_2 { n < column_size links }
-    requires n_bound_3 { n < 512 }
-    ensures { columns store.new ≡ child_linked (columns store.old) owners links end w n }
+    requires placeable { Placeable family owner n }
+    ensures { columns store.new ≡ extended (columns store.old) family.firsts family.ends owner n }
 {
-    link_last(store, owners, links, end, w, n);
-    put(store, links, n, 0);
+    let first = at(store, family.firsts, owner);
+    let end = at(store, family.ends, owner);
+    put(store, family.firsts, owner, begin(first, end, n as u32));
+    put(store, family.ends, owner, (n + 1) as u32);
 }
 
-// A new child, number n, goes to the end of its owner's range, which stands in the columns `first` and `end`.
-pub fn extend(store: &mut [u32], first: usize, end: usize, owner: usize, n: usize)
+// A new child, number n, goes to the end of its owner's range; the one before it is linked to it, and it to none yet.
+#[inline(always)]
+#[tactic(auto, unfolding(crate::specs::Raw::child_placed, crate::specs::Raw::child_linked))]
+pub fn place_child(store: &mut [u32], family: Family, owner: usize, n: usize)
     requires store_len { length store.old ≡ buffer_length }
-    requires first_lt_column_count { first < column_count }
-    requires end_lt_column_count { end < column_count }
-    requires owner_bound { owner < column_size first }
-    requires owner_bound_2 { owner < column_size end }
-    requires n_bound { n < 512 }
-    ensures { columns store.new ≡ extended (columns store.old) first end owner n }
+    requires placeable { Placeable family owner n }
+    ensures { columns store.new ≡ child_placed (columns store.old) family.owners family.links family.firsts family.ends owner (owner + family.shift) n }
 {
-    let begun = begin(at(store, first, owner), at(store, end, owner), n as u32);
-    put(store, first, owner, begun);
-    put(store, end, owner, (n + 1) as u32);
+    link_last(store, family, owner, n);
+    put(store, family.links, n, 0);
+    extend(store, family, owner, n);
 }
 
 // Makes `regions` regions of operation n, without blocks.
+#[tactic(auto, unfolding(layout::specs::Reading::region_count, crate::specs::Raw::with_regions))]
 pub fn put_regions(store: &mut [u32], n: usize, regions: usize)
     requires store_len { length store.old ≡ buffer_length }
     requires n_bound { n < 512 }
@@ -94,6 +92,7 @@ pub fn put_regions(store: &mut [u32], n: usize, regions: usize)
 
 // Makes the values of a new owner, one of each type. The owner is given as a word: twice an operation's number, or twice a block's number
 // and one.
+#[tactic(auto, unfolding(layout::specs::Reading::value_count, crate::specs::Raw::with_values_by))]
 pub fn put_values(store: &mut [u32], owner: u32, types: &[u32])
     requires store_len { length store.old ≡ buffer_length }
     requires types_bound { value_count (columns store.old) + length types.now ≤ 2048 }
@@ -106,11 +105,12 @@ pub fn put_values(store: &mut [u32], owner: u32, types: &[u32])
 }
 
 // Appends a list to a shared list; the shared list's length is word `word` of the counts.
+#[tactic(auto, unfolding(crate::specs::Raw::with_slice))]
 pub fn put_slice(store: &mut [u32], column: usize, word: usize, list: &[u32])
     requires store_len { length store.old ≡ buffer_length }
     requires column_lt_column_count { column < column_count }
     requires word_bound { word < 8 }
-    requires list_bound { Rattle.layout.specs.Columns.at (columns store.old) counts word + length list.now ≤ column_size column }
+    requires list_bound { at (columns store.old) counts word + length list.now ≤ column_size column }
     requires column_bound { column_size column ≤ 2048 }
     ensures { columns store.new ≡ with_slice (columns store.old) column word list.now }
 {

@@ -4,10 +4,8 @@ use Prim.Native.Nat.{ℕ}
 use mathlib.Core.Bool.{Bool, true, false}
 use mathlib.Core.List.{List, [], ◌∷◌}
 use mathlib.Core.Path.{◌≡◌, refl}
+use Rattle.rules.specs.Building.{Built, refused}
 use Rattle.rules.specs.Marks.{MarkedCall, build, set_mark, go_back, copy}
-use Rattle.calling.specs.declared.types.Built.{Built}
-use Rattle.calling.specs.declared.types.Built.TheVariants as Builts
-use Rattle.calling.specs.Types.{built_of}
 use Rattle.journal.specs.Words.{sound_lent}
 use Rattle.marks.specs.Doing.{IsLent}
 use Rattle.marks.specs.Doing.{Answered}
@@ -24,12 +22,11 @@ doing_marked b h (go_back k) = returning b h k
 doing_marked b h (copy ok n place) = copying b h n place ok
 
 answers : (b : List ℕ) (c : MarkedCall) → (exit : List ℕ) × (r : Built) × Answered b exit c r
-unfolding built_of
 answers b c = go (sound_lent b) refl
   where
     go : (t : Bool) → sound_lent b ≡ t → (exit : List ℕ) × (r : Built) × Answered b exit c r
     go true e = let d = doing_marked b e c in (d.0, d.1, taken_up b c d.1 d.0 e d.2)
-    go false e = (b, Builts.Refused 1, turned_down b c (Builts.Refused 1) e refl)
+    go false e = (b, refused 1, turned_down b c (refused 1) e refl)
 
 made_in_a_row : (calls : List MarkedCall) (entry : List ℕ) → (exit : List ℕ) × Made entry calls exit
 unfolding Made

@@ -5,13 +5,12 @@ use mathlib.Core.Bool.{Bool, true, false}
 use mathlib.Core.List.{List, []}
 use mathlib.Core.Option.{Option, none, some}
 use mathlib.Core.Path.{◌≡◌, refl}
-use Rattle.rules.specs.Building.{first_failed}
+use Rattle.rules.specs.Building.{first_failed, refused, made}
 use Rattle.rules.specs.Copying.{copy_tests}
 use Rattle.rules.specs.Marks.{copy}
 use Rattle.layout.specs.Columns.{columns}
 use Rattle.layout.specs.Reading.{op_count, store_in}
 use Rattle.layout.specs.Soundness.{IsSound}
-use Rattle.calling.specs.declared.types.Built.TheVariants as Builts
 use Rattle.marks.specs.Doing.{IsLent}
 use Rattle.marks.proofs.Lent.{lent_facts}
 use Rattle.copying.proofs.Deciding.{refused_by, refused_mapping, cloned}
@@ -25,9 +24,9 @@ module _ (b : List ℕ) (h : IsLent b) (n : ℕ) (place : Option ℕ) where
   allowed_call : (o : Option ℕ) → first_failed (copy_tests (store_in b) n place) ≡ o → DoingMarked b (copy true n place)
   allowed_call none e =
       let d = copy_made b tables n place e in
-      (d.0, Builts.Made (op_count (columns b)), (cloned b h [] n place e d.0 _ d.1 (op_count (columns b)) refl).did)
-  allowed_call (some cause) e = (b, Builts.Refused cause, (refused_by b h [] n place cause e).did)
+      (d.0, made (op_count (columns b)), (cloned b h [] n place e d.0 _ d.1 (op_count (columns b)) refl).did)
+  allowed_call (some cause) e = (b, refused cause, (refused_by b h [] n place cause e).did)
 
   pub copying : (ok : Bool) → DoingMarked b (copy ok n place)
   copying true = allowed_call (first_failed (copy_tests (store_in b) n place)) refl
-  copying false = (b, Builts.Refused 8, (refused_mapping b h [] n place).did)
+  copying false = (b, refused 8, (refused_mapping b h [] n place).did)

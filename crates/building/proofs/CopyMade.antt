@@ -1,7 +1,6 @@
 -- A copy can be written on any buffer on which no test refuses it: each word that is written keeps the columns' lengths, and columns of these
 -- lengths are those of a buffer. Assumes nothing.
-use Prim.Native.Nat.{ℕ, zero, suc, ◌+◌, ◌/◌, ◌%◌, ◌<◌, ◌≤◌}
-use native.Mathlib.Decide.{ℕ_discrete}
+use Prim.Native.Nat.{ℕ, zero, suc, ◌+◌, ◌<◌, ◌≤◌}
 use native.Mathlib.Omega.{arith}
 use mathlib.Core.Bool.{true}
 use mathlib.Core.List.{List, [], ◌∷◌, ◌++◌}
@@ -16,7 +15,7 @@ use Rattle.rules.specs.Mapping.{Mapping, no_image, empty_mapping, enter_all}
 use Rattle.rules.specs.Copying.{copy_tests, copy_mapping}
 use Rattle.rules.proofs.Basics.Tests.{and_left}
 use Rattle.rules.proofs.Soundness.Accepted.{first_failed_none}
-use Rattle.layout.specs.Columns.{Cols, columns, slot_count}
+use Rattle.layout.specs.Columns.{Cols, columns}
 use Rattle.layout.specs.Reading.{op_count, block_count, region_count, attribute_count, slots_of, store_in}
 use Rattle.layout.specs.Soundness.{Arranged, IsSound}
 use Rattle.layout.specs.Owners.{key_count}
@@ -29,16 +28,17 @@ use Rattle.adding.proofs.NewBlock.{block_shaped}
 use Rattle.setting.specs.Raw.{added}
 use Rattle.building.proofs.Shapes.{added_shaped}
 use Rattle.mapping.specs.MappingWords.{mapping_of}
-use Rattle.copying.specs.Steps.{AreSteps, step_words}
+use Rattle.copying.specs.declared.steps.Step.{Step}
+use Rattle.copying.specs.declared.steps.Step.TheVariants.{OpShell, BlockShell, Names}
+use Rattle.copying.specs.Steps.{AreSteps, steps_listed}
 use Rattle.copying.specs.Partial.{Partial}
 use Rattle.copying.specs.Cloned.{Written}
-use Rattle.copying.specs.Written.{Wrote, attributed, op_asked, op_made, block_asked, block_made, parent_by, OpReady, BlockReady, WordReady, word_made}
-use Rattle.copying.proofs.Words.{owners_done}
-use Rattle.copying.proofs.Walking.{starts, ends, word_ready, goes_on}
-use Rattle.copying.proofs.Stepping.{word_op, word_block, word_none}
-use Rattle.copying.proofs.Wrote.{op_wrote, block_wrote, wrote_as, wrote_none}
+use Rattle.copying.specs.Written.{Wrote, attributed, op_asked, op_made, block_asked, block_made, parent_by, OpReady, BlockReady, StepReady, step_made}
+use Rattle.copying.proofs.Told.{owners_done}
+use Rattle.copying.proofs.Walking.{starts, ends, step_ready, goes_on}
+use Rattle.copying.proofs.Wrote.{op_wrote, block_wrote, wrote_none}
 use Rattle.copying.proofs.Making.{op_room_lem, op_set, op_done, block_room_lem, block_set, block_done}
-use Rattle.copying.proofs.Setting.{no_attribute, begun, ended, own_counted, to_slot, again, total_again}
+use Rattle.copying.proofs.Setting.{no_attribute, begun, ended, next_one, again, total_again}
 
 -- ---- the attributes of one owner, on another
 
@@ -53,8 +53,7 @@ module _ (a : List ℕ) (from to : Owner) (h : Arranged a) (fe : owner_exists (s
   more zero i e b w total = (b, ended a from to h fe te b i (omega arith) w)
   more (suc k) i e b w total =
       let l : i < key_count (columns a) from = omega arith in
-      let own : key_count (columns b) to ≡ i = own_counted a from to h fe te apart held room b i l w total in
-      let low : slots_of to + i < slot_count = to_slot a from to h fe te apart held room b i l w total in
+      let n = next_one a from to h fe te apart held room b i l w total in
       let x =
       filled (added (columns b) to (slots_of to + i) (get_or whole i no_attribute))
       (added_shaped (columns b) to (slots_of to + i) (get_or whole i no_attribute) (columns_shaped b w.arranged.sized) (omega arith) (omega arith))
@@ -133,8 +132,8 @@ module _ (a : List ℕ) (sd : IsSound a) (n : ℕ) (place : Option ℕ) (passed 
   abbrev s : Store
   s = store_in a
 
-  abbrev ws : List ℕ
-  ws = step_words (steps s op n)
+  abbrev ws : List Step
+  ws = steps_listed (steps s op n)
 
   abbrev w : List ℕ
   w = (copy_mapping s n).values ++ ((copy_mapping s n).blocks ++ (copy_mapping s n).ops)
@@ -157,32 +156,22 @@ module _ (a : List ℕ) (sd : IsSound a) (n : ℕ) (place : Option ℕ) (passed 
   abbrev Copied : ℕ → List ℕ → Type 0
   Copied i b = Partial a n place (owners_done (steps s op n) i) b
 
-  word_made_lem : (i : ℕ) (b : List ℕ) → Copied i b → i < length ws
-      → (d : List ℕ) × Wrote b d (word_made (store_in b) (mapping_of w) n place (get_or ws i 0))
-  word_made_lem i b h few = go (ℕ_discrete (get_or ws i 0 % 4) 0) (ℕ_discrete (get_or ws i 0 % 4) 2)
-    where
-      word : ℕ
-      word = get_or ws i 0
+  abbrev stands : (i : ℕ) → Step
+  stands i = get_or ws i (OpShell 0)
 
-      ready : WordReady (store_in b) (mapping_of w) n place word
-      ready = word_ready a sd n there place passed ws are w mapped i b h few
-
-      go : Dec (word % 4 ≡ 0) → Dec (word % 4 ≡ 2) → (d : List ℕ) × Wrote b d (word_made (store_in b) (mapping_of w) n place word)
-      go (yes q) other =
-          let under = parent_by (store_in b) (mapping_of w) n place (word / 4) in
-          let d = op_there_made b h.arranged (mapping_of w) under (word / 4) (omega (arith, ready.op_in q, ops_length (columns b))) (ready.op q) (ready.parent_in q) in
-          (d.0, wrote_as b d.0 _ _ (word_op (store_in b) (mapping_of w) n place word q) d.1)
-      go (no ne) (yes q) =
-          let d = block_there_made b h.arranged (mapping_of w) (word / 4) (omega (arith, ready.block_in q, blocks_length (columns b))) (ready.block q) in
-          (d.0, wrote_as b d.0 _ _ (word_block (store_in b) (mapping_of w) n place word ne q) d.1)
-      go (no ne) (no other) = (b, wrote_as b b _ _ (word_none (store_in b) (mapping_of w) n place word ne other) (wrote_none b h.arranged))
+  made_step : (b : List ℕ) → Arranged b → (x : Step) → StepReady (store_in b) (mapping_of w) n place x → (d : List ℕ) × Wrote b d (step_made (store_in b) (mapping_of w) n place x)
+  unfolding StepReady step_made
+  made_step b h (OpShell m) ready =
+      op_there_made b h (mapping_of w) (parent_by (store_in b) (mapping_of w) n place m) m (omega (arith, ready.op_in, ops_length (columns b))) ready.op ready.parent_in
+  made_step b h (BlockShell m) ready = block_there_made b h (mapping_of w) m (omega (arith, ready.block_in, blocks_length (columns b))) ready.block
+  made_step b h (Names m) ready = (b, wrote_none b h)
 
   all_made : (k i : ℕ) → length ws ≡ i + k → (b : List ℕ) → Copied i b → (d : List ℕ) × Written a d n place w
   all_made zero i e b h = (b, ends a sd n there place passed ws are w mapped i b h (omega arith))
   all_made (suc k) i e b h =
       let few : i < length ws = omega arith in
-      let d = word_made_lem i b h few in
-      all_made k (i + 1) (omega arith) d.0 (goes_on a sd n there place passed ws are w mapped i b h few d.0 d.1)
+      let d = made_step b h.arranged (stands i) (step_ready a sd n there place passed ws are w mapped i b h few (stands i) refl) in
+      all_made k (i + 1) (omega arith) d.0 (goes_on a sd n there place passed ws are w mapped i b h few (stands i) refl d.0 d.1)
 
   pub copy_made : (d : List ℕ) × Written a d n place w
   copy_made = all_made (length ws) 0 (omega arith) a (starts a sd n there place passed ws are w mapped)

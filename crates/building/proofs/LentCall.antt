@@ -8,15 +8,12 @@ use mathlib.Core.Option.{Option, none, some}
 use mathlib.Core.Path.{◌≡◌, refl, sym, ◌∙◌}
 use lib.Dec.{leb}
 use Rattle.rules.specs.Store.{Attribute, Owner, owner_exists}
-use Rattle.rules.specs.Building.{Call, new_operation, new_block, set_attribute, set_operand, tests, first_failed}
+use Rattle.rules.specs.Building.{Call, new_operation, new_block, set_attribute, set_operand, tests, first_failed, Built, refused}
 use Rattle.rules.specs.Marks.{MarkedCall, build, replaces, max_remembered, can_remember}
 use Rattle.layout.specs.Columns.{Cols, columns}
 use Rattle.layout.specs.Reading.{store_in}
 use Rattle.layout.specs.Soundness.{IsSound}
 use Rattle.layout.proofs.Filled.{filled}
-use Rattle.calling.specs.declared.types.Built.{Built}
-use Rattle.calling.specs.declared.types.Built.TheVariants as Builts
-use Rattle.calling.specs.Types.{built_of}
 use Rattle.calling.proofs.Facts.{shaped}
 use Rattle.setting.specs.Raw.{slot_for, key_there}
 use Rattle.setting.proofs.AttributeCauses.{owner_there}
@@ -47,8 +44,7 @@ module _ (b : List ℕ) (h : IsLent b) where
   tables = (lent_facts b h).tables
 
   refuse : (c : Call) (cause : ℕ) → first_failed (tests (store_in b) c) ≡ some cause → DoingMarked b (build c)
-  unfolding built_of
-  refuse c cause e = (b, Builts.Refused cause, marked_refuse b h c (Builts.Refused cause) cause e refl)
+  refuse c cause e = (b, refused cause, marked_refuse b h c (refused cause) cause e refl)
 
   -- ---- nothing is remembered
 
@@ -80,11 +76,10 @@ module _ (b : List ℕ) (h : IsLent b) where
 
     -- a replacement needs room in the journal
     replace : replaces (store_in b) c ≡ true → DoingMarked b (build c)
-    unfolding built_of
     replace r = go (leb max_remembered (replaced_count C)) refl
       where
         go : (t : Bool) → leb max_remembered (replaced_count C) ≡ t → DoingMarked b (build c)
-        go true full = (b, Builts.Refused 17, marked_full b h c (Builts.Refused 17) clear (none_fits b h l c full r) refl)
+        go true full = (b, refused 17, marked_full b h c (refused 17) clear (none_fits b h l c full r) refl)
         go false room = remember (one_fits b h l c room)
 
   module _ (w : Owner) (a : Attribute) (clear : first_failed (tests (store_in b) (set_attribute w a)) ≡ none) (l : 0 < mark_count C) where

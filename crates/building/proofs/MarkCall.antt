@@ -1,21 +1,21 @@
 -- A mark set or gone back to on a lent buffer: where the mark is none, or is not set, the buffer is as it was; else what is written, and before
 -- that what is undone and cut, keeps the columns' lengths. Assumes nothing.
-use Prim.Native.Nat.{ℕ, ◌<◌}
+use Prim.Native.Nat.{ℕ, ◌<◌, ◌≤◌}
 use native.Mathlib.Decide.{dec_lt}
 use native.Mathlib.Omega.{arith}
 use mathlib.Core.Bool.{Bool, true, false}
 use mathlib.Core.List.{List}
 use mathlib.Core.Path.{◌≡◌, refl, sym, ap, subst, ◌∙◌}
+use borrow.Author.Tests.{le-ltb}
+use Rattle.rules.specs.Building.{refused, accepted}
 use Rattle.rules.specs.Marks.{set_mark, go_back, is_mark}
 use Rattle.layout.specs.Columns.{Cols, columns, at, mark_place}
 use Rattle.layout.specs.Reading.{store_of}
 use Rattle.layout.proofs.Buffer.{columns_shaped}
 use Rattle.layout.proofs.Filled.{filled}
-use Rattle.calling.specs.declared.types.Built.TheVariants as Builts
-use Rattle.calling.specs.Types.{built_of}
 use Rattle.calling.proofs.Facts.{shaped, laid}
 use Rattle.journal.specs.Words.{mark_count, entry_count}
-use Rattle.marks.specs.Raw.{row_of, with_mark}
+use Rattle.marks.specs.Raw.{row_of, row_found, with_mark}
 use Rattle.marks.specs.Doing.{IsLent}
 use Rattle.marks.proofs.Lent.{Lent, lent_facts}
 use Rattle.marks.proofs.Doing.{marked_refuse}
@@ -44,14 +44,13 @@ module _ (b : List ℕ) (h : IsLent b) where
   -- ---- a mark set
 
   pub setting : (k : ℕ) → DoingMarked b (set_mark k)
-  unfolding built_of
   setting k = go (is_mark k) refl
     where
       go : (t : Bool) → is_mark k ≡ t → DoingMarked b (set_mark k)
-      go false e = (b, Builts.Refused 16, marked_refuse b (set_mark k) (Builts.Refused 16) h 16 (refused_as b k e) refl)
+      go false e = (b, refused 16, marked_refuse b (set_mark k) (refused 16) h 16 (refused_as b k e) refl)
       go true e =
           let x = filled (with_mark C k) (freed_so b f k e).shaped in
-          (x.0, Builts.Accepted, mark_done b f k e x.0 (x.1 ∙ sym f.tables.sized) x.2)
+          (x.0, accepted, mark_done b f k e x.0 (x.1 ∙ sym f.tables.sized) x.2)
 
   -- ---- and gone back to: what is behind it is undone, the tables are cut, and the rest is forgotten
 
@@ -80,9 +79,11 @@ module _ (b : List ℕ) (h : IsLent b) where
         cut_back x.0 x.1 x.2
 
   pub returning : (k : ℕ) → DoingMarked b (go_back k)
-  unfolding built_of
+  unfolding row_found
   returning k = go (dec_lt (row_of C k) (mark_count C))
     where
       go : Dec (row_of C k < mark_count C) → DoingMarked b (go_back k)
-      go (yes l) = let x = put_back (row_of C k) l in (x.0, Builts.Accepted, back_done b f k l x.0 x.1)
-      go (no n) = (b, Builts.Refused 16, marked_refuse b (go_back k) (Builts.Refused 16) h 16 (not_set b f k (omega arith)) refl)
+      go (yes l) = let x = put_back (row_of C k) l in (x.0, accepted, back_done b f k l x.0 x.1)
+      go (no n) =
+          let past : mark_count C ≤ row_of C k = omega arith in
+          (b, refused 16, marked_refuse b (go_back k) (refused 16) h 16 (not_set b f k (rw (le-ltb (row_of C k) (mark_count C) past) refl)) refl)

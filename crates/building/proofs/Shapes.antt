@@ -10,10 +10,12 @@ use lib.Dec.{eqb}
 use lib.ListN.{length, replicate, length-replicate}
 use Rattle.rules.specs.Store.{Attribute, Owner}
 use Rattle.rules.specs.Building.{set_attribute, tests, first_failed}
-use Rattle.layout.specs.Columns.{Cols, columns, column_size, at, counts, op_next, region_block_end, block_op_end, block_next, slot_key, slot_kind, slot_content, operand_words, slot_count, journal_counts, journal_sort, journal_owner, journal_key, journal_kind, journal_content}
+use Rattle.layout.specs.Columns.{Cols, columns, column_size, at, counts, region_block_end, block_op_end, slot_key, slot_kind, slot_content, operand_words, slot_count, journal_counts, journal_sort, journal_owner, journal_key, journal_kind, journal_content}
 use Rattle.layout.specs.Reading.{slice, slots_of, store_in}
 use Rattle.layout.specs.Soundness.{IsSound}
 use Rattle.layout.specs.Owners.{key_count, count_column, owner_number}
+use Rattle.layout.specs.declared.families.Family.{Family}
+use Rattle.layout.specs.Families.{ops_in_blocks, blocks_in_regions}
 use Rattle.layout.proofs.Laid.{Shaped}
 use Rattle.layout.proofs.Buffer.{write_shaped, write_range_shaped}
 use Rattle.layout.proofs.Scans.{slice_length}
@@ -112,19 +114,18 @@ column_shaped C k xs sh long j = go (eqb j k) refl
     go true e = long ∙ sh k ∙ ap column_size (sym (eqb-true j k e))
     go false e = sh j
 
-children_shaped : (C : Cols) (table owners links ends shift : ℕ) → Shaped C → at C counts (table + 1) ≤ column_size ends
-    → Shaped (children_cut C table owners links ends shift)
+children_shaped : (C : Cols) (f : Family) → Shaped C → at C counts (f.table + 1) ≤ column_size f.ends → Shaped (children_cut C f)
 unfolding children_cut links_cut ends_made
-children_shaped C table owners links ends shift sh fits =
-    let n = at C counts (table + 1) in
-    column_shaped _ ends _
-    (write_range_shaped _ ends 0 (replicate n 0) (column_shaped C links _ sh (first_length (at C counts table) _ (C links)))
+children_shaped C f sh fits =
+    let n = at C counts (f.table + 1) in
+    column_shaped _ f.ends _
+    (write_range_shaped _ f.ends 0 (replicate n 0) (column_shaped C f.links _ sh (first_length (at C counts f.table) _ (C f.links)))
     (omega (arith, length-replicate {A = ℕ} n 0)))
-    (ends_length shift _ (at C counts table) _)
+    (ends_length f.shift _ (at C counts f.table) _)
 
 pub tables_shaped : (C : Cols) (row : ℕ) → Shaped C → at (counts_taken C row) counts 1 ≤ column_size block_op_end
     → at (ops_cut (counts_taken C row)) counts 2 ≤ column_size region_block_end → Shaped (tables_cut C row)
 unfolding tables_cut blocks_cut ops_cut counts_taken
 tables_shaped C row sh ops blocks =
     let taken = column_shaped C counts _ sh (first_length 7 _ (C counts)) in
-    children_shaped _ 1 _ block_next region_block_end 0 (children_shaped _ 0 _ op_next block_op_end 1 taken ops) blocks
+    children_shaped _ blocks_in_regions (children_shaped _ ops_in_blocks taken ops) blocks

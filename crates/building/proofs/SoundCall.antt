@@ -4,14 +4,11 @@ use Prim.Native.Nat.{ℕ}
 use mathlib.Core.List.{List}
 use mathlib.Core.Option.{Option, none, some}
 use mathlib.Core.Path.{◌≡◌, refl, sym, ◌∙◌}
-use Rattle.rules.specs.Building.{Call, new_operation, new_block, set_attribute, set_operand, tests, first_failed}
+use Rattle.rules.specs.Building.{Call, new_operation, new_block, set_attribute, set_operand, tests, first_failed, Built, refused, made, accepted}
 use Rattle.layout.specs.Columns.{Cols, columns}
 use Rattle.layout.specs.Reading.{op_count, block_count, store_in}
 use Rattle.layout.specs.Soundness.{IsSound}
 use Rattle.layout.proofs.Filled.{filled}
-use Rattle.calling.specs.declared.types.Built.{Built}
-use Rattle.calling.specs.declared.types.Built.TheVariants as Builts
-use Rattle.calling.specs.Types.{built_of}
 use Rattle.calling.specs.Doing.{Did}
 use Rattle.calling.proofs.Facts.{shaped}
 use Rattle.calling.proofs.Doing.{did_refuse}
@@ -34,26 +31,24 @@ module _ (b : List ℕ) (h : IsSound b) where
   Doing c = (exit : List ℕ) × (r : Built) × Did b exit c r
 
   refuse : (c : Call) (cause : ℕ) → first_failed (tests (store_in b) c) ≡ some cause → Doing c
-  unfolding built_of
-  refuse c cause e = (b, Builts.Refused cause, did_refuse b h c (Builts.Refused cause) cause e refl)
+  refuse c cause e = (b, refused cause, did_refuse b h c (refused cause) cause e refl)
 
   work : (c : Call) → first_failed (tests (store_in b) c) ≡ none → Doing c
-  unfolding built_of
   work (new_operation new) e =
       let x = filled (with_operation C new) (made_shaped C new (shaped b h) (allowed b h new e).room) in
-      (x.0, Builts.Made (op_count C), operation_done b h x.0 (x.1 ∙ sym h.sized) (Builts.Made (op_count C)) new e x.2 refl)
+      (x.0, made (op_count C), operation_done b h x.0 (x.1 ∙ sym h.sized) (made (op_count C)) new e x.2 refl)
   work (new_block new) e =
       let x = filled (with_block C new) (block_shaped C new (shaped b h) (fits_block b h new e).room) in
-      (x.0, Builts.Made (block_count C), block_done b h x.0 (x.1 ∙ sym h.sized) (Builts.Made (block_count C)) new e x.2 refl)
+      (x.0, made (block_count C), block_done b h x.0 (x.1 ∙ sym h.sized) (made (block_count C)) new e x.2 refl)
   work (set_attribute w a) e =
       let x = filled (with_attribute C w a) (attribute_shaped b h w a e) in
-      (x.0, Builts.Accepted, attribute_done b h w a x.0 e (x.1 ∙ sym h.sized) x.2)
+      (x.0, accepted, attribute_done b h w a e x.0 (x.1 ∙ sym h.sized) x.2)
   work (set_operand u) e =
       let n = u.operation in
       let i = u.index in
       let v = u.value in
       let x = filled (with_operand C n i v) (operand_shaped C n i v (shaped b h)) in
-      (x.0, Builts.Accepted, operand_done b h n i v e x.0 (x.1 ∙ sym h.sized) x.2)
+      (x.0, accepted, operand_done b h n i v e x.0 (x.1 ∙ sym h.sized) x.2)
 
   pub doing : (c : Call) → Doing c
   doing c = go (first_failed (tests (store_in b) c)) refl

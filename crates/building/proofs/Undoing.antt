@@ -2,14 +2,16 @@
 -- an entry that can't be undone leaves the buffer as it was. Assumes nothing.
 use Prim.Native.Nat.{ℕ, zero, suc, ◌+◌, ◌-◌, ◌<◌, ◌≤◌}
 use native.Mathlib.Nat.{zero-add, suc-add}
-use native.Mathlib.Decide.{dec_le}
 use native.Mathlib.Omega.{arith}
-use mathlib.Core.Bool.{Bool, true, false}
-use mathlib.Core.List.{List}
-use mathlib.Core.Path.{◌≡◌, refl, sym, subst, ◌∙◌}
+use mathlib.Core.Bool.{Bool, true, false, cond}
+use mathlib.Core.List.{List, [], ◌∷◌, map}
+use mathlib.Core.Option.{Option, none, some}
+use mathlib.Core.Path.{◌≡◌, refl, sym, ap, subst, ◌∙◌}
 use lib.ListN.{drop}
-use Rattle.rules.specs.Store.{Attribute, Owner, max_attribute_kind}
-use Rattle.rules.specs.Building.{set_attribute, set_operand}
+use Rattle.rules.specs.Lists.{every}
+use Rattle.rules.specs.Store.{Store, Owner}
+use Rattle.rules.specs.Building.{Call, set_attribute, set_operand, tests, first_failed, applied, store_by, built}
+use Rattle.rules.proofs.Basics.Tests.{and_left, and_right, passed}
 use Rattle.layout.specs.Columns.{columns}
 use Rattle.layout.specs.Reading.{tabulate, store_in}
 use Rattle.layout.specs.Soundness.{IsSound}
@@ -17,11 +19,11 @@ use Rattle.layout.proofs.Filled.{filled}
 use Rattle.calling.proofs.Facts.{shaped}
 use Rattle.setting.specs.Raw.{slot_for}
 use Rattle.setting.proofs.Owners.{reachable}
-use Rattle.journal.specs.Journal.{Entry, operand_was, attribute_was, key_was_none, undoable}
+use Rattle.journal.specs.Journal.{Entry, operand_was, attribute_was, key_was_none, undone, undoable}
 use Rattle.journal.specs.Words.{entry_at}
 use Rattle.undoing.specs.Raw.{without_slot}
 use Rattle.undoing.specs.Undoing.{Undid, UndidAll}
-use Rattle.undoing.proofs.Told.{undid_not, is_accepted, operand_undid, kind_over, kind_fits, attribute_undid}
+use Rattle.undoing.proofs.Told.{undid_not, undid_done}
 use Rattle.undoing.proofs.KeyGone.{owner_there, slot_there, key_undid}
 use Rattle.undoing.proofs.Newest.{none_undone, one_undone, one_left}
 use Rattle.building.proofs.Shapes.{slot_shaped}
@@ -29,14 +31,31 @@ use Rattle.building.proofs.SoundCall.{doing}
 
 -- ---- one entry
 
+-- where all pass none fails
+all_pass : (ts : List (Bool × ℕ)) → every (map (λ (t : Bool × ℕ). t.0) ts) ≡ true → first_failed ts ≡ none
+unfolding first_failed every
+all_pass [] e = refl
+all_pass (t ∷ ts) e = ap (λ (b : Bool). cond b (first_failed ts) (some t.1)) (and_left t.0 _ e) ∙ all_pass ts (and_right t.0 _ e)
+
 module _ (b : List ℕ) (h : IsSound b) where
+  abbrev s : Store
+  s = store_in b
+
   abbrev Undoing : Entry → Type 0
   Undoing e = (exit : List ℕ) × (q : Bool) × Undid b exit e q
 
-  undo_not : (e : Entry) → undoable e (store_in b) ≡ false → Undoing e
-  undo_not e q = (b, false, undid_not b h e q)
+  -- by the call that sets
+  set_again : (e : Entry) → undoable e s ≡ true → (c : Call) → first_failed (tests s c) ≡ none → applied s c ≡ undone e s → Undoing e
+  unfolding built store_by
+  set_again e can c clear same =
+      let d = doing b h c in (
+        d.0,
+        true,
+        undid_done b d.0 e can (d.2.reads ∙ ap (λ (o : Option ℕ). store_by o s c) clear ∙ same) d.2.sound d.2.behind,
+      )
 
-  undo_key : (w : Owner) (k : ℕ) → undoable (key_was_none w k) (store_in b) ≡ true → Undoing (key_was_none w k)
+  -- a key taken out
+  undo_key : (w : Owner) (k : ℕ) → undoable (key_was_none w k) s ≡ true → Undoing (key_was_none w k)
   undo_key w k can =
       let C = columns b in
       let s = slot_for C w k in
@@ -44,25 +63,19 @@ module _ (b : List ℕ) (h : IsSound b) where
       let x = filled (without_slot C w s) (slot_shaped C w s (shaped b h) (slot_there b h w k can).1 (omega (arith, r.keys, r.slots))) in
       (x.0, true, key_undid b h w k can x.0 (x.1 ∙ sym h.sized) x.2)
 
-  undo_attribute : (w : Owner) (a : Attribute) → a.kind ≤ max_attribute_kind → (t : Bool) → undoable (key_was_none w a.key) (store_in b) ≡ t
-      → Undoing (attribute_was w a)
-  undo_attribute w a l true can = let d = doing b h (set_attribute w a) in (d.0, true, attribute_undid b w a l d.0 d.1 can d.2)
-  undo_attribute w a l false not = undo_not (attribute_was w a) (kind_fits b w a l ∙ not)
+  undo_there : (e : Entry) → undoable e s ≡ true → Undoing e
+  unfolding undoable undone tests first_failed
+  undo_there (operand_was n i v) can =
+      let c = set_operand (record { operation = n; index = i; value = v }) in set_again (operand_was n i v) can c (all_pass (tests s c) can) refl
+  undo_there (attribute_was w a) can = let p = passed _ can in set_again (attribute_was w a) can (set_attribute w a) (simp (p.0, p.1.0, p.1.1.0)) refl
+  undo_there (key_was_none w k) can = undo_key w k can
 
   undo : (e : Entry) → Undoing e
-  undo (operand_was n i v) =
-      let d = doing b h (set_operand (record { operation = n; index = i; value = v })) in
-      (d.0, is_accepted d.1, operand_undid b d.0 n i v d.1 d.2)
-  undo (attribute_was w a) = go (dec_le a.kind max_attribute_kind)
+  undo e = go (undoable e s) refl
     where
-      go : Dec (a.kind ≤ max_attribute_kind) → Undoing (attribute_was w a)
-      go (yes l) = undo_attribute w a l (undoable (key_was_none w a.key) (store_in b)) refl
-      go (no n) = undo_not (attribute_was w a) (kind_over b w a (omega arith))
-  undo (key_was_none w k) = go (undoable (key_was_none w k) (store_in b)) refl
-    where
-      go : (t : Bool) → undoable (key_was_none w k) (store_in b) ≡ t → Undoing (key_was_none w k)
-      go true can = undo_key w k can
-      go false not = undo_not (key_was_none w k) not
+      go : (t : Bool) → undoable e s ≡ t → Undoing e
+      go true can = undo_there e can
+      go false not = (b, false, undid_not b h e not)
 
 -- ---- entries, the newest first
 

@@ -1,8 +1,8 @@
 -- Lists of calls made on a lent buffer: building calls, marks set, goings back and copies, good or refused.
 use Rattle.std.specs.Prelude.{ℕ, true, List, [], ◌∷◌, ◌≡◌}
 use Rattle.rules.specs.Store.{empty_store}
+use Rattle.rules.specs.Building.{Built}
 use Rattle.rules.specs.Marks.{unmarked, MarkedCall, after_marked}
-use Rattle.calling.specs.declared.types.Built.{Built}
 use Rattle.journal.specs.Words.{marked_in, sound_lent}
 use Rattle.marks.specs.Doing.{Answered}
 

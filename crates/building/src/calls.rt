@@ -3,23 +3,24 @@
 ghost use Rattle.rules.specs.Building.{new_operation, new_block, set_attribute, set_operand};
 ghost use Rattle.rules.specs.Marks.{build, set_mark, go_back};
 ghost use Rattle.layout.specs.Owners.{owner_of};
-ghost use Rattle.calling.specs.Types.{parent_of, attribute_of};
+ghost use Rattle.calling.specs.Types.{parent_of, attribute_of, made_of, done_of};
 ghost use Rattle.marks.specs.Doing.{Answered};
 
-use crate::types::{Attribute, Built, Owner, Parent};
+use crate::types::{Attribute, Owner};
 use calling::types::OpFields;
+use layout::causes::Cause;
 use lending::lent::is_sound;
 
 pub fn new_operation(
     store: &mut [u32],
     kind: u32,
-    parent: Parent,
+    parent: Option<u32>,
     location: u32,
     regions: u32,
     types: &[u32],
     operands: &[u32],
     successors: &[u32],
-) -> Built
+) -> Result<u32, Cause>
     ensures { Answered store.old store.new (build (new_operation (record {
       kind = kind;
       parent = parent_of parent;
@@ -28,10 +29,10 @@ pub fn new_operation(
       types = types.now;
       operands = operands.now;
       successors = successors.now;
-    }))) result }
+    }))) (made_of result) }
 {
     if !is_sound(store) {
-        return Built::Refused(1);
+        return Err(Cause::NotSound);
     }
     let fields = OpFields {
         kind,
@@ -42,55 +43,61 @@ pub fn new_operation(
     remembering::adding_calls::new_operation(store, fields, types, operands, successors)
 }
 
-pub fn new_block(store: &mut [u32], region: u32, label: u32, location: u32, types: &[u32]) -> Built
+pub fn new_block(
+    store: &mut [u32],
+    region: u32,
+    label: u32,
+    location: u32,
+    types: &[u32],
+) -> Result<u32, Cause>
     ensures { Answered store.old store.new (build (new_block (record {
       region = region;
       label = label;
       location = location;
       types = types.now;
-    }))) result }
+    }))) (made_of result) }
 {
     if !is_sound(store) {
-        return Built::Refused(1);
+        return Err(Cause::NotSound);
     }
     remembering::adding_calls::new_block(store, region, label, location, types)
 }
 
-pub fn set_attribute(store: &mut [u32], owner: Owner, attribute: Attribute) -> Built
-    ensures { Answered store.old store.new (build (set_attribute (owner_of owner) (attribute_of attribute))) result }
+pub fn set_attribute(store: &mut [u32], owner: Owner, attribute: Attribute) -> Result<(), Cause>
+    ensures { Answered store.old store.new (build (set_attribute (owner_of owner) (attribute_of attribute))) (done_of result) }
 {
     if !is_sound(store) {
-        return Built::Refused(1);
+        return Err(Cause::NotSound);
     }
     remembering::attributes::set_attribute(store, owner, attribute)
 }
 
 // Operand i of operation n becomes value v.
-pub fn set_operand(store: &mut [u32], n: u32, i: u32, v: u32) -> Built
-    ensures { Answered store.old store.new (build (set_operand (record { operation = n; index = i; value = v }))) result }
+pub fn set_operand(store: &mut [u32], n: u32, i: u32, v: u32) -> Result<(), Cause>
+    ensures { Answered store.old store.new (build (set_operand (record { operation = n; index = i; value = v }))) (done_of result) }
 {
     if !is_sound(store) {
-        return Built::Refused(1);
+        return Err(Cause::NotSound);
     }
     remembering::operands::set_operand(store, n, i, v)
 }
 
 // Mark `mark`, a number from 1 to 8, names the store as it stands now; set again, it moves, and is the youngest.
-pub fn set_mark(store: &mut [u32], mark: u32) -> Built
-    ensures { Answered store.old store.new (set_mark mark) result }
+pub fn set_mark(store: &mut [u32], mark: u32) -> Result<(), Cause>
+    ensures { Answered store.old store.new (set_mark mark) (done_of result) }
 {
     if !is_sound(store) {
-        return Built::Refused(1);
+        return Err(Cause::NotSound);
     }
     marks::setting::set_mark(store, mark)
 }
 
 // The store is again as it stood when the mark was set. The mark stays set, and younger ones are void.
-pub fn go_back(store: &mut [u32], mark: u32) -> Built
-    ensures { Answered store.old store.new (go_back mark) result }
+pub fn go_back(store: &mut [u32], mark: u32) -> Result<(), Cause>
+    ensures { Answered store.old store.new (go_back mark) (done_of result) }
 {
     if !is_sound(store) {
-        return Built::Refused(1);
+        return Err(Cause::NotSound);
     }
     returning::going::go_back(store, mark)
 }

@@ -1,11 +1,12 @@
 // The offered calls as data, for calls that are to be refused or repeated. Each list of a call is one word, repeated.
+use crate::answers::Answer;
 use building::calls::{go_back, new_block, new_operation, set_attribute, set_mark, set_operand};
-use building::types::{Attribute, Built, Owner, Parent};
+use building::types::{Attribute, Owner};
 
 #[derive(Clone, Copy)]
 pub enum Call {
     // A new operation: its parent and number of regions; a word, and how often it stands in the lists of results, operands and successors.
-    Op(Parent, u32, u32, usize, usize, usize),
+    Op(Option<u32>, u32, u32, usize, usize, usize),
     // A new block: its region and number of arguments.
     Block(u32, usize),
     // An owner, a key and a kind; and the same of an inherent attribute.
@@ -23,23 +24,20 @@ const MOST: usize = 17;
 
 // The first n words, or all where there are fewer.
 fn first(words: &[u32], n: usize) -> &[u32] {
-    if n < words.len() {
-        return &words[..n];
-    }
-    words
+    &words[..n.min(words.len())]
 }
 
 fn operation(
     store: &mut [u32],
-    parent: Parent,
+    parent: Option<u32>,
     regions: u32,
     word: u32,
     results: usize,
     operands: usize,
     successors: usize,
-) -> Built {
+) -> Answer {
     let words = [word; MOST];
-    new_operation(
+    let n = new_operation(
         store,
         7,
         parent,
@@ -48,37 +46,38 @@ fn operation(
         first(&words, results),
         first(&words, operands),
         first(&words, successors),
-    )
+    )?;
+    Ok(Some(n))
 }
 
-fn block(store: &mut [u32], region: u32, arguments: usize) -> Built {
+fn block(store: &mut [u32], region: u32, arguments: usize) -> Answer {
     let words = [0; MOST];
-    new_block(store, region, 0, 2, first(&words, arguments))
+    let n = new_block(store, region, 0, 2, first(&words, arguments))?;
+    Ok(Some(n))
 }
 
-fn attribute(store: &mut [u32], owner: Owner, key: u32, kind: u32, inherent: bool) -> Built {
-    set_attribute(
-        store,
-        owner,
-        Attribute {
-            key,
-            kind,
-            content: 0,
-            inherent,
-        },
-    )
+fn attribute(store: &mut [u32], owner: Owner, key: u32, kind: u32, inherent: bool) -> Answer {
+    let attribute = Attribute {
+        key,
+        kind,
+        content: 0,
+        inherent,
+    };
+    set_attribute(store, owner, attribute)?;
+    Ok(None)
 }
 
-pub fn make(store: &mut [u32], call: Call) -> Built {
+pub fn make(store: &mut [u32], call: Call) -> Answer {
     match call {
         Call::Op(parent, regions, word, a, b, c) => {
-            operation(store, parent, regions, word, a, b, c)
+            return operation(store, parent, regions, word, a, b, c);
         }
-        Call::Block(region, arguments) => block(store, region, arguments),
-        Call::Attribute(owner, key, kind) => attribute(store, owner, key, kind, false),
-        Call::Inherent(owner, key, kind) => attribute(store, owner, key, kind, true),
-        Call::Operand(n, index, value) => set_operand(store, n, index, value),
-        Call::SetMark(mark) => set_mark(store, mark),
-        Call::GoBack(mark) => go_back(store, mark),
+        Call::Block(region, arguments) => return block(store, region, arguments),
+        Call::Attribute(owner, key, kind) => return attribute(store, owner, key, kind, false),
+        Call::Inherent(owner, key, kind) => return attribute(store, owner, key, kind, true),
+        Call::Operand(n, index, value) => set_operand(store, n, index, value)?,
+        Call::SetMark(mark) => set_mark(store, mark)?,
+        Call::GoBack(mark) => go_back(store, mark)?,
     }
+    Ok(None)
 }

@@ -1,8 +1,8 @@
 // The recorder's form: operation 0 holds region 0, in it block 0 with the ring's number and the date as arguments, and in the block
 // the twin fields, operations 1 and 2.
-use crate::answers::{Store, accepted, made};
+use crate::answers::Store;
 use building::calls::{new_block, new_operation, set_attribute, set_operand};
-use building::types::{Attribute, Owner, Parent};
+use building::types::{Attribute, Owner};
 
 const FORM: u32 = 7;
 
@@ -21,81 +21,45 @@ const WIDTH: u32 = 2;
 
 // The form's operation 0 with its block 0, whose arguments are values 0 and 1.
 fn build_frame(store: &mut Store) -> bool {
-    let none: [u32; 0] = [];
-    let arguments = [RING, DATE];
-    if !made(
-        new_operation(store, FORM, Parent::None, 1, 1, &none, &none, &none),
-        0,
-    ) {
-        return false;
-    }
-    made(new_block(store, 0, 0, 2, &arguments), 0)
+    new_operation(store, FORM, None, 1, 1, &[], &[], &[]) == Ok(0)
+        && new_block(store, 0, 0, 2, &[RING, DATE]) == Ok(0)
 }
 
 // A field in block 0: it reads a value and has one result.
 fn build_field(store: &mut Store, value: u32, n: u32) -> bool {
-    let none: [u32; 0] = [];
-    let types = [MARK; 1];
-    let operands = [value; 1];
-    made(
-        new_operation(
-            store,
-            FIELD,
-            Parent::Block(0),
-            3,
-            0,
-            &types,
-            &operands,
-            &none,
-        ),
-        n,
-    )
+    new_operation(store, FIELD, Some(0), 3, 0, &[MARK], &[value], &[]) == Ok(n)
+}
+
+// An attribute is accepted.
+fn describes(store: &mut Store, owner: Owner, attribute: Attribute) -> bool {
+    set_attribute(store, owner, attribute) == Ok(())
 }
 
 // The captions and widths of a field.
 fn describe_field(store: &mut Store, n: u32) -> bool {
-    if !accepted(set_attribute(
-        store,
-        Owner::Op(n),
-        Attribute {
-            key: CAPTION,
-            kind: 0,
-            content: 70,
-            inherent: false,
-        },
-    )) {
-        return false;
-    }
-    accepted(set_attribute(
-        store,
-        Owner::Op(n),
-        Attribute {
-            key: WIDTH,
-            kind: 63,
-            content: 9,
-            inherent: false,
-        },
-    ))
+    let caption = Attribute {
+        key: CAPTION,
+        kind: 0,
+        content: 70,
+        inherent: false,
+    };
+    let width = Attribute {
+        key: WIDTH,
+        kind: 63,
+        content: 9,
+        inherent: false,
+    };
+    describes(store, Owner::Op(n), caption) && describes(store, Owner::Op(n), width)
 }
 
 // The whole form. The second field first reads the date and then, as its twin does, the ring's number.
 pub fn build_form(store: &mut Store) -> bool {
-    if !build_frame(store) {
-        return false;
-    }
-    if !build_field(store, 0, 1) {
-        return false;
-    }
-    if !build_field(store, 1, 2) {
-        return false;
-    }
-    if !describe_field(store, 1) {
-        return false;
-    }
-    if !describe_field(store, 2) {
-        return false;
-    }
-    accepted(set_operand(store, 2, 0, 0))
+    build_frame(store)
+        && build_field(store, 0, 1)
+        && build_field(store, 1, 2)
+        && describe_field(store, 1)
+        && describe_field(store, 2)
+        && set_operand(store, 2, 0, 0) == Ok(())
 }
 
 // A block takes an attribute, a key already there is replaced by an inherent one of the last kind, and an operand may be a value made later.
@@ -106,20 +70,14 @@ pub fn amend_form(store: &mut Store) -> bool {
         content: 71,
         inherent: false,
     };
-    if !accepted(set_attribute(store, Owner::Block(0), mark)) {
-        return false;
-    }
     let title = Attribute {
         key: CAPTION,
         kind: 63,
         content: 71,
         inherent: true,
     };
-    if !accepted(set_attribute(store, Owner::Block(0), title)) {
-        return false;
-    }
-    if !accepted(set_operand(store, 1, 0, 3)) {
-        return false;
-    }
-    accepted(set_operand(store, 1, 0, 0))
+    describes(store, Owner::Block(0), mark)
+        && describes(store, Owner::Block(0), title)
+        && set_operand(store, 1, 0, 3) == Ok(())
+        && set_operand(store, 1, 0, 0) == Ok(())
 }

@@ -30,34 +30,24 @@ fn say(rt: &impl Print, group: &str, ok: bool) -> io::Result<()> {
 // An empty store is sound, and a buffer that is a word too short or too long is not.
 fn empty_stores() -> bool {
     let store: Store = [0; STORE_LENGTH];
-    if !is_sound(&store) {
-        return false;
-    }
-    let short: [u32; SHORT] = [0; SHORT];
-    if is_sound(&short) {
-        return false;
-    }
-    let long: [u32; LONG] = [0; LONG];
-    !is_sound(&long)
+    let short = [0; SHORT];
+    let long = [0; LONG];
+    is_sound(&store) && !is_sound(&short) && !is_sound(&long)
 }
 
 // Cause 1 for a buffer that is too short, for a count above its total, and for a block without a region.
 fn unsound_stores() -> bool {
-    let mut short: [u32; SHORT] = [0; SHORT];
+    let mut short = [0; SHORT];
     let short_kept = short;
-    if !refusals::unsound(&mut short, &short_kept) {
-        return false;
-    }
     let mut counted: Store = [0; STORE_LENGTH];
     counted[OPS] = 513;
     let counted_kept = counted;
-    if !refusals::unsound(&mut counted, &counted_kept) {
-        return false;
-    }
     let mut stray: Store = [0; STORE_LENGTH];
     stray[BLOCKS] = 1;
     let stray_kept = stray;
-    refusals::unsound(&mut stray, &stray_kept)
+    refusals::unsound(&mut short, &short_kept)
+        && refusals::unsound(&mut counted, &counted_kept)
+        && refusals::unsound(&mut stray, &stray_kept)
 }
 
 // The refusals on a finished form.

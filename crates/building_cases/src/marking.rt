@@ -1,17 +1,18 @@
 // Marks on a finished form, whose operation 1 has an operand: what going back gives again, and what is remembered.
-use crate::answers::{Store, accepted, made};
+use crate::answers::Store;
 use crate::calls::{Call, make};
 use crate::limits::{fill, sound, stops};
 use crate::steps::FillStep;
-use building::types::{Owner, Parent};
+use building::types::Owner;
+use layout::causes::Cause;
 
 fn takes(store: &mut Store, call: Call) -> bool {
-    accepted(make(store, call))
+    make(store, call) == Ok(None)
 }
 
 // Operation 3, an operand set and a key that comes new and is replaced, at last by an inherent attribute.
 fn change(store: &mut Store) -> bool {
-    made(make(store, Call::Op(Parent::Block(0), 0, 3, 1, 0, 0)), 3)
+    make(store, Call::Op(Some(0), 0, 3, 1, 0, 0)) == Ok(Some(3))
         && takes(store, Call::Operand(1, 0, 4))
         && takes(store, Call::Attribute(Owner::Op(1), 77, 2))
         && takes(store, Call::Attribute(Owner::Op(1), 77, 3))
@@ -20,52 +21,24 @@ fn change(store: &mut Store) -> bool {
 
 // Going back and back again: numbers are given again, and the mark that was set after the one gone back to is void.
 pub fn gone_back(store: &mut Store) -> bool {
-    if !takes(store, Call::SetMark(1)) {
-        return false;
-    }
-    if !takes(store, Call::SetMark(2)) {
-        return false;
-    }
-    if !change(store) {
-        return false;
-    }
-    if !takes(store, Call::GoBack(2)) {
-        return false;
-    }
-    if !change(store) {
-        return false;
-    }
-    if !takes(store, Call::GoBack(1)) {
-        return false;
-    }
-    if accepted(make(store, Call::GoBack(2))) {
-        return false;
-    }
-    if !change(store) {
-        return false;
-    }
-    sound(store)
+    takes(store, Call::SetMark(1))
+        && takes(store, Call::SetMark(2))
+        && change(store)
+        && takes(store, Call::GoBack(2))
+        && change(store)
+        && takes(store, Call::GoBack(1))
+        && !takes(store, Call::GoBack(2))
+        && change(store)
+        && sound(store)
 }
 
 // Cause 17: 1,024 replacements are remembered, and no more, while a new key is accepted. Going back makes room.
 pub fn remembered(store: &mut Store) -> bool {
-    if !takes(store, Call::GoBack(1)) {
-        return false;
-    }
-    if !fill(store, FillStep::Operand(1), 0, 1024) {
-        return false;
-    }
-    if !stops(store, FillStep::Operand(1), 0, 17) {
-        return false;
-    }
-    if !takes(store, Call::Attribute(Owner::Op(1), 77, 2)) {
-        return false;
-    }
-    if !sound(store) {
-        return false;
-    }
-    if !takes(store, Call::GoBack(1)) {
-        return false;
-    }
-    fill(store, FillStep::Operand(1), 0, 1)
+    takes(store, Call::GoBack(1))
+        && fill(store, FillStep::Operand(1), 0, 1024)
+        && stops(store, FillStep::Operand(1), 0, Cause::JournalFull)
+        && takes(store, Call::Attribute(Owner::Op(1), 77, 2))
+        && sound(store)
+        && takes(store, Call::GoBack(1))
+        && fill(store, FillStep::Operand(1), 0, 1)
 }

@@ -1,7 +1,7 @@
 // Steps that fill a store, one call or two each. Step i makes operation i or block i, or sets key i or an operand.
-use crate::answers::made;
+use crate::answers::Answer;
 use crate::calls::{Call, make};
-use building::types::{Built, Owner, Parent};
+use building::types::Owner;
 
 #[derive(Clone, Copy)]
 pub enum FillStep {
@@ -19,29 +19,19 @@ pub enum FillStep {
     Operand(u32),
 }
 
-// The block that level i stands in.
-fn outer(i: u32) -> Parent {
-    if i == 0 {
-        Parent::None
-    } else {
-        Parent::Block(i - 1)
-    }
-}
-
-fn level(store: &mut [u32], i: u32) -> Built {
-    let answer = make(store, Call::Op(outer(i), 1, 0, 0, 0, 0));
-    if !made(answer, i) {
-        return answer;
+// Level 0 stands in no block, and level i in that of the level before.
+fn level(store: &mut [u32], i: u32) -> Answer {
+    let answer = make(store, Call::Op(i.checked_sub(1), 1, 0, 0, 0, 0))?;
+    if answer != Some(i) {
+        return Ok(answer);
     }
     make(store, Call::Block(i, 0))
 }
 
-pub fn take(store: &mut [u32], step: FillStep, i: u32) -> Built {
+pub fn take(store: &mut [u32], step: FillStep, i: u32) -> Answer {
     match step {
         FillStep::Level => level(store, i),
-        FillStep::Operation(regions, a, b, c) => {
-            make(store, Call::Op(Parent::None, regions, 0, a, b, c))
-        }
+        FillStep::Operation(regions, a, b, c) => make(store, Call::Op(None, regions, 0, a, b, c)),
         FillStep::Block(arguments) => make(store, Call::Block(i, arguments)),
         FillStep::Key(owner) => make(store, Call::Attribute(owner, i, 2)),
         FillStep::Keys => make(store, Call::Attribute(Owner::Op(i / 8), i % 8, 2)),

@@ -8,14 +8,12 @@ use mathlib.Core.Option.{Option, none, some}
 use mathlib.Core.Path.{◌≡◌, refl, sym, ap, subst, ◌∙◌}
 use lib.ListN.{length}
 use Rattle.rules.specs.Store.{Store, sound}
-use Rattle.rules.specs.Building.{Call, new_operation, new_block, set_attribute, set_operand, refused, tests, first_failed, applied, acceptance, answer_by, store_by, answer, built}
+use Rattle.rules.specs.Building.{Call, Built, new_operation, new_block, set_attribute, set_operand, refused, tests, first_failed, applied, acceptance, answer_by, store_by, answer, built}
 use Rattle.rules.proofs.Soundness.Kept.{built_sound}
 use Rattle.layout.specs.Columns.{columns}
 use Rattle.layout.specs.Reading.{store_of, store_in}
 use Rattle.layout.specs.Soundness.{IsSound}
 use Rattle.layout.proofs.Laid.{Laid, laid_of}
-use Rattle.calling.specs.declared.types.Built.{Built}
-use Rattle.calling.specs.Types.{built_of}
 use Rattle.calling.specs.Doing.{Behind, Did}
 
 -- an accepted call is not refused
@@ -27,7 +25,7 @@ never s (set_attribute w a) cause h = let z : ◌≡◌ {A = ℕ} 0 1 = cc in om
 never s (set_operand u) cause h = let z : ◌≡◌ {A = ℕ} 0 1 = cc in omega arith
 
 module _ (b : List ℕ) (h : IsSound b) (c : Call) (r : Built) where
-  pub did_refuse : (cause : ℕ) → first_failed (tests (store_in b) c) ≡ some cause → built_of r ≡ refused cause → Did b b c r
+  pub did_refuse : (cause : ℕ) → first_failed (tests (store_in b) c) ≡ some cause → r ≡ refused cause → Did b b c r
   unfolding answer built answer_by store_by
   did_refuse cause e q =
       record {
@@ -39,7 +37,7 @@ module _ (b : List ℕ) (h : IsSound b) (c : Call) (r : Built) where
       }
 
   pub did_work : (exit : List ℕ) → first_failed (tests (store_in b) c) ≡ none → length exit ≡ length b
-      → store_of (columns exit) ≡ applied (store_of (columns b)) c → Laid (columns exit) → Behind (columns b) (columns exit) → built_of r ≡ acceptance (store_in b) c → Did b exit c r
+      → store_of (columns exit) ≡ applied (store_of (columns b)) c → Laid (columns exit) → Behind (columns b) (columns exit) → r ≡ acceptance (store_in b) c → Did b exit c r
   unfolding answer built answer_by store_by
   did_work exit e len reads laid after q =
       let made : built (store_of (columns b)) c ≡ applied (store_of (columns b)) c = ap (λ (o : Option ℕ). store_by o (store_of (columns b)) c) e in

@@ -1,11 +1,9 @@
 -- What a building call does to a sound buffer, good or refused.
 use Rattle.std.specs.Prelude.{ℕ, ◌<◌, List, ◌≡◌}
-use Rattle.rules.specs.Building.{Call, refused, answer, built}
+use Rattle.rules.specs.Building.{Call, Built, refused, answer, built}
 use Rattle.layout.specs.Columns.{Cols, columns, at, counts, op_region_end, op_result_end, block_argument_end, block_next}
 use Rattle.layout.specs.Reading.{op_count, block_count, store_in}
 use Rattle.layout.specs.Soundness.{IsSound}
-use Rattle.calling.specs.declared.types.Built.{Built}
-use Rattle.calling.specs.Types.{built_of}
 
 -- what marks rest on is as it was: their words and the journal's, how many are set, and where the ranges end of what was there
 pub record Behind (C D : Cols) : Type 0 where
@@ -18,8 +16,8 @@ pub record Behind (C D : Cols) : Type 0 where
 -- a call on a sound buffer: the answer and the store afterwards are the rules', the buffer is sound again, and a refused call has
 -- changed no word
 pub record Did (entry exit : List ℕ) (c : Call) (r : Built) : Type 0 where
-  pub answered : built_of r ≡ answer (store_in entry) c
+  pub answered : r ≡ answer (store_in entry) c
   pub reads : store_in exit ≡ built (store_in entry) c
   pub sound : IsSound exit
-  pub unchanged : (cause : ℕ) → built_of r ≡ refused cause → exit ≡ entry
+  pub unchanged : (cause : ℕ) → r ≡ refused cause → exit ≡ entry
   pub behind : Behind (columns entry) (columns exit)

@@ -1,18 +1,17 @@
 -- What the code's types stand for: document 01's words and numbers for each case.
 use Rattle.std.specs.Prelude.{ℕ, List}
+use Rattle.std.specs.Prelude as std
 use Rattle.std.proofs.Math.Option.{Option, none, some}
 use Rattle.rules.specs.Store as store
 use Rattle.rules.specs.Building as rules
-use Rattle.calling.specs.declared.types.Parent.{Parent}
-use Rattle.calling.specs.declared.types.Parent.TheVariants as Parents
 use Rattle.calling.specs.declared.types.OpFields.{OpFields}
 use Rattle.calling.specs.declared.types.Attribute.{Attribute}
-use Rattle.calling.specs.declared.types.Built.{Built}
-use Rattle.calling.specs.declared.types.Built.TheVariants as Builts
+use Rattle.layout.specs.declared.causes.Cause.{Cause}
+use Rattle.layout.specs.Causes.{number_of}
 
-unfoldable pub parent_of : Parent → Option ℕ
-parent_of Parents.None = none
-parent_of (Parents.Block b) = some b
+unfoldable pub parent_of : std.Option ℕ → Option ℕ
+parent_of std.None = none
+parent_of (std.Some b) = some b
 
 -- a new operation, by its fields and its lists of result types, operands and successors
 abbrev pub operation_of : OpFields → List ℕ → List ℕ → List ℕ → rules.NewOperation
@@ -31,7 +30,10 @@ unfoldable pub attribute_of : Attribute → store.Attribute
 attribute_of a = record { key = a.key; kind = a.kind; content = a.content; inherent = a.inherent }
 
 -- "Accepted, the first two return the new number, the other two only that they were accepted", and a refusal its number
-unfoldable pub built_of : Built → rules.Built
-built_of (Builts.Made n) = rules.made n
-built_of Builts.Accepted = rules.accepted
-built_of (Builts.Refused k) = rules.refused k
+unfoldable pub made_of : std.Result ℕ Cause → rules.Built
+made_of (std.Ok n) = rules.made n
+made_of (std.Err e) = rules.refused (number_of e)
+
+unfoldable pub done_of : std.Result (Unit {0}) Cause → rules.Built
+done_of (std.Ok u) = rules.accepted
+done_of (std.Err e) = rules.refused (number_of e)

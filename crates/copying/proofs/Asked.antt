@@ -9,7 +9,7 @@ use Rattle.layout.specs.Reading.{op_count, block_count, region_count, op_of, blo
 use Rattle.layout.specs.Soundness.{Arranged}
 use Rattle.layout.proofs.Laid.{laid_facts}
 use Rattle.layout.proofs.Tabulate.{op_read, block_read, regions_length}
-use Rattle.calling.specs.declared.types.Parent.{Parent}
+use Rattle.std.specs.Prelude as std
 use Rattle.calling.specs.Types.{parent_of, operation_of}
 use Rattle.adding.specs.Raw.{OpRoom, with_operation, with_block}
 use Rattle.mapping.specs.MappingWords.{mapping_length, mapping_of}
@@ -41,7 +41,7 @@ sized C e f g h k =
       successors = omega (arith, k.successors);
     }
 
-module _ (a : List ℕ) (h : Arranged a) (w : List ℕ) (long : length w ≡ mapping_length) (parent : Parent) (m : ℕ) (l : m < op_count (columns a)) (ready : OpReady (store_in a) m)
+module _ (a : List ℕ) (h : Arranged a) (w : List ℕ) (long : length w ≡ mapping_length) (parent : std.Option ℕ) (m : ℕ) (l : m < op_count (columns a)) (ready : OpReady (store_in a) m)
     {kind location end first : ℕ} {n u t : List ℕ} (k : OpTaken a w m kind location end first n u t) where
   types_asked : n ≡ map (type_of (store_in a)) (results_of (store_in a) m)
   types_asked = k.types ∙ result_types a h m l ready

@@ -14,8 +14,6 @@ use Rattle.layout.specs.Reading.{op_count, store_in}
 use Rattle.layout.proofs.Tabulate.{ops_length}
 use Rattle.journal.specs.Journal.{marked_of}
 use Rattle.journal.specs.Words.{journaled_of, marked_in}
-use Rattle.calling.specs.declared.types.Built.TheVariants as Builts
-use Rattle.calling.specs.Types.{built_of}
 use Rattle.marks.specs.Doing.{IsLent}
 use Rattle.marks.proofs.Doing as doing
 use Rattle.copying.specs.Cloned.{Written, Mapped, Cloned}
@@ -29,34 +27,32 @@ never_refused : (cause k : ℕ) → made k ≡ refused cause → ⊥
 never_refused cause k h = let z : ◌≡◌ {A = ℕ} 0 1 = cc in omega arith
 
 -- a refusal leaves the mapping as it was
-pub unmapped : (b m : List ℕ) (n cause : ℕ) → Mapped b n m m (Builts.Refused cause)
-unfolding built_of
+pub unmapped : (b m : List ℕ) (n cause : ℕ) → Mapped b n m m (refused cause)
 unmapped b m n cause = record { accepted = λ k q. absurd (never_made cause k q); unchanged = λ k q. refl }
 
 module _ (b : List ℕ) (h : IsLent b) (m : List ℕ) (n : ℕ) (place : Option ℕ) where
   refused_as : (ok : Bool) (cause : ℕ) → first_failed (marked_tests (marked_in b) (copy ok n place)) ≡ some cause
-      → Cloned ok b b m m n place (Builts.Refused cause)
-  unfolding built_of
+      → Cloned ok b b m m n place (refused cause)
   refused_as ok cause e =
       record {
-        did = doing.marked_refuse b (copy ok n place) (Builts.Refused cause) h cause e refl;
+        did = doing.marked_refuse b (copy ok n place) (refused cause) h cause e refl;
         mapping = unmapped b m n cause;
       }
 
-  pub refused_by : (cause : ℕ) → first_failed (copy_tests (store_in b) n place) ≡ some cause → Cloned true b b m m n place (Builts.Refused cause)
+  pub refused_by : (cause : ℕ) → first_failed (copy_tests (store_in b) n place) ≡ some cause → Cloned true b b m m n place (refused cause)
   unfolding marked_tests first_failed marked_of journaled_of
   refused_by cause e = refused_as true cause e
 
   -- the lent mapping is not allowed
-  pub refused_mapping : Cloned false b b m m n place (Builts.Refused 8)
+  pub refused_mapping : Cloned false b b m m n place (refused 8)
   unfolding marked_tests first_failed marked_of journaled_of
   refused_mapping = refused_as false 8 refl
 
   module _ (clear : first_failed (copy_tests (store_in b) n place) ≡ none) (exit after : List ℕ) (w : Written b exit n place after) where
-    pub cloned : (k : ℕ) → k ≡ op_count (columns b) → Cloned true b exit m after n place (Builts.Made k)
-    unfolding built_of marked_acceptance marked_of journaled_of
+    pub cloned : (k : ℕ) → k ≡ op_count (columns b) → Cloned true b exit m after n place (made k)
+    unfolding marked_acceptance marked_of journaled_of
     cloned k e =
         record {
-          did = written_done b h n place clear exit after w (Builts.Made k) (ap made (e ∙ sym (ops_length (columns b))));
+          did = written_done b h n place clear exit after w (made k) (ap made (e ∙ sym (ops_length (columns b))));
           mapping = record { accepted = λ i q. w.mapped; unchanged = λ cause q. absurd (never_refused cause k q) };
         }

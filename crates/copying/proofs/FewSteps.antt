@@ -1,4 +1,4 @@
--- A walk has no more than 1,280 words: a word for each shell, and in every list as many operations in full as there are shells of operations. Assumes nothing.
+-- A walk has no more than 1,280 steps that tell of something: one for each shell, and in every list as many operations in full as there are shells of operations. Assumes nothing.
 use Rattle.std.proofs.Common.{◌≡◌, ℕ, zero, suc, ◌+◌, ◌≤◌, List, [], ◌∷◌, ◌++◌, true, map, length, refl, ap, arith}
 use Rattle.rules.specs.Lists.{concat_map}
 use Rattle.rules.specs.Store.{Store, of_op, of_block, ops_of, blocks_of, regions_of, sound, op_exists, max_ops, max_blocks}
@@ -6,7 +6,7 @@ use Rattle.rules.specs.Fragments.{Step, shell, names, counted, op, full_op, shel
 use Rattle.rules.proofs.Soundness.Sound.{facts}
 use Rattle.rules.proofs.Form.Once.{owners_once, owners_here}
 use Rattle.rules.proofs.Form.Counted.{ops_most, blocks_most}
-use Rattle.copying.specs.Steps.{step_word, step_words, most_steps}
+use Rattle.copying.specs.Steps.{step_listed, steps_listed, most_steps}
 
 -- how many steps are an operation's names, and how many the shell of an operation
 opened : List Step → ℕ
@@ -37,14 +37,14 @@ shells_append (shell (of_block b) ∷ xs) ys = shells_append xs ys
 shells_append (names n ∷ xs) ys = shells_append xs ys
 shells_append (counted k ∷ xs) ys = shells_append xs ys
 
--- a word for each
-words_counted : (xs : List Step) → length (step_words xs) ≡ opened xs + op_shells xs + length (concat_map block_owner (concat_map step_defines xs))
-unfolding opened op_shells step_words step_word concat_map step_defines block_owner
-words_counted [] = refl
-words_counted (shell (of_op n) ∷ xs) = omega (arith, words_counted xs)
-words_counted (shell (of_block b) ∷ xs) = omega (arith, words_counted xs)
-words_counted (names n ∷ xs) = omega (arith, words_counted xs)
-words_counted (counted k ∷ xs) = words_counted xs
+-- one for each
+steps_counted : (xs : List Step) → length (steps_listed xs) ≡ opened xs + op_shells xs + length (concat_map block_owner (concat_map step_defines xs))
+unfolding opened op_shells steps_listed step_listed concat_map step_defines block_owner
+steps_counted [] = refl
+steps_counted (shell (of_op n) ∷ xs) = omega (arith, steps_counted xs)
+steps_counted (shell (of_block b) ∷ xs) = omega (arith, steps_counted xs)
+steps_counted (names n ∷ xs) = omega (arith, steps_counted xs)
+steps_counted (counted k ∷ xs) = steps_counted xs
 
 shells_counted : (xs : List Step) → op_shells xs ≡ length (concat_map op_owner (concat_map step_defines xs))
 unfolding op_shells concat_map step_defines op_owner
@@ -150,11 +150,11 @@ module _ (s : Store) where
   unfolding steps opened op_shells
   walk_even n = full_one (region_steps levels s) (region_even levels) n
 
-  pub few_steps : sound s ≡ true → (n : ℕ) → op_exists s n ≡ true → length (step_words (steps s op n)) ≤ most_steps
+  pub few_steps : sound s ≡ true → (n : ℕ) → op_exists s n ≡ true → length (steps_listed (steps s op n)) ≤ most_steps
   unfolding defines_owners defines_blocks exists
   few_steps sd n e =
       let so = facts s sd in
       let ws = defines_owners s op n in
       let o : length (concat_map op_owner ws) ≤ max_ops = ops_most s sd ws (owners_once s so op n e) (owners_here s so op n e) in
       let b : length (defines_blocks s op n) ≤ max_blocks = blocks_most s sd op n e in
-      omega (arith, words_counted (steps s op n), shells_counted (steps s op n), walk_even n)
+      omega (arith, steps_counted (steps s op n), shells_counted (steps s op n), walk_even n)

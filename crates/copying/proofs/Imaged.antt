@@ -1,22 +1,20 @@
 -- The copier's mapping is entered owner by owner: what is left to enter, entered in the mapping as it is with the next numbers, is the whole mapping
 -- of the copy, since in the walk's order the copies get the next numbers one after the other. Assumes nothing.
-use Rattle.std.proofs.Common.{◌≡◌, ℕ, zero, suc, ◌+◌, ◌<◌, ◌≤◌, true, List, [], ◌∷◌, ◌++◌, map, length, replicate, refl, sym, ap, ap₂, subst, ◌∙◌, arith, append-nil, ext_get_or, length-append, drop_of_length-le}
+use Rattle.std.proofs.Common.{◌≡◌, ℕ, zero, suc, ◌+◌, ◌<◌, ◌≤◌, true, List, [], ◌∷◌, ◌++◌, map, length, replicate, refl, sym, ap, ap₂, subst, ◌∙◌, arith, append-nil, ext_get_or, length-append}
 use Rattle.std.proofs.lemmas.List.{get_or-map, length-map}
 use Rattle.std.proofs.Math.Option.{none}
-use lib.ListN.{length-replicate}
 use Rattle.rules.specs.Lists.{concat_map}
 use Rattle.rules.specs.Store.{Store, Owner, of_op, of_block, op_exists, values_of, max_values, totals_hold}
 use Rattle.rules.specs.Fragments.{op, steps, op_owner, block_owner, defines_owners, defines_blocks, defines_values, fragment_ops}
 use Rattle.rules.specs.Mapping.{Mapping, no_image, empty_mapping, enter_all}
 use Rattle.rules.specs.Copying.{renumbered, op_copy, block_copy, value_copy, copied, copy_mapping}
-use Rattle.rules.proofs.Basics.Distinct.{Distinct}
+use Rattle.rules.proofs.Basics.Distinct.{Distinct, concat_map_append}
 use Rattle.rules.proofs.Basics.Entries.{enter_append}
 use Rattle.rules.proofs.Form.Images.{position_at}
 use Rattle.rules.proofs.Soundness.Sound.{Sound, totals_facts}
 use Rattle.rules.proofs.Copying.Renumbered.{number_at}
 use Rattle.rules.proofs.Copying.Inside.{ops_distinct, blocks_distinct, values_distinct}
 use Rattle.rules.proofs.Copying.Tables.{ops_length, blocks_length, values_length}
-use Rattle.layout.specs.Columns.{pasted}
 use Rattle.layout.specs.Reading.{tabulate_from, consecutive}
 use Rattle.layout.proofs.Tabulate.{get_d_from}
 use Rattle.fragments.proofs.ByRows.{consecutive_length}
@@ -24,7 +22,9 @@ use Rattle.mapping.specs.MappingWords.{mapping_length, mapping_of, empty_words, 
 use Rattle.mapping.proofs.Unmapped.{empty_words_lem}
 use Rattle.copying.specs.declared.images.Copied.{Copied}
 use Rattle.copying.specs.Images.{next_entered, owners_entered, owners_copied, CopiesFit}
-use Rattle.copying.proofs.Words.{owners_left, all_owners_left}
+use Rattle.copying.specs.declared.steps.Step.{Step}
+use Rattle.copying.specs.Steps.{step_owners}
+use Rattle.copying.proofs.Told.{owners_left, all_owners_left}
 
 -- ---- the next numbers
 
@@ -73,35 +73,37 @@ entered_append xs ys next es =
     ∙ enter_append xs first ys then es (sym (consecutive_length next (length xs)))
 
 module _ (s : Store) where
-  owners_none : (next : Copied) (m : Mapping) → owners_entered s [] next m ≡ m
+  pub owners_none : (next : Copied) (m : Mapping) → owners_entered s [] next m ≡ m
   unfolding owners_entered next_entered concat_map enter_all
   owners_none next m = refl
 
-  -- an owner, and those behind it
-  module _ (w : Owner) (ws : List Owner) where
-    one_first : (f : Owner → List ℕ) (next : ℕ) (es : List ℕ) → next_entered (concat_map f (w ∷ ws)) next es
-        ≡ next_entered (concat_map f ws) (next + length (concat_map f (w ∷ []))) (next_entered (concat_map f (w ∷ [])) next es)
-    unfolding concat_map
+  pub none_copied : (next : Copied) → owners_copied s [] next ≡ next
+  unfolding owners_copied concat_map
+  none_copied next =
+      let none : (k : ℕ) → k + 0 ≡ k = λ k. omega arith in
+      λ i. record { ops = none next.ops i; blocks = none next.blocks i; values = none next.values i }
+
+  -- some owners, and those behind them
+  module _ (vs ws : List Owner) where
+    one_first : (f : Owner → List ℕ) (next : ℕ) (es : List ℕ) → next_entered (concat_map f (vs ++ ws)) next es
+        ≡ next_entered (concat_map f ws) (next + length (concat_map f vs)) (next_entered (concat_map f vs) next es)
     one_first f next es =
-        entered_append (f w) (concat_map f ws) next es
-        ∙ ap (λ (l : List ℕ). next_entered (concat_map f ws) (next + length l) (next_entered l next es)) (sym (append-nil (f w)))
+        ap (λ (l : List ℕ). next_entered l next es) (concat_map_append f vs ws) ∙ entered_append (concat_map f vs) (concat_map f ws) next es
 
-    one_length : (f : Owner → List ℕ) → length (concat_map f (w ∷ ws)) ≡ length (concat_map f (w ∷ [])) + length (concat_map f ws)
-    unfolding concat_map
-    one_length f =
-        length-append (f w) (concat_map f ws) ∙ ap (λ (l : List ℕ). length l + length (concat_map f ws)) (sym (append-nil (f w)))
+    one_length : (f : Owner → List ℕ) → length (concat_map f (vs ++ ws)) ≡ length (concat_map f vs) + length (concat_map f ws)
+    one_length f = ap length (concat_map_append f vs ws) ∙ length-append (concat_map f vs) (concat_map f ws)
 
-    owner_then : (next : Copied) (m : Mapping)
-        → owners_entered s (w ∷ ws) next m ≡ owners_entered s ws (owners_copied s (w ∷ []) next) (owners_entered s (w ∷ []) next m)
+    owners_then : (next : Copied) (m : Mapping)
+        → owners_entered s (vs ++ ws) next m ≡ owners_entered s ws (owners_copied s vs next) (owners_entered s vs next m)
     unfolding owners_entered owners_copied
-    owner_then next m = λ i. record {
+    owners_then next m = λ i. record {
       values = one_first (values_of s) next.values m.values i;
       blocks = one_first block_owner next.blocks m.blocks i;
       ops = one_first op_owner next.ops m.ops i;
     }
 
-    module _ {next : Copied} (r : CopiesFit s (w ∷ ws) next) where
-      first_fits : CopiesFit s (w ∷ []) next
+    module _ {next : Copied} (r : CopiesFit s (vs ++ ws) next) where
+      first_fits : CopiesFit s vs next
       first_fits =
           record {
             ops = omega (arith, r.ops, one_length op_owner);
@@ -109,7 +111,7 @@ module _ (s : Store) where
             values = omega (arith, r.values, one_length (values_of s));
           }
 
-      rest_fits : CopiesFit s ws (owners_copied s (w ∷ []) next)
+      rest_fits : CopiesFit s ws (owners_copied s vs next)
       unfolding owners_copied
       rest_fits =
           record {
@@ -216,17 +218,13 @@ module _ (s : Store) where
         }
 
 -- the words at the start
-pub emptied : (words : List ℕ) → length words ≡ mapping_length → mapping_of (pasted words 0 (replicate 2816 no_image)) ≡ empty_mapping
+pub emptied : (words filled : List ℕ) → length words ≡ mapping_length → filled ≡ replicate (length words) no_image → mapping_of filled ≡ empty_mapping
 unfolding empty_words
-emptied words e =
-    let none_set_lem : List ℕ = replicate 2816 no_image in
-    let long : length none_set_lem ≡ 2816 = length-replicate {A = ℕ} 2816 no_image in
-    let past : length words ≤ 0 + length none_set_lem = omega arith in
-    ap mapping_of (ap (λ (rest : List ℕ). none_set_lem ++ rest) (drop_of_length-le words past) ∙ append-nil none_set_lem) ∙ empty_words_lem
+emptied words filled e f = ap mapping_of (f ∙ ap (λ (k : ℕ). replicate k no_image) e) ∙ empty_words_lem
 
--- ---- word by word
+-- ---- step by step
 
--- what is left from word i on makes the whole, and there are numbers for it
+-- what is left from step i on makes the whole, and there are numbers for it
 pub record Entering (s : Store) (n i : ℕ) (next : Copied) (words : List ℕ) : Type 0 where
   pub mapped : copy_mapping s n ≡ owners_entered s (owners_left (steps s op n) i) next (mapping_of words)
   pub fits : CopiesFit s (owners_left (steps s op n) i) next
@@ -256,27 +254,18 @@ module _ (s : Store) (n : ℕ) where
     pub entering_over : owners_left (steps s op n) i ≡ [] → mapping_of words ≡ copy_mapping s n
     entering_over e = sym (left_is [] e ∙ owners_none s next (mapping_of words))
 
-    -- a word that tells of no owner
-    pub entering_past : owners_left (steps s op n) i ≡ rest → {next' : Copied} {words' : List ℕ} → next' ≡ next → words' ≡ words
-        → Entering s n (i + 1) next' words'
-    entering_past e c m =
-        record {
-          mapped = left_is rest e ∙ ap₂ (λ (k : Copied) (b : List ℕ). owners_entered s rest k (mapping_of b)) (sym c) (sym m);
-          fits = subst (λ (k : Copied). CopiesFit s rest k) (sym c) (left_fits_lem rest e);
-        }
+    -- with what a step defines
+    module _ (x : Step) (e : owners_left (steps s op n) i ≡ step_owners x ++ rest) where
+      pub entering_fits : CopiesFit s (step_owners x) next
+      entering_fits = first_fits s (step_owners x) rest (left_fits_lem (step_owners x ++ rest) e)
 
-    -- one that tells of w
-    module _ (w : Owner) (e : owners_left (steps s op n) i ≡ w ∷ rest) where
-      pub entering_fits : CopiesFit s (w ∷ []) next
-      entering_fits = first_fits s w rest (left_fits_lem (w ∷ rest) e)
-
-      pub entering_next : {next' : Copied} {words' : List ℕ} → next' ≡ owners_copied s (w ∷ []) next
-          → mapping_of words' ≡ owners_entered s (w ∷ []) next (mapping_of words) → Entering s n (i + 1) next' words'
+      pub entering_next : {next' : Copied} {words' : List ℕ} → next' ≡ owners_copied s (step_owners x) next
+          → mapping_of words' ≡ owners_entered s (step_owners x) next (mapping_of words) → Entering s n (i + 1) next' words'
       entering_next c m =
           record {
             mapped =
-                left_is (w ∷ rest) e
-                ∙ owner_then s w rest next (mapping_of words)
+                left_is (step_owners x ++ rest) e
+                ∙ owners_then s (step_owners x) rest next (mapping_of words)
                 ∙ ap₂ (λ (k : Copied) (b : Mapping). owners_entered s rest k b) (sym c) (sym m);
-            fits = subst (λ (k : Copied). CopiesFit s rest k) (sym c) (rest_fits s w rest (left_fits_lem (w ∷ rest) e));
+            fits = subst (λ (k : Copied). CopiesFit s rest k) (sym c) (rest_fits s (step_owners x) rest (left_fits_lem (step_owners x ++ rest) e));
           }

@@ -1,8 +1,9 @@
 -- What an operation names comes in time: the words tell whether a name has a walk number, and a scan of the names ends at the first one that lies
 -- inside and has none. The steps of a walk are gone through one after the other: what is left of them, with the numbering that the words stand for,
 -- tells of the whole. Assumes nothing.
-use Rattle.std.proofs.Common.{◌≡◌, ℕ, ◌+◌, ◌<◌, ◌≤◌, Bool, true, false, not, ltb, ◌&&◌, ◌||◌, List, [], ◌∷◌, ◌++◌, length, get_or, refl, sym, ap, ap₂, subst, ◌∙◌, arith}
+use Rattle.std.proofs.Common.{◌≡◌, ℕ, ◌+◌, ◌<◌, ◌≤◌, Bool, true, false, not, ltb, ◌&&◌, ◌||◌, List, [], ◌∷◌, ◌++◌, length, get_or, refl, sym, ap, subst, ◌∙◌, arith}
 use Rattle.std.proofs.Math.Option.{Option, none, some}
+use mathlib.Core.Bool.{and-true}
 use Rattle.rules.specs.Lists.{all, is_some, position, concat_map}
 use Rattle.rules.specs.Store.{Store, Owner, op_at, op_exists, block_exists, values_of, sound}
 use Rattle.rules.specs.Fragments.{Step, shell, names, op, exists, steps, step_defines, block_owner, defines_values, defines_blocks}
@@ -21,7 +22,7 @@ use Rattle.numbering.specs.declared.words.Name.{Name}
 use Rattle.numbering.specs.declared.words.Name.TheVariants.{WalkNumber, StoreNumber}
 use Rattle.numbering.proofs.Counting.{no_words, room_start, room_first, room_rest, stands_start}
 use Rattle.numbering.proofs.Rounds.{below_at, operands_there}
-use Rattle.copying.proofs.Words.{told, told_lists, told_in_time, left, all_left}
+use Rattle.copying.proofs.Told.{told, told_lists, told_in_time, left, all_left}
 
 -- ---- one name
 
@@ -43,43 +44,56 @@ numbered_name sofar v {r} {n} f e = go (position v sofar) (ap rule_name (sym f) 
     go none h = let z : ⊥ = cc in absurd z
     go (some i) h = refl
 
--- ---- a scan of names
+-- ---- one name alone
 
 abbrev pub comes_in_time : List ℕ → List ℕ → ℕ → Bool
 comes_in_time inside sofar v = not (has_place inside v) || has_place sofar v
+
+module _ (inside sofar : List ℕ) (v : ℕ) where
+  alone : comes_in_time inside sofar v ≡ numbered_names inside sofar (v ∷ [])
+  unfolding numbered_names all
+  alone = sym (and-true (comes_in_time inside sofar v))
+
+  has_come : has_place sofar v ≡ true → true ≡ comes_in_time inside sofar v
+  has_come h = go (has_place inside v)
+    where
+      go : (b : Bool) → true ≡ not b || has_place sofar v
+      go true = sym h
+      go false = refl
+
+  has_not : has_place sofar v ≡ false → not (has_place inside v) ≡ comes_in_time inside sofar v
+  has_not h = go (has_place inside v)
+    where
+      go : (b : Bool) → not b ≡ not b || has_place sofar v
+      go true = sym h
+      go false = refl
+
+  module _ {r : Name} {n : ℕ} (e : rule_name r ≡ name_of sofar v) where
+    pub numbered_timely : r ≡ WalkNumber n → true ≡ numbered_names inside sofar (v ∷ [])
+    numbered_timely f = has_come (numbered_name sofar v f e) ∙ alone
+
+    pub unnumbered_timely : r ≡ StoreNumber n → {b : Bool} → b ≡ has_place inside v → not b ≡ numbered_names inside sofar (v ∷ [])
+    unnumbered_timely f h = ap not h ∙ has_not (unnumbered sofar v f e) ∙ alone
+
+-- ---- a scan of names
 
 -- those before name i come in time
 abbrev pub NamesPassed : List ℕ → List ℕ → List ℕ → ℕ → Type 0
 NamesPassed inside sofar ns i = Scanned (passes_at (comes_in_time inside sofar) ns) (length ns) (length ns) i
 
-has_come : (inside sofar : List ℕ) (v : ℕ) → has_place sofar v ≡ true → comes_in_time inside sofar v ≡ true
-has_come inside sofar v h = go (has_place inside v)
-  where
-    go : (b : Bool) → not b || has_place sofar v ≡ true
-    go true = h
-    go false = refl
-
 module _ (inside sofar ns : List ℕ) where
-  pub names_begun : NamesPassed inside sofar ns 0
-  names_begun = scan_starts _ _ _ refl
-
   module _ (i : ℕ) (p : NamesPassed inside sofar ns i) where
     pub names_over : length ns ≤ i → true ≡ numbered_names inside sofar ns
     unfolding numbered_names
     names_over l = entries_done (comes_in_time inside sofar) ns p l
 
-    module _ (l : i < length ns) where
-      pub name_outside : has_place inside (get_or ns i 0) ≡ false → NamesPassed inside sofar ns (i + 1)
-      name_outside h = scan_on p l (ap (λ (a : Bool). not a || has_place sofar (get_or ns i 0)) h)
+    module _ (l : i < length ns) {r : Bool} (e : r ≡ numbered_names inside sofar (get_or ns i 0 ∷ [])) where
+      pub name_timely : r ≡ true → NamesPassed inside sofar ns (i + 1)
+      name_timely f = scan_on p l (alone inside sofar (get_or ns i 0) ∙ sym e ∙ f)
 
-      module _ {r : Name} {n : ℕ} (e : rule_name r ≡ name_of sofar (get_or ns i 0)) where
-        pub name_early : r ≡ StoreNumber n → has_place inside (get_or ns i 0) ≡ true → false ≡ numbered_names inside sofar ns
-        unfolding numbered_names
-        name_early f h =
-            entry_fails (comes_in_time inside sofar) ns p l (ap₂ (λ (a b : Bool). not a || b) h (unnumbered sofar (get_or ns i 0) f e))
-
-        pub name_numbered : r ≡ WalkNumber n → NamesPassed inside sofar ns (i + 1)
-        name_numbered f = scan_on p l (has_come inside sofar (get_or ns i 0) (numbered_name sofar (get_or ns i 0) f e))
+      pub name_late : r ≡ false → false ≡ numbered_names inside sofar ns
+      unfolding numbered_names
+      name_late f = entry_fails (comes_in_time inside sofar) ns p l (alone inside sofar (get_or ns i 0) ∙ sym e ∙ f)
 
 -- the names of an operation are numbers of the store
 module _ (store : List ℕ) (sd : IsSound store) (m : ℕ) (b : m < op_count (columns store)) where
@@ -127,7 +141,7 @@ shell_timely s n w N = refl
 
 -- ---- step by step
 
--- the steps from word i on, with the numbering that the words stand for, tell of the whole, and there are numbers for what they define
+-- the steps from step i on, with the numbering that the words stand for, tell of the whole, and there are numbers for what they define
 pub record TimelyFrom (s : Store) (n : ℕ) (xs : List Step) (i : ℕ) (numbers : List ℕ) : Type 0 where
   pub numbering : Numbering
   pub stands : Stands s numbering numbers
@@ -135,7 +149,7 @@ pub record TimelyFrom (s : Store) (n : ℕ) (xs : List Step) (i : ℕ) (numbers 
   pub room : DefinitionsFit s (left xs i) numbers
 
 module _ (s : Store) where
-  -- there is room for all the steps, so for those that have a word
+  -- there is room for all the steps, so for those that tell of something
   told_room : (xs : List Step) {a : List ℕ} → DefinitionsFit s xs a → DefinitionsFit s (told xs) a
   unfolding values_in blocks_in step_defines
   told_room xs r =

@@ -1,9 +1,10 @@
 -- Lemmas of the copier.
 pub mod Listing
-pub mod Words
+pub mod Told
 pub mod FewSteps
 pub mod Upward
 pub mod Standing
+pub mod Spans
 pub mod Totalled
 pub mod InTime
 pub mod Imaged
@@ -22,6 +23,5 @@ pub mod Ready
 pub mod Regions
 pub mod Rooms
 pub mod Setting
-pub mod Stepping
 pub mod Walking
 pub mod Wrote

@@ -10,7 +10,7 @@ use Rattle.layout.specs.Reading.{op_count, block_count, parent_from, store_of}
 use Rattle.layout.proofs.Laid.{Laid}
 use Rattle.layout.proofs.Tabulate.{parent_read_lem}
 use Rattle.mapping.specs.MappingWords.{mapping_length, mapping_of}
-use Rattle.mapping.proofs.Searching.{read_as}
+use Rattle.std.proofs.lemmas.List.{get_or_default}
 use Rattle.rules.proofs.Basics.Tests.{passed}
 use Rattle.layout.specs.Soundness.{placed}
 use Rattle.copying.specs.Written.{parent_by}
@@ -21,19 +21,19 @@ module _ (w : List ℕ) (len : length w ≡ mapping_length) where
   value_image v l =
       let e : 0 + v ≡ v = omega arith in
       let f : v < length w = omega arith in
-      ap (λ (x : ℕ). or_self x v) (ap (λ (k : ℕ). get_or w k 0) e ∙ read_as w v 0 no_image f ∙ sym (get_or-take 2048 w v no_image l))
+      ap (λ (x : ℕ). or_self x v) (ap (λ (k : ℕ). get_or w k 0) e ∙ get_or_default w v 0 no_image f ∙ sym (get_or-take 2048 w v no_image l))
 
   pub block_image : (b : ℕ) → b < 256 → or_self (get_or w (2048 + b) 0) b ≡ image (mapping_of w).blocks b
   unfolding image mapping_of
   block_image b l =
       let f : 2048 + b < length w = omega arith in
-      ap (λ (x : ℕ). or_self x b) (read_as w (2048 + b) 0 no_image f ∙ sym (get_or-drop 2048 w b no_image) ∙ sym (get_or-take 256 (drop 2048 w) b no_image l))
+      ap (λ (x : ℕ). or_self x b) (get_or_default w (2048 + b) 0 no_image f ∙ sym (get_or-drop 2048 w b no_image) ∙ sym (get_or-take 256 (drop 2048 w) b no_image l))
 
   pub op_image : (m : ℕ) → m < 512 → or_self (get_or w (2304 + m) 0) m ≡ image (mapping_of w).ops m
   unfolding image mapping_of
   op_image m l =
       let f : 2304 + m < length w = omega arith in
-      ap (λ (x : ℕ). or_self x m) (read_as w (2304 + m) 0 no_image f ∙ sym (get_or-drop 2304 w m no_image))
+      ap (λ (x : ℕ). or_self x m) (get_or_default w (2304 + m) 0 no_image f ∙ sym (get_or-drop 2304 w m no_image))
 
 -- ---- the parent
 

@@ -1,18 +1,17 @@
 -- How deep the copy of each operation of a sound buffer is nested: as deep as an operation where the copy is placed, and as much deeper as the
--- operation is than the original, by the column of depths. The operations left to test are those of the words left. Assumes nothing.
-use Prim.Native.Nat.{ℕ, ◌+◌, ◌-◌, ◌/◌, ◌%◌, ◌<◌, ◌≤◌}
-use native.Mathlib.Decide.{ℕ_discrete}
+-- operation is than the original, by the column of depths. The operations left to test are those of the steps left. Assumes nothing.
+use Prim.Native.Nat.{ℕ, ◌+◌, ◌-◌, ◌<◌, ◌≤◌}
 use native.Mathlib.Omega.{arith}
 use mathlib.Core.Bool.{Bool, true, false, ◌&&◌}
-use mathlib.Core.List.{List, Memᴰ}
+use mathlib.Core.List.{List, ◌++◌, Memᴰ}
 use mathlib.Core.Option.{Option, none, some}
-use mathlib.Core.Path.{◌≡◌, sym, ap, subst, ◌∙◌}
+use mathlib.Core.Path.{◌≡◌, refl, sym, ap, subst, ◌∙◌}
 use borrow.Author.Tests.{lt-ltb, le-leb, lt-leb}
 use lib.Dec.{leb}
 use lib.ListN.{length, get_or}
 use Rattle.rules.specs.Lists.{all, concat_map, is_some}
 use Rattle.rules.specs.Store.{Store, Owner, of_op, parent_of, op_around, op_exists, parent_exists, levels_left, max_nesting, nesting_holds}
-use Rattle.rules.specs.Fragments.{op, steps, op_owner, defines_owners, fragment_ops}
+use Rattle.rules.specs.Fragments.{op, steps, step_defines, op_owner, defines_owners, fragment_ops}
 use Rattle.rules.specs.Copying.{parent_copy, copied, copy_nests}
 use Rattle.rules.proofs.Soundness.Sound.{Sound, facts}
 use Rattle.rules.proofs.Copying.Inside.{owned_op}
@@ -24,8 +23,10 @@ use Rattle.layout.proofs.Laid.{Laid, laid_facts}
 use Rattle.layout.proofs.Nesting.{Placed, placed_facts, outermost, levels_under, depth_most}
 use Rattle.layout.proofs.Tabulate.{ops_length, op_exists_lem, block_in_lem, parent_read_lem, around_read}
 use Rattle.adding.specs.Raw.{depth_under}
-use Rattle.copying.specs.Steps.{AreSteps}
-use Rattle.copying.proofs.Words.{owners_left, all_owners_left, no_owners_left, op_owner_left, block_owner_left, names_owners_left, are_words, op_inside}
+use Rattle.copying.specs.declared.steps.Step.{Step}
+use Rattle.copying.specs.declared.steps.Step.TheVariants.{OpShell, BlockShell, Names}
+use Rattle.copying.specs.Steps.{AreSteps, step_of, step_owners}
+use Rattle.copying.proofs.Told.{owners_left, all_owners_left, no_owners_left, step_owners_left, are_steps_lem, op_inside}
 
 -- ---- the test, of one operation and of those of some owners
 
@@ -35,7 +36,7 @@ copy_nested s n p m = nesting_holds (copied s n p) (parent_copy s n p m)
 unfoldable pub owners_nested : Store → ℕ → Option ℕ → List Owner → Bool
 owners_nested s n p ws = all (copy_nested s n p) (concat_map op_owner ws)
 
--- what is left from word i on decides
+-- what is left from step i on decides
 abbrev pub NestsLeft : List ℕ → ℕ → Option ℕ → ℕ → Type 0
 NestsLeft b n p i = owners_nested (store_in b) n p (owners_left (steps (store_in b) op n) i) ≡ copy_nests (store_in b) n p
 
@@ -91,53 +92,49 @@ module _ (b : List ℕ) (sd : IsSound b) where
     nested_by_depth m k =
         nesting_copied (store_in b) so n ex p pe depth deeper (depth_under (columns b) p) (placed_levels p pe) m (owned_op (store_in b) so n ex k)
 
-    -- ---- word by word
+    -- ---- step by step
 
     pub left_first : NestsLeft b n p 0
     unfolding owners_nested copy_nested copy_nests fragment_ops
     left_first = ap (owners_nested (store_in b) n p) (all_owners_left (store_in b) n)
 
-    module _ (ws : List ℕ) (a : AreSteps b n ws) (i : ℕ) (r : NestsLeft b n p i) where
+    module _ (ws : List Step) (a : AreSteps b n ws) (i : ℕ) (r : NestsLeft b n p i) where
       pub left_last : length ws ≤ i → true ≡ copy_nests (store_in b) n p
       unfolding owners_nested concat_map all
-      left_last d = sym (ap (owners_nested (store_in b) n p) (no_owners_left _ ws (are_words b n ws a) i d)) ∙ r
+      left_last d = sym (ap (owners_nested (store_in b) n p) (no_owners_left _ ws (are_steps_lem b n ws a) i d)) ∙ r
 
       module _ (d : i < length ws) where
         abbrev rest : Bool
         rest = owners_nested (store_in b) n p (owners_left (steps (store_in b) op n) (i + 1))
 
-        -- an operation's shell, where m is its number
-        module _ (q : get_or ws i 0 % 4 ≡ 0) where
-          after_op : (copy_nested (store_in b) n p (get_or ws i 0 / 4) && rest) ≡ copy_nests (store_in b) n p
-          unfolding owners_nested concat_map op_owner all
-          after_op = sym (ap (owners_nested (store_in b) n p) (op_owner_left _ ws (are_words b n ws a) i d q)) ∙ r
+        left : (x : Step) → get_or ws i (OpShell 0) ≡ x
+            → owners_nested (store_in b) n p (step_owners x ++ owners_left (steps (store_in b) op n) (i + 1)) ≡ copy_nests (store_in b) n p
+        left x q = sym (ap (owners_nested (store_in b) n p) (step_owners_left _ ws (are_steps_lem b n ws a) i d x q)) ∙ r
 
-          tested : copy_nested (store_in b) n p (get_or ws i 0 / 4)
-              ≡ leb (depth_under (columns b) p + (at (columns b) op_depth (get_or ws i 0 / 4) - at (columns b) op_depth n)) max_nesting
-          tested = nested_by_depth _ (op_inside b sd n l ws a i d q)
+        -- an operation's shell
+        module _ (m : ℕ) (q : get_or ws i (OpShell 0) ≡ OpShell m) where
+          after_op : (copy_nested (store_in b) n p m && rest) ≡ copy_nests (store_in b) n p
+          unfolding owners_nested concat_map op_owner all step_owners step_of step_defines
+          after_op = left (OpShell m) q
 
-          pub own_below : at (columns b) op_depth n ≤ at (columns b) op_depth (get_or ws i 0 / 4)
-          own_below = own_least _ (op_inside b sd n l ws a i d q)
+          tested : copy_nested (store_in b) n p m
+              ≡ leb (depth_under (columns b) p + (at (columns b) op_depth m - at (columns b) op_depth n)) max_nesting
+          tested = nested_by_depth _ (op_inside b sd n l ws a i d m q)
 
-          pub too_deep_lem : max_nesting < depth_under (columns b) p + (at (columns b) op_depth (get_or ws i 0 / 4) - at (columns b) op_depth n)
+          pub own_below : at (columns b) op_depth n ≤ at (columns b) op_depth m
+          own_below = own_least _ (op_inside b sd n l ws a i d m q)
+
+          pub too_deep_lem : max_nesting < depth_under (columns b) p + (at (columns b) op_depth m - at (columns b) op_depth n)
               → false ≡ copy_nests (store_in b) n p
           too_deep_lem t = sym (ap (λ (v : Bool). v && rest) (tested ∙ lt-leb _ max_nesting t)) ∙ after_op
 
-          pub not_too_deep : depth_under (columns b) p + (at (columns b) op_depth (get_or ws i 0 / 4) - at (columns b) op_depth n) ≤ max_nesting
+          pub not_too_deep : depth_under (columns b) p + (at (columns b) op_depth m - at (columns b) op_depth n) ≤ max_nesting
               → NestsLeft b n p (i + 1)
           not_too_deep t = sym (ap (λ (v : Bool). v && rest) (tested ∙ le-leb _ max_nesting t)) ∙ after_op
 
         -- a block, and an operation's names, are passed
-        after_block : get_or ws i 0 % 4 ≡ 2 → NestsLeft b n p (i + 1)
-        unfolding owners_nested concat_map op_owner
-        after_block q = sym (ap (owners_nested (store_in b) n p) (block_owner_left _ ws (are_words b n ws a) i d q)) ∙ r
-
-        after_names : get_or ws i 0 % 2 ≡ 1 → NestsLeft b n p (i + 1)
-        after_names q = sym (ap (owners_nested (store_in b) n p) (names_owners_left _ ws (are_words b n ws a) i d q)) ∙ r
-
-        pub passed_over : (get_or ws i 0 % 4 ≡ 0 → ⊥) → NestsLeft b n p (i + 1)
-        passed_over q = go (ℕ_discrete (get_or ws i 0 % 2) 1)
-          where
-            go : Dec (get_or ws i 0 % 2 ≡ 1) → NestsLeft b n p (i + 1)
-            go (yes e) = after_names e
-            go (no ne) = after_block (omega (arith, q, ne))
+        pub passed_over : (x : Step) → get_or ws i (OpShell 0) ≡ x → ((m : ℕ) → x ≡ OpShell m → ⊥) → NestsLeft b n p (i + 1)
+        unfolding owners_nested concat_map op_owner step_owners step_of step_defines
+        passed_over (OpShell m) q other = absurd (other m refl)
+        passed_over (BlockShell m) q other = left (BlockShell m) q
+        passed_over (Names m) q other = left (Names m) q

@@ -9,9 +9,7 @@ use Rattle.rules.specs.Marks.{copy}
 use Rattle.rules.specs.Mapping.{allowed}
 use Rattle.layout.specs.Reading.{store_in}
 use Rattle.journal.specs.Words.{sound_lent}
-use Rattle.calling.specs.declared.types.Built.{Built}
-use Rattle.calling.specs.declared.types.Built.TheVariants as Builts
-use Rattle.calling.specs.Types.{built_of}
+use Rattle.rules.specs.Building.{Built, refused}
 use Rattle.mapping.specs.MappingWords.{mapping_of}
 use Rattle.marks.specs.Doing.{DidMarked}
 use Rattle.marks.proofs.Answering.{turned_down, taken_up}
@@ -20,10 +18,9 @@ use Rattle.copying.specs.Calls.{Answered}
 use Rattle.copying.proofs.Deciding.{unmapped, refused_mapping}
 
 module _ (b : List ℕ) where
-  pub unsound : (m : List ℕ) (n : ℕ) (place : Option ℕ) → sound_lent b ≡ false → Answered b b m m n place (Builts.Refused 1)
-  unfolding built_of
+  pub unsound : (m : List ℕ) (n : ℕ) (place : Option ℕ) → sound_lent b ≡ false → Answered b b m m n place (refused 1)
   unsound m n place h =
-      record { store = turned_down b (copy (allowed (store_in b) (mapping_of m)) n place) (Builts.Refused 1) h refl; mapping = unmapped b m n 1 }
+      record { store = turned_down b (copy (allowed (store_in b) (mapping_of m)) n place) (refused 1) h refl; mapping = unmapped b m n 1 }
 
   module _ (h : sound_lent b ≡ true) (m : List ℕ) (n : ℕ) (place : Option ℕ) where
     answered : (ok : Bool) → allowed (store_in b) (mapping_of m) ≡ ok → (exit after : List ℕ) (r : Built) → Cloned ok b exit m after n place r
@@ -34,8 +31,8 @@ module _ (b : List ℕ) where
           mapping = did.mapping;
         }
 
-    pub not_allowed_lem : allowed (store_in b) (mapping_of m) ≡ false → Answered b b m m n place (Builts.Refused 8)
-    not_allowed_lem e = answered false e b m (Builts.Refused 8) (refused_mapping b h m n place)
+    pub not_allowed_lem : allowed (store_in b) (mapping_of m) ≡ false → Answered b b m m n place (refused 8)
+    not_allowed_lem e = answered false e b m (refused 8) (refused_mapping b h m n place)
 
     pub done : allowed (store_in b) (mapping_of m) ≡ true → (exit after : List ℕ) (r : Built) → Cloned true b exit m after n place r
         → Answered b exit m after n place r

@@ -45,8 +45,18 @@ unfolding owner_exists op_exists block_exists
 exists_kept s w (of_op n) as' e = ap (ltb n) (ops_kept s w as') ∙ e
 exists_kept s w (of_block b) as' e = ap (ltb b) (blocks_kept s w as') ∙ e
 
+-- what is known of the next one
+pub record NextOne (b : List ℕ) (from to : Owner) (i : ℕ) (next : Attribute) : Type 0 where
+  pub to_now : owner_exists (store_in b) to ≡ true
+  pub own_counted : key_count (columns b) to ≡ i
+  pub few_keys : key_count (columns b) to < 8
+  pub from_slot : slots_of from + i < slot_count
+  pub to_slot : slots_of to + i < slot_count
+  pub read : attribute_at (columns b) (slots_of from + i) ≡ next
+  pub kind : next.kind ≤ max_attribute_kind
+
 module _ (a : List ℕ) (from to : Owner) (h : Arranged a) (fe : owner_exists (store_in a) from ≡ true) (te : owner_exists (store_in a) to ≡ true) where
-  abbrev whole : List Attribute
+  abbrev pub whole : List Attribute
   whole = attributes_of (store_in a) from
 
   pub all_counted : length whole ≡ key_count (columns a) from
@@ -70,7 +80,7 @@ module _ (a : List ℕ) (from to : Owner) (h : Arranged a) (fe : owner_exists (s
     from_now : owner_exists (store_in b) from ≡ true
     from_now = ap (λ (s : Store). owner_exists s from) w.reads ∙ exists_kept (store_in a) to from (take i whole) fe
 
-    pub to_now : owner_exists (store_in b) to ≡ true
+    to_now : owner_exists (store_in b) to ≡ true
     to_now = ap (λ (s : Store). owner_exists s to) w.reads ∙ exists_kept (store_in a) to to (take i whole) te
 
     theirs : attributes_of (store_in b) from ≡ whole
@@ -79,7 +89,7 @@ module _ (a : List ℕ) (from to : Owner) (h : Arranged a) (fe : owner_exists (s
     own : attributes_of (store_in b) to ≡ take i whole
     own = ap (λ (s : Store). attributes_of s to) w.reads ∙ attributes_there (store_in a) to (take i whole) (owner_there (store_in a) to te)
 
-    pub own_counted : key_count (columns b) to ≡ i
+    own_counted : key_count (columns b) to ≡ i
     own_counted =
         let e : length (take i whole) ≡ i = length-take i whole ∙ omega (arith, inside) in
         sym (keys_counted b to to_now) ∙ ap length own ∙ e
@@ -88,30 +98,30 @@ module _ (a : List ℕ) (from to : Owner) (h : Arranged a) (fe : owner_exists (s
     theirs_counted = sym (keys_counted b from from_now) ∙ ap length theirs ∙ all_counted
 
     -- the next one
-    abbrev next : Attribute
+    abbrev pub next : Attribute
     next = get_or whole i no_attribute
 
-    pub next_read : attribute_at (columns b) (slots_of from + i) ≡ next
+    next_read : attribute_at (columns b) (slots_of from + i) ≡ next
     next_read =
         slot_read b from from_now i no_attribute (omega (arith, theirs_counted)) ∙ ap (λ (xs : List Attribute). get_or xs i no_attribute) theirs
 
-    pub from_slot : slots_of from + i < slot_count
+    from_slot : slots_of from + i < slot_count
     from_slot =
         let r = owner_reached (columns a) from (laid_facts (columns a) h.laid) (owner_in_lem (columns a) from fe) in
         omega (arith, r.slots, r.keys)
 
-    pub few_keys : key_count (columns b) to < 8
+    few_keys : key_count (columns b) to < 8
     few_keys =
         let r = owner_reached (columns a) from (laid_facts (columns a) h.laid) (owner_in_lem (columns a) from fe) in
         omega (arith, r.keys, own_counted)
 
-    pub to_slot : slots_of to + i < slot_count
+    to_slot : slots_of to + i < slot_count
     to_slot =
         let r = owner_reached (columns a) to (laid_facts (columns a) h.laid) (owner_in_lem (columns a) to te) in
         let k = owner_reached (columns a) from (laid_facts (columns a) h.laid) (owner_in_lem (columns a) from fe) in
         omega (arith, r.slots, k.keys)
 
-    pub next_kind : next.kind ≤ max_attribute_kind
+    next_kind : next.kind ≤ max_attribute_kind
     unfolding attributes_hold
     next_kind =
         leb-true _ _ (all_at (λ (x : Attribute). leb x.kind max_attribute_kind) whole (passed _ held).1.1.0 (mem_get_d whole i no_attribute inside))
@@ -125,6 +135,18 @@ module _ (a : List ℕ) (from to : Owner) (h : Arranged a) (fe : owner_exists (s
 
     more_room : attribute_count (columns b) + 1 ≤ max_attributes
     more_room = omega (arith, inside, total, attribute_total_lem (columns a) (laid_facts (columns a) h.laid))
+
+    pub next_one : NextOne b from to i next
+    next_one =
+        record {
+          to_now = to_now;
+          own_counted = own_counted;
+          few_keys = few_keys;
+          from_slot = from_slot;
+          to_slot = to_slot;
+          read = next_read;
+          kind = next_kind;
+        }
 
     -- and with it
     module _ (d : List ℕ) (len : length d ≡ length b) (slot : ℕ) (at_last : slot ≡ slots_of to + i) (x : Attribute) (is_next : x ≡ next)

@@ -4,13 +4,11 @@ use mathlib.Core.Bool.{true}
 use mathlib.Core.List.{List}
 use mathlib.Core.Option.{Option, none}
 use mathlib.Core.Path.{◌≡◌, sym, ap, subst, ◌∙◌}
-use Rattle.rules.specs.Building.{first_failed}
+use Rattle.rules.specs.Building.{Built, first_failed}
 use Rattle.rules.specs.Copying.{copy_tests}
 use Rattle.rules.specs.Marks.{copy, marked_tests, marked_acceptance}
 use Rattle.layout.specs.Columns.{Cols, columns}
 use Rattle.layout.specs.Reading.{store_of, store_in}
-use Rattle.calling.specs.declared.types.Built.{Built}
-use Rattle.calling.specs.Types.{built_of}
 use Rattle.journal.specs.Journal.{snapshot_of, Journaled, marked_of, journaled_copy, journal_sound, replaced_in}
 use Rattle.journal.specs.Words.{mark_count, max_entries, journal_of, row_at, rows_of, journaled_of, marked_in}
 use Rattle.journal.specs.Statements.{CopyRead, CopySound, JournalShort}
@@ -81,7 +79,7 @@ module _ (b : List ℕ) (h : IsLent b) (n : ℕ) (place : Option ℕ) (clear : f
 
   -- ---- the call
 
-  pub written_done : (r : Built) → built_of r ≡ marked_acceptance (marked_in b) (copy true n place) → DidMarked b exit (copy true n place) r
+  pub written_done : (r : Built) → r ≡ marked_acceptance (marked_in b) (copy true n place) → DidMarked b exit (copy true n place) r
   unfolding CopyRead
   written_done r q =
       doing.marked_work b (copy true n place) r exit (journaled_copy j n place) tests_pass called (copy_read j true n place lent.journal) next_sound

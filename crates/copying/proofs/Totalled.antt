@@ -1,17 +1,18 @@
 -- The totals of owners, one owner after the other, are how many numbers, children and names they have together; so those of an operation of a sound
 -- buffer are within the store's own totals, and what the store with a copy has is the sum of the two. Assumes nothing.
-use Prim.Native.Nat.{ℕ, ◌+◌, ◌/◌, ◌%◌, ◌<◌, ◌≤◌}
+use Prim.Native.Nat.{ℕ, ◌+◌, ◌<◌, ◌≤◌}
 use native.Mathlib.Omega.{arith}
-use mathlib.Core.Bool.{Bool, true, false, and-true, and-false}
-use mathlib.Core.List.{List, [], ◌∷◌, Memᴰ}
+use mathlib.Core.Bool.{Bool, true}
+use mathlib.Core.List.{List, [], ◌∷◌, ◌++◌, Memᴰ}
 use mathlib.Core.Option.{Option}
 use mathlib.Core.Path.{◌≡◌, refl, sym, ap, subst, ◌∙◌}
-use borrow.Author.Tests.{lt-ltb, le-leb, lt-leb}
+use borrow.Author.Tests.{lt-ltb}
 use lib.Dec.{leb}
 use lib.ListN.{length, get_or, length-append}
 use Rattle.rules.specs.Lists.{sum, concat_map, every}
 use Rattle.rules.specs.Store.{Store, Op, Block, Owner, of_op, of_block, op_at, block_at, regions_of, values_of, op_exists, owner_exists, totals_hold, operand_total, successor_total, attribute_total, max_ops, max_blocks, max_regions, max_values, max_operands, max_successors, max_attributes}
-use Rattle.rules.specs.Fragments.{Step, op, steps, exists, op_owner, block_owner, defines_owners, defines_blocks, defines_values, fragment_ops}
+use Rattle.rules.specs.Fragments.{op, steps, exists, step_defines, op_owner, block_owner, defines_owners, defines_blocks, defines_values, fragment_ops}
+use Rattle.rules.specs.Fragments as rules
 use Rattle.rules.specs.Copying.{copied, copied_regions}
 use Rattle.rules.proofs.Soundness.Sound.{Sound, facts}
 use Rattle.rules.proofs.Form.Once.{owners_here}
@@ -26,10 +27,12 @@ use Rattle.layout.proofs.Buffer.{columns_shaped}
 use Rattle.layout.proofs.Ranges.{length_range, regions_range, results_range, arguments_range}
 use Rattle.layout.proofs.Tabulate.{ops_length, blocks_length, regions_length, values_length, op_exists_lem, op_in_lem, block_in_lem, op_read, block_read}
 use Rattle.layout.proofs.Totals.{op_keys, block_keys_lem, operands_length, successors_length, operand_total_lem, successor_total_lem, attribute_total_lem}
-use Rattle.copying.specs.Steps.{AreSteps}
+use Rattle.copying.specs.declared.steps.Step.{Step}
+use Rattle.copying.specs.declared.steps.Step.TheVariants.{OpShell, BlockShell, Names}
+use Rattle.copying.specs.Steps.{AreSteps, step_of, step_owners}
 use Rattle.copying.specs.declared.totals.Totals.{Totals}
 use Rattle.copying.specs.Totals.{TotalsFit, no_totals, span_of, op_totalled, block_totalled, owner_totalled, owners_totalled, totalled}
-use Rattle.copying.proofs.Words.{owners_left, all_owners_left, no_owners_left, op_owner_left, block_owner_left, names_owners_left, are_words}
+use Rattle.copying.proofs.Told.{owners_left, all_owners_left, no_owners_left, step_owners_left, are_steps_lem}
 
 -- ---- what is summed up so far is no more than what is summed up in the end
 
@@ -157,43 +160,6 @@ holds a b c d e f g =
     ∷ leb g max_attributes
     ∷ [])
 
--- one that is past its limit is enough to refuse
-module _ (a b c d e f g : ℕ) where
-  many_ops : max_ops < a → false ≡ holds a b c d e f g
-  unfolding holds every
-  many_ops h = rw (lt-leb a max_ops h) refl
-
-  many_blocks : max_blocks < b → false ≡ holds a b c d e f g
-  unfolding holds every
-  many_blocks h = rw (lt-leb b max_blocks h, and-false (leb a max_ops)) refl
-
-  many_regions : max_regions < c → false ≡ holds a b c d e f g
-  unfolding holds every
-  many_regions h = rw (lt-leb c max_regions h, and-false (leb b max_blocks), and-false (leb a max_ops)) refl
-
-  many_values : max_values < d → false ≡ holds a b c d e f g
-  unfolding holds every
-  many_values h = rw (lt-leb d max_values h, and-false (leb c max_regions), and-false (leb b max_blocks), and-false (leb a max_ops)) refl
-
-  many_operands : max_operands < e → false ≡ holds a b c d e f g
-  unfolding holds every
-  many_operands h =
-      rw (lt-leb e max_operands h, and-false (leb d max_values), and-false (leb c max_regions)) (
-      rw (and-false (leb b max_blocks), and-false (leb a max_ops)) refl)
-
-  many_successors : max_successors < f → false ≡ holds a b c d e f g
-  unfolding holds every
-  many_successors h =
-      rw (lt-leb f max_successors h, and-false (leb e max_operands), and-false (leb d max_values)) (
-      rw (and-false (leb c max_regions), and-false (leb b max_blocks), and-false (leb a max_ops)) refl)
-
-  attributes_left : a ≤ max_ops → b ≤ max_blocks → c ≤ max_regions → d ≤ max_values → e ≤ max_operands → f ≤ max_successors
-      → leb g max_attributes ≡ holds a b c d e f g
-  unfolding holds every
-  attributes_left ha hb hc hd he hf =
-      rw (le-leb a max_ops ha, le-leb b max_blocks hb, le-leb c max_regions hc, le-leb d max_values hd, le-leb e max_operands he, le-leb f max_successors hf)
-      (sym (and-true (leb g max_attributes)))
-
 -- ---- of an operation of a sound buffer
 
 pub counted : (b : List ℕ) → IsSound b → Counts (columns b)
@@ -279,34 +245,9 @@ module _ (b : List ℕ) (sd : IsSound b) (n : ℕ) (l : n < op_count (columns b)
     totals_with =
         λ i. holds (ops_with i) (blocks_with i) (regions_with i) (values_with i) (operands_with i) (successors_with i) (attributes_with i)
 
-    -- the tests
-
-    pub refuse_ops : max_ops < op_count C + u.ops → false ≡ totals_hold with
-    refuse_ops h = many_ops _ _ _ _ _ _ _ h ∙ totals_with
-
-    pub refuse_blocks : max_blocks < block_count C + u.blocks → false ≡ totals_hold with
-    refuse_blocks h = many_blocks _ _ _ _ _ _ _ h ∙ totals_with
-
-    pub refuse_regions : max_regions < region_count C + u.regions → false ≡ totals_hold with
-    refuse_regions h = many_regions _ _ _ _ _ _ _ h ∙ totals_with
-
-    pub refuse_values : max_values < value_count C + u.values → false ≡ totals_hold with
-    refuse_values h = many_values _ _ _ _ _ _ _ h ∙ totals_with
-
-    pub refuse_operands : max_operands < operand_count C + u.operands → false ≡ totals_hold with
-    refuse_operands h = many_operands _ _ _ _ _ _ _ h ∙ totals_with
-
-    pub refuse_successors : max_successors < successor_count C + u.successors → false ≡ totals_hold with
-    refuse_successors h = many_successors _ _ _ _ _ _ _ h ∙ totals_with
-
-    pub test_attributes : op_count C + u.ops ≤ max_ops → block_count C + u.blocks ≤ max_blocks → region_count C + u.regions ≤ max_regions
-        → value_count C + u.values ≤ max_values → operand_count C + u.operands ≤ max_operands → successor_count C + u.successors ≤ max_successors
-        → leb (attribute_count C + u.attributes) max_attributes ≡ totals_hold with
-    test_attributes h0 h1 h2 h3 h4 h5 = attributes_left _ _ _ _ _ _ _ h0 h1 h2 h3 h4 h5 ∙ totals_with
-
-  -- word by word
-  module _ (ws : List ℕ) (a : AreSteps b n ws) where
-    abbrev walk : List Step
+  -- step by step
+  module _ (ws : List Step) (a : AreSteps b n ws) where
+    abbrev walk : List rules.Step
     walk = steps (store_in b) op n
 
     -- with what is left added, it is all
@@ -323,22 +264,25 @@ module _ (b : List ℕ) (sd : IsSound b) (n : ℕ) (l : n < op_count (columns b)
 
       pub adds_last : length ws ≤ i → t ≡ totalled (columns b) n
       unfolding owners_totalled
-      adds_last d = sym (ap (owners_totalled (columns b) t) (no_owners_left walk ws (are_words b n ws a) i d)) ∙ h
+      adds_last d = sym (ap (owners_totalled (columns b) t) (no_owners_left walk ws (are_steps_lem b n ws a) i d)) ∙ h
 
       module _ (d : i < length ws) (u : Totals) where
-        pub adds_op : get_or ws i 0 % 4 ≡ 0 → u ≡ op_totalled (columns b) t (get_or ws i 0 / 4) → Adds u (i + 1)
-        unfolding owners_totalled owner_totalled
-        adds_op q e =
-            ap (λ (v : Totals). owners_totalled (columns b) v (owners_left walk (i + 1))) e
-            ∙ sym (ap (owners_totalled (columns b) t) (op_owner_left walk ws (are_words b n ws a) i d q)) ∙ h
+        -- with what the step defines
+        adds_step : (x : Step) → get_or ws i (OpShell 0) ≡ x
+            → owners_totalled (columns b) u (owners_left walk (i + 1)) ≡ owners_totalled (columns b) t (step_owners x ++ owners_left walk (i + 1)) → Adds u (i + 1)
+        adds_step x q e = e ∙ sym (ap (owners_totalled (columns b) t) (step_owners_left walk ws (are_steps_lem b n ws a) i d x q)) ∙ h
 
-        pub adds_block : get_or ws i 0 % 4 ≡ 2 → u ≡ block_totalled (columns b) t (get_or ws i 0 / 4) → Adds u (i + 1)
-        unfolding owners_totalled owner_totalled
-        adds_block q e =
-            ap (λ (v : Totals). owners_totalled (columns b) v (owners_left walk (i + 1))) e
-            ∙ sym (ap (owners_totalled (columns b) t) (block_owner_left walk ws (are_words b n ws a) i d q)) ∙ h
+        same : (v : Totals) → u ≡ v → owners_totalled (columns b) u (owners_left walk (i + 1)) ≡ owners_totalled (columns b) v (owners_left walk (i + 1))
+        same v e = ap (λ (w : Totals). owners_totalled (columns b) w (owners_left walk (i + 1))) e
 
-        pub adds_names : (get_or ws i 0 % 4 ≡ 0 → ⊥) → (get_or ws i 0 % 4 ≡ 2 → ⊥) → u ≡ t → Adds u (i + 1)
-        adds_names q r e =
-            ap (λ (v : Totals). owners_totalled (columns b) v (owners_left walk (i + 1))) e
-            ∙ sym (ap (owners_totalled (columns b) t) (names_owners_left walk ws (are_words b n ws a) i d (omega (arith, q, r)))) ∙ h
+        pub adds_op : (m : ℕ) → get_or ws i (OpShell 0) ≡ OpShell m → u ≡ op_totalled (columns b) t m → Adds u (i + 1)
+        unfolding owners_totalled owner_totalled step_owners step_of step_defines
+        adds_op m q e = adds_step (OpShell m) q (same (op_totalled (columns b) t m) e)
+
+        pub adds_block : (m : ℕ) → get_or ws i (OpShell 0) ≡ BlockShell m → u ≡ block_totalled (columns b) t m → Adds u (i + 1)
+        unfolding owners_totalled owner_totalled step_owners step_of step_defines
+        adds_block m q e = adds_step (BlockShell m) q (same (block_totalled (columns b) t m) e)
+
+        pub adds_names : (m : ℕ) → get_or ws i (OpShell 0) ≡ Names m → u ≡ t → Adds u (i + 1)
+        unfolding step_owners step_of step_defines
+        adds_names m q e = adds_step (Names m) q (same t e)

@@ -1,6 +1,6 @@
--- The copies are written word by word: what a word's step asks for is there, what is written is the next copy, and behind the last word all copies
+-- The copies are written step by step: what a step asks for is there, what is written is the next copy, and behind the last step all copies
 -- are there, in a sound buffer. Assumes nothing.
-use Rattle.std.proofs.Common.{◌≡◌, ℕ, ◌+◌, ◌/◌, ◌%◌, ◌<◌, ◌≤◌, true, List, [], ◌∷◌, ◌++◌, map, length, get_or, take, drop, refl, sym, ap, subst, ◌∙◌, arith, append-nil, append_assoc, length-append}
+use Rattle.std.proofs.Common.{◌≡◌, ℕ, ◌+◌, ◌<◌, ◌≤◌, true, List, [], ◌∷◌, ◌++◌, map, length, get_or, take, drop, refl, sym, ap, subst, ◌∙◌, arith, append-nil, append_assoc, length-append}
 use Rattle.std.proofs.lemmas.List.{take-append-drop}
 use mathlib.Core.List.{Memᴰ}
 use mathlib.Core.Option.{Option, none, some}
@@ -9,7 +9,8 @@ use borrow.Author.Tests.{ltb-true, lt-ltb}
 use lib.Dec.{ltb}
 use Rattle.rules.specs.Lists.{all, concat_map}
 use Rattle.rules.specs.Store.{Store, Op, Block, Owner, of_op, of_block, op_at, block_at, op_around, regions_of, results_of, arguments_of, op_exists, block_exists, value_exists, parent_exists, attributes_hold, totals_hold, sound, max_values, max_blocks}
-use Rattle.rules.specs.Fragments.{Step, op, op_owner, block_owner, steps, step_defines, defines_owners}
+use Rattle.rules.specs.Fragments.{op, op_owner, block_owner, steps, step_defines, defines_owners}
+use Rattle.rules.specs.Fragments as rules
 use Rattle.rules.specs.Building.{first_failed}
 use Rattle.rules.specs.Mapping.{Mapping}
 use Rattle.rules.specs.Copying.{copied, copy_tests, copy_mapping, block_copy, region_copy, parent_copy, copied_op, copied_block}
@@ -29,18 +30,19 @@ use Rattle.layout.specs.Soundness.{IsSound}
 use Rattle.layout.proofs.Laid.{laid_facts}
 use Rattle.layout.proofs.Tabulate.{op_exists_lem}
 use Rattle.mapping.specs.MappingWords.{mapping_of}
-use Rattle.copying.specs.Steps.{AreSteps}
+use Rattle.copying.specs.declared.steps.Step.{Step}
+use Rattle.copying.specs.declared.steps.Step.TheVariants.{OpShell, BlockShell, Names}
+use Rattle.copying.specs.Steps.{AreSteps, step_of, step_owners}
 use Rattle.copying.specs.Partial.{Partial, copied_by}
-use Rattle.copying.specs.Written.{Wrote, block_made, parent_by, OpReady, BlockReady, WordReady, word_made}
+use Rattle.copying.specs.Written.{Wrote, block_made, parent_by, OpReady, BlockReady, StepReady, step_made}
 use Rattle.copying.specs.Cloned.{Written}
-use Rattle.copying.proofs.Words.{told, told_lists, done, left, owners_done, owners_left, no_owners_done, are_words, no_owners_left, op_owner_left, op_owner_done, block_owner_left, block_owner_done, names_owners_done}
+use Rattle.copying.proofs.Told.{told, told_lists, done, left, owners_done, owners_left, no_owners_done, are_steps_lem, no_owners_left, step_owners_left, step_owners_done}
 use Rattle.copying.proofs.Built.{here as stands, Images, Runs, op_between, block_between, values_between, ops_length, blocks_length, op_known, parent_same, op_made_lem}
 use Rattle.copying.proofs.BuiltBlock.{block_known, region_known, copy_known, some_theirs, region_same, block_made_lem}
 use Rattle.copying.proofs.CopyImages.{copies_imaged}
 use Rattle.copying.proofs.Rooms.{fewer, copied_by_lem, none_copied, more_copied}
 use Rattle.copying.proofs.Ready.{around_there, parent_there, block_copied, region_copied, op_rooms, block_rooms}
 use Rattle.copying.proofs.Regions.{runs}
-use Rattle.copying.proofs.Stepping.{word_op, word_block, word_none}
 use Rattle.copying.proofs.Wrote.{behind_none, behind_both}
 
 -- ---- numbers that are low enough
@@ -75,7 +77,7 @@ sound_copied = copy_sound
 
 -- ---- the owners done and those left
 
-done_and_left : (xs : List Step) (i : ℕ) → owners_done xs i ++ owners_left xs i ≡ concat_map step_defines (told xs)
+done_and_left : (xs : List rules.Step) (i : ℕ) → owners_done xs i ++ owners_left xs i ≡ concat_map step_defines (told xs)
 unfolding owners_done owners_left done left
 done_and_left xs i =
     sym (concat_map_append step_defines (take i (told xs)) (drop i (told xs))) ∙ ap (concat_map step_defines) (take-append-drop i (told xs))
@@ -200,14 +202,14 @@ module _ (s : Store) (sd : Sound s) (n : ℕ) (ex : op_exists s n ≡ true) (pla
         attribute_room = r.attribute_room;
       }
 
--- ---- word by word
+-- ---- step by step
 
 module _ (a : List ℕ) (sd : IsSound a) (n : ℕ) (l : n < op_count (columns a)) (place : Option ℕ)
-    (passed : first_failed (copy_tests (store_in a) n place) ≡ none) (ws : List ℕ) (are : AreSteps a n ws) (w : List ℕ) (mapped : mapping_of w ≡ copy_mapping (store_in a) n) where
+    (passed : first_failed (copy_tests (store_in a) n place) ≡ none) (ws : List Step) (are : AreSteps a n ws) (w : List ℕ) (mapped : mapping_of w ≡ copy_mapping (store_in a) n) where
   abbrev s : Store
   s = store_in a
 
-  abbrev xs : List Step
+  abbrev xs : List rules.Step
   xs = steps s op n
 
   sound_in : Sound s
@@ -251,10 +253,10 @@ module _ (a : List ℕ) (sd : IsSound a) (n : ℕ) (l : n < op_count (columns a)
     abbrev written : Store
     written = copied_by s n place (owners_done xs i)
 
-    -- ---- behind the last word
+    -- ---- behind the last step
     pub ends : length ws ≤ i → Written a b n place w
     ends past =
-        let none_left : owners_left xs i ≡ [] = no_owners_left xs ws (are_words a n ws are) i past in
+        let none_left : owners_left xs i ≡ [] = no_owners_left xs ws (are_steps_lem a n ws are) i past in
         let all_done : owners_done xs i ≡ defines_owners s op n = sym (append-nil (owners_done xs i))
         ∙ ap (λ (z : List Owner). owners_done xs i ++ z) (sym none_left) ∙ whole i in
         let reads : store_in b ≡ copied s n place = h.reads ∙ ap (copied_by s n place) all_done ∙ copied_by_lem s n place in
@@ -271,63 +273,61 @@ module _ (a : List ℕ) (sd : IsSound a) (n : ℕ) (l : n < op_count (columns a)
     runs_entry : Runs s
     runs_entry = runs (columns a) (laid_facts (columns a) sd.laid)
 
-    -- ---- at a word
+    -- ---- at a step
     module _ (few : i < length ws) where
-      abbrev word : ℕ
-      word = get_or ws i 0
-
       abbrev M : Mapping
       M = mapping_of w
 
-      op_split : word % 4 ≡ 0 → owners_done xs i ++ (of_op (word / 4) ∷ owners_left xs (i + 1)) ≡ defines_owners s op n
-      op_split q = ap (λ (z : List Owner). owners_done xs i ++ z) (sym (op_owner_left xs ws (are_words a n ws are) i few q)) ∙ whole i
+      split : (x : Step) → get_or ws i (OpShell 0) ≡ x → owners_done xs i ++ (step_owners x ++ owners_left xs (i + 1)) ≡ defines_owners s op n
+      split x q = ap (λ (z : List Owner). owners_done xs i ++ z) (sym (step_owners_left xs ws (are_steps_lem a n ws are) i few x q)) ∙ whole i
 
-      block_split : word % 4 ≡ 2 → owners_done xs i ++ (of_block (word / 4) ∷ owners_left xs (i + 1)) ≡ defines_owners s op n
-      block_split q = ap (λ (z : List Owner). owners_done xs i ++ z) (sym (block_owner_left xs ws (are_words a n ws are) i few q)) ∙ whole i
+      op_split : (m : ℕ) → get_or ws i (OpShell 0) ≡ OpShell m → owners_done xs i ++ (of_op m ∷ owners_left xs (i + 1)) ≡ defines_owners s op n
+      unfolding step_owners step_of step_defines
+      op_split m q = split (OpShell m) q
 
-      ready_written : WordReady written M n place word
-      ready_written =
+      block_split : (m : ℕ) → get_or ws i (OpShell 0) ≡ BlockShell m → owners_done xs i ++ (of_block m ∷ owners_left xs (i + 1)) ≡ defines_owners s op n
+      unfolding step_owners step_of step_defines
+      block_split m q = split (BlockShell m) q
+
+      ready_written : (x : Step) → get_or ws i (OpShell 0) ≡ x → StepReady written M n place x
+      unfolding StepReady
+      ready_written (OpShell m) q =
           record {
-            op_in =
-                λ q. op_there s sound_in n exists_in place place_in_lem (owners_done xs i) (owners_left xs (i + 1)) (word / 4) (op_split q) M images_in (room _ _ _ (op_split q));
-            parent_in =
-                λ q. parent_in_lem s sound_in n exists_in place place_in_lem (owners_done xs i) (owners_left xs (i + 1)) (word / 4) (op_split q) M images_in (room _ _ _ (op_split q));
-            op =
-                λ q. op_ready s sound_in n exists_in place place_in_lem (owners_done xs i) (owners_left xs (i + 1)) (word / 4) (op_split q) M images_in (room _ _ _ (op_split q));
-            block_in =
-                λ q. block_there s sound_in n exists_in place place_in_lem (owners_done xs i) (owners_left xs (i + 1)) (word / 4) (block_split q) M images_in runs_entry runs_written (room _ _ _ (block_split q));
-            block =
-                λ q. block_ready s sound_in n exists_in place place_in_lem (owners_done xs i) (owners_left xs (i + 1)) (word / 4) (block_split q) M images_in runs_entry runs_written (room _ _ _ (block_split q));
+            op_in = op_there s sound_in n exists_in place place_in_lem (owners_done xs i) (owners_left xs (i + 1)) m (op_split m q) M images_in (room _ _ _ (op_split m q));
+            parent_in = parent_in_lem s sound_in n exists_in place place_in_lem (owners_done xs i) (owners_left xs (i + 1)) m (op_split m q) M images_in (room _ _ _ (op_split m q));
+            op = op_ready s sound_in n exists_in place place_in_lem (owners_done xs i) (owners_left xs (i + 1)) m (op_split m q) M images_in (room _ _ _ (op_split m q));
           }
-
-      pub word_ready : WordReady (store_in b) M n place word
-      word_ready = subst (λ (t : Store). WordReady t M n place word) (sym h.reads) ready_written
+      ready_written (BlockShell m) q =
+          record {
+            block_in = block_there s sound_in n exists_in place place_in_lem (owners_done xs i) (owners_left xs (i + 1)) m (block_split m q) M images_in runs_entry runs_written (room _ _ _ (block_split m q));
+            block = block_ready s sound_in n exists_in place place_in_lem (owners_done xs i) (owners_left xs (i + 1)) m (block_split m q) M images_in runs_entry runs_written (room _ _ _ (block_split m q));
+          }
+      ready_written (Names m) q = tt
 
       -- what is written is the next copy
-      next_written : word_made written M n place word ≡ copied_by s n place (owners_done xs (i + 1))
-      next_written = go (ℕ_discrete (word % 4) 0) (ℕ_discrete (word % 4) 2)
-        where
-          go : Dec (word % 4 ≡ 0) → Dec (word % 4 ≡ 2) → word_made written M n place word ≡ copied_by s n place (owners_done xs (i + 1))
-          go (yes q) other =
-              sym (word_op written M n place word q)
-              ∙ op_made_lem s sound_in n exists_in place place_in_lem (owners_done xs i) (owners_left xs (i + 1)) (word / 4) (op_split q) M images_in
-              ∙ ap (copied_by s n place) (sym (op_owner_done xs ws (are_words a n ws are) i few q))
-          go (no ne) (yes q) =
-              sym (word_block written M n place word ne q)
-              ∙ made_block s sound_in n exists_in place place_in_lem (owners_done xs i) (owners_left xs (i + 1)) (word / 4) (block_split q) M images_in runs_entry runs_written (room _ _ _ (block_split q))
-              ∙ ap (copied_by s n place) (sym (block_owner_done xs ws (are_words a n ws are) i few q))
-          go (no ne) (no other) =
-              let odd : word % 2 ≡ 1 = omega arith in
-              sym (word_none written M n place word ne other)
-              ∙ ap (copied_by s n place) (sym (names_owners_done xs ws (are_words a n ws are) i few odd))
+      done_with : (x : Step) → get_or ws i (OpShell 0) ≡ x
+          → copied_by s n place (owners_done xs i ++ step_owners x) ≡ copied_by s n place (owners_done xs (i + 1))
+      done_with x q = ap (copied_by s n place) (sym (step_owners_done xs ws (are_steps_lem a n ws are) i few x q))
 
-      pub goes_on : (d : List ℕ) → Wrote b d (word_made (store_in b) M n place word) → Partial a n place (owners_done xs (i + 1)) d
-      goes_on d k =
-          record {
-            reads = k.reads ∙ ap (λ (t : Store). word_made t M n place word) h.reads ∙ next_written;
-            arranged = k.arranged;
-            behind = behind_both a b d
-                (subst (λ (t : Store). length s.ops ≤ length t.ops) (sym h.reads) (ops_more s n place (owners_done xs i)))
-                (subst (λ (t : Store). length s.blocks ≤ length t.blocks) (sym h.reads) (blocks_more s n place (owners_done xs i)))
-                h.behind k.behind;
-          }
+      next_written : (x : Step) → get_or ws i (OpShell 0) ≡ x → step_made written M n place x ≡ copied_by s n place (owners_done xs (i + 1))
+      unfolding step_made step_owners step_of step_defines
+      next_written (OpShell m) q = op_made_lem s sound_in n exists_in place place_in_lem (owners_done xs i) (owners_left xs (i + 1)) m (op_split m q) M images_in ∙ done_with (OpShell m) q
+      next_written (BlockShell m) q =
+          made_block s sound_in n exists_in place place_in_lem (owners_done xs i) (owners_left xs (i + 1)) m (block_split m q) M images_in runs_entry runs_written (room _ _ _ (block_split m q))
+          ∙ done_with (BlockShell m) q
+      next_written (Names m) q = ap (copied_by s n place) (sym (append-nil (owners_done xs i))) ∙ done_with (Names m) q
+
+      module _ (x : Step) (q : get_or ws i (OpShell 0) ≡ x) where
+        pub step_ready : StepReady (store_in b) M n place x
+        step_ready = subst (λ (t : Store). StepReady t M n place x) (sym h.reads) (ready_written x q)
+
+        pub goes_on : (d : List ℕ) → Wrote b d (step_made (store_in b) M n place x) → Partial a n place (owners_done xs (i + 1)) d
+        goes_on d k =
+            record {
+              reads = k.reads ∙ ap (λ (t : Store). step_made t M n place x) h.reads ∙ next_written x q;
+              arranged = k.arranged;
+              behind = behind_both a b d
+                  (subst (λ (t : Store). length s.ops ≤ length t.ops) (sym h.reads) (ops_more s n place (owners_done xs i)))
+                  (subst (λ (t : Store). length s.blocks ≤ length t.blocks) (sym h.reads) (blocks_more s n place (owners_done xs i)))
+                  h.behind k.behind;
+            }

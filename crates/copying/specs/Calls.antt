@@ -4,7 +4,7 @@ use Rattle.std.proofs.Math.Option.{Option}
 use Rattle.rules.specs.Mapping.{allowed}
 use Rattle.rules.specs.Marks.{copy}
 use Rattle.layout.specs.Reading.{store_in}
-use Rattle.calling.specs.declared.types.Built.{Built}
+use Rattle.rules.specs.Building.{Built}
 use Rattle.mapping.specs.MappingWords.{mapping_of}
 use Rattle.marks.specs.Doing as marked
 use Rattle.copying.specs.Cloned.{Mapped}

@@ -1,14 +1,12 @@
 -- What the copying call gives: the rules' answer, store and mapping, for every buffer, mapping, operation and place.
 use Rattle.std.specs.Prelude.{◌≡◌, ℕ, Bool, List}
 use Rattle.std.proofs.Math.Option.{Option}
-use Rattle.rules.specs.Building.{made, refused}
+use Rattle.rules.specs.Building.{Built, made, refused}
 use Rattle.rules.specs.Copying.{copied, copy_mapping}
 use Rattle.rules.specs.Marks.{copy}
 use Rattle.layout.specs.Columns.{columns}
 use Rattle.layout.specs.Reading.{store_in}
 use Rattle.layout.specs.Soundness.{IsSound}
-use Rattle.calling.specs.declared.types.Built.{Built}
-use Rattle.calling.specs.Types.{built_of}
 use Rattle.calling.specs.Doing.{Behind}
 use Rattle.mapping.specs.MappingWords.{mapping_of}
 use Rattle.marks.specs.Doing.{DidMarked}
@@ -22,8 +20,8 @@ pub record Written (entry exit : List ℕ) (n : ℕ) (place : Option ℕ) (mappi
 
 -- the mapping afterwards: on acceptance exactly original to copy, else every word as it was
 pub record Mapped (entry : List ℕ) (n : ℕ) (before after : List ℕ) (r : Built) : Type 0 where
-  pub accepted : (k : ℕ) → built_of r ≡ made k → mapping_of after ≡ copy_mapping (store_in entry) n
-  pub unchanged : (cause : ℕ) → built_of r ≡ refused cause → after ≡ before
+  pub accepted : (k : ℕ) → r ≡ made k → mapping_of after ≡ copy_mapping (store_in entry) n
+  pub unchanged : (cause : ℕ) → r ≡ refused cause → after ≡ before
 
 -- on a lent buffer, with a mapping that is allowed or not
 pub record Cloned (ok : Bool) (entry exit before after : List ℕ) (n : ℕ) (place : Option ℕ) (r : Built) : Type 0 where

@@ -1,5 +1,5 @@
 -- What is written for one operation or block of a walk, by the rules: a new row like the original's, named by the mapping, and its attributes.
-use Rattle.std.specs.Prelude.{◌≡◌, ℕ, ◌+◌, ◌-◌, ◌/◌, ◌%◌, ◌<◌, ◌≤◌, List, true, cond, eqb, ltb, map, length, get_or}
+use Rattle.std.specs.Prelude.{◌≡◌, ℕ, ◌+◌, ◌-◌, ◌<◌, ◌≤◌, List, true, cond, eqb, ltb, map, length, get_or}
 use Rattle.std.proofs.Math.Option.{Option}
 use Rattle.rules.specs.Lists.{all, update_at}
 use Rattle.rules.specs.Store.{Store, Op, Block, Attribute, Owner, of_op, of_block, op_at, block_at, parent_of, type_of, regions_of, results_of, arguments_of, parent_exists, attributes_hold, operand_total, successor_total, attribute_total, max_ops, max_blocks, max_regions, max_values, max_operands, max_successors, max_attributes, max_own_values, max_own_operands, max_own_successors}
@@ -10,6 +10,8 @@ use Rattle.layout.specs.Columns.{columns}
 use Rattle.layout.specs.Reading.{store_in}
 use Rattle.layout.specs.Soundness.{Arranged}
 use Rattle.calling.specs.Doing.{Behind}
+use Rattle.copying.specs.declared.steps.Step.{Step}
+use Rattle.copying.specs.declared.steps.Step.TheVariants.{OpShell, BlockShell, Names}
 
 -- ---- attributes
 
@@ -93,19 +95,27 @@ pub record BlockReady (s : Store) (M : Mapping) (b : ℕ) : Type 0 where
   pub value_room : length s.values + length (arguments_of s b) ≤ max_values
   pub attribute_room : attribute_total s + length (block_at s b).attributes ≤ max_attributes
 
--- ---- a step's word
+-- ---- a step
 
--- what is written for it: of a shell's word its owner's copy
-unfoldable pub word_made : Store → Mapping → ℕ → Option ℕ → ℕ → Store
-word_made s M n place word =
-    cond (eqb (word % 4) 0) (op_made s M (parent_by s M n place (word / 4)) (word / 4)) (cond (eqb (word % 4) 2) (block_made s M (word / 4)) s)
+-- what is written for it: of a shell its owner's copy
+unfoldable pub step_made : Store → Mapping → ℕ → Option ℕ → Step → Store
+step_made s M n place (OpShell m) = op_made s M (parent_by s M n place m) m
+step_made s M n place (BlockShell b) = block_made s M b
+step_made s M n place (Names m) = s
 
-pub record WordReady (s : Store) (M : Mapping) (n : ℕ) (place : Option ℕ) (word : ℕ) : Type 0 where
-  pub op_in : word % 4 ≡ 0 → word / 4 < length s.ops
-  pub parent_in : word % 4 ≡ 0 → parent_exists s (parent_by s M n place (word / 4)) ≡ true
-  pub op : word % 4 ≡ 0 → OpReady s (word / 4)
-  pub block_in : word % 4 ≡ 2 → word / 4 < length s.blocks
-  pub block : word % 4 ≡ 2 → BlockReady s M (word / 4)
+pub record OpStep (s : Store) (M : Mapping) (n : ℕ) (place : Option ℕ) (m : ℕ) : Type 0 where
+  pub op_in : m < length s.ops
+  pub parent_in : parent_exists s (parent_by s M n place m) ≡ true
+  pub op : OpReady s m
+
+pub record BlockStep (s : Store) (M : Mapping) (b : ℕ) : Type 0 where
+  pub block_in : b < length s.blocks
+  pub block : BlockReady s M b
+
+unfoldable pub StepReady : Store → Mapping → ℕ → Option ℕ → Step → Type 0
+StepReady s M n place (OpShell m) = OpStep s M n place m
+StepReady s M n place (BlockShell b) = BlockStep s M b
+StepReady s M n place (Names m) = Unit {0}
 
 -- ---- a buffer
 

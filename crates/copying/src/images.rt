@@ -1,19 +1,21 @@
 // The copier's mapping: what the original defines gets the next numbers, in the order of the walk.
-ghost use Rattle.std.specs.Prelude.{◌≡◌, ◌<◌, true, [], ◌∷◌, length};
+ghost use Rattle.std.specs.Prelude.{◌≡◌, ◌+◌, ◌≤◌, true, length};
 ghost use Rattle.std.proofs.Math.Option.{none};
-ghost use Rattle.rules.specs.Store.{of_op, of_block, totals_hold};
+ghost use Rattle.rules.specs.Store.{totals_hold, max_values};
 ghost use Rattle.rules.specs.Copying.{copied, copy_mapping};
 ghost use Rattle.layout.specs.Columns.{columns};
-ghost use Rattle.layout.specs.Reading.{op_count, block_count, store_in};
+ghost use Rattle.layout.specs.Reading.{consecutive, store_in};
 ghost use Rattle.layout.specs.Soundness.{IsSound};
-ghost use Rattle.mapping.specs.MappingWords.{mapping_length, mapping_of};
-ghost use Rattle.copying.specs.Steps.{AreSteps};
+ghost use Rattle.mapping.specs.MappingWords.{mapping_length, mapping_of, values_mapped};
+ghost use Rattle.copying.specs.Steps.{StepThere, step_owners};
 ghost use Rattle.copying.specs.Images.{CopiesFit, owners_entered, owners_copied};
 
+use crate::original::Original;
+use crate::steps::Step;
 use fragments::rows::{block_row, op_row};
+use fragments::types::Row;
 use layout::columns::{BLOCKS, COUNTS, OPS, VALUES, number};
-use layout::lists::fill_at;
-use mapping::mapping::{MAPPING_LENGTH, NO_IMAGE, map_block, map_op, map_values};
+use mapping::mapping::{NO_IMAGE, map_block, map_op, map_values};
 
 // How many there are of each, with those copied so far: the numbers that the next ones get.
 #[derive(Clone, Copy)]
@@ -23,67 +25,64 @@ struct Copied {
     values: usize,
 }
 
-// Operation m and its results get the next numbers.
-fn enter_op(store: &[u32], mapping: &mut [u32], next: Copied, m: usize) -> Copied
-    requires sound { IsSound store.now }
-    requires m_bound { m < op_count (columns store.now) }
+// A row's values get the next numbers.
+fn enter_values(mapping: &mut [u32], next: Copied, row: Row) -> Copied
     requires mapping_len { length mapping.old ≡ mapping_length }
-    requires copies_fit { CopiesFit (store_in store.now) (of_op m ∷ []) next }
-    ensures entered { mapping_of mapping.new ≡ owners_entered (store_in store.now) (of_op m ∷ []) next (mapping_of mapping.old) }
-    ensures counted { result ≡ owners_copied (store_in store.now) (of_op m ∷ []) next }
+    requires values_bound { row.value + row.values ≤ max_values }
+    requires copies_bound { next.values + row.values ≤ max_values }
+    ensures entered { mapping_of mapping.new ≡ values_mapped (mapping_of mapping.old) (consecutive row.value row.values) (consecutive next.values row.values) }
+    ensures counted { result ≡ record next { values = next.values + row.values } }
 {
-    let row = op_row(store, m);
-    map_op(mapping, m, next.ops as u32);
     map_values(mapping, row.value, next.values as u32, row.values);
     Copied {
-        ops: next.ops + 1,
-        blocks: next.blocks,
         values: next.values + row.values,
+        ..next
     }
 }
 
-// Block b and its arguments likewise.
-fn enter_block(store: &[u32], mapping: &mut [u32], next: Copied, b: usize) -> Copied
+// What a step defines gets the next numbers: an operation and its results, or a block and its arguments.
+fn enter_step(store: &[u32], mapping: &mut [u32], next: Copied, step: Step) -> Copied
     requires sound { IsSound store.now }
-    requires b_bound { b < block_count (columns store.now) }
+    requires there { StepThere (columns store.now) step }
     requires mapping_len { length mapping.old ≡ mapping_length }
-    requires copies_fit { CopiesFit (store_in store.now) (of_block b ∷ []) next }
-    ensures entered { mapping_of mapping.new ≡ owners_entered (store_in store.now) (of_block b ∷ []) next (mapping_of mapping.old) }
-    ensures counted { result ≡ owners_copied (store_in store.now) (of_block b ∷ []) next }
+    requires copies_fit { CopiesFit (store_in store.now) (step_owners step) next }
+    ensures entered { mapping_of mapping.new ≡ owners_entered (store_in store.now) (step_owners step) next (mapping_of mapping.old) }
+    ensures counted { result ≡ owners_copied (store_in store.now) (step_owners step) next }
 {
-    let row = block_row(store, b);
-    map_block(mapping, b, next.blocks as u32);
-    map_values(mapping, row.value, next.values as u32, row.values);
-    Copied {
-        ops: next.ops,
-        blocks: next.blocks + 1,
-        values: next.values + row.values,
+    match step {
+        Step::OpShell(m) => {
+            map_op(mapping, m as usize, next.ops as u32);
+            let counted = Copied {
+                ops: next.ops + 1,
+                ..next
+            };
+            enter_values(mapping, counted, op_row(store, m as usize))
+        }
+        Step::BlockShell(b) => {
+            map_block(mapping, b as usize, next.blocks as u32);
+            let counted = Copied {
+                blocks: next.blocks + 1,
+                ..next
+            };
+            enter_values(mapping, counted, block_row(store, b as usize))
+        }
+        Step::Names(_) => next,
     }
 }
 
 // Every entry is replaced, none included.
-pub fn enter_copies(store: &[u32], mapping: &mut [u32], n: usize, steps: &[u32])
-    requires sound { IsSound store.now }
-    requires n_bound { n < op_count (columns store.now) }
-    requires are_steps { AreSteps store.now n steps.now }
-    requires totals_hold { totals_hold (copied (store_in store.now) n none) ≡ true }
+pub fn enter_copies(original: &Original, mapping: &mut [u32])
+    requires totals_hold { totals_hold (copied (store_in original.now.store.now) original.now.n none) ≡ true }
     requires mapping_len { length mapping.old ≡ mapping_length }
-    ensures { mapping_of mapping.new ≡ copy_mapping (store_in store.now) n }
+    ensures { mapping_of mapping.new ≡ copy_mapping (store_in original.now.store.now) original.now.n }
 {
-    fill_at(mapping, 0, MAPPING_LENGTH, NO_IMAGE);
+    mapping.fill(NO_IMAGE);
     let mut next = Copied {
-        ops: number(store, COUNTS, OPS),
-        blocks: number(store, COUNTS, BLOCKS),
-        values: number(store, COUNTS, VALUES),
+        ops: number(original.store, COUNTS, OPS),
+        blocks: number(original.store, COUNTS, BLOCKS),
+        values: number(original.store, COUNTS, VALUES),
     };
-    let mut i = 0;
-    while i < steps.len() {
-        let word = steps[i] as usize;
-        if word % 4 == 0 {
-            next = enter_op(store, mapping, next, word / 4);
-        } else if word % 4 == 2 {
-            next = enter_block(store, mapping, next, word / 4);
-        }
-        i += 1;
+    for step in original.steps {
+        next = enter_step(original.store, mapping, next, *step);
     }
 }

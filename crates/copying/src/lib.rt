@@ -7,6 +7,7 @@ pub mod early;
 pub mod images;
 pub mod inside;
 pub mod nesting;
+pub mod original;
 pub mod steps;
 pub mod totals;
 pub mod writing;

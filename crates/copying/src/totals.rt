@@ -6,9 +6,10 @@ ghost use Rattle.rules.specs.Copying.{copied};
 ghost use Rattle.layout.specs.Columns.{columns};
 ghost use Rattle.layout.specs.Reading.{op_count, block_count, store_in};
 ghost use Rattle.layout.specs.Soundness.{IsSound};
-ghost use Rattle.copying.specs.Steps.{AreSteps};
 ghost use Rattle.copying.specs.Totals.{TotalsFit, op_totalled, block_totalled, totalled};
 
+use crate::original::Original;
+use crate::steps::Step;
 use fragments::rows::span;
 use layout::columns::{
     ATTRIBUTES, BLOCK_ARGUMENT_END, BLOCK_ARGUMENT_FIRST, BLOCK_ATTRIBUTES, BLOCKS, COUNTS,
@@ -18,7 +19,7 @@ use layout::columns::{
 };
 
 // How many of each: in the order of the store's counts.
-#[derive(Clone, Copy)]
+#[derive(Clone, Copy, Default)]
 pub struct Totals {
     pub ops: usize,
     pub blocks: usize,
@@ -30,6 +31,7 @@ pub struct Totals {
 }
 
 // One operation more.
+#[tactic(auto, using(crate::proofs::Spans::op_spans), unfolding(crate::specs::Totals::op_totalled, crate::specs::Totals::span_of))]
 fn with_op(store: &[u32], so_far: Totals, m: usize) -> Totals
     requires sound { IsSound store.now }
     requires m_bound { m < op_count (columns store.now) }
@@ -38,16 +40,17 @@ fn with_op(store: &[u32], so_far: Totals, m: usize) -> Totals
 {
     Totals {
         ops: so_far.ops + 1,
-        blocks: so_far.blocks,
         regions: so_far.regions + span(store, OP_REGION_FIRST, OP_REGION_END, m),
         values: so_far.values + span(store, OP_RESULT_FIRST, OP_RESULT_END, m),
         operands: so_far.operands + span(store, OP_OPERAND_FIRST, OP_OPERAND_END, m),
         successors: so_far.successors + span(store, OP_SUCCESSOR_FIRST, OP_SUCCESSOR_END, m),
         attributes: so_far.attributes + number(store, OP_ATTRIBUTES, m),
+        ..so_far
     }
 }
 
 // One block more.
+#[tactic(auto, using(crate::proofs::Spans::block_spans), unfolding(crate::specs::Totals::block_totalled, crate::specs::Totals::span_of))]
 fn with_block(store: &[u32], so_far: Totals, b: usize) -> Totals
     requires sound { IsSound store.now }
     requires b_bound { b < block_count (columns store.now) }
@@ -55,70 +58,39 @@ fn with_block(store: &[u32], so_far: Totals, b: usize) -> Totals
     ensures { result ≡ block_totalled (columns store.now) so_far b }
 {
     Totals {
-        ops: so_far.ops,
         blocks: so_far.blocks + 1,
-        regions: so_far.regions,
         values: so_far.values + span(store, BLOCK_ARGUMENT_FIRST, BLOCK_ARGUMENT_END, b),
-        operands: so_far.operands,
-        successors: so_far.successors,
         attributes: so_far.attributes + number(store, BLOCK_ATTRIBUTES, b),
+        ..so_far
     }
 }
 
 // All that the original defines and has.
-fn totals_of(store: &[u32], n: usize, steps: &[u32]) -> Totals
-    requires sound { IsSound store.now }
-    requires n_bound { n < op_count (columns store.now) }
-    requires are_steps { AreSteps store.now n steps.now }
-    ensures { result ≡ totalled (columns store.now) n }
+fn totals_of(original: &Original) -> Totals
+    ensures { result ≡ totalled (columns original.now.store.now) original.now.n }
 {
-    let mut sum = Totals {
-        ops: 0,
-        blocks: 0,
-        regions: 0,
-        values: 0,
-        operands: 0,
-        successors: 0,
-        attributes: 0,
-    };
-    let mut i = 0;
-    while i < steps.len() {
-        let word = steps[i] as usize;
-        if word % 4 == 0 {
-            sum = with_op(store, sum, word / 4);
-        } else if word % 4 == 2 {
-            sum = with_block(store, sum, word / 4);
-        }
-        i += 1;
+    let mut sum = Totals::default();
+    for step in original.steps {
+        sum = match *step {
+            Step::OpShell(m) => with_op(original.store, sum, m as usize),
+            Step::BlockShell(b) => with_block(original.store, sum, b as usize),
+            Step::Names(_) => sum,
+        };
     }
     sum
 }
 
 // There is room for all of it.
-pub fn copy_totals_hold(store: &[u32], n: usize, steps: &[u32]) -> bool
-    requires sound { IsSound store.now }
-    requires n_bound { n < op_count (columns store.now) }
-    requires are_steps { AreSteps store.now n steps.now }
-    ensures { (place : Option ℕ) → result ≡ totals_hold (copied (store_in store.now) n place) }
+pub fn copy_totals_hold(original: &Original) -> bool
+    ensures { (place : Option ℕ) → result ≡ totals_hold (copied (store_in original.now.store.now) original.now.n place) }
 {
-    let more = totals_of(store, n, steps);
-    if number(store, COUNTS, OPS) + more.ops > 512 {
-        return false;
-    }
-    if number(store, COUNTS, BLOCKS) + more.blocks > 256 {
-        return false;
-    }
-    if number(store, COUNTS, REGIONS) + more.regions > 256 {
-        return false;
-    }
-    if number(store, COUNTS, VALUES) + more.values > 2048 {
-        return false;
-    }
-    if number(store, COUNTS, OPERANDS) + more.operands > 2048 {
-        return false;
-    }
-    if number(store, COUNTS, SUCCESSORS) + more.successors > 512 {
-        return false;
-    }
-    number(store, COUNTS, ATTRIBUTES) + more.attributes <= 1024
+    let store = original.store;
+    let more = totals_of(original);
+    number(store, COUNTS, OPS) + more.ops <= 512
+        && number(store, COUNTS, BLOCKS) + more.blocks <= 256
+        && number(store, COUNTS, REGIONS) + more.regions <= 256
+        && number(store, COUNTS, VALUES) + more.values <= 2048
+        && number(store, COUNTS, OPERANDS) + more.operands <= 2048
+        && number(store, COUNTS, SUCCESSORS) + more.successors <= 512
+        && number(store, COUNTS, ATTRIBUTES) + more.attributes <= 1024
 }

@@ -13,12 +13,13 @@ ghost use Rattle.layout.specs.Owners.{owner_of};
 ghost use Rattle.calling.specs.Types.{parent_of, attribute_of};
 ghost use Rattle.mapping.specs.MappingWords.{mapping_length, mapping_of};
 ghost use Rattle.copying.specs.Steps.{AreSteps};
-ghost use Rattle.copying.specs.Written.{Wrote, attributed, region_by, parent_by, OpReady, op_made, BlockReady, block_made, WordReady, word_made};
+ghost use Rattle.copying.specs.Written.{Wrote, attributed, region_by, parent_by, OpReady, op_made, BlockReady, block_made, StepReady, step_made};
 ghost use Rattle.copying.specs.Cloned.{Written};
 
+use crate::steps::Step;
 use adding::blocks::put_block;
 use adding::operations::put_operation;
-use calling::types::{Attribute, OpFields, Owner, Parent};
+use calling::types::{Attribute, OpFields, Owner};
 use layout::columns::{
     BLOCK_ARGUMENT_END, BLOCK_ARGUMENT_FIRST, BLOCK_LABEL, BLOCK_LOCATION, BLOCK_REGION, BLOCKS,
     COUNTS, OP_KIND, OP_LOCATION, OP_PARENT, OP_REGION_END, OP_REGION_FIRST, OP_RESULT_END,
@@ -26,23 +27,21 @@ use layout::columns::{
     words,
 };
 use layout::kinds::{inherent_from, kind_from};
-use layout::lists::copy_at;
 use layout::owners::{first_slot, key_count};
 use layout::slices::{operands_of, successors_of};
 use mapping::mapping::{BLOCK_ENTRIES, OP_ENTRIES};
 use pairing::names::image_at;
 use setting::attributes::put_added;
 
-// The types of a row's values, which are those in the range that these two columns tell of; answers how many.
-fn types_of(store: &[u32], first: usize, end: usize, i: usize, into: &mut [u32]) -> usize
+// The types of a row's values, which are those in the range that these two columns tell of, in a lent list.
+fn types_of<'a>(store: &[u32], first: usize, end: usize, i: usize, into: &'a mut [u32]) -> &'a [u32]
     requires store_len { length store.now ≡ buffer_length }
     requires columns_bound { (first < column_count) × (end < column_count) }
     requires i_bound { (i < column_size first) × (i < column_size end) }
     requires rises { Rattle.layout.specs.Columns.at (columns store.now) first i ≤ Rattle.layout.specs.Columns.at (columns store.now) end i }
     requires fits { Rattle.layout.specs.Columns.at (columns store.now) end i ≤ 2048 }
     requires room { Rattle.layout.specs.Columns.at (columns store.now) end i - Rattle.layout.specs.Columns.at (columns store.now) first i ≤ length into.old }
-    ensures counted { result ≡ Rattle.layout.specs.Columns.at (columns store.now) end i - Rattle.layout.specs.Columns.at (columns store.now) first i }
-    ensures read { take result into.new ≡ slice (columns store.now value_type) (Rattle.layout.specs.Columns.at (columns store.now) first i) (Rattle.layout.specs.Columns.at (columns store.now) end i) }
+    ensures { result.now ≡ slice (columns store.now value_type) (Rattle.layout.specs.Columns.at (columns store.now) first i) (Rattle.layout.specs.Columns.at (columns store.now) end i) }
 {
     let types = words(
         store,
@@ -50,24 +49,21 @@ fn types_of(store: &[u32], first: usize, end: usize, i: usize, into: &mut [u32])
         number(store, first, i),
         number(store, end, i),
     );
-    copy_at(into, 0, types);
-    types.len()
+    into[..types.len()].copy_from_slice(types);
+    &into[..types.len()]
 }
 
-// The images of names, whose entries begin with word `base` of the mapping; answers how many.
-fn images_of(mapping: &[u32], base: usize, names: &[u32], into: &mut [u32]) -> usize
+// The images of names, whose entries begin with word `base` of the mapping, in a lent list.
+fn images_of<'a>(mapping: &[u32], base: usize, names: &[u32], into: &'a mut [u32]) -> &'a [u32]
     requires base_bound { base ≤ 4096 }
     requires names_bound { (k : ℕ) → k < length names.now → base + get_or names.now k 0 < length mapping.now }
     requires room { length names.now ≤ length into.old }
-    ensures counted { result ≡ length names.now }
-    ensures read { take result into.new ≡ map (λ (v : ℕ). or_self (get_or mapping.now (base + v) 0) v) names.now }
+    ensures { result.now ≡ map (λ (v : ℕ). or_self (get_or mapping.now (base + v) 0) v) names.now }
 {
-    let mut i = 0;
-    while i < names.len() {
-        into[i] = image_at(mapping, base + names[i] as usize, names[i]);
-        i += 1;
+    for (i, name) in names.iter().enumerate() {
+        into[i] = image_at(mapping, base + *name as usize, *name);
     }
-    names.len()
+    &into[..names.len()]
 }
 
 // The attribute at a slot.
@@ -97,16 +93,14 @@ fn copy_attributes(store: &mut [u32], from: Owner, to: Owner)
     ensures { Wrote store.old store.new (attributed (store_in store.old) (owner_of to) (attributes_of (store_in store.old) (owner_of from))) }
 {
     let count = key_count(store, from);
-    let mut i = 0;
-    while i < count {
+    for i in 0..count {
         let attribute = attribute_at(store, first_slot(from) + i);
         put_added(store, to, first_slot(to) + i, attribute);
-        i += 1;
     }
 }
 
 // The copy of operation m, under this parent.
-fn copy_op(store: &mut [u32], mapping: &[u32], m: usize, parent: Parent)
+fn copy_op(store: &mut [u32], mapping: &[u32], m: usize, parent: Option<u32>)
     requires arranged { Arranged store.old }
     requires mapping_len { length mapping.now ≡ mapping_length }
     requires m_bound { m < op_count (columns store.old) }
@@ -132,18 +126,18 @@ fn copy_op(store: &mut [u32], mapping: &[u32], m: usize, parent: Parent)
         location: at(store, OP_LOCATION, m),
         regions: at(store, OP_REGION_END, m) - at(store, OP_REGION_FIRST, m),
     };
-    put_operation(
-        store,
-        fields,
-        &types[..results],
-        &operands[..uses],
-        &successors[..targets],
-    );
+    put_operation(store, fields, results, uses, targets);
     copy_attributes(store, Owner::Op(m as u32), Owner::Op(copy));
 }
 
 // The parent of the copy of operation m: of the copy itself it is the named one, of another the copy of its block.
-fn parent_copy(store: &[u32], mapping: &[u32], n: usize, parent: Parent, m: usize) -> Parent
+fn parent_copy(
+    store: &[u32],
+    mapping: &[u32],
+    n: usize,
+    parent: Option<u32>,
+    m: usize,
+) -> Option<u32>
     requires arranged { Arranged store.now }
     requires mapping_len { length mapping.now ≡ mapping_length }
     requires m_bound { m < op_count (columns store.now) }
@@ -152,12 +146,8 @@ fn parent_copy(store: &[u32], mapping: &[u32], n: usize, parent: Parent, m: usiz
     if m == n {
         return parent;
     }
-    let word = at(store, OP_PARENT, m);
-    if word == 0 {
-        return Parent::None;
-    }
-    let b = word - 1;
-    Parent::Block(image_at(mapping, BLOCK_ENTRIES + b as usize, b))
+    let b = at(store, OP_PARENT, m).checked_sub(1)?;
+    Some(image_at(mapping, BLOCK_ENTRIES + b as usize, b))
 }
 
 // The copy of region r: as far behind the first region of its operation's copy as r is behind the first region of its operation.
@@ -194,27 +184,35 @@ fn copy_block(store: &mut [u32], mapping: &[u32], b: usize)
     let region = region_copy(store, mapping, at(store, BLOCK_REGION, b));
     let label = at(store, BLOCK_LABEL, b);
     let location = at(store, BLOCK_LOCATION, b);
-    put_block(store, region, label, location, &types[..arguments]);
+    put_block(store, region, label, location, arguments);
     copy_attributes(store, Owner::Block(b as u32), Owner::Block(copy));
 }
 
-// The copies of what a step's word defines, if it is a shell's.
-fn copy_step(store: &mut [u32], mapping: &[u32], n: usize, parent: Parent, word: usize)
+// The copies of what a step defines, if it is a shell.
+fn copy_step(store: &mut [u32], mapping: &[u32], n: usize, parent: Option<u32>, step: Step)
     requires arranged { Arranged store.old }
     requires mapping_len { length mapping.now ≡ mapping_length }
-    requires ready { WordReady (store_in store.old) (mapping_of mapping.now) n (parent_of parent) word }
-    ensures { Wrote store.old store.new (word_made (store_in store.old) (mapping_of mapping.now) n (parent_of parent) word) }
+    requires ready { StepReady (store_in store.old) (mapping_of mapping.now) n (parent_of parent) step }
+    ensures { Wrote store.old store.new (step_made (store_in store.old) (mapping_of mapping.now) n (parent_of parent) step) }
 {
-    if word % 4 == 0 {
-        let under = parent_copy(store, mapping, n, parent, word / 4);
-        copy_op(store, mapping, word / 4, under);
-    } else if word % 4 == 2 {
-        copy_block(store, mapping, word / 4);
+    match step {
+        Step::OpShell(m) => {
+            let under = parent_copy(store, mapping, n, parent, m as usize);
+            copy_op(store, mapping, m as usize, under);
+        }
+        Step::BlockShell(b) => copy_block(store, mapping, b as usize),
+        Step::Names(_) => {}
     }
 }
 
 // All of the copy, once every test has passed.
-pub fn write_copies(store: &mut [u32], mapping: &[u32], n: usize, parent: Parent, steps: &[u32])
+pub fn write_copies(
+    store: &mut [u32],
+    mapping: &[u32],
+    n: usize,
+    parent: Option<u32>,
+    steps: &[Step],
+)
     requires sound { IsSound store.old }
     requires n_bound { n < op_count (columns store.old) }
     requires passed { first_failed (copy_tests (store_in store.old) n (parent_of parent)) ≡ none }
@@ -223,9 +221,7 @@ pub fn write_copies(store: &mut [u32], mapping: &[u32], n: usize, parent: Parent
     requires mapped { mapping_of mapping.now ≡ copy_mapping (store_in store.old) n }
     ensures { Written store.old store.new n (parent_of parent) mapping.now }
 {
-    let mut i = 0;
-    while i < steps.len() {
-        copy_step(store, mapping, n, parent, steps[i] as usize);
-        i += 1;
+    for step in steps {
+        copy_step(store, mapping, n, parent, *step);
     }
 }

@@ -7,8 +7,9 @@ use mathlib.Core.Path.{◌≡◌, refl, sym, ap, subst, ◌∙◌}
 use borrow.Author.Tests.{leb-true}
 use lib.ListN.{length}
 use Rattle.rules.proofs.Basics.Tests.{passed}
-use Rattle.layout.specs.Columns.{Cols, at, write_range, counts, mark_counts, op_parent, op_next, region_block_end, block_region, block_op_end, block_next}
+use Rattle.layout.specs.Columns.{Cols, at, write_range, counts, mark_counts, op_parent, block_region}
 use Rattle.layout.specs.Reading.{op_count, block_count, region_count, value_count, store_of}
+use Rattle.layout.specs.Families.{ops_in_blocks, blocks_in_regions}
 use Rattle.layout.proofs.Laid.{Laid, Shaped}
 use Rattle.layout.proofs.Linking.{parent_low}
 use Rattle.layout.proofs.Tabulate.{ops_length, blocks_length, regions_length, values_length}
@@ -70,7 +71,7 @@ module _ (C : Cols) (row : ℕ) (shaped : Shaped C) (h : Laid C) (within : count
   few : Fewer C (counts_taken C row)
   few = fewer C (counts_taken C row) (row_counts C row) (taken_counts C row shaped) within
 
-  taken_fit : ChildrenFit (counts_taken C row) 0 op_parent op_next block_op_end 1
+  taken_fit : ChildrenFit (counts_taken C row) ops_in_blocks
   unfolding at op_count block_count counts_taken with_column
   taken_fit =
       record {
@@ -87,7 +88,7 @@ module _ (C : Cols) (row : ℕ) (shaped : Shaped C) (h : Laid C) (within : count
         words = λ i l. omega (arith, parents_low C (counts_taken C row) h few i l);
       }
 
-  cut_fit : ChildrenFit (ops_cut (counts_taken C row)) 1 block_region block_next region_block_end 0
+  cut_fit : ChildrenFit (ops_cut (counts_taken C row)) blocks_in_regions
   unfolding at block_count region_count ops_cut children_cut counts_taken links_cut ends_made with_column write_range
   cut_fit =
       record {
@@ -104,8 +105,8 @@ module _ (C : Cols) (row : ℕ) (shaped : Shaped C) (h : Laid C) (within : count
         words = λ i l. omega (arith, regions_low C (counts_taken C row) h few i l);
       }
 
-  pub ops_fit : {D : Cols} → D ≡ counts_taken C row → ChildrenFit D 0 op_parent op_next block_op_end 1
-  ops_fit e = subst (λ (X : Cols). ChildrenFit X 0 op_parent op_next block_op_end 1) (sym e) taken_fit
+  pub ops_fit : {D : Cols} → D ≡ counts_taken C row → ChildrenFit D ops_in_blocks
+  ops_fit e = subst (λ (X : Cols). ChildrenFit X ops_in_blocks) (sym e) taken_fit
 
-  pub blocks_fit : {D : Cols} → D ≡ ops_cut (counts_taken C row) → ChildrenFit D 1 block_region block_next region_block_end 0
-  blocks_fit e = subst (λ (X : Cols). ChildrenFit X 1 block_region block_next region_block_end 0) (sym e) cut_fit
+  pub blocks_fit : {D : Cols} → D ≡ ops_cut (counts_taken C row) → ChildrenFit D blocks_in_regions
+  blocks_fit e = subst (λ (X : Cols). ChildrenFit X blocks_in_regions) (sym e) cut_fit

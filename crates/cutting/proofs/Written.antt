@@ -1,7 +1,8 @@
 -- A column in another's place, and the loops that write it word by word: the first words by their place, and the ends of the owners' ranges. Assumes nothing.
 use Prim.Native.Nat.{ℕ, zero, suc, ◌+◌, ◌-◌, ◌<◌, ◌≤◌}
 use native.Mathlib.Numerals.{add-one}
-use native.Mathlib.Decide.{ℕ_discrete}
+use native.Mathlib.Nat.{zero-add}
+use native.Mathlib.Decide.{ℕ_discrete, dec_lt}
 use native.Mathlib.Omega.{arith}
 use mathlib.Core.Bool.{Bool, true, false, cond}
 use mathlib.Core.List.{List}
@@ -9,8 +10,9 @@ use mathlib.Core.Path.{◌≡◌, refl, sym, ap, ap₂, ◌∙◌, fun_ext}
 use borrow.Author.Tests.{eqb-true, eq-eqb, le-leb, lt-leb}
 use lib.Dec.{eqb}
 use lib.ListN.{length, get_or, set, length-set}
-use lib.Seq.{get_or-set_same, get_or-set_other}
-use Rattle.layout.specs.Columns.{Cols, at, write}
+use lib.Seq.{get_or-set_same, get_or-set_other, ext_get_or}
+use Rattle.layout.specs.Columns.{Cols, at, pasted, write, write_range}
+use Rattle.layout.proofs.Pasted.{pasted_length, pasted_new, pasted_past}
 use Rattle.cutting.specs.Cutting.{with_column, first_by, link_cut, end_put, ends_of, end_made, ends_made}
 
 -- ---- a column in another's place
@@ -69,6 +71,30 @@ first_at_lem (suc n) f xs i l h = go (ℕ_discrete i n) (λ m. first_at_lem n f 
     go (yes e) rest = rw e (get_or-set_same (first_by n f xs) n (f n) 0 (omega (arith, first_length n f xs)))
     go (no ne) rest = get_or-set_other (first_by n f xs) n i (f n) 0 ne ∙ rest (omega arith)
 
+-- the same by one list, written over the first words
+module _ (C : Cols) (k n : ℕ) (f : ℕ → ℕ) (vs : List ℕ) (many : length vs ≡ n) (fits : n ≤ length (C k)) (each : (i : ℕ) → i < n → get_or vs i 0 ≡ f i) where
+  room : 0 + length vs ≤ length (C k)
+  room = omega arith
+
+  first_words : pasted (C k) 0 vs ≡ first_by n f (C k)
+  first_words =
+      ext_get_or 0 _ _ (pasted_length (C k) 0 vs room ∙ sym (first_length n f (C k)))
+      (λ i h. go i (omega (arith, pasted_length (C k) 0 vs room)) (dec_lt i n))
+    where
+      go : (i : ℕ) → i < length (C k) → Dec (i < n) → get_or (pasted (C k) 0 vs) i 0 ≡ get_or (first_by n f (C k)) i 0
+      go i h (yes l) =
+          ap (λ (j : ℕ). get_or (pasted (C k) 0 vs) j 0) (sym (zero-add i)) ∙ pasted_new (C k) 0 vs room i (omega arith) ∙ each i l
+          ∙ sym (first_at_lem n f (C k) i l h)
+      go i h (no ne) = pasted_past (C k) 0 vs room i (omega arith) ∙ sym (first_past n f (C k) i (omega arith))
+
+  pub column_first : write_range C k 0 vs ≡ with_column C k (first_by n f (C k))
+  unfolding write_range with_column
+  column_first = fun_ext (λ (j : ℕ). go j (eqb j k) refl)
+    where
+      go : (j : ℕ) (b : Bool) → eqb j k ≡ b → cond b (pasted (C j) 0 vs) (C j) ≡ cond b (first_by n f (C k)) (C j)
+      go j true e = ap (λ (m : ℕ). pasted (C m) 0 vs) (eqb-true j k e) ∙ first_words
+      go j false e = refl
+
 -- the first i words of column k are written, of n
 pub record Filled (C : Cols) (k : ℕ) (f : ℕ → ℕ) (n : ℕ) (D : Cols) (i : ℕ) : Type 0 where
   pub low : i ≤ n
@@ -82,10 +108,6 @@ module _ {C : Cols} {k : ℕ} {f : ℕ → ℕ} {n : ℕ} {D : Cols} {i : ℕ} (
   pub fill_own : at D k i ≡ at C k i
   unfolding at
   fill_own = ap (λ (X : Cols). get_or (X k) i 0) g.is ∙ ap (λ (l : List ℕ). get_or l i 0) (column_own C k (first_by i f (C k))) ∙ first_past i f (C k) i (omega arith)
-
-  pub fill_other : (j m : ℕ) → eqb j k ≡ false → at D j m ≡ at C j m
-  unfolding at
-  fill_other j m e = ap (λ (X : Cols). get_or (X j) m 0) g.is ∙ ap (λ (l : List ℕ). get_or l m 0) (column_other C k (first_by i f (C k)) j e)
 
   pub fill_turn : {E : Cols} (v : ℕ) → i < n → E ≡ write D k i v → v ≡ f i → Filled C k f n E (i + 1)
   unfolding first_by
@@ -113,19 +135,6 @@ link_stays count link l = sym (ap (λ (b : Bool). cond b 0 link) (lt-leb count l
 
 -- ---- where ranges end
 
-module _ (C : Cols) (ends shift w n : ℕ) where
-  -- the child names an owner, whose end is written, or none
-  pub end_own : (v : ℕ) → v ≡ n + 1 → shift ≤ w → write C ends (w - shift) v ≡ end_made C ends shift w n
-  unfolding end_made end_put
-  end_own v e l =
-      ap₂ (λ (X : Cols) (u : ℕ). write X ends (w - shift) u) (column_same C ends) e
-      ∙ column_write C ends (C ends) (w - shift) (n + 1)
-      ∙ ap (λ (b : Bool). with_column C ends (cond b (set (C ends) (w - shift) (n + 1)) (C ends))) (sym (le-leb shift w l))
-
-  pub end_none : w < shift → C ≡ end_made C ends shift w n
-  unfolding end_made end_put
-  end_none l = column_same C ends ∙ ap (λ (b : Bool). with_column C ends (cond b (set (C ends) (w - shift) (n + 1)) (C ends))) (sym (lt-leb shift w l))
-
 -- the first i children are seen, of n
 pub record Ending (C : Cols) (owners ends shift n : ℕ) (D : Cols) (i : ℕ) : Type 0 where
   pub low : i ≤ n
@@ -152,6 +161,3 @@ module _ {C : Cols} {owners ends shift n : ℕ} {D : Cols} {i : ℕ} (g : Ending
             ∙ ap (λ (xs : List ℕ). with_column C ends (end_put shift (get_or (C owners) i 0) i xs)) (column_own C ends old)
             ∙ ap (λ (m : ℕ). with_column C ends (ends_of (C owners) shift m (C ends))) (sym (add-one i));
       }
-
-  pub ending_done : n ≤ i → D ≡ ends_made C owners ends shift n
-  ending_done h = g.is ∙ ap (ends_made C owners ends shift) (let e : i ≡ n = omega (arith, g.low) in e)

@@ -1,6 +1,8 @@
 -- What cutting the tables writes, column by column.
 use Rattle.std.specs.Prelude.{ℕ, zero, suc, ◌+◌, ◌*◌, ◌-◌, ◌<◌, ◌≤◌, false, cond, List, ◌≡◌, eqb, leb, get_or, set, replicate}
-use Rattle.layout.specs.Columns.{Cols, column_count, column_size, at, write_range, counts, mark_counts, op_parent, op_next, region_block_end, block_region, block_op_end, block_next}
+use Rattle.layout.specs.Columns.{Cols, column_count, column_size, at, write_range, counts, mark_counts}
+use Rattle.layout.specs.Families.{ops_in_blocks, blocks_in_regions}
+use Rattle.layout.specs.declared.families.Family.{Family}
 
 -- column k is this one, the others are as they were
 unfoldable pub with_column : Cols → ℕ → List ℕ → Cols
@@ -41,31 +43,31 @@ unfoldable pub ends_made : Cols → ℕ → ℕ → ℕ → ℕ → Cols
 ends_made C owners ends shift count = with_column C ends (ends_of (C owners) shift count (C ends))
 
 -- what is asked of columns of children: their table is named by its index among the counts, and their owners' table is the next one there
-pub record ChildrenFit (C : Cols) (table owners links ends shift : ℕ) : Type 0 where
-  pub table_in : table < 7
-  pub owners_in : owners < column_count
-  pub links_in : links < column_count
-  pub ends_in : ends < column_count
-  pub links_apart : eqb owners links ≡ false
-  pub ends_apart : eqb owners ends ≡ false
-  pub few : at C counts table ≤ 512
-  pub owners_long : at C counts table ≤ column_size owners
-  pub links_long : at C counts table ≤ column_size links
-  pub ends_long : at C counts (table + 1) ≤ column_size ends
-  pub words : (i : ℕ) → i < at C counts table → at C owners i < column_size ends + shift
+pub record ChildrenFit (C : Cols) (f : Family) : Type 0 where
+  pub table_in : f.table < 7
+  pub owners_in : f.owners < column_count
+  pub links_in : f.links < column_count
+  pub ends_in : f.ends < column_count
+  pub links_apart : eqb f.owners f.links ≡ false
+  pub ends_apart : eqb f.owners f.ends ≡ false
+  pub few : at C counts f.table ≤ 512
+  pub owners_long : at C counts f.table ≤ column_size f.owners
+  pub links_long : at C counts f.table ≤ column_size f.links
+  pub ends_long : at C counts (f.table + 1) ≤ column_size f.ends
+  pub words : (i : ℕ) → i < at C counts f.table → at C f.owners i < column_size f.ends + f.shift
 
 -- the links of the children that stay, and where the ranges of the owners that stay end: without a child left, at 0
-unfoldable pub children_cut : Cols → ℕ → ℕ → ℕ → ℕ → ℕ → Cols
-children_cut C table owners links ends shift =
-    ends_made (write_range (links_cut C links (at C counts table)) ends 0 (replicate (at C counts (table + 1)) 0)) owners ends shift (at C counts table)
+unfoldable pub children_cut : Cols → Family → Cols
+children_cut C f =
+    ends_made (write_range (links_cut C f.links (at C counts f.table)) f.ends 0 (replicate (at C counts (f.table + 1)) 0)) f.owners f.ends f.shift (at C counts f.table)
 
 -- ---- all of it: the operations in blocks, and the blocks in regions
 
 unfoldable pub ops_cut : Cols → Cols
-ops_cut C = children_cut C 0 op_parent op_next block_op_end 1
+ops_cut C = children_cut C ops_in_blocks
 
 unfoldable pub blocks_cut : Cols → Cols
-blocks_cut C = children_cut C 1 block_region block_next region_block_end 0
+blocks_cut C = children_cut C blocks_in_regions
 
 unfoldable pub tables_cut : Cols → ℕ → Cols
 tables_cut C row = blocks_cut (ops_cut (counts_taken C row))

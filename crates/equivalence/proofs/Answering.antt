@@ -1,6 +1,7 @@
 -- A comparison that is refused by a test answers its cause, and one that is not answers where its walk has come to: in a sound store no
 -- walk is too deep. Assumes nothing.
-use Prim.Native.Nat.{ℕ, zero, suc, ◌<◌}
+use Rattle.std.specs.Prelude.{Result, Ok, Err}
+use Prim.Native.Nat.{ℕ}
 use native.Mathlib.Omega.{arith}
 use mathlib.Core.Bool.{Bool, true, false, true≢false, ◌&&◌}
 use mathlib.Core.List.{List, [], ◌∷◌}
@@ -14,7 +15,7 @@ use Rattle.rules.specs.Shells.{Ignore}
 use Rattle.rules.specs.Mapping.{Mapping, allowed}
 use Rattle.rules.specs.Types.{types_hold, renamed}
 use Rattle.rules.specs.Comparison.{State, unequal, one_longer, too_deep, Walk, on, ended, standing, ◌>>=◌, pair_ops, compare_by, start, compare}
-use Rattle.rules.specs.Answers.{Comparison, eq, neq, refused, shallow, compare_tests, comparison_of, comparison_by, comparison}
+use Rattle.rules.specs.Answers.{Compared, refused, shallow, compare_tests, comparison_of, comparison_by, comparison}
 use Rattle.rules.proofs.Basics.Tests.{and_left, and_right}
 use Rattle.rules.proofs.Walking.Deep.{compare_not_deep}
 use Rattle.rules.proofs.Walking.Paired.{paired_most}
@@ -29,8 +30,10 @@ use Rattle.mapping.specs.MappingWords.{mapping_of}
 use Rattle.pairing.specs.Told.{answer_of, state_of, outcome, Told, PairedFits}
 use Rattle.equivalence.specs.Walked.{left_of, right_of, pair_of_lists, region_walk, op_walk, lists_walk, fragments_walk}
 use Rattle.equivalence.specs.Calls.{pair_tests, Answered}
-use Rattle.pairing.specs.declared.types.EqResult.{EqResult}
-use Rattle.pairing.specs.declared.types.EqResult.TheVariants.{Refused}
+use Rattle.layout.specs.Causes.{number_of, cause_of}
+use Rattle.layout.specs.declared.causes.Cause.{Cause}
+use Rattle.pairing.specs.declared.types.Unequal.{Unequal}
+use Rattle.pairing.specs.declared.types.Unequal.TheVariants.{FirstNEQOps, FirstNEQRegions, FirstNEQBlocks}
 use Rattle.equivalence.specs.declared.types.BlockLists.TheVariants.{Alone}
 
 -- ---- the tests of a pair
@@ -62,14 +65,23 @@ module _ (s : Store) (f : Sort) (l r : ℕ) where
       unfolding pair_tests first_failed
       both_shallow e d = rw (el, er, e, d) refl
 
+module _ (s : Store) (f : Sort) (l r : ℕ) {A : Type 0} (q : Result A Cause) (told : cause_of q ≡ first_failed (pair_tests s f l r)) where
+  pub tests_passed : {a : A} → q ≡ Ok a → first_failed (pair_tests s f l r) ≡ none
+  unfolding cause_of
+  tests_passed e = sym told ∙ ap cause_of e
+
+  pub tests_failed : {c : Cause} → q ≡ Err c → first_failed (pair_tests s f l r) ≡ some (number_of c)
+  unfolding cause_of
+  tests_failed e = sym told ∙ ap cause_of e
+
 -- ---- walks
 
-told_refused : (w : Walk) (c : ℕ) (b : List ℕ) → Told w (Refused c) b → (st : State) × (w ≡ ended too_deep st)
-unfolding Told outcome comparison_of standing answer_of
-told_refused (on st) c b h = let a : eq st.paired ≡ refused c = ap (λ (x : Comparison). x.answer) h in absurd (true≢false cc)
-told_refused (ended (unequal p) st) c b h = let a : neq p st.paired ≡ refused c = ap (λ (x : Comparison). x.answer) h in absurd (true≢false cc)
-told_refused (ended (one_longer p) st) c b h = let a : neq p st.paired ≡ refused c = ap (λ (x : Comparison). x.answer) h in absurd (true≢false cc)
-told_refused (ended too_deep st) c b h = (st, refl)
+not_refused : (q : Result ℕ Unequal) (c : ℕ) → answer_of q ≡ refused c → ⊥
+unfolding answer_of
+not_refused (Ok n) c h = true≢false cc
+not_refused (Err (FirstNEQOps l r n)) c h = true≢false cc
+not_refused (Err (FirstNEQRegions l r n)) c h = true≢false cc
+not_refused (Err (FirstNEQBlocks l r n)) c h = true≢false cc
 
 outcome_is : (w : Walk) (m : Mapping) → ((st : State) → w ≡ ended too_deep st → ⊥) → comparison_of w m ≡ outcome w
 unfolding outcome comparison_of standing
@@ -79,39 +91,39 @@ outcome_is (ended (one_longer p) st) m h = refl
 outcome_is (ended too_deep st) m h = absurd (h st refl)
 
 module _ (b types m : List ℕ) (ig : Ignore) (f : Sort) (l r : ℕ) where
-  pub unsound : (ok : Bool) → ok ≡ false → Answered ok b types m m ig f l r (Refused 1)
-  unfolding comparison comparison_by compare_tests first_failed answer_of
+  pub unsound : (ok : Bool) → ok ≡ false → Answered ok b types m m ig f l r (refused 1)
+  unfolding comparison comparison_by compare_tests first_failed
   unsound ok e = record { told = rw e refl; unchanged = λ c h. refl }
 
-  pub unallowed : (ok : Bool) → ok ≡ true → allowed (store_in b) (mapping_of m) ≡ false → Answered ok b types m m ig f l r (Refused 8)
-  unfolding comparison comparison_by compare_tests first_failed answer_of
+  pub unallowed : (ok : Bool) → ok ≡ true → allowed (store_in b) (mapping_of m) ≡ false → Answered ok b types m m ig f l r (refused 8)
+  unfolding comparison comparison_by compare_tests first_failed
   unallowed ok e a = record { told = rw (e, a) refl; unchanged = λ c h. refl }
 
-  pub untyped : allowed (store_in b) (mapping_of m) ≡ true → types_hold types ≡ false → Answered true b types m m ig f l r (Refused 14)
-  unfolding comparison comparison_by compare_tests first_failed answer_of
+  pub untyped : allowed (store_in b) (mapping_of m) ≡ true → types_hold types ≡ false → Answered true b types m m ig f l r (refused 14)
+  unfolding comparison comparison_by compare_tests first_failed
   untyped a t = record { told = rw (a, t) refl; unchanged = λ c h. refl }
 
   -- found to be sound, as if known to be
-  pub as_found : (ok : Bool) → ok ≡ true → {z : List ℕ} {q : EqResult} → Answered true b types m z ig f l r q → Answered ok b types m z ig f l r q
+  pub as_found : (ok : Bool) → ok ≡ true → {z : List ℕ} {q : Compared} → Answered true b types m z ig f l r q → Answered ok b types m z ig f l r q
   as_found ok e {z} {q} h = subst (λ (t : Bool). Answered t b types m z ig f l r q) (sym e) h
 
   module _ (a : allowed (store_in b) (mapping_of m) ≡ true) (ty : types_hold types ≡ true) where
     abbrev walk : Walk
     walk = compare_by (renamed types (store_in b)) ig f l r (state_of m 0)
 
-    pub refused_pair : (c : ℕ) → first_failed (pair_tests (store_in b) f l r) ≡ some c → Answered true b types m m ig f l r (Refused c)
-    unfolding comparison comparison_by compare_tests first_failed answer_of pair_tests
+    pub refused_pair : (c : ℕ) → first_failed (pair_tests (store_in b) f l r) ≡ some c → Answered true b types m m ig f l r (refused c)
+    unfolding comparison comparison_by compare_tests first_failed pair_tests
     refused_pair c e = record { told = rw (a, ty, e) refl; unchanged = λ k h. refl }
 
-    pub walked : IsSound b → (q : EqResult) (z : List ℕ) → first_failed (pair_tests (store_in b) f l r) ≡ none
-        → Told walk q z → Answered true b types m z ig f l r q
+    pub walked : IsSound b → (q : Result ℕ Unequal) (z : List ℕ) → first_failed (pair_tests (store_in b) f l r) ≡ none
+        → Told walk q z → Answered true b types m z ig f l r (answer_of q)
     unfolding comparison comparison_by compare_tests first_failed pair_tests compare start state_of Told
     walked h q z e t =
         let ex = (pair_exists (store_in b) f l r e).0 in
         let deep = compare_not_deep (renamed types (store_in b)) (renamed_sound types (store_in b) h.ruled) ig f l r (exists_renamed types (store_in b) f l ∙ ex) (mapping_of m) in
         record {
           told = rw (a, ty, e) (outcome_is walk (mapping_of m) deep ∙ t);
-          unchanged = λ c k. let w = told_refused walk c z (subst (λ x. Told walk x z) k t) in absurd (deep w.0 w.1);
+          unchanged = λ c k. absurd (not_refused q c k);
         }
 
 -- ---- the walk of each sort, and that it enters no more than there are operations and blocks
@@ -140,7 +152,3 @@ module _ (s : Store) (o : Options) (l r : ℕ) (st : State) where
 pub no_types : (w : List ℕ) → length w ≡ 0 → IsIndex w × (list_in w ≡ w)
 no_types [] e = (no_words_lem, no_list)
 no_types (x ∷ w) e = absurd (omega (arith, e))
-
-pub not_none : (n : ℕ) → (n ≡ 0 → ⊥) → 0 < n
-not_none zero h = absurd (h refl)
-not_none (suc n) h = omega arith

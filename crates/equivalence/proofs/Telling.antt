@@ -1,29 +1,21 @@
 -- What is told of the steps of a walk is told of the walk: a step that goes on hands on the words and the count, and one that has ended
 -- ends the walk. Assumes nothing.
+use Rattle.std.specs.Prelude.{Result, Ok, Err}
 use Prim.Native.Nat.{ℕ, ◌≤◌}
 use native.Mathlib.Nat.{le_trans}
 use mathlib.Core.Bool.{true≢false}
 use mathlib.Core.List.{List}
 use mathlib.Core.Logic.{◌⊎◌, inl, inr}
-use mathlib.Core.Path.{◌≡◌, refl, ap, subst, ◌∙◌}
-use lib.ListN.{length}
+use mathlib.Core.Path.{◌≡◌, refl, sym, ap, subst}
 use Rattle.rules.specs.Comparison.{State, Pair, unequal, one_longer, too_deep, Walk, on, ended, standing, ◌>>=◌}
 use Rattle.rules.specs.Answers.{Compared, Comparison, eq, neq, refused, comparison_of}
 use Rattle.rules.proofs.Walking.Paired.{Grows, grows_bind}
-use Rattle.pairing.specs.Told.{ReadyToCompare, answer_of, state_of, outcome, Told, max_paired, PairedFits}
+use Rattle.pairing.specs.Told.{answer_of, state_of, outcome, Told, max_paired, PairedFits}
 use Rattle.equivalence.specs.Walked.{pair_of_lists, neq_of}
 use Rattle.equivalence.specs.declared.types.BlockLists.{BlockLists}
 use Rattle.equivalence.specs.declared.types.BlockLists.TheVariants.{InRegions, Alone}
-use Rattle.pairing.specs.declared.types.EqResult.{EqResult}
-use Rattle.pairing.specs.declared.types.EqResult.TheVariants.{Eq, FirstNEQOps, FirstNEQRegions, FirstNEQBlocks, Refused}
-
--- an answer by another variant than the first
-abbrev pub NotEq : EqResult → Type 0
-NotEq q = (n : ℕ) → q ≡ Eq n → ⊥
-
--- a mapping as long as the one before is as ready
-pub still_ready : {b t m n : List ℕ} → length n ≡ length m → ReadyToCompare b t m → ReadyToCompare b t n
-still_ready e r = record { sound = r.sound; indexed = r.indexed; long = e ∙ r.long }
+use Rattle.pairing.specs.declared.types.Unequal.{Unequal}
+use Rattle.pairing.specs.declared.types.Unequal.TheVariants.{FirstNEQOps, FirstNEQRegions, FirstNEQBlocks}
 
 abbrev paired_in_lem : Compared → ℕ
 paired_in_lem (eq n) = n
@@ -31,7 +23,7 @@ paired_in_lem (neq p n) = n
 paired_in_lem (refused n) = n
 
 -- where the answer is equal, the walk goes on with the words and the count
-pub told_on : (w : Walk) (n : ℕ) (b : List ℕ) → Told w (Eq n) b → w ≡ on (state_of b n)
+pub told_on : (w : Walk) (n : ℕ) (b : List ℕ) → Told w (Ok n) b → w ≡ on (state_of b n)
 unfolding Told outcome comparison_of standing answer_of state_of
 told_on (on st) n b h = λ i. on (record { mapping = (h i).mapping; paired = paired_in_lem (h i).answer })
 told_on (ended (unequal p) st) n b h = let a : neq p st.paired ≡ eq n = ap (λ (x : Comparison). x.answer) h in cc
@@ -39,38 +31,40 @@ told_on (ended (one_longer p) st) n b h = let a : neq p st.paired ≡ eq n = ap 
 told_on (ended too_deep st) n b h = let a : refused 12 ≡ eq n = ap (λ (x : Comparison). x.answer) h in cc
 
 -- where it is not, the walk has ended
-equal_only : (q : EqResult) (n : ℕ) → NotEq q → eq n ≡ answer_of q → ⊥
+not_equal : (u : Unequal) (n : ℕ) → eq n ≡ answer_of (Err u) → ⊥
 unfolding answer_of
-equal_only (Eq m) n k h = k m refl
-equal_only (FirstNEQOps l r m) n k h = true≢false cc
-equal_only (FirstNEQRegions l r m) n k h = true≢false cc
-equal_only (FirstNEQBlocks l r m) n k h = true≢false cc
-equal_only (Refused m) n k h = true≢false cc
+not_equal (FirstNEQOps l r m) n h = true≢false cc
+not_equal (FirstNEQRegions l r m) n h = true≢false cc
+not_equal (FirstNEQBlocks l r m) n h = true≢false cc
 
-pub ops_not_eq : (l r m : ℕ) → NotEq (FirstNEQOps l r m)
-ops_not_eq l r m n e = true≢false cc
-
-pub told_ended : (w : Walk) (f : State → Walk) (q : EqResult) (b : List ℕ) → NotEq q → Told w q b → Told (w >>= f) q b
+pub told_ended : (w : Walk) (f : State → Walk) (u : Unequal) (b : List ℕ) {q : Result ℕ Unequal} → q ≡ Err u → Told w q b → Told (w >>= f) (Err u) b
 unfolding Told outcome comparison_of standing
-told_ended (on st) f q b k h = absurd (equal_only q st.paired k (ap (λ (x : Comparison). x.answer) h))
-told_ended (ended why st) f q b k h = h
+told_ended w f u b {q} e h = go w (subst (λ (r : Result ℕ Unequal). Told w r b) e h)
+  where
+    go : (v : Walk) → Told v (Err u) b → Told (v >>= f) (Err u) b
+    go (on st) k = absurd (not_equal u st.paired (ap (λ (x : Comparison). x.answer) k))
+    go (ended why st) k = k
 
-pub told_bind : (w : Walk) (f : State → Walk) (b : List ℕ) {q : EqResult} {n : ℕ} → q ≡ Eq n → Told w q b → w >>= f ≡ f (state_of b n)
-told_bind w f b {q} {n} e h = ap (λ (v : Walk). v >>= f) (told_on w n b (subst (λ (r : EqResult). Told w r b) e h))
+-- a failure that is handed on
+pub told_same : (w : Walk) (b : List ℕ) {u : Unequal} {p : Result ℕ Unequal} → p ≡ Err u → Told w (Err u) b → Told w p b
+told_same w b {u} {p} e h = subst (λ (q : Result ℕ Unequal). Told w q b) (sym e) h
+
+pub told_bind : (w : Walk) (f : State → Walk) (b : List ℕ) {q : Result ℕ Unequal} {n : ℕ} → q ≡ Ok n → Told w q b → w >>= f ≡ f (state_of b n)
+told_bind w f b {q} {n} e h = ap (λ (v : Walk). v >>= f) (told_on w n b (subst (λ (r : Result ℕ Unequal). Told w r b) e h))
 
 -- a walk that is over
-pub told_over : (w : Walk) (b : List ℕ) (n : ℕ) → w ≡ on (state_of b n) → Told w (Eq n) b
+pub told_over : (w : Walk) (b : List ℕ) (n : ℕ) → w ≡ on (state_of b n) → Told w (Ok n) b
 unfolding Told outcome comparison_of standing answer_of state_of
 told_over w b n e = rw e refl
 
 -- unequal lengths
-pub told_uneven : (w : Walk) (p : Pair) (q : EqResult) (b : List ℕ) (n : ℕ) → answer_of q ≡ neq p n
-    → (w ≡ ended (unequal p) (state_of b n)) ⊎ (w ≡ ended (one_longer p) (state_of b n)) → Told w q b
+pub told_uneven : (w : Walk) (p : Pair) (u : Unequal) (b : List ℕ) (n : ℕ) → answer_of (Err u) ≡ neq p n
+    → (w ≡ ended (unequal p) (state_of b n)) ⊎ (w ≡ ended (one_longer p) (state_of b n)) → Told w (Err u) b
 unfolding Told outcome comparison_of standing state_of
-told_uneven w p q b n a (inl e) = rw (e, a) refl
-told_uneven w p q b n a (inr e) = rw (e, a) refl
+told_uneven w p u b n a (inl e) = rw (e, a) refl
+told_uneven w p u b n a (inr e) = rw (e, a) refl
 
-pub named_neq : (x : BlockLists) (n : ℕ) → answer_of (neq_of x n) ≡ neq (pair_of_lists x) n
+pub named_neq : (x : BlockLists) (n : ℕ) → answer_of (Err (neq_of x n)) ≡ neq (pair_of_lists x) n
 unfolding answer_of neq_of pair_of_lists
 named_neq (InRegions l r) n = refl
 named_neq (Alone l r) n = refl

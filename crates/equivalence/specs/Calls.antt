@@ -3,19 +3,16 @@ use Rattle.std.specs.Prelude.{ℕ, Bool, ◌&&◌, List, [], ◌∷◌, ◌≡�
 use Rattle.rules.specs.Store.{Store}
 use Rattle.rules.specs.Fragments.{Sort, exists}
 use Rattle.rules.specs.Shells as rules
-use Rattle.rules.specs.Answers.{shallow, comparison}
+use Rattle.rules.specs.Answers.{Compared, refused, shallow, comparison}
 use Rattle.layout.specs.Reading.{store_in}
 use Rattle.mapping.specs.MappingWords.{mapping_of}
-use Rattle.pairing.specs.Told.{answer_of}
-use Rattle.pairing.specs.declared.types.EqResult.{EqResult}
-use Rattle.pairing.specs.declared.types.EqResult.TheVariants.{Refused}
 
 -- what is tested of two fragments before anything is entered
 unfoldable pub pair_tests : Store → Sort → ℕ → ℕ → List (Bool × ℕ)
 pair_tests s f l r = (exists s f l && exists s f r, 2) ∷ (shallow s f l && shallow s f r, 12) ∷ []
 
 -- of two fragments of one sort, under a list of renamed types, begun with a lent mapping; `ok` is whether the store is sound
-pub record Answered (ok : Bool) (store types before after : List ℕ) (ig : rules.Ignore) (f : Sort) (l r : ℕ) (q : EqResult) : Type 0 where
-  pub told : comparison ok (store_in store) types (mapping_of before) ig f l r ≡ record { answer = answer_of q; mapping = mapping_of after }
+pub record Answered (ok : Bool) (store types before after : List ℕ) (ig : rules.Ignore) (f : Sort) (l r : ℕ) (q : Compared) : Type 0 where
+  pub told : comparison ok (store_in store) types (mapping_of before) ig f l r ≡ record { answer = q; mapping = mapping_of after }
   -- "refused: ... mapping as they were": every word
-  pub unchanged : (cause : ℕ) → q ≡ Refused cause → after ≡ before
+  pub unchanged : (cause : ℕ) → q ≡ refused cause → after ≡ before

@@ -1,4 +1,3 @@
--- The comparison on lent buffers: what is walked through, in which order, and what a call answers.
+-- The comparison on lent buffers: what is walked through, and what a call answers.
 pub mod Walked
-pub mod Order
 pub mod Calls

@@ -4,11 +4,12 @@ use Rattle.rules.specs.Store.{Store, ops_of}
 use Rattle.rules.specs.Fragments.{Sort, block, region, levels}
 use Rattle.rules.specs.Comparison.{State, Pair, Walk, pairwise, each_pair, pair_of, pair_ops, check_ops, pass1, pass2, compare_lists, compare_regions, compare_by}
 use Rattle.fragments.specs.Options.{Options, under}
-use Rattle.fragments.specs.Order.{block_list}
+use Rattle.layout.specs.Columns.{Cols}
+use Rattle.fragments.specs.Order.{block_list, BlocksExist}
 use Rattle.fragments.specs.declared.types.Blocks.{Blocks}
 use Rattle.fragments.specs.declared.types.Blocks.TheVariants as list
-use Rattle.pairing.specs.declared.types.EqResult.{EqResult}
-use Rattle.pairing.specs.declared.types.EqResult.TheVariants.{FirstNEQRegions, FirstNEQBlocks}
+use Rattle.pairing.specs.declared.types.Unequal.{Unequal}
+use Rattle.pairing.specs.declared.types.Unequal.TheVariants.{FirstNEQRegions, FirstNEQBlocks}
 use Rattle.equivalence.specs.declared.types.BlockLists.{BlockLists}
 use Rattle.equivalence.specs.declared.types.BlockLists.TheVariants.{InRegions, Alone}
 
@@ -33,7 +34,7 @@ unfoldable pub pair_of_lists : BlockLists → Pair
 pair_of_lists (InRegions l r) = pair_of region l r
 pair_of_lists (Alone l r) = pair_of block l r
 
-unfoldable pub neq_of : BlockLists → ℕ → EqResult
+unfoldable pub neq_of : BlockLists → ℕ → Unequal
 neq_of (InRegions l r) n = FirstNEQRegions l r n
 neq_of (Alone l r) n = FirstNEQBlocks l r n
 
@@ -41,6 +42,10 @@ neq_of (Alone l r) n = FirstNEQBlocks l r n
 unfoldable pub Bounded : BlockLists → Type 0
 Bounded (InRegions l r) = (l ≤ 256) × (r ≤ 256)
 Bounded (Alone l r) = (l ≤ 256) × (r ≤ 256)
+
+-- two regions or two blocks of the store
+abbrev pub ListsExist : Cols → BlockLists → Type 0
+ListsExist C x = BlocksExist C (left_of x) × BlocksExist C (right_of x)
 
 -- ---- walks: types are read as the present ones, and children are those of the store itself
 

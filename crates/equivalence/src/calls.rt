@@ -1,5 +1,5 @@
 // The three offered comparisons: each refuses a buffer that is not sound, a mapping that is not allowed and a list of renamed types that does
-// not hold, and then compares its fragments.
+// not hold, and then compares its fragments. They are three because the interface names each sort of fragment.
 ghost use Rattle.std.specs.Prelude.{true, ◌≡◌};
 ghost use Rattle.rules.specs.Fragments.{op, block, region};
 ghost use Rattle.rules.specs.Mapping.{allowed};
@@ -9,12 +9,15 @@ ghost use Rattle.journal.specs.Words.{sound_lent};
 ghost use Rattle.fragments.specs.Ignoring.{ignore_of};
 ghost use Rattle.fragments.specs.Sorts.{sort_of};
 ghost use Rattle.mapping.specs.MappingWords.{mapping_of};
+ghost use Rattle.pairing.specs.Told.{compared_of};
 ghost use Rattle.equivalence.specs.Calls.{Answered};
 
 use crate::comparison::fragments_eq;
 use crate::types::{EqResult, Fragments};
 use fragments::ignoring::Ignore;
+use fragments::terms::Terms;
 use fragments::types::Sort;
+use layout::causes::Cause;
 use lending::lent::is_sound;
 use mapping::mapping::is_allowed;
 use renaming::indexing::{INDEX_LENGTH, index_types};
@@ -27,17 +30,19 @@ fn indexed_eq(
     mapping: &mut [u32],
     of: Fragments,
     ignore: Ignore,
-) -> EqResult
+) -> Result<EqResult, Cause>
     requires sound { IsSound store.now }
     requires mapping_value { allowed (store_in store.now) (mapping_of mapping.old) ≡ true }
-    ensures { Answered true store.now types.now mapping.old mapping.new (ignore_of ignore) (sort_of of.sort) of.lhs of.rhs result }
+    ensures { Answered true store.now types.now mapping.old mapping.new (ignore_of ignore) (sort_of of.sort) of.lhs of.rhs (compared_of result) }
 {
     let mut index = [0; INDEX_LENGTH];
-    let words = index_types(types, &mut index);
-    if words == 0 {
-        return EqResult::Refused(14);
-    }
-    fragments_eq(store, &index[..words], mapping, of, ignore)
+    let words = index_types(types, &mut index).ok_or(Cause::BadTypes)?;
+    let terms = Terms {
+        store,
+        types: &index[..words],
+        ignore,
+    };
+    fragments_eq(&terms, mapping, of)
 }
 
 // Compare two fragments of one sort, with a store, a list of renamed types and a mapping that may hold any words. No words are the index of
@@ -48,21 +53,27 @@ fn lent_eq(
     mapping: &mut [u32],
     of: Fragments,
     ignore: Ignore,
-) -> EqResult
-    ensures { Answered (sound_lent store.now) store.now types.now mapping.old mapping.new (ignore_of ignore) (sort_of of.sort) of.lhs of.rhs result }
+) -> Result<EqResult, Cause>
+    ensures { Answered (sound_lent store.now) store.now types.now mapping.old mapping.new (ignore_of ignore) (sort_of of.sort) of.lhs of.rhs (compared_of result) }
 {
     if !is_sound(store) {
-        return EqResult::Refused(1);
+        return Err(Cause::NotSound);
     }
     if !is_allowed(store, mapping) {
-        return EqResult::Refused(8);
+        return Err(Cause::BadMapping);
     }
-    if types.len() == 0 {
-        return fragments_eq(store, types, mapping, of, ignore);
+    if types.is_empty() {
+        let terms = Terms {
+            store,
+            types,
+            ignore,
+        };
+        return fragments_eq(&terms, mapping, of);
     }
     indexed_eq(store, types, mapping, of, ignore)
 }
 
+#[tactic(auto, unfolding(fragments::specs::Sorts::sort_of))]
 pub fn operation_eq(
     store: &[u32],
     types: &[u32],
@@ -70,17 +81,18 @@ pub fn operation_eq(
     lhs: u32,
     rhs: u32,
     ignore: Ignore,
-) -> EqResult
-    ensures { Answered (sound_lent store.now) store.now types.now mapping.old mapping.new (ignore_of ignore) op lhs rhs result }
+) -> Result<EqResult, Cause>
+    ensures { Answered (sound_lent store.now) store.now types.now mapping.old mapping.new (ignore_of ignore) op lhs rhs (compared_of result) }
 {
     let of = Fragments {
         sort: Sort::Op,
-        lhs: lhs,
-        rhs: rhs,
+        lhs,
+        rhs,
     };
     lent_eq(store, types, mapping, of, ignore)
 }
 
+#[tactic(auto, unfolding(fragments::specs::Sorts::sort_of))]
 pub fn region_eq(
     store: &[u32],
     types: &[u32],
@@ -88,17 +100,18 @@ pub fn region_eq(
     lhs: u32,
     rhs: u32,
     ignore: Ignore,
-) -> EqResult
-    ensures { Answered (sound_lent store.now) store.now types.now mapping.old mapping.new (ignore_of ignore) region lhs rhs result }
+) -> Result<EqResult, Cause>
+    ensures { Answered (sound_lent store.now) store.now types.now mapping.old mapping.new (ignore_of ignore) region lhs rhs (compared_of result) }
 {
     let of = Fragments {
         sort: Sort::Region,
-        lhs: lhs,
-        rhs: rhs,
+        lhs,
+        rhs,
     };
     lent_eq(store, types, mapping, of, ignore)
 }
 
+#[tactic(auto, unfolding(fragments::specs::Sorts::sort_of))]
 pub fn basic_block_eq(
     store: &[u32],
     types: &[u32],
@@ -106,13 +119,13 @@ pub fn basic_block_eq(
     lhs: u32,
     rhs: u32,
     ignore: Ignore,
-) -> EqResult
-    ensures { Answered (sound_lent store.now) store.now types.now mapping.old mapping.new (ignore_of ignore) block lhs rhs result }
+) -> Result<EqResult, Cause>
+    ensures { Answered (sound_lent store.now) store.now types.now mapping.old mapping.new (ignore_of ignore) block lhs rhs (compared_of result) }
 {
     let of = Fragments {
         sort: Sort::Block,
-        lhs: lhs,
-        rhs: rhs,
+        lhs,
+        rhs,
     };
     lent_eq(store, types, mapping, of, ignore)
 }

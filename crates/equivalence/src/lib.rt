@@ -7,7 +7,6 @@
 
 pub mod calls;
 pub mod comparison;
-pub mod order;
 pub mod passes;
 pub mod regions;
 pub mod types;

@@ -1,5 +1,9 @@
 // What a comparison answers, and what it walks through.
-use fragments::types::Sort;
+ghost use Rattle.std.specs.Prelude.{◌≡◌};
+ghost use Rattle.equivalence.specs.Walked.{left_of, right_of, neq_of, Bounded};
+
+use fragments::types::{Blocks, Sort};
+use pairing::types::Unequal;
 
 pub type EqResult = pairing::types::EqResult;
 
@@ -18,11 +22,37 @@ pub enum BlockLists {
     Alone(usize, usize),
 }
 
-// What is next in two lists that are walked through side by side: one of each; nothing, as both have ended; or one list has ended before
-// the other, so that their lengths are unequal.
-#[derive(Clone, Copy)]
-pub enum ZipNext {
-    Both(usize, usize),
-    Neither,
-    Unequal,
+impl BlockLists {
+    #[tactic(auto, unfolding(crate::specs::Walked::left_of))]
+    pub(crate) fn left(self) -> Blocks
+        ensures { result ≡ left_of self }
+    {
+        match self {
+            BlockLists::InRegions(l, _) => Blocks::InRegion(l),
+            BlockLists::Alone(l, _) => Blocks::Alone(l),
+        }
+    }
+
+    #[tactic(auto, unfolding(crate::specs::Walked::right_of))]
+    pub(crate) fn right(self) -> Blocks
+        ensures { result ≡ right_of self }
+    {
+        match self {
+            BlockLists::InRegions(_, r) => Blocks::InRegion(r),
+            BlockLists::Alone(_, r) => Blocks::Alone(r),
+        }
+    }
+
+    // One list is longer: the first unequal pair is the two regions. Two blocks alone are lists of the same length, so theirs is never
+    // reached.
+    #[tactic(auto, unfolding(crate::specs::Walked::Bounded, crate::specs::Walked::neq_of))]
+    pub(crate) fn lengths_neq(self, paired: u32) -> Unequal
+        requires { Bounded self }
+        ensures { result ≡ neq_of self paired }
+    {
+        match self {
+            BlockLists::InRegions(l, r) => Unequal::FirstNEQRegions(l as u32, r as u32, paired),
+            BlockLists::Alone(l, r) => Unequal::FirstNEQBlocks(l as u32, r as u32, paired),
+        }
+    }
 }

@@ -9,8 +9,8 @@ use Rattle.rules.specs.Store.{Op, Block, Owner, of_op, of_block, type_of, values
 use Rattle.rules.specs.Shells.{Ignore, unignored, unignored_location, shell_of}
 use Rattle.rules.specs.Types.{present}
 use Rattle.rules.proofs.Types.Renamed.{shell_renamed, shell_renamed_lem}
-use Rattle.layout.specs.Columns.{Cols, at, columns, op_kind, op_region_first, op_region_end, op_successor_first, op_successor_end, op_operand_first, op_operand_end, op_location, op_result_first, op_result_end, block_location, block_argument_first, block_argument_end, value_type}
-use Rattle.layout.specs.Reading.{op_count, block_count, value_count, slots_of, slice, attributes_from, op_of, block_of, store_of, consecutive}
+use Rattle.layout.specs.Columns.{Cols, at, columns, column_size, column_count, op_kind, op_region_first, op_region_end, op_successor_first, op_successor_end, op_operand_first, op_operand_end, op_location, block_location, value_type}
+use Rattle.layout.specs.Reading.{op_count, value_count, slots_of, slice, attributes_from, op_of, block_of, store_of, consecutive}
 use Rattle.layout.specs.Owners.{count_column, owner_number, key_count}
 use Rattle.layout.specs.Soundness.{IsSound}
 use Rattle.layout.proofs.Laid.{Laid, Ranged, laid_facts}
@@ -21,7 +21,7 @@ use Rattle.layout.proofs.Ranges.{range, length_range, regions_range, results_ran
 use Rattle.layout.proofs.Totals.{operands_length, successors_length}
 use Rattle.layout.proofs.Types.{types_read}
 use Rattle.fragments.specs.Ignoring.{kept_from}
-use Rattle.fragments.specs.Rows.{row_shell, RowOf, HeadOf}
+use Rattle.fragments.specs.Rows.{row_shell, RowOf, HeadOf, own_columns}
 use Rattle.fragments.specs.declared.types.Row.{Row}
 use Rattle.fragments.specs.declared.types.Head.{Head}
 
@@ -91,20 +91,49 @@ module _ (b : List ℕ) (s : IsSound b) where
           values = own ∙ range_consecutive a e;
         })
 
-  pub op_row_lem : (n : ℕ) → n < op_count C → {place slot keys first many : ℕ}
-      → place ≡ at C op_location n → slot ≡ slots_of (of_op n) → keys ≡ key_count C (of_op n) → first ≡ at C op_result_first n → many ≡ at C op_result_end n - at C op_result_first n
-      → RowOf C (of_op n) (record { location = place; slot = slot; attributes = keys; value = first; values = many })
-  unfolding shell_of op_of slots_of key_count count_column owner_number
-  op_row_lem n l =
+  -- an owner's columns have its row
+  pub record OwnFits (w : Owner) : Type 0 where
+    pub location : (own_columns w).location < column_count
+    pub first : (own_columns w).first < column_count
+    pub end : (own_columns w).end < column_count
+    pub in_location : owner_number w < column_size (own_columns w).location
+    pub in_first : owner_number w < column_size (own_columns w).first
+    pub in_end : owner_number w < column_size (own_columns w).end
+    pub range : Ranged (at C (own_columns w).first (owner_number w)) (at C (own_columns w).end (owner_number w)) (value_count C)
+
+  pub own_fits : (w : Owner) → OwnerIn C w → OwnFits w
+  unfolding own_columns owner_number
+  own_fits (of_op n) l =
+      record {
+        location = omega arith;
+        first = omega arith;
+        end = omega arith;
+        in_location = omega (arith, l, laid.counts.ops);
+        in_first = omega (arith, l, laid.counts.ops);
+        in_end = omega (arith, l, laid.counts.ops);
+        range = (laid.op n l).results.range;
+      }
+  own_fits (of_block m) l =
+      record {
+        location = omega arith;
+        first = omega arith;
+        end = omega arith;
+        in_location = omega (arith, l, laid.counts.blocks);
+        in_first = omega (arith, l, laid.counts.blocks);
+        in_end = omega (arith, l, laid.counts.blocks);
+        range = (laid.block m l).arguments.range;
+      }
+
+  pub own_row : (w : Owner) → OwnerIn C w → {place slot keys first many : ℕ}
+      → place ≡ at C (own_columns w).location (owner_number w) → slot ≡ slots_of w → keys ≡ key_count C w → first ≡ at C (own_columns w).first (owner_number w)
+      → many ≡ at C (own_columns w).end (owner_number w) - at C (own_columns w).first (owner_number w)
+      → RowOf C w (record { location = place; slot = slot; attributes = keys; value = first; values = many })
+  unfolding shell_of op_of block_of slots_of key_count count_column owner_number own_columns
+  own_row (of_op n) l =
       let e = op_read C n l in
       row_read (of_op n) l (at C op_location n) _ _ (laid.op n l).results.range (results_range C laid n l)
       (λ ig. ap (λ (o : Op). unignored_location ig o.location) e) (λ ig. ap (λ (o : Op). unignored ig o.attributes) e)
-
-  pub block_row : (n : ℕ) → n < block_count C → {place slot keys first many : ℕ}
-      → place ≡ at C block_location n → slot ≡ slots_of (of_block n) → keys ≡ key_count C (of_block n) → first ≡ at C block_argument_first n → many ≡ at C block_argument_end n - at C block_argument_first n
-      → RowOf C (of_block n) (record { location = place; slot = slot; attributes = keys; value = first; values = many })
-  unfolding shell_of block_of slots_of key_count count_column owner_number
-  block_row n l =
+  own_row (of_block n) l =
       let e = block_read C n l in
       row_read (of_block n) l (at C block_location n) _ _ (laid.block n l).arguments.range (arguments_range C laid n l)
       (λ ig. ap (λ (o : Block). unignored_location ig o.location) e) (λ ig. ap (λ (o : Block). unignored ig o.attributes) e)

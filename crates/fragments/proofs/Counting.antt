@@ -8,17 +8,16 @@ use mathlib.Core.Path.{◌≡◌, refl, sym, ap, ap₂, ◌∙◌}
 use Rattle.rules.specs.Lists.{concat_map}
 use Rattle.rules.specs.Fragments.{plus, sizes}
 use Rattle.fragments.specs.Sizes.{size_from}
-use Rattle.fragments.specs.declared.types.Size.{Size}
-use Rattle.fragments.specs.declared.types.Size.TheVariants.{Of, TooDeep}
+use Rattle.std.specs.Prelude as std
 
 -- ---- what an answer says of the size
 
-pub size_of : (r : Size) (q : Option ℕ) (n : ℕ) → r ≡ size_from q → r ≡ Of n → q ≡ some n
+pub size_of : (r : std.Option ℕ) (q : Option ℕ) (n : ℕ) → r ≡ size_from q → r ≡ std.Some n → q ≡ some n
 unfolding size_from
 size_of r none n e h = cc
 size_of r (some m) n e h = cc
 
-pub size_deep : (r : Size) (q : Option ℕ) → r ≡ size_from q → r ≡ TooDeep → q ≡ none
+pub size_deep : (r : std.Option ℕ) (q : Option ℕ) → r ≡ size_from q → r ≡ std.None → q ≡ none
 unfolding size_from
 size_deep r none e h = refl
 size_deep r (some m) e h = cc
@@ -62,29 +61,31 @@ module _ (h : ℕ → Option ℕ) where
   sizes_same g [] same = refl
   sizes_same g (x ∷ xs) same = ap₂ plus (same x (Memᴰ.head refl)) (sizes_same g xs (λ y m. same y (Memᴰ.tail m)))
 
-  -- ---- one item more
+-- ---- one item more
 
-  module _ (whole : Option ℕ) where
-    -- so much was counted, and these are left
-    abbrev pub CountedSoFar : ℕ → List ℕ → Type 0
-    CountedSoFar size rest = whole ≡ plus (some size) (sizes h rest)
+module _ (h : ℕ → Option ℕ) (came rest whole : List ℕ) (x size : ℕ) (turn : came ++ x ∷ rest ≡ whole) (so_far : sizes h came ≡ some size) (q : std.Option ℕ) (told : q ≡ size_from (h x)) where
+  pub one_deep : q ≡ std.None → std.None ≡ size_from (sizes h whole)
+  unfolding sizes plus size_from
+  one_deep e =
+      let none_here : h x ≡ none = size_deep q (h x) told e in
+      ap size_from (sym (ap (sizes h) (sym turn) ∙ sizes_append h came (x ∷ rest) ∙ ap₂ plus so_far (ap (λ (o : Option ℕ). plus o (sizes h rest)) none_here)))
 
-    pub count_done : (size : ℕ) (rest : List ℕ) → CountedSoFar size rest → rest ≡ [] → whole ≡ some size
-    unfolding sizes
-    count_done size rest e none_left = e ∙ ap (λ (xs : List ℕ). plus (some size) (sizes h xs)) none_left ∙ nothing_plus (some size)
+  pub one_more : (z : ℕ) → q ≡ std.Some z → sizes h (came ++ x ∷ []) ≡ some (size + z)
+  unfolding sizes plus
+  one_more z e = sizes_append h came (x ∷ []) ∙ ap₂ plus so_far (nothing_plus (h x) ∙ size_of q (h x) z told e)
 
-    module _ (size : ℕ) (rest : List ℕ) (e : CountedSoFar size rest) (x : ℕ) (xs : List ℕ) (first : rest ≡ x ∷ xs) where
-      item : (q : Option ℕ) → h x ≡ q → whole ≡ plus (plus (some size) q) (sizes h xs)
-      unfolding sizes
-      item q one =
-          e ∙ ap (λ (ys : List ℕ). plus (some size) (sizes h ys)) first
-          ∙ plus_assoc (some size) (h x) (sizes h xs)
-          ∙ ap (λ (o : Option ℕ). plus (plus (some size) o) (sizes h xs)) one
+pub all_counted : (h : ℕ → Option ℕ) (came whole : List ℕ) (size : ℕ) → sizes h came ≡ some size → came ≡ whole → std.Some size ≡ size_from (sizes h whole)
+unfolding size_from
+all_counted h came whole size so_far e = ap size_from (sym so_far ∙ ap (sizes h) e)
 
-      pub count_deep : h x ≡ none → whole ≡ none
-      unfolding plus
-      count_deep one = item none one
+-- ---- and one for the operation itself
 
-      pub count_more : (k : ℕ) → h x ≡ some k → CountedSoFar (size + k) xs
-      unfolding plus
-      count_more k one = item (some k) one
+pub itself_deep : (q : Option ℕ) → std.None ≡ size_from q → std.None ≡ size_from (plus (some 1) q)
+unfolding plus size_from
+itself_deep none e = refl
+itself_deep (some n) e = cc
+
+pub itself_counted : (q : Option ℕ) (inside size : ℕ) → std.Some inside ≡ size_from q → size ≡ 1 + inside → std.Some size ≡ size_from (plus (some 1) q)
+unfolding plus size_from
+itself_counted none inside size e l = cc
+itself_counted (some n) inside size e l = let same : inside ≡ n = cc in ap (λ (m : ℕ). std.Some m) (l ∙ ap (λ (m : ℕ). 1 + m) same)

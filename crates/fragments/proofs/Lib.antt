@@ -3,10 +3,10 @@ pub mod Counting
 pub mod Parts
 pub mod Most
 pub mod Turns
-pub mod Told
 pub mod Kept
 pub mod ByRows
 pub mod Ordered
+pub mod Yielded
 pub mod Below
 pub mod There
-pub mod Slots
+pub mod Few

@@ -66,18 +66,29 @@ module _ (s : Store) (sd : sound s ≡ true) (k : ℕ) where
   unfolding op_exists
   op_most b n z m e = below_most k n z (lt-ltb _ _ (ops_in_lem s b m).0) e
 
-  pub block_most : (b z : ℕ) → block_size k s b ≡ some z → z ≤ 262144
-  unfolding block_size
-  block_most b z e =
+  -- of some operations of a block, and so of all
+  pub ops_most : (b : ℕ) (xs : List ℕ) → ((x : ℕ) → Memᴰ x xs → Memᴰ x (ops_of s b)) → length xs ≤ length (ops_of s b) → (z : ℕ) → sizes (size_below k s) xs ≡ some z → z ≤ 262144
+  ops_most b xs his few z e =
       let l : length (ops_of s b) ≤ length s.ops = few_ops s b in
       let m : length s.ops ≤ 512 = (facts s sd).totals.ops in
-      let w : z ≤ length (ops_of s b) * 512 = sizes_most 512 (size_below k s) (ops_of s b) (op_most b) z e in
+      let w : z ≤ length xs * 512 = sizes_most 512 (size_below k s) xs (λ x y m. op_most b x y (his x m)) z e in
+      omega arith
+
+  pub block_most : (b z : ℕ) → block_size k s b ≡ some z → z ≤ 262144
+  unfolding block_size
+  block_most b z e = ops_most b (ops_of s b) (λ x m. m) (omega arith) z e
+
+  -- of some blocks of a region, and so of all
+  pub blocks_most : (r : ℕ) (xs : List ℕ) → length xs ≤ length (blocks_of s r) → (z : ℕ) → sizes (block_size k s) xs ≡ some z → z ≤ 67108864
+  blocks_most r xs few z e =
+      let l : length (blocks_of s r) ≤ length s.blocks = few_blocks s r in
+      let m : length s.blocks ≤ 256 = (facts s sd).totals.blocks in
+      let w : z ≤ length xs * 262144 = sizes_most 262144 (block_size k s) xs (λ b y b∈. block_most b y) z e in
       omega arith
 
   pub region_most : (r z : ℕ) → region_size k s r ≡ some z → z ≤ 67108864
-  region_most r z e =
-      let l : length (blocks_of s r) ≤ length s.blocks = few_blocks s r in
-      let m : length s.blocks ≤ 256 = (facts s sd).totals.blocks in
-      let w : z ≤ length (blocks_of s r) * 262144 =
-      sizes_most 262144 (block_size k s) (blocks_of s r) (λ b y b∈. block_most b y) z (sym (region_by_blocks s k r) ∙ e) in
-      omega arith
+  region_most r z e = blocks_most r (blocks_of s r) (omega arith) z (sym (region_by_blocks s k r) ∙ e)
+
+  -- of so many regions
+  pub regions_most : (xs : List ℕ) (z : ℕ) → sizes (region_size k s) xs ≡ some z → z ≤ length xs * 67108864
+  regions_most xs z e = sizes_most 67108864 (region_size k s) xs (λ r y r∈. region_most r y) z e

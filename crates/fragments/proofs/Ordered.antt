@@ -9,8 +9,7 @@ use Rattle.rules.proofs.Soundness.Children.{ops_in_lem, blocks_in_lem}
 use Rattle.layout.specs.Columns.{Cols}
 use Rattle.layout.specs.Reading.{op_count, block_count, store_of}
 use Rattle.layout.specs.Children.{first_from, found_from}
-use Rattle.layout.specs.declared.children.Found.{Found}
-use Rattle.layout.specs.declared.children.Found.TheVariants.{At}
+use Rattle.std.specs.Prelude as std
 use Rattle.layout.proofs.Tabulate.{ops_length, blocks_length}
 use Rattle.layout.proofs.Seeking.{Rising, NextChild, from_found, found_at, found_in, blocks_rise}
 use Rattle.fragments.specs.Order.{block_list, BlocksExist}
@@ -24,7 +23,7 @@ unfolding block_list
 block_list_rises s (InRegion r) = blocks_rise s r
 block_list_rises s (Alone b) = (λ y m. absurd (Memᴰ.not-nil m), tt)
 
-pub next_in_list : (s : Store) (x : Blocks) (from b : ℕ) (r : Found) → r ≡ found_from (first_from from (block_list s x)) → r ≡ At b → NextChild (block_list s x) from b
+pub next_in_list : (s : Store) (x : Blocks) (from b : ℕ) (r : std.Option ℕ) → r ≡ found_from (first_from from (block_list s x)) → r ≡ std.Some b → NextChild (block_list s x) from b
 next_in_list s x from b r e h =
     let f = found_at r (first_from from (block_list s x)) b e h in
     let w = found_in from b (block_list s x) f in

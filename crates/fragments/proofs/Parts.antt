@@ -1,8 +1,9 @@
 -- An operation is counted by its regions, a region by its blocks and a block by its operations, with the levels that nesting leaves. Assumes nothing.
-use Prim.Native.Nat.{ℕ, zero, suc}
+use Prim.Native.Nat.{ℕ, zero, suc, ◌-◌, ◌≤◌}
+use native.Mathlib.Omega.{arith}
 use mathlib.Core.Bool.{true}
 use mathlib.Core.List.{Memᴰ}
-use mathlib.Core.Option.{Option, some}
+use mathlib.Core.Option.{Option, none, some}
 use mathlib.Core.Path.{◌≡◌, refl, sym, ap, ◌∙◌}
 use Rattle.rules.specs.Store.{Store, blocks_of, ops_of, regions_of, parent_of, max_nesting, sound}
 use Rattle.rules.specs.Fragments.{op, block, region, plus, sizes, ops_in_blocks, ops_inside, op_size, size_within, own_size, outermost, fragment_size}
@@ -12,10 +13,6 @@ use Rattle.fragments.specs.Sizes.{size_below, block_size, region_size}
 use Rattle.fragments.proofs.Counting.{sizes_one, sizes_concat, sizes_same}
 
 module _ (s : Store) where
-  pub block_by_ops : (k b : ℕ) → block_size k s b ≡ sizes (size_below k s) (ops_of s b)
-  unfolding block_size
-  block_by_ops k b = refl
-
   pub region_by_blocks : (k r : ℕ) → region_size k s r ≡ sizes (block_size k s) (blocks_of s r)
   unfolding region_size block_size ops_in_blocks
   region_by_blocks k r = sizes_concat (size_below k s) (ops_of s) (blocks_of s r)
@@ -30,6 +27,17 @@ module _ (s : Store) where
   op_by_regions k n =
       op_inside k n
       ∙ ap (plus (some 1)) (sizes_concat (size_below k s) (λ (r : ℕ). ops_in_blocks s (blocks_of s r)) (regions_of s n))
+
+  -- with one level less, if there is one
+  pub one_level_less : (k j n : ℕ) → 1 ≤ k → j ≡ k - 1 → op_size j s n ≡ size_below k s n
+  unfolding size_below
+  one_level_less zero j n l e = absurd (omega arith)
+  one_level_less (suc k) j n l e = let same : j ≡ k = omega arith in ap (λ (i : ℕ). op_size i s n) same
+
+  pub no_level_left : (k n : ℕ) → (1 ≤ k → ⊥) → size_below k s n ≡ none
+  unfolding size_below
+  no_level_left zero n l = refl
+  no_level_left (suc k) n l = absurd (l (omega arith))
 
   -- ---- the offered sizes, where an operation leaves so many levels
 

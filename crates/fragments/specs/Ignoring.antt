@@ -1,5 +1,7 @@
 -- The ignore rule as the code has it, and what is left of a run of attribute slots once ignored ones are passed over.
-use Rattle.std.specs.Prelude.{ℕ, ◌-◌, ◌/◌, ◌%◌, ◌^◌, ◌<◌, ◌≤◌, Bool, false, List, ◌≡◌, eqb}
+use Rattle.std.specs.Prelude.{ℕ, ◌-◌, ◌/◌, ◌%◌, ◌^◌, Bool, not, List, eqb}
+use Rattle.std.specs.List.{range_with_len}
+use Rattle.rules.specs.Lists.{filter}
 use Rattle.rules.specs.Store.{Attribute}
 use Rattle.rules.specs.Shells as rules
 use Rattle.rules.specs.Shells.{ignored, unignored}
@@ -19,9 +21,6 @@ bit_set bits kind = eqb ((bits / 2 ^ kind) % 2) 1
 unfoldable pub kept_from : Cols → rules.Ignore → ℕ → ℕ → List Attribute
 kept_from C ig a e = unignored ig (attributes_from C a (e - a))
 
--- slot i is the first from a on that is not ignored, or e where there is none
-pub record Skipped (C : Cols) (ig : rules.Ignore) (a e i : ℕ) : Type 0 where
-  pub from : a ≤ i
-  pub up_to : i ≤ e
-  pub same : kept_from C ig a e ≡ kept_from C ig i e
-  pub kept : i < e → ignored ig (attribute_at C i) ≡ false
+-- and their slots
+unfoldable pub kept_slots : Cols → rules.Ignore → ℕ → ℕ → List ℕ
+kept_slots C ig a e = filter (λ (i : ℕ). not (ignored ig (attribute_at C i))) (range_with_len a (e - a))

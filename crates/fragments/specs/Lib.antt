@@ -3,5 +3,8 @@ pub mod Sizes
 pub mod Sorts
 pub mod Ignoring
 pub mod Options
+pub mod Terms
 pub mod Rows
 pub mod Order
+pub mod BlocksLeft
+pub mod SlotsLeft

@@ -4,7 +4,9 @@ use Rattle.rules.specs.Store.{Store}
 use Rattle.rules.specs.Shells as rules
 use Rattle.rules.specs.Types.{renamed}
 use Rattle.layout.specs.Soundness.{IsSound}
+use Rattle.std.proofs.Props.{props}
 use Rattle.renaming.specs.Index.{list_in, IsIndex}
+use Rattle.renaming.specs.OneIndex.{is_index_prop}
 use Rattle.fragments.specs.Ignoring.{ignore_of}
 use Rattle.fragments.specs.declared.ignoring.Ignore.{Ignore}
 
@@ -24,3 +26,7 @@ under o s = renamed o.types s
 pub record Readable (store types : List ℕ) : Type 0 where
   pub sound : IsSound store
   pub indexed : IsIndex types
+
+-- they are so in one way only
+pub readable_prop : (store types : List ℕ) → IsProp (Readable store types)
+readable_prop store types = hlevel (props, is_index_prop)

@@ -1,5 +1,6 @@
 -- A list of blocks that is walked through.
 use Rattle.std.specs.Prelude.{ℕ, ◌<◌, List, [], ◌∷◌}
+use Rattle.std.specs.Coded.{le_prop}
 use Rattle.rules.specs.Store.{Store, blocks_of}
 use Rattle.layout.specs.Columns.{Cols}
 use Rattle.layout.specs.Reading.{block_count, region_count}
@@ -14,3 +15,9 @@ block_list s (Alone b) = b ∷ []
 unfoldable pub BlocksExist : Cols → Blocks → Type 0
 BlocksExist C (InRegion r) = r < region_count C
 BlocksExist C (Alone b) = b < block_count C
+
+-- that can be so in one way only
+pub blocks_exist_prop : (C : Cols) (blocks : Blocks) → IsProp (BlocksExist C blocks)
+unfolding BlocksExist
+blocks_exist_prop C (InRegion r) = le_prop
+blocks_exist_prop C (Alone b) = le_prop

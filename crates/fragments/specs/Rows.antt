@@ -1,12 +1,13 @@
 -- What an operation or a block has by itself, read off its row: what is compared of two, and what is hashed of one.
 use Rattle.std.specs.Prelude.{ℕ, ◌+◌, ◌≤◌, List, map, ◌≡◌, length}
-use Rattle.rules.specs.Store.{Store, Owner, op_at, regions_of, values_of, max_values}
+use Rattle.rules.specs.Store.{Store, Owner, of_op, of_block, op_at, regions_of, values_of, max_values}
 use Rattle.rules.specs.Shells.{Shell, shell_of, unignored_location}
 use Rattle.rules.specs.Types.{present}
-use Rattle.layout.specs.Columns.{Cols, value_type, slot_count}
+use Rattle.layout.specs.Columns.{Cols, op_location, op_result_first, op_result_end, block_location, block_argument_first, block_argument_end, value_type, slot_count}
 use Rattle.layout.specs.Reading.{slice, store_of, consecutive}
 use Rattle.fragments.specs.Ignoring.{kept_from}
 use Rattle.fragments.specs.Options.{Options, under}
+use Rattle.fragments.specs.declared.rows.OwnColumns.{OwnColumns}
 use Rattle.fragments.specs.declared.types.Row.{Row}
 use Rattle.fragments.specs.declared.types.Head.{Head}
 
@@ -27,6 +28,11 @@ row_shell C o r =
       attributes = kept_from C o.ignore r.slot (r.slot + r.attributes);
       types = map (present o.types) (row_types C r);
     }
+
+-- the columns of an operation's location and results, or of a block's location and arguments
+unfoldable pub own_columns : Owner → OwnColumns
+own_columns (of_op n) = record { location = op_location; first = op_result_first; end = op_result_end }
+own_columns (of_block m) = record { location = block_location; first = block_argument_first; end = block_argument_end }
 
 -- the row is that of an operation or a block
 pub record RowOf (C : Cols) (w : Owner) (r : Row) : Type 0 where

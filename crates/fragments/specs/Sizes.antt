@@ -3,12 +3,12 @@ use Rattle.std.specs.Prelude.{ℕ, zero, suc}
 use Rattle.std.proofs.Math.Option.{Option, none, some}
 use Rattle.rules.specs.Store.{Store, blocks_of, ops_of}
 use Rattle.rules.specs.Fragments.{sizes, ops_in_blocks, op_size}
-use Rattle.fragments.specs.declared.types.Size.{Size}
-use Rattle.fragments.specs.declared.types.Size.TheVariants.{Of, TooDeep}
+use Rattle.std.specs.Prelude as std
 
-unfoldable pub size_from : Option ℕ → Size
-size_from none = TooDeep
-size_from (some n) = Of n
+-- none where an operation is nested too deep
+unfoldable pub size_from : Option ℕ → std.Option ℕ
+size_from none = std.None
+size_from (some n) = std.Some n
 
 -- of an operation in a region, where so many levels of regions are left, the region around it among them
 unfoldable pub size_below : ℕ → Store → ℕ → Option ℕ

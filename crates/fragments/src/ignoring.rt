@@ -3,13 +3,14 @@ ghost use Rattle.std.specs.Prelude.{◌≡◌, ◌<◌, ◌≤◌, length};
 ghost use Rattle.rules.specs.Shells.{ignored};
 ghost use Rattle.layout.specs.Columns.{buffer_length, columns, slot_count};
 ghost use Rattle.layout.specs.Reading.{attribute_at};
-ghost use Rattle.fragments.specs.Ignoring.{ignore_of, bit_set, kept_from, Skipped};
+ghost use Rattle.fragments.specs.Ignoring.{ignore_of, bit_set, kept_from};
 
+use crate::kept_slots::KeptSlots;
 use layout::columns::{SLOT_KIND, at};
 use layout::kinds::inherent_from;
 
 // An ignore rule: a yes or no for locations, and a bit for each attribute kind.
-#[derive(Clone, Copy)]
+#[derive(Clone, Copy, PartialEq, Eq, Debug)]
 pub struct Ignore {
     pub locations: bool,
     pub bits: u64,
@@ -24,7 +25,7 @@ fn bit_set(bits: u64, kind: u32) -> bool
 }
 
 // The attribute at a slot is ignored: it is not inherent, so that its kind alone is in the slot's word, and the bit of its kind is set.
-fn slot_ignored(store: &[u32], ignore: Ignore, slot: usize) -> bool
+pub fn slot_ignored(store: &[u32], ignore: Ignore, slot: usize) -> bool
     requires store_len { length store.now ≡ buffer_length }
     requires slot_lt_slot_count { slot < slot_count }
     ensures { result ≡ ignored (ignore_of ignore) (attribute_at (columns store.now) slot) }
@@ -36,23 +37,6 @@ fn slot_ignored(store: &[u32], ignore: Ignore, slot: usize) -> bool
     bit_set(ignore.bits, kind)
 }
 
-// The first slot from `from` on that is not ignored, or `end`.
-pub fn next_kept(store: &[u32], ignore: Ignore, from: usize, end: usize) -> usize
-    requires store_len { length store.now ≡ buffer_length }
-    requires end_le_slot_count { end ≤ slot_count }
-    requires from_le_end { from ≤ end }
-    ensures { Skipped (columns store.now) (ignore_of ignore) from end result }
-{
-    let mut i = from;
-    while i < end {
-        if !slot_ignored(store, ignore, i) {
-            return i;
-        }
-        i += 1;
-    }
-    end
-}
-
 // How many attributes of a run of slots are not ignored.
 pub fn count_kept(store: &[u32], ignore: Ignore, first: usize, end: usize) -> u32
     requires store_len { length store.now ≡ buffer_length }
@@ -60,11 +44,5 @@ pub fn count_kept(store: &[u32], ignore: Ignore, first: usize, end: usize) -> u3
     requires first_le_end { first ≤ end }
     ensures { result ≡ length (kept_from (columns store.now) (ignore_of ignore) first end) }
 {
-    let mut kept = 0;
-    let mut slot = next_kept(store, ignore, first, end);
-    while slot < end {
-        kept += 1;
-        slot = next_kept(store, ignore, slot + 1, end);
-    }
-    kept
+    KeptSlots::new(store, ignore, first, end).count() as u32
 }

@@ -3,8 +3,10 @@
 #![tactic(auto)]
 
 pub mod ignoring;
+pub mod kept_slots;
 pub mod order;
 pub mod rows;
 pub mod sizes;
 pub mod sorts;
+pub mod terms;
 pub mod types;

@@ -1,10 +1,11 @@
 // What an operation and a block have by themselves, read off their rows: what is compared of two, and what is hashed of one.
-ghost use Rattle.std.specs.Prelude.{◌≡◌, ◌-◌, ◌<◌, ◌≤◌, length};
-ghost use Rattle.rules.specs.Store.{of_op, of_block, regions_of};
+ghost use Rattle.std.specs.Prelude.{◌≡◌, ◌-◌, ◌<◌, ◌≤◌, true, length};
+ghost use Rattle.rules.specs.Store.{of_op, of_block, owner_exists, regions_of};
 ghost use Rattle.layout.specs.Columns.{buffer_length, column_size, columns, column_count};
 ghost use Rattle.layout.specs.Reading.{op_count, block_count, store_in};
 ghost use Rattle.layout.specs.Soundness.{IsSound};
-ghost use Rattle.fragments.specs.Rows.{RowOf, HeadOf};
+ghost use Rattle.layout.specs.Owners.{owner_of};
+ghost use Rattle.fragments.specs.Rows.{RowOf, HeadOf, own_columns};
 
 use crate::types::{Head, Row};
 use layout::columns::{
@@ -12,7 +13,7 @@ use layout::columns::{
     OP_OPERAND_FIRST, OP_REGION_END, OP_REGION_FIRST, OP_RESULT_END, OP_RESULT_FIRST,
     OP_SUCCESSOR_END, OP_SUCCESSOR_FIRST, at, number,
 };
-use layout::owners::{Owner, first_slot, key_count};
+use layout::owners::{Owner, first_slot, key_count, owner_number};
 
 // How many numbers there are in a row's range.
 pub fn span(store: &[u32], first: usize, end: usize, n: usize) -> usize
@@ -27,39 +28,71 @@ pub fn span(store: &[u32], first: usize, end: usize, n: usize) -> usize
     number(store, end, n) - number(store, first, n)
 }
 
-// The row of an operation; its values are its results.
+// The columns of what an operation or a block has by itself: its location, and where its results or arguments begin and end.
+#[derive(Clone, Copy)]
+struct OwnColumns {
+    location: usize,
+    first: usize,
+    end: usize,
+}
+
+#[tactic(auto, unfolding(crate::specs::Rows::own_columns, layout::specs::Owners::owner_of))]
+fn own_columns(owner: Owner) -> OwnColumns
+    ensures { result ≡ own_columns (owner_of owner) }
+{
+    match owner {
+        Owner::Op(_) => OwnColumns {
+            location: OP_LOCATION,
+            first: OP_RESULT_FIRST,
+            end: OP_RESULT_END,
+        },
+        Owner::Block(_) => OwnColumns {
+            location: BLOCK_LOCATION,
+            first: BLOCK_ARGUMENT_FIRST,
+            end: BLOCK_ARGUMENT_END,
+        },
+    }
+}
+
+// The row of an operation or a block; an operation's values are its results, a block's its arguments.
+pub fn owner_row(store: &[u32], owner: Owner) -> Row
+    requires sound { IsSound store.now }
+    requires owner_value { owner_exists (store_in store.now) (owner_of owner) ≡ true }
+    ensures { RowOf (columns store.now) (owner_of owner) result }
+{
+    let own = own_columns(owner);
+    let n = owner_number(owner);
+    Row {
+        location: at(store, own.location, n),
+        slot: first_slot(owner),
+        attributes: key_count(store, owner),
+        value: number(store, own.first, n),
+        values: span(store, own.first, own.end, n),
+    }
+}
+
+// The row of an operation.
+#[tactic(auto, using(layout::proofs::OwnerKeys::in_exists), unfolding(layout::specs::Owners::owner_of))]
 pub fn op_row(store: &[u32], n: usize) -> Row
     requires sound { IsSound store.now }
     requires n_bound { n < op_count (columns store.now) }
     ensures { RowOf (columns store.now) (of_op n) result }
 {
-    let owner = Owner::Op(n as u32);
-    Row {
-        location: at(store, OP_LOCATION, n),
-        slot: first_slot(owner),
-        attributes: key_count(store, owner),
-        value: number(store, OP_RESULT_FIRST, n),
-        values: span(store, OP_RESULT_FIRST, OP_RESULT_END, n),
-    }
+    owner_row(store, Owner::Op(n as u32))
 }
 
-// The row of a block; its values are its arguments.
+// The row of a block.
+#[tactic(auto, using(layout::proofs::OwnerKeys::in_exists), unfolding(layout::specs::Owners::owner_of))]
 pub fn block_row(store: &[u32], n: usize) -> Row
     requires sound { IsSound store.now }
     requires n_bound { n < block_count (columns store.now) }
     ensures { RowOf (columns store.now) (of_block n) result }
 {
-    let owner = Owner::Block(n as u32);
-    Row {
-        location: at(store, BLOCK_LOCATION, n),
-        slot: first_slot(owner),
-        attributes: key_count(store, owner),
-        value: number(store, BLOCK_ARGUMENT_FIRST, n),
-        values: span(store, BLOCK_ARGUMENT_FIRST, BLOCK_ARGUMENT_END, n),
-    }
+    owner_row(store, Owner::Block(n as u32))
 }
 
 // How many regions an operation has.
+#[tactic(auto, using(crate::proofs::Few::regions_rise, crate::proofs::ByRows::op_regions))]
 pub fn op_regions(store: &[u32], n: usize) -> usize
     requires sound { IsSound store.now }
     requires n_bound { n < op_count (columns store.now) }
@@ -69,6 +102,7 @@ pub fn op_regions(store: &[u32], n: usize) -> usize
 }
 
 // What an operation has besides its row.
+#[tactic(auto, using(crate::proofs::Few::operands_rise, crate::proofs::Few::successors_rise, crate::proofs::ByRows::op_head_lem))]
 pub fn op_head(store: &[u32], n: usize) -> Head
     requires sound { IsSound store.now }
     requires n_bound { n < op_count (columns store.now) }

@@ -9,73 +9,52 @@ ghost use Rattle.layout.specs.Reading.{op_count, block_count, region_count, stor
 ghost use Rattle.layout.specs.Soundness.{IsSound};
 ghost use Rattle.fragments.specs.Sizes.{size_from, block_size, region_size};
 
-use crate::types::Size;
-use layout::children::{Found, next_block, next_op, op_around};
+use crate::order::BlocksIn;
+use crate::types::Blocks;
+use layout::children::op_around;
 use layout::columns::{OP_DEPTH, OP_REGION_END, OP_REGION_FIRST, REGION_OP, at, number};
+use layout::ops_in::OpsIn;
 
 // The size of a block. `left` counts the region around the block and all levels inside it.
-#[cycle(size_in_block_size_in_op_size_in_region)]
-fn size_in_block(store: &[u32], b: usize, left: u32) -> Size
+#[cycle(size)]
+fn size_in_block(store: &[u32], b: usize, left: u32) -> Option<u32>
     requires sound { IsSound store.now }
     requires b_bound { b < block_count (columns store.now) }
     ensures { result ≡ size_from (block_size left (store_in store.now) b) }
 {
     let mut size = 0;
-    let mut from = 0;
-    loop {
-        let Found::At(n) = next_op(store, b, from) else {
-            return Size::Of(size);
-        };
-        if left == 0 {
-            return Size::TooDeep;
-        }
-        let Size::Of(more) = size_in_op(store, n, left - 1) else {
-            return Size::TooDeep;
-        };
-        size += more;
-        from = n + 1;
+    for n in OpsIn::new(store, b) {
+        size += size_in_op(store, n, left.checked_sub(1)?)?;
     }
+    Some(size)
 }
 
 // The size of a region. `left` counts this region and all levels inside it.
-#[cycle(size_in_block_size_in_op_size_in_region)]
-fn size_in_region(store: &[u32], r: usize, left: u32) -> Size
+#[cycle(size)]
+fn size_in_region(store: &[u32], r: usize, left: u32) -> Option<u32>
     requires sound { IsSound store.now }
     requires r_bound { r < region_count (columns store.now) }
     ensures { result ≡ size_from (region_size left (store_in store.now) r) }
 {
     let mut size = 0;
-    let mut from = 0;
-    loop {
-        let Found::At(b) = next_block(store, r, from) else {
-            return Size::Of(size);
-        };
-        let Size::Of(more) = size_in_block(store, b, left) else {
-            return Size::TooDeep;
-        };
-        size += more;
-        from = b + 1;
+    for b in BlocksIn::new(store, Blocks::InRegion(r)) {
+        size += size_in_block(store, b, left)?;
     }
+    Some(size)
 }
 
 // The size of an operation. `left` counts its regions as one level, and all levels inside them.
-#[cycle(size_in_block_size_in_op_size_in_region)]
-fn size_in_op(store: &[u32], n: usize, left: u32) -> Size
+#[cycle(size)]
+fn size_in_op(store: &[u32], n: usize, left: u32) -> Option<u32>
     requires sound { IsSound store.now }
     requires n_bound { n < op_count (columns store.now) }
     ensures { result ≡ size_from (op_size left (store_in store.now) n) }
 {
-    let end = number(store, OP_REGION_END, n);
-    let mut r = number(store, OP_REGION_FIRST, n);
     let mut size = 1;
-    while r < end {
-        let Size::Of(more) = size_in_region(store, r, left) else {
-            return Size::TooDeep;
-        };
-        size += more;
-        r += 1;
+    for r in number(store, OP_REGION_FIRST, n)..number(store, OP_REGION_END, n) {
+        size += size_in_region(store, r, left)?;
     }
-    Size::Of(size)
+    Some(size)
 }
 
 // How many levels of regions an operation may have inside it.
@@ -88,7 +67,7 @@ fn levels_left(store: &[u32], n: usize) -> u32
 }
 
 // The size of an operation.
-pub fn operation_size(store: &[u32], n: usize) -> Size
+pub fn operation_size(store: &[u32], n: usize) -> Option<u32>
     requires sound { IsSound store.now }
     requires n_bound { n < op_count (columns store.now) }
     ensures { result ≡ size_from (fragment_size (store_in store.now) op n) }
@@ -97,7 +76,7 @@ pub fn operation_size(store: &[u32], n: usize) -> Size
 }
 
 // The size of a block: its operations stand one region deeper than the operation around it.
-pub fn basic_block_size(store: &[u32], n: usize) -> Size
+pub fn basic_block_size(store: &[u32], n: usize) -> Option<u32>
     requires sound { IsSound store.now }
     requires n_bound { n < block_count (columns store.now) }
     ensures { result ≡ size_from (fragment_size (store_in store.now) block n) }
@@ -106,7 +85,7 @@ pub fn basic_block_size(store: &[u32], n: usize) -> Size
 }
 
 // The size of a region, likewise.
-pub fn region_size(store: &[u32], n: usize) -> Size
+pub fn region_size(store: &[u32], n: usize) -> Option<u32>
     requires sound { IsSound store.now }
     requires n_bound { n < region_count (columns store.now) }
     ensures { result ≡ size_from (fragment_size (store_in store.now) region n) }

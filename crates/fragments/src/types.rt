@@ -1,14 +1,7 @@
 // What is told of a fragment, and what a walk over one goes through.
 
-// How many operations are in a fragment, or that one of them is nested too deep.
-#[derive(Clone, Copy)]
-pub enum Size {
-    Of(u32),
-    TooDeep,
-}
-
 // The sorts of fragments.
-#[derive(Clone, Copy)]
+#[derive(Clone, Copy, PartialEq, Eq, Debug)]
 pub enum Sort {
     Op,
     Block,
@@ -17,7 +10,7 @@ pub enum Sort {
 
 // What an operation or a block has by itself: its location, its attributes in `attributes` slots from `slot` on, and its results or
 // arguments, `values` of them from value `value` on.
-#[derive(Clone, Copy)]
+#[derive(Clone, Copy, PartialEq, Eq, Debug)]
 pub struct Row {
     pub location: u32,
     pub slot: usize,
@@ -27,7 +20,7 @@ pub struct Row {
 }
 
 // What only an operation has: its kind, and how many regions, successors and operands.
-#[derive(Clone, Copy)]
+#[derive(Clone, Copy, PartialEq, Eq, Debug)]
 pub struct Head {
     pub kind: u32,
     pub regions: usize,
@@ -36,7 +29,7 @@ pub struct Head {
 }
 
 // A list of blocks that a walk goes through: those of a region, or a block alone, a list of one.
-#[derive(Clone, Copy)]
+#[derive(Clone, Copy, PartialEq, Eq, Debug)]
 pub enum Blocks {
     InRegion(usize),
     Alone(usize),

@@ -12,13 +12,7 @@ use std::io;
 fn hash_of(input: &[u8]) -> u64
     ensures { result ≡ fnv input.now }
 {
-    let mut word = START;
-    let mut i = 0;
-    while i < input.len() {
-        word = fnv_byte(word, input[i]);
-        i += 1;
-    }
-    word
+    input.iter().fold(START, |word, byte| fnv_byte(word, *byte))
 }
 
 // The line of an input: its text, how it was fed, and the hash.

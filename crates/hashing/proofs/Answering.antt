@@ -2,6 +2,7 @@
 -- Assumes nothing.
 use Rattle.std.proofs.Common.{◌≡◌, ℕ, Bool, true, false, cond, List, [], ◌∷◌, sym, refl, ap, ◌∙◌, subst, true≢false}
 use mathlib.Core.Option.{Option, none, some}
+use Rattle.std.specs.Prelude as std
 use Rattle.rules.specs.Store.{Store}
 use Rattle.rules.specs.Fragments.{Sort, exists}
 use Rattle.rules.specs.Building.{first_failed}
@@ -9,11 +10,12 @@ use Rattle.rules.specs.Shells.{Ignore}
 use Rattle.rules.specs.Types.{types_hold, renamed}
 use Rattle.rules.specs.Hash.{hash}
 use Rattle.rules.specs.Answers.{Hashed, shallow, hash_tests, hashed_by, hashed}
+use Rattle.layout.specs.Causes.{number_of}
+use Rattle.layout.specs.declared.causes.Cause.{Cause}
+use Rattle.layout.specs.declared.causes.Cause.TheVariants as causes
 use Rattle.layout.specs.Reading.{store_in}
 use Rattle.layout.specs.Soundness.{IsSound}
 use Rattle.hashing.specs.Calls.{hashed_of, fragment_tests, Answered}
-use Rattle.hashing.specs.declared.types.Hashed as code
-use Rattle.hashing.specs.declared.types.Hashed.TheVariants.{Hash, Refused}
 
 -- ---- the tests of a fragment
 
@@ -49,16 +51,16 @@ module _ (b types : List ℕ) (ig : Ignore) (f : Sort) (n : ℕ) where
   unfolding hashed hash_tests first_failed fragment_tests by
   by_tests ok = refl
 
-  pub unsound : (ok : Bool) → ok ≡ false → Answered ok b types ig f n (Refused 1)
+  pub unsound : (ok : Bool) → ok ≡ false → Answered ok b types ig f n (std.Err causes.NotSound)
   unfolding hashed_by hashed_of by
   unsound ok h = record { told = by_tests ok ∙ ap (λ (t : Bool). by t (types_hold types) first) h }
 
   -- found to be sound, as if known to be
-  pub as_found : (ok : Bool) → ok ≡ true → {q : code.Hashed} → Answered true b types ig f n q → Answered ok b types ig f n q
+  pub as_found : (ok : Bool) → ok ≡ true → {q : std.Result ℕ Cause} → Answered true b types ig f n q → Answered ok b types ig f n q
   as_found ok e {q} h = subst (λ (t : Bool). Answered t b types ig f n q) (sym e) h
 
   module _ (h : IsSound b) where
-    pub untyped : types_hold types ≡ false → Answered true b types ig f n (Refused 14)
+    pub untyped : types_hold types ≡ false → Answered true b types ig f n (std.Err causes.BadTypes)
     unfolding hashed_by hashed_of by
     untyped k = record { told = by_tests true ∙ ap (λ (u : Bool). by true u first) k }
 
@@ -67,10 +69,10 @@ module _ (b types : List ℕ) (ig : Ignore) (f : Sort) (n : ℕ) where
       unfolding by
       tested e = by_tests true ∙ (λ i. by true (k i) (e i))
 
-      pub refused : (cause : ℕ) → first ≡ some cause → Answered true b types ig f n (Refused cause)
+      pub refused : (cause : Cause) → first ≡ some (number_of cause) → Answered true b types ig f n (std.Err cause)
       unfolding hashed_by hashed_of
       refused cause e = record { told = tested e }
 
-      pub answered : (word : ℕ) → first ≡ none → word ≡ hash (renamed types (store_in b)) ig f n → Answered true b types ig f n (Hash word)
+      pub answered : (word : ℕ) → first ≡ none → word ≡ hash (renamed types (store_in b)) ig f n → Answered true b types ig f n (std.Ok word)
       unfolding hashed_by hashed_of
-      answered word e w = record { told = tested e ∙ ap (λ (k : ℕ). hashed_of (Hash k)) (sym w) }
+      answered word e w = record { told = tested e ∙ ap (λ (k : ℕ). hashed_of (std.Ok k)) (sym w) }

@@ -1,6 +1,6 @@
 -- Bytes that go into the word one after the other go into it at once; and a list's bytes, from the first entry that is not fed yet.
 -- Assumes nothing.
-use Rattle.std.proofs.Common.{◌≡◌, ℕ, ◌+◌, ◌<◌, ◌≤◌, Bool, true, false, cond, List, ◌∷◌, ◌++◌, length, get_or, drop, sym, refl, ap, ◌∙◌, append_assoc, add-one, drop_of_length-le, drop-cons}
+use Rattle.std.proofs.Common.{◌≡◌, ℕ, ◌+◌, ◌<◌, ◌≤◌, Bool, true, false, not, cond, List, [], ◌∷◌, ◌++◌, length, get_or, drop, sym, refl, ap, ◌∙◌, append_assoc, append-nil, add-one, rules, drop_of_length-le, drop-cons}
 use mathlib.Core.Option.{Option, none, some}
 use Rattle.rules.specs.Lists.{concat_map}
 use Rattle.rules.specs.Store.{Attribute}
@@ -20,22 +20,25 @@ by : Bool → ℕ → Option ℕ
 by t l = cond t none (some l)
 
 module _ (ig : Ignore) (l word : ℕ) where
-  pub location_ignored : ig.locations ≡ true → word ≡ fnv_from word (location_bytes (unignored_location ig l))
+  pub location_ignored : not ig.locations ≡ false → word ≡ fnv_from word (location_bytes (unignored_location ig l))
   unfolding fnv_from location_bytes unignored_location by
-  location_ignored e = ap (λ (t : Bool). fnv_from word (location_bytes (by t l))) (sym e)
+  location_ignored e =
+      let yes : ig.locations ≡ true = search rules in
+      ap (λ (t : Bool). fnv_from word (location_bytes (by t l))) (sym yes)
 
-  pub location_fed : {r : ℕ} → ig.locations ≡ false → r ≡ fnv_from word (leaf l) → r ≡ fnv_from word (location_bytes (unignored_location ig l))
+  pub location_fed : {r : ℕ} → not ig.locations ≡ true → r ≡ fnv_from word (leaf l) → r ≡ fnv_from word (location_bytes (unignored_location ig l))
   unfolding location_bytes unignored_location by
-  location_fed e f = f ∙ ap (λ (t : Bool). fnv_from word (location_bytes (by t l))) (sym e)
+  location_fed e f =
+      let no : ig.locations ≡ false = search rules in
+      f ∙ ap (λ (t : Bool). fnv_from word (location_bytes (by t l))) (sym no)
 
 -- ---- an attribute, and a shell
 
-pub attribute_fed : (a : Attribute) (word : ℕ) {key kind content fed r : ℕ} {yes : Bool}
+pub attribute_fed : (a : Attribute) (word : ℕ) {key kind content r : ℕ} {yes : Bool}
     → key ≡ a.key → kind ≡ a.kind → content ≡ a.content → yes ≡ a.inherent
-    → fed ≡ fnv_from word (leaf key ++ leaf kind ++ leaf content) → r ≡ fnv_from fed (flag yes) → r ≡ fnv_from word (attribute_bytes a)
+    → r ≡ fnv_from word (leaf key ++ leaf kind ++ leaf content ++ flag yes) → r ≡ fnv_from word (attribute_bytes a)
 unfolding attribute_bytes
-attribute_fed a word {fed = fed} k m c y e f =
-    fed_after word (leaf a.key ++ leaf a.kind ++ leaf a.content) (flag a.inherent) (e ∙ (λ i. fnv_from word (leaf (k i) ++ leaf (m i) ++ leaf (c i)))) (f ∙ ap (λ (b : Bool). fnv_from fed (flag b)) y)
+attribute_fed a word k m c y e = e ∙ (λ i. fnv_from word (leaf (k i) ++ leaf (m i) ++ leaf (c i) ++ flag (y i)))
 
 pub shell_fed : (sh : Shell) (word : ℕ) {f g r : ℕ}
     → f ≡ fnv_from word (location_bytes sh.location) → g ≡ fnv_from f (count (length sh.attributes) ++ concat_map attribute_bytes sh.attributes)
@@ -46,6 +49,17 @@ shell_fed sh word d e h =
     let ys : List ℕ = concat_map attribute_bytes sh.attributes in
     let ls : List ℕ = location_bytes sh.location in
     fed_after word (ls ++ xs ++ ys) (concat_map leaf sh.types) (fed_after word ls (xs ++ ys) d e ∙ ap (fnv_from word) (sym (append_assoc ls xs ys))) h
+
+-- ---- entries that came are fed, and one more
+
+concat_last : (bytes : ℕ → List ℕ) (xs : List ℕ) (x : ℕ) → concat_map bytes (xs ++ (x ∷ [])) ≡ concat_map bytes xs ++ bytes x
+unfolding concat_map
+concat_last bytes [] x = append-nil (bytes x)
+concat_last bytes (y ∷ xs) x = ap (λ (l : List ℕ). bytes y ++ l) (concat_last bytes xs x) ∙ sym (append_assoc (bytes y) (concat_map bytes xs) (bytes x))
+
+pub one_more_fed : (bytes : ℕ → List ℕ) (word : ℕ) (came : List ℕ) (x : ℕ) {fed r : ℕ} → fed ≡ fnv_from word (concat_map bytes came) → r ≡ fnv_from fed (bytes x)
+    → r ≡ fnv_from word (concat_map bytes (came ++ (x ∷ [])))
+one_more_fed bytes word came x e f = fed_after word (concat_map bytes came) (bytes x) e f ∙ ap (fnv_from word) (sym (concat_last bytes came x))
 
 -- ---- a list, entry by entry
 

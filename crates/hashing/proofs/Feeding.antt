@@ -94,6 +94,6 @@ module _ (s : Store) (o : Options) where
 
   -- ---- the whole
 
-  pub fed_hash : (f : Sort) (n : ℕ) {a b : List ℕ} {w : ℕ} → Stands s no_numbers a → Fed s o (steps s f n) a b fnv_start w → w ≡ hash (under o s) o.ignore f n
+  pub fed_hash : (f : Sort) (n : ℕ) {a b : List ℕ} {v w : ℕ} → Stands s no_numbers a → v ≡ fnv_start → Fed s o (steps s f n) a b v w → w ≡ hash (under o s) o.ignore f n
   unfolding hash fnv
-  fed_hash f n h d = d.word no_numbers h ∙ ap (λ (xs : List Step). fnv_from fnv_start (fed_by xs no_numbers)) (sym (steps_renamed o.types s f n))
+  fed_hash f n h e d = d.word no_numbers h ∙ (λ i. fnv_from (e i) (fed_by (sym (steps_renamed o.types s f n) i) no_numbers))

@@ -1,6 +1,5 @@
 -- Why the multiplication is right, why a number may be fed by its halves, that to feed steps one after the other is to feed them all, that
 -- rows are read as what they are of, and that a walk feeds all steps of a fragment.
-mod Columns
 mod Halves
 mod Feeding
 mod Parting
@@ -10,4 +9,3 @@ mod Lone
 mod Answering
 mod Zeros
 mod Bytes
-mod Slots

@@ -1,32 +1,36 @@
--- Whatever numbering the words stand for, each use of a list is fed by the name that the numbering has for it. Assumes nothing.
-use Rattle.std.proofs.Common.{◌≡◌, ℕ, ◌+◌, ◌<◌, ◌≤◌, List, length, get_or, refl, ap, ◌∙◌}
-use Rattle.rules.specs.Lists.{concat_map}
-use Rattle.rules.specs.Store.{Store}
-use Rattle.rules.specs.Hash as rules
-use Rattle.rules.specs.Hash.{fnv_from, Numbering, name_bytes}
-use Rattle.numbering.specs.Words.{Stands, rule_name}
+-- Uses are fed one after the other by their names: what is fed so far and what is left make the whole. Assumes nothing.
+use Rattle.std.proofs.Common.{◌≡◌, ℕ, ◌+◌, ◌<◌, ◌≤◌, true, ltb, List, [], length, get_or, refl, ap, ◌∙◌, ltb-true}
+use Rattle.rules.specs.Lists.{all, position}
+use Rattle.rules.specs.Hash.{fnv_from, name_at, name_of, name_bytes}
+use Rattle.rules.proofs.Basics.Tests.{all_at}
+use Rattle.rules.proofs.Basics.Appended.{mem_get_d}
+use Rattle.numbering.specs.Words.{rule_name}
 use Rattle.numbering.specs.declared.words.Name.{Name}
-use Rattle.hashing.specs.Walked.{FeedsNames}
+use Rattle.numbering.specs.declared.words.Name.TheVariants.{StoreNumber}
+use Rattle.hashing.specs.Walked.{bytes_in, FeedsUses}
 use Rattle.hashing.proofs.Bytes.{LeftOf, entry_fed, entries_fed}
 
--- ---- a list of names, from the first one that is not fed yet
+-- an entry of a list of numbers below m
+pub entries_below : (m : ℕ) (xs : List ℕ) → all (λ (v : ℕ). ltb v m) xs ≡ true → (k d : ℕ) → k < length xs → get_or xs k d < m
+entries_below m xs h k d l = ltb-true (get_or xs k d) m (all_at (λ (v : ℕ). ltb v m) xs h (mem_get_d xs k d l))
 
--- what is left to feed goes into the word as it is; the whole, into the word as it was
-abbrev pub LeftToFeed : Store → List ℕ → (Numbering → ℕ → List ℕ) → List ℕ → ℕ → ℕ → ℕ → Type 0
-LeftToFeed s numbers bytes list i word fed = (N : Numbering) → Stands s N numbers → LeftOf (bytes N) list word i fed
+-- from the use at i on all is left to feed, by whatever bytes the names have
+abbrev pub UsesLeft : (ℕ → Name → Type 0) → List ℕ → ℕ → ℕ → ℕ → Type 0
+UsesLeft named list word i fed =
+    (bytes : ℕ → List ℕ) → ((n : ℕ) (x : Name) → named n x → name_bytes (rule_name x) ≡ bytes n) → LeftOf bytes list word i fed
 
-module _ (s : Store) (numbers : List ℕ) (bytes : Numbering → ℕ → List ℕ) (list : List ℕ) (word : ℕ) where
-  pub left_all : LeftToFeed s numbers bytes list 0 word word
-  left_all N h = refl
+module _ (named : ℕ → Name → Type 0) (list : List ℕ) (word : ℕ) where
+  pub uses_all : UsesLeft named list word 0 word
+  uses_all bytes law = refl
 
-  pub left_next : (i fed r : ℕ) → i < length list → LeftToFeed s numbers bytes list i word fed
-      → FeedsNames s numbers (λ (N : Numbering). bytes N (get_or list i 0)) fed r → LeftToFeed s numbers bytes list (i + 1) word r
-  left_next i fed r l left one N h = entry_fed (bytes N) list word i fed l (left N h) (one N h)
+  pub uses_next : (i fed r : ℕ) (x : Name) → i < length list → UsesLeft named list word i fed → named (get_or list i 0) x
+      → r ≡ fnv_from fed (name_bytes (rule_name x)) → UsesLeft named list word (i + 1) r
+  uses_next i fed r x l left here e bytes law = entry_fed bytes list word i fed l (left bytes law) (e ∙ ap (fnv_from fed) (law (get_or list i 0) x here))
 
-  pub left_none : (i fed : ℕ) → length list ≤ i → LeftToFeed s numbers bytes list i word fed
-      → FeedsNames s numbers (λ (N : Numbering). concat_map (bytes N) list) word fed
-  left_none i fed l left N h = entries_fed (bytes N) list word i fed l (left N h)
+  pub uses_none : (i fed : ℕ) → length list ≤ i → UsesLeft named list word i fed → FeedsUses named list word fed
+  uses_none i fed l left bytes law = entries_fed bytes list word i fed l (left bytes law)
 
--- a name is fed by its bytes
-pub name_fed : (x : Name) {y : rules.Name} (word : ℕ) {r : ℕ} → rule_name x ≡ y → r ≡ fnv_from word (name_bytes (rule_name x)) → r ≡ fnv_from word (name_bytes y)
-name_fed x word e q = q ∙ ap (λ (z : rules.Name). fnv_from word (name_bytes z)) e
+-- where nothing is defined, a use is named by its number in the store
+pub name_outside : (x : Name) (n : ℕ) → x ≡ StoreNumber n → name_bytes (rule_name x) ≡ bytes_in [] n
+unfolding rule_name name_of name_at position
+name_outside x n e = ap (λ (y : Name). name_bytes (rule_name y)) e

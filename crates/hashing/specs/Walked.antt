@@ -6,7 +6,8 @@ use Rattle.rules.specs.Fragments.{Step, names}
 use Rattle.rules.specs.Shells.{shell_of}
 use Rattle.rules.specs.Hash.{fnv_from, Numbering, name_of, name_bytes, head_bytes, uncounted, shell_bytes, all_bytes}
 use Rattle.fragments.specs.Options.{Options, under}
-use Rattle.numbering.specs.Words.{Stands}
+use Rattle.numbering.specs.Words.{Stands, rule_name}
+use Rattle.numbering.specs.declared.words.Name.{Name}
 use Rattle.numbering.specs.Numbered.{Numbers}
 
 -- these steps are numbered, and fed into the word as the store is read: with present types
@@ -38,6 +39,11 @@ FeedsOperands s numbers list word r = FeedsNames s numbers (λ (N : Numbering). 
 
 abbrev pub FeedsSuccessors : List ℕ → List ℕ → ℕ → ℕ → Type 0
 FeedsSuccessors numbers list word r = (s : Store) → FeedsNames s numbers (λ (N : Numbering). concat_map (block_bytes N) list) word r
+
+-- each of a list of uses is fed by its name, where `named` says of a use how it is named: by whatever bytes that name has
+abbrev pub FeedsUses : (ℕ → Name → Type 0) → List ℕ → ℕ → ℕ → Type 0
+FeedsUses named list word r =
+    (bytes : ℕ → List ℕ) → ((n : ℕ) (x : Name) → named n x → name_bytes (rule_name x) ≡ bytes n) → r ≡ fnv_from word (concat_map bytes list)
 
 -- an operation's names are fed, under whatever options
 abbrev pub FedNames : Store → ℕ → List ℕ → ℕ → ℕ → Type 0

@@ -1,4 +1,5 @@
 // An operation without regions, hashed alone: no words are needed to number what it defines.
+ghost use Rattle.fragments.specs.Terms.{store_read};
 ghost use Rattle.std.specs.Prelude.{◌≡◌, ◌-◌, ◌<◌, []};
 ghost use Rattle.rules.specs.Lists.{concat_map};
 ghost use Rattle.rules.specs.Store.{regions_of};
@@ -6,46 +7,41 @@ ghost use Rattle.rules.specs.Fragments.{op};
 ghost use Rattle.rules.specs.Hash.{fnv_from, hash};
 ghost use Rattle.rules.specs.Types.{renamed};
 ghost use Rattle.layout.specs.Columns.{columns};
-ghost use Rattle.layout.specs.Reading.{consecutive, op_count, store_in};
+ghost use Rattle.layout.specs.Reading.{consecutive, op_count};
 ghost use Rattle.renaming.specs.Index.{list_in};
 ghost use Rattle.fragments.specs.Ignoring.{ignore_of};
-ghost use Rattle.fragments.specs.Options.{Readable};
 ghost use Rattle.hashing.specs.Walked.{bytes_in};
 
-use crate::fnv::START;
-use crate::names::hash_name;
+use crate::names::hash_uses;
 use crate::shells::hash_row;
-use crate::state::with_head;
-use fragments::ignoring::Ignore;
+use crate::state::RunningHash;
 use fragments::rows::op_row;
+use fragments::terms::Terms;
 use layout::columns::{OP_KIND, at};
 use layout::slices::{operands_of, successors_of};
 use numbering::alone::own_name;
-
-// Hash each use of a list.
-fn hash_own_names(list: &[u32], first: usize, end: usize, word: u64) -> u64
-    ensures { result ≡ fnv_from word (concat_map (bytes_in (consecutive first (end - first))) list.now) }
-{
-    let mut fed = word;
-    let mut i = 0;
-    while i < list.len() {
-        fed = hash_name(own_name(first, end, list[i]), fed);
-        i += 1;
-    }
-    fed
-}
+use numbering::words::Name;
 
 // Hash an operation without regions: its shell, its operands, its successors. No block is defined within it.
-pub fn hash_alone(store: &[u32], types: &[u32], n: usize, ignore: Ignore) -> u64
-    requires readable { Readable store.now types.now }
-    requires n_bound { n < op_count (columns store.now) }
-    requires n_value { regions_of (store_in store.now) n ≡ [] }
-    ensures { result ≡ hash (renamed (list_in types.now) (store_in store.now)) (ignore_of ignore) op n }
+pub fn hash_alone(terms: &Terms, n: usize) -> u64
+    requires n_bound { n < op_count (columns terms.now.store.now) }
+    requires n_value { regions_of (store_read terms.now) n ≡ [] }
+    ensures { result ≡ hash (renamed (list_in terms.now.types.now) (store_read terms.now)) (ignore_of terms.now.ignore) op n }
 {
-    let row = op_row(store, n);
+    let row = op_row(terms.store, n);
     let end = row.value + row.values;
-    let head = with_head(START, at(store, OP_KIND, n), 0);
-    let shell = hash_row(store, types, ignore, row, head);
-    let fed = hash_own_names(operands_of(store, n), row.value, end, shell);
-    hash_own_names(successors_of(store, n), 0, 0, fed)
+    let mut state = RunningHash::new();
+    state.hash_head(at(terms.store, OP_KIND, n), 0);
+    hash_row(terms, row, &mut state);
+    hash_uses(
+        operands_of(terms.store, n),
+        |v| own_name(row.value, end, v),
+        &mut state,
+    );
+    hash_uses(
+        successors_of(terms.store, n),
+        |b| Name::StoreNumber(b),
+        &mut state,
+    );
+    state.word
 }

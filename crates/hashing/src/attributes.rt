@@ -6,47 +6,39 @@ ghost use Rattle.layout.specs.Columns.{buffer_length, columns, slot_count};
 ghost use Rattle.layout.specs.Reading.{attribute_at};
 ghost use Rattle.fragments.specs.Ignoring.{ignore_of, kept_from};
 
-use crate::state::{with_attribute, with_count, with_flag};
-use fragments::ignoring::{Ignore, count_kept, next_kept};
+use crate::state::RunningHash;
+use fragments::ignoring::{Ignore, count_kept};
+use fragments::kept_slots::KeptSlots;
 use layout::columns::{SLOT_CONTENT, SLOT_KEY, SLOT_KIND, at};
 use layout::kinds::{inherent_from, kind_from};
 
 // Hash the attribute at a slot: its key, its kind, its content, its flag.
-fn feed_attribute(store: &[u32], slot: usize, word: u64) -> u64
+fn feed_attribute(store: &[u32], slot: usize, state: &mut RunningHash)
     requires store_len { length store.now ≡ buffer_length }
     requires slot_lt_slot_count { slot < slot_count }
-    ensures { result ≡ fnv_from word (attribute_bytes (attribute_at (columns store.now) slot)) }
+    ensures { state.new.word ≡ fnv_from state.old.word (attribute_bytes (attribute_at (columns store.now) slot)) }
 {
     let key = at(store, SLOT_KEY, slot);
     let kind = at(store, SLOT_KIND, slot);
     let content = at(store, SLOT_CONTENT, slot);
-    let fed = with_attribute(word, key, kind_from(kind), content);
-    with_flag(fed, inherent_from(kind))
-}
-
-// Hash each attribute of a run of slots that is not ignored.
-fn feed_kept(store: &[u32], ignore: Ignore, first: usize, end: usize, word: u64) -> u64
-    requires store_len { length store.now ≡ buffer_length }
-    requires end_le_slot_count { end ≤ slot_count }
-    requires first_le_end { first ≤ end }
-    ensures { result ≡ fnv_from word (concat_map attribute_bytes (kept_from (columns store.now) (ignore_of ignore) first end)) }
-{
-    let mut fed = word;
-    let mut i = next_kept(store, ignore, first, end);
-    while i < end {
-        fed = feed_attribute(store, i, fed);
-        i = next_kept(store, ignore, i + 1, end);
-    }
-    fed
+    state.hash_attribute(key, kind_from(kind), content, inherent_from(kind));
 }
 
 // Hash the attributes of a run of slots, ignoring those specified by `ignore`: how many there are, then each.
-pub fn attributes_hash(store: &[u32], ignore: Ignore, first: usize, end: usize, word: u64) -> u64
+pub fn attributes_hash(
+    store: &[u32],
+    ignore: Ignore,
+    first: usize,
+    end: usize,
+    state: &mut RunningHash,
+)
     requires store_len { length store.now ≡ buffer_length }
     requires end_le_slot_count { end ≤ slot_count }
     requires first_le_end { first ≤ end }
-    ensures { result ≡ fnv_from word (count (length (kept_from (columns store.now) (ignore_of ignore) first end)) ++ concat_map attribute_bytes (kept_from (columns store.now) (ignore_of ignore) first end)) }
+    ensures { state.new.word ≡ fnv_from state.old.word (count (length (kept_from (columns store.now) (ignore_of ignore) first end)) ++ concat_map attribute_bytes (kept_from (columns store.now) (ignore_of ignore) first end)) }
 {
-    let kept = count_kept(store, ignore, first, end);
-    feed_kept(store, ignore, first, end, with_count(word, kept))
+    state.hash_count(count_kept(store, ignore, first, end));
+    for slot in KeptSlots::new(store, ignore, first, end) {
+        feed_attribute(store, slot, state);
+    }
 }

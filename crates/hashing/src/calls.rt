@@ -9,51 +9,65 @@ ghost use Rattle.fragments.specs.Sorts.{sort_of};
 ghost use Rattle.hashing.specs.Calls.{Answered};
 
 use crate::hashes::fragment_hash;
-use crate::types::Hashed;
 use fragments::ignoring::Ignore;
+use fragments::terms::Terms;
 use fragments::types::Sort;
+use layout::causes::Cause;
 use lending::lent::is_sound;
 use renaming::indexing::{INDEX_LENGTH, index_types};
 
 // Hash a fragment of a sound store, with the list of types tested and indexed first.
-fn indexed_hash(store: &[u32], types: &[u32], sort: Sort, n: u32, ignore: Ignore) -> Hashed
+fn indexed_hash(
+    store: &[u32],
+    types: &[u32],
+    sort: Sort,
+    n: u32,
+    ignore: Ignore,
+) -> Result<u64, Cause>
     requires { IsSound store.now }
     ensures { Answered true store.now types.now (ignore_of ignore) (sort_of sort) n result }
 {
     let mut index = [0; INDEX_LENGTH];
-    let words = index_types(types, &mut index);
-    if words == 0 {
-        return Hashed::Refused(14);
-    }
-    fragment_hash(store, &index[..words], sort, n, ignore)
+    let words = index_types(types, &mut index).ok_or(Cause::BadTypes)?;
+    let terms = Terms {
+        store,
+        types: &index[..words],
+        ignore,
+    };
+    fragment_hash(&terms, sort, n)
 }
 
 // Hash a fragment of one sort, in a buffer that may hold any words. No words are the index of the empty list.
-fn lent_hash(store: &[u32], types: &[u32], sort: Sort, n: u32, ignore: Ignore) -> Hashed
+fn lent_hash(store: &[u32], types: &[u32], sort: Sort, n: u32, ignore: Ignore) -> Result<u64, Cause>
     ensures { Answered (sound_lent store.now) store.now types.now (ignore_of ignore) (sort_of sort) n result }
 {
     if !is_sound(store) {
-        return Hashed::Refused(1);
+        return Err(Cause::NotSound);
     }
-    if types.len() == 0 {
-        return fragment_hash(store, types, sort, n, ignore);
+    if types.is_empty() {
+        let terms = Terms {
+            store,
+            types,
+            ignore,
+        };
+        return fragment_hash(&terms, sort, n);
     }
     indexed_hash(store, types, sort, n, ignore)
 }
 
-pub fn operation_hash(store: &[u32], types: &[u32], n: u32, ignore: Ignore) -> Hashed
+pub fn operation_hash(store: &[u32], types: &[u32], n: u32, ignore: Ignore) -> Result<u64, Cause>
     ensures { Answered (sound_lent store.now) store.now types.now (ignore_of ignore) op n result }
 {
     lent_hash(store, types, Sort::Op, n, ignore)
 }
 
-pub fn region_hash(store: &[u32], types: &[u32], n: u32, ignore: Ignore) -> Hashed
+pub fn region_hash(store: &[u32], types: &[u32], n: u32, ignore: Ignore) -> Result<u64, Cause>
     ensures { Answered (sound_lent store.now) store.now types.now (ignore_of ignore) region n result }
 {
     lent_hash(store, types, Sort::Region, n, ignore)
 }
 
-pub fn basic_block_hash(store: &[u32], types: &[u32], n: u32, ignore: Ignore) -> Hashed
+pub fn basic_block_hash(store: &[u32], types: &[u32], n: u32, ignore: Ignore) -> Result<u64, Cause>
     ensures { Answered (sound_lent store.now) store.now types.now (ignore_of ignore) block n result }
 {
     lent_hash(store, types, Sort::Block, n, ignore)

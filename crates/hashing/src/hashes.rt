@@ -4,91 +4,77 @@ ghost use Rattle.rules.specs.Building.{first_failed};
 ghost use Rattle.layout.specs.Reading.{op_count, store_in};
 ghost use Rattle.layout.specs.Causes.{cause_of};
 ghost use Rattle.rules.specs.Fragments.{op, steps};
-ghost use Rattle.rules.specs.Hash.{fnv_start};
 ghost use Rattle.layout.specs.Columns.{columns};
 ghost use Rattle.layout.specs.Soundness.{IsSound};
 ghost use Rattle.renaming.specs.Index.{list_in};
 ghost use Rattle.fragments.specs.Ignoring.{ignore_of};
-ghost use Rattle.fragments.specs.Options.{options_of, Readable};
+ghost use Rattle.fragments.specs.Terms.{options_in, store_read};
 ghost use Rattle.fragments.specs.Sorts.{sort_of};
 ghost use Rattle.numbering.specs.Numbered.{DefinitionsFit};
 ghost use Rattle.hashing.specs.Walked.{Fed};
 ghost use Rattle.hashing.specs.Calls.{fragment_tests, Answered};
 
 use crate::alone::hash_alone;
-use crate::fnv::START;
 use crate::shells::hash_op_shell;
-use crate::types::Hashed;
+use crate::state::RunningHash;
 use crate::walk::{hash_blocks_full, hash_op_full};
-use fragments::ignoring::Ignore;
 use fragments::sorts::exists;
+use fragments::terms::Terms;
 use fragments::types::{Blocks, Sort};
 use layout::causes::Cause;
 use numbering::alone::holds_nothing;
 use numbering::words::{NUMBERS_LENGTH, WalkNumbers};
 
 // Why a fragment is not hashed: it does not exist. In a sound store nothing is nested too deep.
-fn hash_cause(store: &[u32], sort: Sort, n: u32) -> Cause
+fn hash_cause(store: &[u32], sort: Sort, n: u32) -> Result<(), Cause>
     requires { IsSound store.now }
     ensures { cause_of result ≡ first_failed (fragment_tests (store_in store.now) (sort_of sort) n) }
 {
     if !exists(store, sort, n) {
-        return Cause::Is(2);
+        return Err(Cause::NotThere);
     }
-    Cause::None
+    Ok(())
 }
 
 // Hash an operation: its shell, then its operands, successors and nested regions.
-fn hash_op(
-    store: &[u32],
-    types: &[u32],
-    numbers: &mut WalkNumbers,
-    n: usize,
-    ignore: Ignore,
-    word: u64,
-) -> u64
-    requires readable { Readable store.now types.now }
-    requires n_bound { n < op_count (columns store.now) }
-    requires definitions_fit { DefinitionsFit (store_in store.now) (steps (store_in store.now) op n) numbers.old }
-    ensures { Fed (store_in store.now) (options_of ignore types.now) (steps (store_in store.now) op n) numbers.old numbers.new word result }
+fn hash_op(terms: &Terms, numbers: &mut WalkNumbers, n: usize, state: &mut RunningHash)
+    requires n_bound { n < op_count (columns terms.now.store.now) }
+    requires definitions_fit { DefinitionsFit (store_read terms.now) (steps (store_read terms.now) op n) numbers.old }
+    ensures { Fed (store_read terms.now) (options_in terms.now) (steps (store_read terms.now) op n) numbers.old numbers.new state.old.word state.new.word }
 {
-    let shell = hash_op_shell(store, types, numbers, n, ignore, word);
-    hash_op_full(store, types, numbers, n, ignore, shell)
+    hash_op_shell(terms, numbers, n, state);
+    hash_op_full(terms, numbers, n, state);
 }
 
-// Hash a fragment by its sort. A block is a list of one block.
+// Hash a fragment by its sort. A block is a list of one block. (The walk that writes keys has the same three cases, with other steps in each.)
 fn hash_steps(
-    store: &[u32],
-    types: &[u32],
+    terms: &Terms,
     numbers: &mut WalkNumbers,
     sort: Sort,
     n: usize,
-    ignore: Ignore,
-) -> u64
-    requires readable { Readable store.now types.now }
-    requires n_value { Rattle.rules.specs.Fragments.exists (store_in store.now) (sort_of sort) n ≡ true }
-    requires definitions_fit { DefinitionsFit (store_in store.now) (steps (store_in store.now) (sort_of sort) n) numbers.old }
-    ensures { Fed (store_in store.now) (options_of ignore types.now) (steps (store_in store.now) (sort_of sort) n) numbers.old numbers.new fnv_start result }
+    state: &mut RunningHash,
+)
+    requires n_value { Rattle.rules.specs.Fragments.exists (store_read terms.now) (sort_of sort) n ≡ true }
+    requires definitions_fit { DefinitionsFit (store_read terms.now) (steps (store_read terms.now) (sort_of sort) n) numbers.old }
+    ensures { Fed (store_read terms.now) (options_in terms.now) (steps (store_read terms.now) (sort_of sort) n) numbers.old numbers.new state.old.word state.new.word }
 {
     match sort {
-        Sort::Op => hash_op(store, types, numbers, n, ignore, START),
-        Sort::Block => hash_blocks_full(store, types, numbers, Blocks::Alone(n), ignore, START),
-        Sort::Region => hash_blocks_full(store, types, numbers, Blocks::InRegion(n), ignore, START),
+        Sort::Op => hash_op(terms, numbers, n, state),
+        Sort::Block => hash_blocks_full(terms, numbers, Blocks::Alone(n), state),
+        Sort::Region => hash_blocks_full(terms, numbers, Blocks::InRegion(n), state),
     }
 }
 
 // Compute a structural hash for a fragment.
-pub fn fragment_hash(store: &[u32], types: &[u32], sort: Sort, n: u32, ignore: Ignore) -> Hashed
-    requires { Readable store.now types.now }
-    ensures { Answered true store.now (list_in types.now) (ignore_of ignore) (sort_of sort) n result }
+pub fn fragment_hash(terms: &Terms, sort: Sort, n: u32) -> Result<u64, Cause>
+    ensures { Answered true terms.now.store.now (list_in terms.now.types.now) (ignore_of terms.now.ignore) (sort_of sort) n result }
 {
-    let cause = hash_cause(store, sort, n);
-    if let Cause::Is(k) = cause {
-        return Hashed::Refused(k);
-    }
-    if holds_nothing(store, sort, n as usize) {
-        return Hashed::Hash(hash_alone(store, types, n as usize, ignore));
+    hash_cause(terms.store, sort, n)?;
+    if holds_nothing(terms.store, sort, n as usize) {
+        return Ok(hash_alone(terms, n as usize));
     }
     let mut numbers = [0; NUMBERS_LENGTH];
-    Hashed::Hash(hash_steps(store, types, &mut numbers, sort, n as usize, ignore))
+    let mut state = RunningHash::new();
+    hash_steps(terms, &mut numbers, sort, n as usize, &mut state);
+    Ok(state.word)
 }

@@ -11,8 +11,6 @@ pub mod fnv;
 pub mod hashes;
 pub mod names;
 pub mod passes;
-pub mod product;
 pub mod shells;
 pub mod state;
-pub mod types;
 pub mod walk;

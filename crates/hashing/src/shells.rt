@@ -11,121 +11,95 @@ ghost use Rattle.layout.specs.Reading.{op_count, block_count, store_in};
 ghost use Rattle.layout.specs.Soundness.{IsSound};
 ghost use Rattle.renaming.specs.Index.{list_in, IsIndex};
 ghost use Rattle.fragments.specs.Ignoring.{ignore_of};
-ghost use Rattle.fragments.specs.Options.{options_of, Readable};
+ghost use Rattle.fragments.specs.Terms.{options_in, store_read};
 ghost use Rattle.fragments.specs.Rows.{RowFits, row_shell};
 ghost use Rattle.numbering.specs.Numbered.{DefinitionsFit};
 ghost use Rattle.hashing.specs.Walked.{owner_bytes, Fed};
 
 use crate::attributes::attributes_hash;
-use crate::state::{with_head, with_leaf};
+use crate::state::RunningHash;
 use fragments::ignoring::Ignore;
 use fragments::rows::{block_row, op_regions, op_row};
+use fragments::terms::Terms;
 use fragments::types::Row;
 use layout::columns::{OP_KIND, VALUE_TYPE, at, words};
 use numbering::words::{WalkNumbers, define_block, define_op};
 use renaming::lookup::present;
 
 // Hash a location, unless locations are ignored.
-fn location_hash(ignore: Ignore, location: u32, word: u64) -> u64
-    ensures { result ≡ fnv_from word (location_bytes (unignored_location (ignore_of ignore) location)) }
+fn location_hash(ignore: Ignore, location: u32, state: &mut RunningHash)
+    ensures { state.new.word ≡ fnv_from state.old.word (location_bytes (unignored_location (ignore_of ignore) location)) }
 {
-    if ignore.locations {
-        return word;
+    if !ignore.locations {
+        state.hash_leaf(location);
     }
-    with_leaf(word, location)
 }
 
 // Hash the present type of each type.
-fn hash_types(index: &[u32], types: &[u32], word: u64) -> u64
+fn hash_types(index: &[u32], types: &[u32], state: &mut RunningHash)
     requires { IsIndex index.now }
-    ensures { result ≡ fnv_from word (concat_map leaf (map (Types.present (list_in index.now)) types.now)) }
+    ensures { state.new.word ≡ fnv_from state.old.word (concat_map leaf (map (Types.present (list_in index.now)) types.now)) }
 {
-    let mut fed = word;
-    let mut i = 0;
-    while i < types.len() {
-        let old = types[i];
-        let t = present(index, old);
-        fed = with_leaf(fed, t);
-        i += 1;
+    for t in types {
+        state.hash_leaf(present(index, *t));
     }
-    fed
 }
 
 // Hash what operations and blocks have in common: location, attributes, and the present types of the values.
-pub fn hash_row(store: &[u32], types: &[u32], ignore: Ignore, row: Row, word: u64) -> u64
-    requires store_len { length store.now ≡ buffer_length }
-    requires index { IsIndex types.now }
-    requires row_fits { RowFits (columns store.now) row }
-    ensures { result ≡ fnv_from word (shell_bytes uncounted (row_shell (columns store.now) (options_of ignore types.now) row)) }
+pub fn hash_row(terms: &Terms, row: Row, state: &mut RunningHash)
+    requires { RowFits (columns terms.now.store.now) row }
+    ensures { state.new.word ≡ fnv_from state.old.word (shell_bytes uncounted (row_shell (columns terms.now.store.now) (options_in terms.now) row)) }
 {
-    let located = location_hash(ignore, row.location, word);
+    location_hash(terms.ignore, row.location, state);
     let end = row.slot + row.attributes;
-    let attributed = attributes_hash(store, ignore, row.slot, end, located);
-    let own = words(store, VALUE_TYPE, row.value, row.value + row.values);
-    hash_types(types, own, attributed)
+    attributes_hash(terms.store, terms.ignore, row.slot, end, state);
+    let own = words(terms.store, VALUE_TYPE, row.value, row.value + row.values);
+    hash_types(terms.types, own, state);
 }
 
 // Hash what only an operation has: its kind, and how many regions it has.
-fn hash_head(store: &[u32], n: usize, word: u64) -> u64
+fn hash_head(store: &[u32], n: usize, state: &mut RunningHash)
     requires sound { IsSound store.now }
     requires n_bound { n < op_count (columns store.now) }
-    ensures { result ≡ fnv_from word (head_bytes (store_in store.now) (of_op n)) }
+    ensures { state.new.word ≡ fnv_from state.old.word (head_bytes (store_in store.now) (of_op n)) }
 {
     let kind = at(store, OP_KIND, n);
-    with_head(word, kind, op_regions(store, n) as u32)
+    state.hash_head(kind, op_regions(store, n) as u32);
 }
 
 // What an operation feeds of itself, apart from all numbering: its head and its row.
-pub fn feed_op_shell(store: &[u32], types: &[u32], n: usize, ignore: Ignore, word: u64) -> u64
-    requires readable { Readable store.now types.now }
-    requires n_bound { n < op_count (columns store.now) }
-    ensures { result ≡ fnv_from word (owner_bytes (store_in store.now) (options_of ignore types.now) (of_op n)) }
+pub fn feed_op_shell(terms: &Terms, n: usize, state: &mut RunningHash)
+    requires n_bound { n < op_count (columns terms.now.store.now) }
+    ensures { state.new.word ≡ fnv_from state.old.word (owner_bytes (store_read terms.now) (options_in terms.now) (of_op n)) }
 {
-    let head = hash_head(store, n, word);
-    hash_row(store, types, ignore, op_row(store, n), head)
+    hash_head(terms.store, n, state);
+    hash_row(terms, op_row(terms.store, n), state);
 }
 
 // What a block feeds of itself.
-pub fn feed_block_shell(store: &[u32], types: &[u32], n: usize, ignore: Ignore, word: u64) -> u64
-    requires readable { Readable store.now types.now }
-    requires n_bound { n < block_count (columns store.now) }
-    ensures { result ≡ fnv_from word (owner_bytes (store_in store.now) (options_of ignore types.now) (of_block n)) }
+pub fn feed_block_shell(terms: &Terms, n: usize, state: &mut RunningHash)
+    requires n_bound { n < block_count (columns terms.now.store.now) }
+    ensures { state.new.word ≡ fnv_from state.old.word (owner_bytes (store_read terms.now) (options_in terms.now) (of_block n)) }
 {
-    hash_row(store, types, ignore, block_row(store, n), word)
+    hash_row(terms, block_row(terms.store, n), state);
 }
 
 // Hash components of an operation that do not use or contain other things, and define its results.
-pub fn hash_op_shell(
-    store: &[u32],
-    types: &[u32],
-    numbers: &mut WalkNumbers,
-    n: usize,
-    ignore: Ignore,
-    word: u64,
-) -> u64
-    requires readable { Readable store.now types.now }
-    requires n_bound { n < op_count (columns store.now) }
-    requires definitions_fit { DefinitionsFit (store_in store.now) (shell (of_op n) ∷ []) numbers.old }
-    ensures { Fed (store_in store.now) (options_of ignore types.now) (shell (of_op n) ∷ []) numbers.old numbers.new word result }
+pub fn hash_op_shell(terms: &Terms, numbers: &mut WalkNumbers, n: usize, state: &mut RunningHash)
+    requires n_bound { n < op_count (columns terms.now.store.now) }
+    requires definitions_fit { DefinitionsFit (store_read terms.now) (shell (of_op n) ∷ []) numbers.old }
+    ensures { Fed (store_read terms.now) (options_in terms.now) (shell (of_op n) ∷ []) numbers.old numbers.new state.old.word state.new.word }
 {
-    define_op(store, numbers, n);
-    feed_op_shell(store, types, n, ignore, word)
+    define_op(terms.store, numbers, n);
+    feed_op_shell(terms, n, state);
 }
 
 // Hash components of a block that do not use or contain other things, and define the block and its arguments.
-pub fn hash_block_shell(
-    store: &[u32],
-    types: &[u32],
-    numbers: &mut WalkNumbers,
-    n: usize,
-    ignore: Ignore,
-    word: u64,
-) -> u64
-    requires readable { Readable store.now types.now }
-    requires n_bound { n < block_count (columns store.now) }
-    requires definitions_fit { DefinitionsFit (store_in store.now) (shell (of_block n) ∷ []) numbers.old }
-    ensures { Fed (store_in store.now) (options_of ignore types.now) (shell (of_block n) ∷ []) numbers.old numbers.new word result }
+pub fn hash_block_shell(terms: &Terms, numbers: &mut WalkNumbers, n: usize, state: &mut RunningHash)
+    requires n_bound { n < block_count (columns terms.now.store.now) }
+    requires definitions_fit { DefinitionsFit (store_read terms.now) (shell (of_block n) ∷ []) numbers.old }
+    ensures { Fed (store_read terms.now) (options_in terms.now) (shell (of_block n) ∷ []) numbers.old numbers.new state.old.word state.new.word }
 {
-    define_block(store, numbers, n);
-    feed_block_shell(store, types, n, ignore, word)
+    define_block(terms.store, numbers, n);
+    feed_block_shell(terms, n, state);
 }

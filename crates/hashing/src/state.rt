@@ -1,112 +1,84 @@
-// The running hash: a record of one word, which the functions that feed it are lent and change, as they do `state` in the Rust. Each of
-// these only calls the function of `fnv` for its size of number. The functions whose names begin with `with_` have plain parameters: each
-// makes the record of a word, lends it to one of them or to one after the other, and gives back the word. All that the walk hashes goes
-// through these.
+// The running hash: one word, which every step is lent and changes, as they do `state` in the Rust. All that is hashed goes through these
+// methods.
 ghost use Rattle.std.specs.Prelude.{◌≡◌, ◌++◌};
-ghost use Rattle.rules.specs.Hash.{fnv_from, tag, leaf, count, flag, walk_number, store_number, name_bytes};
+ghost use Rattle.rules.specs.Hash.{fnv_start, fnv_from, tag, leaf, count, flag, name_bytes};
+ghost use Rattle.numbering.specs.Words.{rule_name};
 
-use crate::fnv::{feed_count, feed_leaf, feed_tag};
+use crate::fnv::{START, feed_count, feed_leaf, feed_tag};
+use numbering::words::Name;
 
 #[derive(Clone, Copy)]
 pub struct RunningHash {
     pub word: u64,
 }
 
-// Feeds a tag: 1 byte.
-pub fn hash_tag(state: &mut RunningHash, n: u8)
-    ensures { state.new.word ≡ fnv_from state.old.word (tag n) }
-{
-    state.word = feed_tag(state.word, n);
-}
-
-// Feeds a leaf: 4 bytes.
-pub fn hash_leaf(state: &mut RunningHash, n: u32)
-    ensures { state.new.word ≡ fnv_from state.old.word (leaf n) }
-{
-    state.word = feed_leaf(state.word, n);
-}
-
-// Feeds a count or a walk number: 8 bytes.
-pub fn hash_count(state: &mut RunningHash, n: u32)
-    ensures { state.new.word ≡ fnv_from state.old.word (count n) }
-{
-    state.word = feed_count(state.word, n);
-}
-
-// The word after a tag by itself.
-fn with_tag(word: u64, n: u8) -> u64
-    ensures { result ≡ fnv_from word (tag n) }
-{
-    let mut state = RunningHash { word: word };
-    hash_tag(&mut state, n);
-    state.word
-}
-
-// After a leaf by itself, a location or a type.
-pub fn with_leaf(word: u64, n: u32) -> u64
-    ensures { result ≡ fnv_from word (leaf n) }
-{
-    let mut state = RunningHash { word: word };
-    hash_leaf(&mut state, n);
-    state.word
-}
-
-// After a count by itself.
-pub fn with_count(word: u64, n: u32) -> u64
-    ensures { result ≡ fnv_from word (count n) }
-{
-    let mut state = RunningHash { word: word };
-    hash_count(&mut state, n);
-    state.word
-}
-
-// After a use of what has a walk number: tag 0 and the walk number.
-pub fn with_walk_number(word: u64, n: u32) -> u64
-    ensures { result ≡ fnv_from word (name_bytes (walk_number n)) }
-{
-    let mut state = RunningHash { word: word };
-    hash_tag(&mut state, 0);
-    hash_count(&mut state, n);
-    state.word
-}
-
-// After a use of what has none: tag 1 and the number in the store.
-pub fn with_store_number(word: u64, n: u32) -> u64
-    ensures { result ≡ fnv_from word (name_bytes (store_number n)) }
-{
-    let mut state = RunningHash { word: word };
-    hash_tag(&mut state, 1);
-    hash_leaf(&mut state, n);
-    state.word
-}
-
-// After what only an operation has: its kind, and how many regions it has.
-pub fn with_head(word: u64, kind: u32, regions: u32) -> u64
-    ensures { result ≡ fnv_from word (leaf kind ++ count regions) }
-{
-    let mut state = RunningHash { word: word };
-    hash_leaf(&mut state, kind);
-    hash_count(&mut state, regions);
-    state.word
-}
-
-// After a flag: a byte, 1 for yes and 0 for no.
-pub fn with_flag(word: u64, yes: bool) -> u64
-    ensures { result ≡ fnv_from word (flag yes) }
-{
-    if yes {
-        return with_tag(word, 1);
+impl RunningHash {
+    // Nothing is fed yet.
+    pub fn new() -> RunningHash
+        ensures { result.word ≡ fnv_start }
+    {
+        RunningHash { word: START }
     }
-    with_tag(word, 0)
-}
 
-// After an attribute, but for its flag: its key, its kind, its content.
-pub fn with_attribute(word: u64, key: u32, kind: u32, content: u32) -> u64
-    ensures { result ≡ fnv_from word (leaf key ++ leaf kind ++ leaf content) }
-{
-    let mut state = RunningHash { word: word };
-    hash_leaf(&mut state, key);
-    hash_leaf(&mut state, kind);
-    hash_leaf(&mut state, content);
-    state.word
+    // Feeds a tag: 1 byte.
+    pub fn hash_tag(&mut self, n: u8)
+        ensures { self.new.word ≡ fnv_from self.old.word (tag n) }
+    {
+        self.word = feed_tag(self.word, n);
+    }
+
+    // Feeds a leaf: 4 bytes.
+    pub fn hash_leaf(&mut self, n: u32)
+        ensures { self.new.word ≡ fnv_from self.old.word (leaf n) }
+    {
+        self.word = feed_leaf(self.word, n);
+    }
+
+    // Feeds a count or a walk number: 8 bytes.
+    pub fn hash_count(&mut self, n: u32)
+        ensures { self.new.word ≡ fnv_from self.old.word (count n) }
+    {
+        self.word = feed_count(self.word, n);
+    }
+
+    // Feeds a flag: a byte, 1 for yes and 0 for no.
+    pub fn hash_flag(&mut self, yes: bool)
+        ensures { self.new.word ≡ fnv_from self.old.word (flag yes) }
+    {
+        self.hash_tag(u8::from(yes));
+    }
+
+    // Feeds a use by its name: tag 0 and the walk number, or tag 1 and the number in the store.
+    pub fn hash_name(&mut self, name: Name)
+        ensures { self.new.word ≡ fnv_from self.old.word (name_bytes (rule_name name)) }
+    {
+        match name {
+            Name::WalkNumber(i) => {
+                self.hash_tag(0);
+                self.hash_count(i);
+            }
+            Name::StoreNumber(n) => {
+                self.hash_tag(1);
+                self.hash_leaf(n);
+            }
+        }
+    }
+
+    // Feeds what only an operation has: its kind, and how many regions it has.
+    pub fn hash_head(&mut self, kind: u32, regions: u32)
+        ensures { self.new.word ≡ fnv_from self.old.word (leaf kind ++ count regions) }
+    {
+        self.hash_leaf(kind);
+        self.hash_count(regions);
+    }
+
+    // Feeds an attribute: its key, its kind, its content, its flag.
+    pub fn hash_attribute(&mut self, key: u32, kind: u32, content: u32, yes: bool)
+        ensures { self.new.word ≡ fnv_from self.old.word (leaf key ++ leaf kind ++ leaf content ++ flag yes) }
+    {
+        self.hash_leaf(key);
+        self.hash_leaf(kind);
+        self.hash_leaf(content);
+        self.hash_flag(yes);
+    }
 }

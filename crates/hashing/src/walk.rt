@@ -3,8 +3,8 @@
 // its own regions is.
 ghost use Rattle.std.specs.Prelude.{◌<◌};
 ghost use Rattle.layout.specs.Columns.{columns};
-ghost use Rattle.layout.specs.Reading.{op_count, block_count, store_in};
-ghost use Rattle.fragments.specs.Options.{options_of, Readable};
+ghost use Rattle.layout.specs.Reading.{op_count, block_count};
+ghost use Rattle.fragments.specs.Terms.{options_in, store_read};
 ghost use Rattle.fragments.specs.Order.{block_list, BlocksExist};
 ghost use Rattle.numbering.specs.Numbered.{DefinitionsFit};
 ghost use Rattle.numbering.specs.Parts.{full_steps, ops_in_full, listed_steps};
@@ -12,37 +12,26 @@ ghost use Rattle.hashing.specs.Walked.{Fed};
 
 use crate::names::hash_names;
 use crate::passes::{hash_block_shells, hash_op_shells};
-use fragments::ignoring::Ignore;
-use fragments::order::next_in;
+use crate::state::RunningHash;
+use fragments::order::BlocksIn;
+use fragments::terms::Terms;
 use fragments::types::Blocks;
-use layout::children::{Found, next_op};
 use layout::columns::{OP_REGION_END, OP_REGION_FIRST, number};
+use layout::ops_in::OpsIn;
 use numbering::words::WalkNumbers;
 
 // Complete the hash of an operation by hashing its operands, successors and nested regions.
 // Does not hash components already hashed by `hash_op_shell`.
 #[cycle(hash_blocks_full_hash_op_full_hash_ops_full)]
-pub fn hash_op_full(
-    store: &[u32],
-    types: &[u32],
-    numbers: &mut WalkNumbers,
-    n: usize,
-    ignore: Ignore,
-    word: u64,
-) -> u64
-    requires readable { Readable store.now types.now }
-    requires n_bound { n < op_count (columns store.now) }
-    requires definitions_fit { DefinitionsFit (store_in store.now) (full_steps (store_in store.now) n) numbers.old }
-    ensures { Fed (store_in store.now) (options_of ignore types.now) (full_steps (store_in store.now) n) numbers.old numbers.new word result }
+pub fn hash_op_full(terms: &Terms, numbers: &mut WalkNumbers, n: usize, state: &mut RunningHash)
+    requires n_bound { n < op_count (columns terms.now.store.now) }
+    requires definitions_fit { DefinitionsFit (store_read terms.now) (full_steps (store_read terms.now) n) numbers.old }
+    ensures { Fed (store_read terms.now) (options_in terms.now) (full_steps (store_read terms.now) n) numbers.old numbers.new state.old.word state.new.word }
 {
-    let mut fed = hash_names(store, numbers, n, word);
-    let end = number(store, OP_REGION_END, n);
-    let mut r = number(store, OP_REGION_FIRST, n);
-    while r < end {
-        fed = hash_blocks_full(store, types, numbers, Blocks::InRegion(r), ignore, fed);
-        r += 1;
+    hash_names(terms.store, numbers, n, state);
+    for r in number(terms.store, OP_REGION_FIRST, n)..number(terms.store, OP_REGION_END, n) {
+        hash_blocks_full(terms, numbers, Blocks::InRegion(r), state);
     }
-    fed
 }
 
 // Hash a list of blocks, hashing the following components in order:
@@ -53,52 +42,30 @@ pub fn hash_op_full(
 // So any use of a block or value that is defined anywhere in the list is already numbered by the time it's hashed: forward references too.
 #[cycle(hash_blocks_full_hash_op_full_hash_ops_full)]
 pub fn hash_blocks_full(
-    store: &[u32],
-    types: &[u32],
+    terms: &Terms,
     numbers: &mut WalkNumbers,
     blocks: Blocks,
-    ignore: Ignore,
-    word: u64,
-) -> u64
-    requires readable { Readable store.now types.now }
-    requires blocks_exist { BlocksExist (columns store.now) blocks }
-    requires definitions_fit { DefinitionsFit (store_in store.now) (listed_steps (store_in store.now) (block_list (store_in store.now) blocks)) numbers.old }
-    ensures { Fed (store_in store.now) (options_of ignore types.now) (listed_steps (store_in store.now) (block_list (store_in store.now) blocks)) numbers.old numbers.new word result }
+    state: &mut RunningHash,
+)
+    requires blocks_exist { BlocksExist (columns terms.now.store.now) blocks }
+    requires definitions_fit { DefinitionsFit (store_read terms.now) (listed_steps (store_read terms.now) (block_list (store_read terms.now) blocks)) numbers.old }
+    ensures { Fed (store_read terms.now) (options_in terms.now) (listed_steps (store_read terms.now) (block_list (store_read terms.now) blocks)) numbers.old numbers.new state.old.word state.new.word }
 {
-    let shells = hash_block_shells(store, types, numbers, blocks, ignore, word);
-    let mut fed = hash_op_shells(store, types, numbers, blocks, ignore, shells);
-    let mut from = 0;
-    loop {
-        let Found::At(b) = next_in(store, blocks, from) else {
-            return fed;
-        };
-        fed = hash_ops_full(store, types, numbers, b, ignore, fed);
-        from = b + 1;
+    hash_block_shells(terms, numbers, blocks, state);
+    hash_op_shells(terms, numbers, blocks, state);
+    for b in BlocksIn::new(terms.store, blocks) {
+        hash_ops_full(terms, numbers, b, state);
     }
 }
 
 // Pass 3 of one block: its operations in full.
 #[cycle(hash_blocks_full_hash_op_full_hash_ops_full)]
-fn hash_ops_full(
-    store: &[u32],
-    types: &[u32],
-    numbers: &mut WalkNumbers,
-    b: usize,
-    ignore: Ignore,
-    word: u64,
-) -> u64
-    requires readable { Readable store.now types.now }
-    requires b_bound { b < block_count (columns store.now) }
-    requires definitions_fit { DefinitionsFit (store_in store.now) (ops_in_full (store_in store.now) b) numbers.old }
-    ensures { Fed (store_in store.now) (options_of ignore types.now) (ops_in_full (store_in store.now) b) numbers.old numbers.new word result }
+fn hash_ops_full(terms: &Terms, numbers: &mut WalkNumbers, b: usize, state: &mut RunningHash)
+    requires b_bound { b < block_count (columns terms.now.store.now) }
+    requires definitions_fit { DefinitionsFit (store_read terms.now) (ops_in_full (store_read terms.now) b) numbers.old }
+    ensures { Fed (store_read terms.now) (options_in terms.now) (ops_in_full (store_read terms.now) b) numbers.old numbers.new state.old.word state.new.word }
 {
-    let mut fed = word;
-    let mut from = 0;
-    loop {
-        let Found::At(n) = next_op(store, b, from) else {
-            return fed;
-        };
-        fed = hash_op_full(store, types, numbers, n, ignore, fed);
-        from = n + 1;
+    for n in OpsIn::new(terms.store, b) {
+        hash_op_full(terms, numbers, n, state);
     }
 }

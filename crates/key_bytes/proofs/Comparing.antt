@@ -1,47 +1,33 @@
--- Keys compare from the first byte that is not passed yet as they do from their begin: bytes that are passed are equal. Assumes nothing.
-use Prim.Native.Nat.{ℕ, ◌+◌, ◌<◌, ◌≤◌}
+-- Lists of numbers are in one order for the library and for the rules: the first two that differ decide, or an end. Assumes nothing.
+use Prim.Native.Nat.{ℕ, ◌<◌}
 use native.Mathlib.Decide.{dec_lt}
-use native.Mathlib.Numerals.{add-one}
 use native.Mathlib.Omega.{arith}
 use mathlib.Core.Bool.{cond}
-use mathlib.Core.List.{List, ◌∷◌}
-use mathlib.Core.Logic.{◌≢◌}
-use mathlib.Core.Path.{◌≡◌, refl, ◌∙◌}
-use borrow.Author.Tests.{le-ltb, lt-ltb}
+use mathlib.Core.List.{List, [], ◌∷◌}
+use mathlib.Core.Path.{◌≡◌, refl}
 use lib.Dec.{ltb}
-use lib.ListN.{length, get_or, drop, drop_of_length-le}
-use lib.Seq.{drop-cons}
-use Rattle.rules.specs.Keys.{less, same, greater, compare_bytes}
+use Rattle.std.specs.Cmp.Lexicographic.{slice_cmp}
+use Rattle.std.specs.Ordering.{nat_cmp, ordering_then}
+use Rattle.std.specs.declared.cmp.Ordering.{Ordering}
+use borrow.Author.Tests.{le-ltb, lt-ltb}
+use Rattle.std.proofs.lemmas.Bool.{eq-eqb, ne_eqb}
+use Rattle.rules.specs.Keys as rules
+use Rattle.rules.specs.Keys.{less, greater, compare_bytes}
+use Rattle.key_bytes.specs.Order.{ordering_of}
 
-module _ (l r : List ℕ) (i : ℕ) where
-  here : (xs : List ℕ) → i < length xs → drop i xs ≡ get_or xs i 0 ∷ drop (i + 1) xs
-  here xs h = rw add-one (drop-cons xs i 0 h)
+-- two numbers decide, or else what follows
+first_decides : (x y : ℕ) (o : Ordering) (r : rules.Ordering) → ordering_of o ≡ r → ordering_of (ordering_then (nat_cmp x y) o) ≡ cond (ltb x y) less (cond (ltb y x) greater r)
+unfolding ordering_of
+first_decides x y o r e = go (dec_lt x y) (dec_lt y x)
+  where
+    go : Dec (x < y) → Dec (y < x) → ordering_of (ordering_then (nat_cmp x y) o) ≡ cond (ltb x y) less (cond (ltb y x) greater r)
+    go (yes l) d = simp (lt-ltb x y l)
+    go (no l) (yes g) = simp (le-ltb x y (omega arith), lt-ltb y x g, ne_eqb x y (λ e. omega arith))
+    go (no l) (no g) = simp (le-ltb x y (omega arith), le-ltb y x (omega arith), eq-eqb x y (omega arith)) e
 
-  pub right_ends : i < length l → length r ≤ i → compare_bytes (drop i l) (drop i r) ≡ greater
-  unfolding compare_bytes
-  right_ends h e = (λ k. compare_bytes (here l h k) (drop_of_length-le r e k))
-
-  pub left_ends : length l ≤ i → i < length r → compare_bytes (drop i l) (drop i r) ≡ less
-  unfolding compare_bytes
-  left_ends e h = (λ k. compare_bytes (drop_of_length-le l e k) (here r h k))
-
-  pub both_end : length l ≤ i → length r ≤ i → compare_bytes (drop i l) (drop i r) ≡ same
-  unfolding compare_bytes
-  both_end e d = (λ k. compare_bytes (drop_of_length-le l e k) (drop_of_length-le r d k))
-
-  module _ (h : i < length l) (g : i < length r) where
-    both : compare_bytes (drop i l) (drop i r) ≡ compare_bytes (get_or l i 0 ∷ drop (i + 1) l) (get_or r i 0 ∷ drop (i + 1) r)
-    both = (λ k. compare_bytes (here l h k) (here r g k))
-
-    -- bytes that differ decide
-    pub other_byte : get_or l i 0 ≢ get_or r i 0 → compare_bytes (drop i l) (drop i r) ≡ cond (ltb (get_or l i 0) (get_or r i 0)) less greater
-    unfolding compare_bytes
-    other_byte d = both ∙ go (dec_lt (get_or l i 0) (get_or r i 0))
-      where
-        go : Dec (get_or l i 0 < get_or r i 0) → compare_bytes (get_or l i 0 ∷ drop (i + 1) l) (get_or r i 0 ∷ drop (i + 1) r) ≡ cond (ltb (get_or l i 0) (get_or r i 0)) less greater
-        go (yes b) = rw (lt-ltb (get_or l i 0) (get_or r i 0) b) refl
-        go (no b) = rw (le-ltb (get_or l i 0) (get_or r i 0) (omega arith), lt-ltb (get_or r i 0) (get_or l i 0) (omega (arith, d))) refl
-
-    pub same_byte : get_or l i 0 ≡ get_or r i 0 → compare_bytes (drop i l) (drop i r) ≡ compare_bytes (drop (i + 1) l) (drop (i + 1) r)
-    unfolding compare_bytes
-    same_byte e = both ∙ rw (le-ltb (get_or l i 0) (get_or r i 0) (omega arith), le-ltb (get_or r i 0) (get_or l i 0) (omega arith)) refl
+pub compared_same : (xs ys : List ℕ) → ordering_of (slice_cmp nat_cmp xs ys) ≡ compare_bytes xs ys
+unfolding ordering_of compare_bytes
+compared_same [] [] = refl
+compared_same [] (y ∷ ys) = refl
+compared_same (x ∷ xs) [] = refl
+compared_same (x ∷ xs) (y ∷ ys) = first_decides x y (slice_cmp nat_cmp xs ys) (compare_bytes xs ys) (compared_same xs ys)

@@ -1,21 +1,16 @@
--- A list gone through child by child is counted so: how many are passed and how many are left make the whole. Assumes nothing.
-use Prim.Native.Nat.{ℕ, ◌+◌, ◌≤◌}
+-- A list of blocks is short: it has those of a region, or one. Assumes nothing.
+use Prim.Native.Nat.{◌≤◌}
 use native.Mathlib.Omega.{arith}
-use mathlib.Core.List.{List, []}
-use mathlib.Core.Path.{◌≡◌, ap}
+use mathlib.Core.Bool.{true}
+use mathlib.Core.Path.{◌≡◌}
 use lib.ListN.{length}
-use Rattle.layout.specs.Children.{on_from}
-use Rattle.layout.proofs.Seeking.{NextChild, from_zero}
+use Rattle.rules.specs.Store.{Store, sound}
+use Rattle.rules.proofs.Keys.Fitting.{blocks_few}
+use Rattle.fragments.specs.Order.{block_list}
+use Rattle.fragments.specs.declared.types.Blocks.{Blocks}
+use Rattle.fragments.specs.declared.types.Blocks.TheVariants.{InRegion, Alone}
 
-pub record Passed (xs : List ℕ) (n from : ℕ) : Type 0 where
-  pub sum : n + length (on_from from xs) ≡ length xs
-  pub few : n ≤ from
-
-pub passed_none : (xs : List ℕ) → Passed xs 0 0
-passed_none xs = record { sum = omega (arith, ap length (from_zero xs)); few = omega arith }
-
-pub passed_next : (xs : List ℕ) (n from : ℕ) {m : ℕ} → Passed xs n from → NextChild xs from m → Passed xs (n + 1) (m + 1)
-passed_next xs n from p h = record { sum = omega (arith, p.sum, ap length h.rest); few = omega (arith, p.few, h.later) }
-
-pub passed_all : (xs : List ℕ) (n from : ℕ) → Passed xs n from → on_from from xs ≡ [] → n ≡ length xs
-passed_all xs n from p e = omega (arith, p.sum, ap length e)
+pub listed_few : (s : Store) → sound s ≡ true → (blocks : Blocks) → length (block_list s blocks) ≤ 4096
+unfolding block_list
+listed_few s sd (InRegion r) = blocks_few s sd r
+listed_few s sd (Alone b) = omega arith

@@ -1,9 +1,7 @@
--- Why bytes put one after the other, into the rest of a lent key each time, are put at once; the same of lists, slots and shells; and the
--- order of keys.
+-- Why bytes put one after the other are put at once; the same of lists and shells; and the order of keys.
 pub mod Putting
 pub mod Entries
-mod Slots
 mod Comparing
+mod Numbers
 mod Shelling
-mod Lengths
 mod Counting

@@ -9,9 +9,9 @@ use Rattle.rules.specs.Lists.{concat_map}
 use Rattle.rules.specs.Store.{Op, Owner, of_op, Attribute, op_at, regions_of}
 use Rattle.rules.specs.Shells.{Ignore, Shell, unignored_location}
 use Rattle.rules.specs.Types.{renamed}
-use Rattle.rules.specs.Hash.{bytes, leaf, count, flag, location_bytes, attribute_bytes, head_bytes, list_bytes, shell_bytes}
+use Rattle.rules.specs.Hash.{leaf, count, flag, location_bytes, attribute_bytes, head_bytes, list_bytes, shell_bytes}
 use Rattle.layout.specs.Columns.{Cols, at, op_kind}
-use Rattle.layout.specs.Reading.{op_count, op_of, store_of}
+use Rattle.layout.specs.Reading.{op_count, op_of, attribute_at, store_of}
 use Rattle.layout.proofs.Tabulate.{op_read}
 use Rattle.fragments.specs.Options.{Options, under}
 use Rattle.fragments.specs.Rows.{RowOf, row_shell}
@@ -34,9 +34,12 @@ module _ (ig : Ignore) (l : ℕ) where
 
 -- ---- an attribute, and a shell
 
+abbrev pub slot_bytes : Cols → ℕ → List ℕ
+slot_bytes C i = attribute_bytes (attribute_at C i)
+
 pub attribute_bytes_lem : (a : Attribute) {key kind content : ℕ} {yes : Bool} → key ≡ a.key → kind ≡ a.kind → content ≡ a.content → yes ≡ a.inherent
-    → (leaf key ++ leaf kind ++ leaf content) ++ flag yes ≡ attribute_bytes a
-unfolding bytes leaf attribute_bytes
+    → leaf key ++ leaf kind ++ leaf content ++ flag yes ≡ attribute_bytes a
+unfolding attribute_bytes
 attribute_bytes_lem a k m c y = λ i. leaf (k i) ++ leaf (m i) ++ leaf (c i) ++ flag (y i)
 
 pub shell_bytes_lem : (C : Cols) (o : Options) (r : Row) → place_bytes C o.ignore r ++ list_bytes count leaf (row_shell C o r).types ≡ shell_bytes count (row_shell C o r)

@@ -1,7 +1,7 @@
 -- What the comparison of keys answers.
+use Rattle.std.specs.declared.cmp.Ordering.{Ordering}
+use Rattle.std.specs.declared.cmp.Ordering.TheVariants.{Less, Equal, Greater}
 use Rattle.rules.specs.Keys as rules
-use Rattle.key_bytes.specs.declared.types.Ordering.{Ordering}
-use Rattle.key_bytes.specs.declared.types.Ordering.TheVariants.{Less, Equal, Greater}
 
 -- the rules' answer for each case
 unfoldable pub ordering_of : Ordering → rules.Ordering

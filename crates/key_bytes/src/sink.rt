@@ -1,123 +1,105 @@
-// Numbers of 1, 4 and 8 bytes, lowest byte first, at the begin of the rest of a lent key. Where one does not fit nothing is written, and
-// the answer is its length all the same.
-ghost use Rattle.std.specs.Prelude.{◌++◌};
+// Where the bytes of a key go: into lent bytes, one behind the other. What does not fit is not written, but counted all the same.
+ghost use Rattle.std.specs.Prelude.{◌++◌, ◌≡◌, ◌-◌, length};
 ghost use Rattle.rules.specs.Hash.{tag, leaf, count, flag, walk_number, store_number, name_bytes};
-ghost use Rattle.key_bytes.specs.Put.{Put, Least};
 
-// Where the rest begins: at `at`, or, if that is past the end, at the end.
-pub fn least(at: usize, end: usize) -> usize
-    ensures { Least at end result }
-{
-    if at < end {
-        return at;
+// The lent bytes, and how many bytes are put so far. There `at` stops at the largest number, which no key reaches.
+#[derive(Drop)]
+pub struct Sink<'a> {
+    lent: &'a mut [u8],
+    at: usize,
+}
+
+impl<'a> Sink<'a> {
+    ghost use Rattle.key_bytes.specs.Put.{Puts, PutsCounted};
+
+    // Nothing is put yet.
+    pub fn new(lent: &'a mut [u8]) -> Sink<'a>
+        ensures same_reference { result.lent.ghost_name ≡ lent.entry.ghost_name }
+        ensures lent { result.lent.now ≡ lent.old }
+        ensures at { result.at ≡ 0 }
+    {
+        Sink { lent, at: 0 }
     }
-    end
-}
 
-// A tag: 1 byte.
-pub fn put_tag(key: &mut [u8], n: u8) -> usize
-    ensures { Put (tag n) key.old 0 key.new result }
-{
-    if key.len() < 1 {
-        return 1;
+    // How many bytes are put.
+    pub fn length(&self) -> usize
+        ensures { result ≡ self.now.at }
+    {
+        self.at
     }
-    key[0] = n;
-    1
-}
 
-// A leaf: 4 bytes.
-pub fn put_leaf(key: &mut [u8], n: u32) -> usize
-    ensures { Put (leaf n) key.old 0 key.new result }
-{
-    if key.len() < 4 {
-        return 4;
+    // How many bytes are left.
+    pub fn room(&self) -> usize
+        ensures { result ≡ length self.now.lent.now - self.now.at }
+    {
+        self.lent.len().saturating_sub(self.at)
     }
-    let second = n / 256;
-    let third = second / 256;
-    let fourth = third / 256;
-    key[0] = (n % 256) as u8;
-    key[1] = (second % 256) as u8;
-    key[2] = (third % 256) as u8;
-    key[3] = (fourth % 256) as u8;
-    4
-}
 
-// A count or a walk number: 8 bytes.
-pub fn put_count(key: &mut [u8], n: usize) -> usize
-    ensures { Put (count n) key.old 0 key.new result }
-{
-    if key.len() < 8 {
-        return 8;
+    // Bytes as they are.
+    pub fn put(&mut self, bytes: &[u8])
+        ensures { Puts bytes.now self.old self.new }
+    {
+        let at = self.at;
+        let end = at.saturating_add(bytes.len());
+        if end <= self.lent.len() {
+            self.lent[at..end].copy_from_slice(bytes);
+        }
+        self.at = end;
     }
-    let second = n / 256;
-    let third = second / 256;
-    let fourth = third / 256;
-    let fifth = fourth / 256;
-    let sixth = fifth / 256;
-    let seventh = sixth / 256;
-    let eighth = seventh / 256;
-    key[0] = (n % 256) as u8;
-    key[1] = (second % 256) as u8;
-    key[2] = (third % 256) as u8;
-    key[3] = (fourth % 256) as u8;
-    key[4] = (fifth % 256) as u8;
-    key[5] = (sixth % 256) as u8;
-    key[6] = (seventh % 256) as u8;
-    key[7] = (eighth % 256) as u8;
-    8
-}
 
-// A use of what has a walk number: tag 0 and the walk number.
-pub fn put_walk_number(key: &mut [u8], n: u32) -> usize
-    ensures { Put (name_bytes (walk_number n)) key.old 0 key.new result }
-{
-    let at = put_tag(key, 0);
-    let rest = least(at, key.len());
-    at + put_count(&mut key[rest..], n as usize)
-}
-
-// A use of what has none: tag 1 and the number in the store.
-pub fn put_store_number(key: &mut [u8], n: u32) -> usize
-    ensures { Put (name_bytes (store_number n)) key.old 0 key.new result }
-{
-    let at = put_tag(key, 1);
-    let rest = least(at, key.len());
-    at + put_leaf(&mut key[rest..], n)
-}
-
-// What only an operation has: its kind, and how many regions it has.
-pub fn put_head(key: &mut [u8], kind: u32, regions: usize) -> usize
-    ensures { Put (leaf kind ++ count regions) key.old 0 key.new result }
-{
-    let at = put_leaf(key, kind);
-    let rest = least(at, key.len());
-    at + put_count(&mut key[rest..], regions)
-}
-
-// Two leaves.
-fn put_pair(key: &mut [u8], a: u32, b: u32) -> usize
-    ensures { Put (leaf a ++ leaf b) key.old 0 key.new result }
-{
-    let at = put_leaf(key, a);
-    let rest = least(at, key.len());
-    at + put_leaf(&mut key[rest..], b)
-}
-
-// A flag: a byte, 1 for yes and 0 for no.
-pub fn put_flag(key: &mut [u8], yes: bool) -> usize
-    ensures { Put (flag yes) key.old 0 key.new result }
-{
-    if yes {
-        return put_tag(key, 1);
+    // A tag: 1 byte.
+    pub fn put_tag(&mut self, n: u8)
+        ensures { Puts (tag n) self.old self.new }
+    {
+        self.put(&[n]);
     }
-    put_tag(key, 0)
-}
 
-// An attribute, but for its flag: its key, its kind, its content.
-pub fn put_attribute(key: &mut [u8], name: u32, kind: u32, content: u32) -> usize
-    ensures { Put (leaf name ++ leaf kind ++ leaf content) key.old 0 key.new result }
-{
-    let at = put_pair(key, name, kind);
-    let rest = least(at, key.len());
-    at + put_leaf(&mut key[rest..], content)
+    // A leaf: 4 bytes, lowest byte first.
+    pub fn put_leaf(&mut self, n: u32)
+        ensures { Puts (leaf n) self.old self.new }
+    {
+        self.put(&n.to_le_bytes());
+    }
+
+    // A count or a walk number: 8 bytes.
+    pub fn put_count(&mut self, many: usize)
+        ensures { Puts (count many) self.old self.new }
+    {
+        self.put(&many.to_le_bytes());
+    }
+
+    // A count that is asked for only where its 8 bytes fit.
+    pub fn put_counted<F: FnOnce() -> usize>(&mut self, many: F)
+        requires { F.IsAlwaysCallable many }
+        ensures { PutsCounted (F.post many) self.old self.new }
+    {
+        if self.room() < 8 {
+            self.put_count(0);
+        } else {
+            self.put_count(many());
+        }
+    }
+
+    // A flag: a byte, 1 for yes and 0 for no.
+    pub fn put_flag(&mut self, yes: bool)
+        ensures { Puts (flag yes) self.old self.new }
+    {
+        self.put_tag(u8::from(yes));
+    }
+
+    // A use of what has a walk number: tag 0 and the walk number.
+    pub fn put_walk_number(&mut self, n: u32)
+        ensures { Puts (name_bytes (walk_number n)) self.old self.new }
+    {
+        self.put_tag(0);
+        self.put_count(n as usize);
+    }
+
+    // A use of what has none: tag 1 and the number in the store.
+    pub fn put_store_number(&mut self, n: u32)
+        ensures { Puts (name_bytes (store_number n)) self.old self.new }
+    {
+        self.put_tag(1);
+        self.put_leaf(n);
+    }
 }

@@ -1,28 +1,18 @@
 // Comparisons of keys, and of other bytes.
 use crate::form::Store;
-use crate::writing::{KEPT, Key, LENT, nothing};
-use fragments::ignoring::Ignore;
+use crate::writing::{KEPT, Key, LENT, NOTHING};
 use hashing::calls::operation_hash;
-use hashing::types::Hashed;
 use key_bytes::order::compare_keys;
-use key_bytes::types::Ordering;
 use keys::calls::operation_key;
 use std::io;
 
 pub fn order_line(rt: &impl Print, name: &str, lhs: &[u8], rhs: &[u8]) -> io::Result<()> {
-    match compare_keys(lhs, rhs) {
-        Ordering::Less => println!(rt; "{name}: -1"),
-        Ordering::Equal => println!(rt; "{name}: 0"),
-        Ordering::Greater => println!(rt; "{name}: 1"),
-    }
+    let order = compare_keys(lhs, rhs) as i8;
+    println!(rt; "{name}: {order}")
 }
 
 fn hash_of(store: &Store, n: u32) -> u64 {
-    let none: [u32; 0] = [];
-    match operation_hash(store, &none, n, nothing()) {
-        Hashed::Hash(w) => w,
-        Hashed::Refused(_) => 0,
-    }
+    operation_hash(store, &[], n, NOTHING).unwrap_or(0)
 }
 
 // Operations 3 and 4: one hash, and two keys.
@@ -32,8 +22,7 @@ pub fn lookalikes(rt: &impl Print, store: &Store) -> io::Result<()> {
     println!(rt; "hashes of 3 and 4: {left_hash:016x} {right_hash:016x}")?;
     let mut left: Key = [KEPT; LENT];
     let mut right: Key = [KEPT; LENT];
-    let none: [u32; 0] = [];
-    operation_key(store, &none, &mut left, 3, nothing());
-    operation_key(store, &none, &mut right, 4, nothing());
+    let _ = operation_key(store, &[], &mut left, 3, NOTHING);
+    let _ = operation_key(store, &[], &mut right, 4, NOTHING);
     order_line(rt, "keys of 3 and 4", &left, &right)
 }

@@ -3,7 +3,7 @@ use crate::form::Store;
 use fragments::ignoring::Ignore;
 use fragments::types::Sort;
 use keys::calls::{basic_block_key, operation_key, region_key};
-use keys::types::Keyed;
+use layout::causes::Cause;
 use std::io;
 
 // As many bytes as the longest key of a case, and some more.
@@ -14,62 +14,40 @@ pub const KEPT: u8 = 170;
 
 pub type Key = [u8; LENT];
 
-pub fn nothing() -> Ignore {
-    Ignore {
-        locations: false,
-        bits: 0,
-    }
-}
+// Nothing is ignored.
+pub const NOTHING: Ignore = Ignore {
+    locations: false,
+    bits: 0,
+};
 
-pub fn write_key(store: &Store, key: &mut [u8], sort: Sort, n: u32, ignore: Ignore) -> Keyed {
-    let none: [u32; 0] = [];
+pub fn write_key(
+    store: &Store,
+    key: &mut [u8],
+    sort: Sort,
+    n: u32,
+    ignore: Ignore,
+) -> Result<u32, Cause> {
     match sort {
-        Sort::Op => operation_key(store, &none, key, n, ignore),
-        Sort::Block => basic_block_key(store, &none, key, n, ignore),
-        Sort::Region => region_key(store, &none, key, n, ignore),
+        Sort::Op => operation_key(store, &[], key, n, ignore),
+        Sort::Block => basic_block_key(store, &[], key, n, ignore),
+        Sort::Region => region_key(store, &[], key, n, ignore),
     }
-}
-
-// The first `count` bytes, or all if there are fewer.
-pub fn hex(rt: &impl Print, key: &[u8], count: usize) -> io::Result<()> {
-    let mut i = 0;
-    while i < key.len() {
-        if i == count {
-            return Ok(());
-        }
-        print!(rt; "{:02x}", key[i])?;
-        i += 1;
-    }
-    Ok(())
-}
-
-// The bytes from `from` on are as they were.
-pub fn kept(key: &[u8], from: usize) -> bool {
-    let mut i = from;
-    while i < key.len() {
-        if key[i] != KEPT {
-            return false;
-        }
-        i += 1;
-    }
-    true
 }
 
 // The line of a case: its name, the answer, and whether the lent bytes behind the key are as they were.
-pub fn say(rt: &impl Print, name: &str, answer: Keyed, key: &[u8]) -> io::Result<()> {
+pub fn say(rt: &impl Print, name: &str, answer: Result<u32, Cause>, key: &[u8]) -> io::Result<()> {
     print!(rt; "{name}: ")?;
-    let mut long = 0;
     match answer {
-        Keyed::Length(n) => {
-            long = n;
+        Ok(n) => {
             print!(rt; "{n} bytes ")?;
-            hex(rt, key, n as usize)?;
+            for byte in key.iter().take(n as usize) {
+                print!(rt; "{byte:02x}")?;
+            }
         }
-        Keyed::Refused(cause) => {
-            print!(rt; "refused {cause}")?;
-        }
+        Err(cause) => print!(rt; "refused {cause}")?,
     }
-    let verdict = if kept(key, long as usize) {
+    let mut behind = key.iter().skip(answer.unwrap_or(0) as usize);
+    let verdict = if behind.all(|byte| *byte == KEPT) {
         "kept"
     } else {
         "CHANGED"

@@ -15,7 +15,7 @@ use Rattle.rules.specs.Building.{first_failed}
 use Rattle.rules.specs.Shells.{Ignore}
 use Rattle.rules.specs.Hash.{no_numbers}
 use Rattle.rules.specs.Types.{types_hold, renamed}
-use Rattle.rules.specs.Keys.{key, longest_key, key_tests, written, keyed_by, keyed}
+use Rattle.rules.specs.Keys.{Keyed, key_length, refused_key, key, longest_key, key_tests, written, keyed_by, keyed}
 use Rattle.rules.specs.Statements.{KeyLongest}
 use Rattle.rules.proofs.Keys.Longest.{key_longest}
 use Rattle.rules.proofs.Types.Renamed.{exists_renamed, steps_renamed, renamed_sound}
@@ -25,39 +25,29 @@ use Rattle.layout.specs.Soundness.{IsSound}
 use Rattle.renaming.specs.Index.{list_in, IsIndex}
 use Rattle.renaming.proofs.Indexed.{no_words_lem, no_list}
 use Rattle.fragments.specs.Options.{Options, under}
-use Rattle.numbering.proofs.Counting.{no_words, room_start, stands_start}
-use Rattle.key_bytes.specs.Put.{Put}
-use Rattle.keys.specs.Written.{steps_bytes, from, up_to, Wrote, KeyFits}
-use Rattle.keys.specs.Calls.{keyed_of, Answered}
-use Rattle.key_bytes.proofs.Putting.{put_as}
-use Rattle.keys.specs.declared.types.Keyed.{Keyed}
-use Rattle.keys.specs.declared.types.Keyed.TheVariants.{Length, Refused}
+use Rattle.numbering.specs.Words.{Stands}
+use Rattle.numbering.proofs.Counting.{no_words, stands_start}
+use Rattle.key_bytes.specs.Put.{Put, Puts}
+use Rattle.keys.specs.Written.{Place, steps_bytes, Wrote}
+use Rattle.keys.specs.Calls.{Answered}
+use Rattle.key_bytes.proofs.Putting.{puts_as}
 
--- ---- room for the whole
+-- ---- the whole
 
 module _ (s : Store) (o : Options) (f : Sort) (n : ℕ) where
   -- the steps of a store are those of the store as it is read
-  pub key_steps : steps_bytes s o (steps s f n) no_numbers ≡ key (under o s) o.ignore f n
+  key_steps : steps_bytes s o (steps s f n) no_numbers ≡ key (under o s) o.ignore f n
   unfolding key
   key_steps = ap (λ (xs : List Step). steps_bytes s o xs no_numbers) (sym (steps_renamed o.types s f n))
 
   -- what they write with nothing numbered is the key
-  pub wrote_whole : {k ns c : List ℕ} {r : ℕ} → Wrote s o (steps s f n) (from no_words k) (up_to ns c r) → Put (key (under o s) o.ignore f n) k 0 c r
-  wrote_whole w = put_as key_steps (w.put no_numbers (stands_start s))
+  pub wrote_whole : {a b : Place} → a.numbers ≡ no_words → Wrote s o (steps s f n) a b → Puts (key (under o s) o.ignore f n) a.key b.key
+  wrote_whole e w = puts_as key_steps (w.put no_numbers (subst (Stands s no_numbers) (sym e) (stands_start s)))
 
   module _ (sd : sound s ≡ true) (e : exists s f n ≡ true) where
     pub longest : length (key (under o s) o.ignore f n) ≤ longest_key
     unfolding KeyLongest
     longest = key_longest (under o s) (renamed_sound o.types s sd) o.ignore f n (exists_renamed o.types s f n ∙ e)
-
-    pub whole_fits : (k : List ℕ) → KeyFits s o (steps s f n) (from no_words k)
-    whole_fits k =
-        record {
-          definitions = room_start s sd f n e;
-          numbering = no_numbers;
-          stands = stands_start s;
-          short = omega (arith, ap length key_steps, longest);
-        }
 
 -- ---- lists of types
 
@@ -85,30 +75,30 @@ module _ (b types : List ℕ) (ig : Ignore) (f : Sort) (n : ℕ) (before : List 
   abbrev tested : Bool → Option ℕ
   tested ok = first_failed (key_tests ok (store_in b) types ig f n (length before))
 
-  refused : (ok : Bool) (cause : ℕ) → tested ok ≡ some cause → Answered ok b types ig f n before before (Refused cause)
-  unfolding keyed keyed_by keyed_of
+  refused : (ok : Bool) (cause : ℕ) → tested ok ≡ some cause → Answered ok b types ig f n before before (refused_key cause)
+  unfolding keyed keyed_by
   refused ok cause e =
       record {
         told = ap (λ (o : Option ℕ). (keyed_by o its before).answer) e;
         bytes = ap (λ (o : Option ℕ). (keyed_by o its before).bytes) e;
       }
 
-  pub unsound : (ok : Bool) → ok ≡ false → Answered ok b types ig f n before before (Refused 1)
+  pub unsound : (ok : Bool) → ok ≡ false → Answered ok b types ig f n before before (refused_key 1)
   unfolding key_tests first_failed
   unsound ok h = refused ok 1 (rw h refl)
 
   module _ (h : IsSound b) where
-    pub unlisted : types_hold types ≡ false → Answered true b types ig f n before before (Refused 14)
+    pub unlisted : types_hold types ≡ false → Answered true b types ig f n before before (refused_key 14)
     unfolding key_tests first_failed
     unlisted t = refused true 14 (rw t refl)
 
     module _ (t : types_hold types ≡ true) where
-      pub missing : exists (store_in b) f n ≡ false → Answered true b types ig f n before before (Refused 2)
+      pub missing : exists (store_in b) f n ≡ false → Answered true b types ig f n before before (refused_key 2)
       unfolding key_tests first_failed
       missing e = refused true 2 (rw (t, e) refl)
 
       module _ (e : exists (store_in b) f n ≡ true) where
-        pub too_short_lem : leb (length its) (length before) ≡ false → Answered true b types ig f n before before (Refused 13)
+        pub too_short_lem : leb (length its) (length before) ≡ false → Answered true b types ig f n before before (refused_key 13)
         unfolding key_tests first_failed
         too_short_lem l = refused true 13 (rw (t, e, fragment_shallow (store_in b) h.ruled f n e, l) refl)
 
@@ -117,14 +107,14 @@ module _ (b types : List ℕ) (ig : Ignore) (f : Sort) (n : ℕ) (before : List 
           unfolding key_tests first_failed
           none_failed = rw (t, e, fragment_shallow (store_in b) h.ruled f n e, l) refl
 
-          pub given : {after : List ℕ} {r : ℕ} → Put its before 0 after r → Answered true b types ig f n before after (Length r)
-          unfolding keyed keyed_by keyed_of written
-          given {after} {r} p =
-              let end : r ≡ length its = omega (arith, p.many) in
+          pub given : {after : List ℕ} {r : ℕ} → length its ≤ longest_key → Put its before 0 after r → Answered true b types ig f n before after (key_length r)
+          unfolding keyed keyed_by written
+          given {after} {r} small p =
+              let end : r ≡ length its = omega (arith, p.many (omega (arith, small))) in
               record {
-                told = ap (λ (o : Option ℕ). (keyed_by o its before).answer) none_failed ∙ ap (λ (m : ℕ). keyed_of (Length m)) (sym end);
+                told = ap (λ (o : Option ℕ). (keyed_by o its before).answer) none_failed ∙ ap key_length (sym end);
                 bytes =
                     ap (λ (o : Option ℕ). (keyed_by o its before).bytes) none_failed
                     ∙ ap (λ (m : ℕ). its ++ drop m before) (sym end)
-                    ∙ sym (p.fits (omega (arith, end, leb-true (length its) (length before) l)));
+                    ∙ sym (p.fits (omega (arith, small)) (omega (arith, end, leb-true (length its) (length before) l)));
               }

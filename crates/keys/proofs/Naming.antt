@@ -1,19 +1,30 @@
--- A use is put by the name that the numbering has for it, in at most 9 bytes. Assumes nothing.
-use Prim.Native.Nat.{ℕ, ◌≤◌}
-use native.Mathlib.Omega.{arith}
-use mathlib.Core.List.{List}
-use mathlib.Core.Path.{◌≡◌, subst}
-use lib.ListN.{length}
+-- A list of uses is put name by name, whatever rule names them. Assumes nothing.
+use Prim.Native.Nat.{ℕ}
+use mathlib.Core.List.{List, []}
+use mathlib.Core.Path.{◌≡◌, ap, ◌∙◌}
+use Rattle.rules.specs.Lists.{position}
 use Rattle.rules.specs.Hash as rules
-use Rattle.rules.specs.Hash.{bytes, tag, leaf, count, name_bytes, walk_number, store_number}
-use Rattle.numbering.specs.Words.{rule_name}
+use Rattle.rules.specs.Hash.{Numbering, name_at, name_of, name_bytes}
+use Rattle.rules.specs.Store.{Store}
+use Rattle.numbering.specs.Words.{rule_name, Stands, NamesBlock}
 use Rattle.numbering.specs.declared.words.Name.{Name}
-use Rattle.key_bytes.specs.Put.{Put}
+use Rattle.numbering.specs.declared.words.Name.TheVariants.{StoreNumber}
+use Rattle.key_bytes.specs.Put.{Puts}
+use Rattle.key_bytes.specs.declared.sink.Sink.{Sink}
+use Rattle.key_bytes.proofs.Putting.{puts_as}
 
-pub name_few : (x : rules.Name) → length (name_bytes x) ≤ 9
-unfolding name_bytes bytes tag leaf count
-name_few (walk_number i) = omega arith
-name_few (store_number n) = omega arith
+-- the bytes of a use by a rule
+abbrev pub named_bytes : (ℕ → rules.Name) → ℕ → List ℕ
+named_bytes named n = name_bytes (named n)
 
-pub name_put : (x : Name) {y : rules.Name} {k c : List ℕ} {r : ℕ} → rule_name x ≡ y → Put (name_bytes (rule_name x)) k 0 c r → Put (name_bytes y) k 0 c r
-name_put x {y} {k} {c} {r} e f = subst (λ (z : rules.Name). Put (name_bytes z) k 0 c r) e f
+pub name_put : (x : Name) {y : rules.Name} {a b : Sink} → rule_name x ≡ y → Puts (name_bytes (rule_name x)) a b → Puts (name_bytes y) a b
+name_put x e f = puts_as (ap name_bytes e) f
+
+-- a use of a block, whatever store the numbering is of
+pub block_named : (s : Store) (N : Numbering) {numbers : List ℕ} (b : ℕ) (x : Name) {z : Name} → Stands s N numbers → x ≡ z → NamesBlock numbers b z → rule_name x ≡ name_of N.blocks b
+block_named s N b x h e f = ap rule_name e ∙ f s N h
+
+-- a use of what is not defined
+pub outside_named : (n : ℕ) (x : Name) → x ≡ StoreNumber n → rule_name x ≡ name_of [] n
+unfolding rule_name name_of name_at position
+outside_named n x e = ap rule_name e

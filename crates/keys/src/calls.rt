@@ -4,12 +4,12 @@ ghost use Rattle.rules.specs.Fragments.{op, block, region};
 ghost use Rattle.journal.specs.Words.{sound_lent};
 ghost use Rattle.fragments.specs.Ignoring.{ignore_of};
 ghost use Rattle.fragments.specs.Sorts.{sort_of};
-ghost use Rattle.keys.specs.Calls.{Answered};
+ghost use Rattle.keys.specs.Calls.{keyed_of, Answered};
 
 use crate::keys::fragment_key;
-use crate::types::Keyed;
 use fragments::ignoring::Ignore;
 use fragments::types::Sort;
+use layout::causes::Cause;
 use lending::lent::is_sound;
 use renaming::indexing::{INDEX_LENGTH, index_types};
 
@@ -21,31 +21,40 @@ fn lent_key(
     sort: Sort,
     n: u32,
     ignore: Ignore,
-) -> Keyed
-    ensures { Answered (sound_lent store.now) store.now types.now (ignore_of ignore) (sort_of sort) n key.old key.new result }
+) -> Result<u32, Cause>
+    ensures { Answered (sound_lent store.now) store.now types.now (ignore_of ignore) (sort_of sort) n key.old key.new (keyed_of result) }
 {
     if !is_sound(store) {
-        return Keyed::Refused(1);
+        return Err(Cause::NotSound);
     }
-    if types.len() == 0 {
+    if types.is_empty() {
         return fragment_key(store, types, key, sort, n, ignore);
     }
     let mut index = [0; INDEX_LENGTH];
-    let words = index_types(types, &mut index);
-    if words == 0 {
-        return Keyed::Refused(14);
-    }
+    let words = index_types(types, &mut index).ok_or(Cause::BadTypes)?;
     fragment_key(store, &index[..words], key, sort, n, ignore)
 }
 
-pub fn operation_key(store: &[u32], types: &[u32], key: &mut [u8], n: u32, ignore: Ignore) -> Keyed
-    ensures { Answered (sound_lent store.now) store.now types.now (ignore_of ignore) op n key.old key.new result }
+pub fn operation_key(
+    store: &[u32],
+    types: &[u32],
+    key: &mut [u8],
+    n: u32,
+    ignore: Ignore,
+) -> Result<u32, Cause>
+    ensures { Answered (sound_lent store.now) store.now types.now (ignore_of ignore) op n key.old key.new (keyed_of result) }
 {
     lent_key(store, types, key, Sort::Op, n, ignore)
 }
 
-pub fn region_key(store: &[u32], types: &[u32], key: &mut [u8], n: u32, ignore: Ignore) -> Keyed
-    ensures { Answered (sound_lent store.now) store.now types.now (ignore_of ignore) region n key.old key.new result }
+pub fn region_key(
+    store: &[u32],
+    types: &[u32],
+    key: &mut [u8],
+    n: u32,
+    ignore: Ignore,
+) -> Result<u32, Cause>
+    ensures { Answered (sound_lent store.now) store.now types.now (ignore_of ignore) region n key.old key.new (keyed_of result) }
 {
     lent_key(store, types, key, Sort::Region, n, ignore)
 }
@@ -56,8 +65,8 @@ pub fn basic_block_key(
     key: &mut [u8],
     n: u32,
     ignore: Ignore,
-) -> Keyed
-    ensures { Answered (sound_lent store.now) store.now types.now (ignore_of ignore) block n key.old key.new result }
+) -> Result<u32, Cause>
+    ensures { Answered (sound_lent store.now) store.now types.now (ignore_of ignore) block n key.old key.new (keyed_of result) }
 {
     lent_key(store, types, key, Sort::Block, n, ignore)
 }

@@ -8,20 +8,23 @@ ghost use Rattle.layout.specs.Columns.{columns};
 ghost use Rattle.layout.specs.Reading.{op_count, store_in};
 ghost use Rattle.renaming.specs.Index.{list_in};
 ghost use Rattle.fragments.specs.Ignoring.{ignore_of};
-ghost use Rattle.fragments.specs.Options.{options_of, Readable};
+ghost use Rattle.fragments.specs.Options.{Readable};
 ghost use Rattle.fragments.specs.Sorts.{sort_of};
-ghost use Rattle.key_bytes.specs.Put.{Put};
-ghost use Rattle.keys.specs.Written.{from, up_to, Wrote, KeyFits};
-ghost use Rattle.keys.specs.Calls.{Answered};
+ghost use Rattle.numbering.specs.Numbered.{DefinitionsFit};
+ghost use Rattle.key_bytes.specs.Put.{Puts};
+ghost use Rattle.fragments.specs.Terms.{store_read, options_in};
+ghost use Rattle.keys.specs.Written.{place, Wrote};
+ghost use Rattle.keys.specs.Calls.{keyed_of, Answered};
 
 use crate::alone::put_alone;
 use crate::shells::put_op_shell;
-use crate::types::Keyed;
 use crate::walk::{put_blocks_full, put_op_full};
 use fragments::ignoring::Ignore;
 use fragments::sorts::exists;
+use fragments::terms::Terms;
 use fragments::types::{Blocks, Sort};
-use key_bytes::sink::least;
+use key_bytes::sink::Sink;
+use layout::causes::Cause;
 use numbering::alone::holds_nothing;
 use numbering::words::{NUMBERS_LENGTH, WalkNumbers};
 
@@ -29,47 +32,37 @@ use numbering::words::{NUMBERS_LENGTH, WalkNumbers};
 pub const LONGEST_KEY: usize = 78344;
 
 // An operation: its shell, then its operands, successors and nested regions.
-fn put_op(
-    store: &[u32],
-    types: &[u32],
-    numbers: &mut WalkNumbers,
-    key: &mut [u8],
-    n: usize,
-    ignore: Ignore,
-) -> usize
-    requires readable { Readable store.now types.now }
-    requires n_bound { n < op_count (columns store.now) }
-    requires key_fits { KeyFits (store_in store.now) (options_of ignore types.now) (steps (store_in store.now) op n) (from numbers.old key.old) }
-    ensures { Wrote (store_in store.now) (options_of ignore types.now) (steps (store_in store.now) op n) (from numbers.old key.old) (up_to numbers.new key.new result) }
+fn put_op(terms: &Terms, numbers: &mut WalkNumbers, key: &mut Sink, n: usize)
+    requires n_bound { n < op_count (columns terms.now.store.now) }
+    requires definitions_fit { DefinitionsFit (store_read terms.now) (steps (store_read terms.now) op n) numbers.old }
+    ensures { Wrote (store_read terms.now) (options_in terms.now) (steps (store_read terms.now) op n) (place numbers.old key.old) (place numbers.new key.new) }
 {
-    let at = put_op_shell(store, types, numbers, key, n, ignore);
-    let rest = least(at, key.len());
-    at + put_op_full(store, types, numbers, &mut key[rest..], n, ignore)
+    put_op_shell(terms, numbers, key, n);
+    put_op_full(terms, numbers, key, n);
 }
 
-// A fragment's key, if it fits, and its length in any case. A block is a list of one block.
-fn put_fragment(
-    store: &[u32],
-    types: &[u32],
-    key: &mut [u8],
-    sort: Sort,
-    n: usize,
-    ignore: Ignore,
-) -> usize
-    requires readable { Readable store.now types.now }
-    requires n_value { Rattle.rules.specs.Fragments.exists (store_in store.now) (sort_of sort) n ≡ true }
-    ensures { Put (Keys.key (renamed (list_in types.now) (store_in store.now)) (ignore_of ignore) (sort_of sort) n) key.old 0 key.new result }
+// A fragment by its sort. A block is a list of one block. (The walk that hashes has the same three cases, with other steps in each.)
+fn put_steps(terms: &Terms, numbers: &mut WalkNumbers, key: &mut Sink, sort: Sort, n: usize)
+    requires n_value { Rattle.rules.specs.Fragments.exists (store_read terms.now) (sort_of sort) n ≡ true }
+    requires definitions_fit { DefinitionsFit (store_read terms.now) (steps (store_read terms.now) (sort_of sort) n) numbers.old }
+    ensures { Wrote (store_read terms.now) (options_in terms.now) (steps (store_read terms.now) (sort_of sort) n) (place numbers.old key.old) (place numbers.new key.new) }
 {
-    if holds_nothing(store, sort, n) {
-        return put_alone(store, types, key, n, ignore);
-    }
-    let mut numbers = [0; NUMBERS_LENGTH];
     match sort {
-        Sort::Op => put_op(store, types, &mut numbers, key, n, ignore),
-        Sort::Block => put_blocks_full(store, types, &mut numbers, key, Blocks::Alone(n), ignore),
-        Sort::Region => {
-            put_blocks_full(store, types, &mut numbers, key, Blocks::InRegion(n), ignore)
-        }
+        Sort::Op => put_op(terms, numbers, key, n),
+        Sort::Block => put_blocks_full(terms, numbers, key, Blocks::Alone(n)),
+        Sort::Region => put_blocks_full(terms, numbers, key, Blocks::InRegion(n)),
+    }
+}
+
+// A fragment's key, if it fits, and its length in any case. It begins with nothing numbered.
+fn put_fragment(terms: &Terms, key: &mut Sink, sort: Sort, n: usize)
+    requires { Rattle.rules.specs.Fragments.exists (store_read terms.now) (sort_of sort) n ≡ true }
+    ensures { Puts (Keys.key (renamed (list_in terms.now.types.now) (store_read terms.now)) (ignore_of terms.now.ignore) (sort_of sort) n) key.old key.new }
+{
+    if holds_nothing(terms.store, sort, n) {
+        put_alone(terms, key, n);
+    } else {
+        put_steps(terms, &mut [0; NUMBERS_LENGTH], key, sort, n);
     }
 }
 
@@ -79,8 +72,14 @@ pub fn key_length(store: &[u32], types: &[u32], sort: Sort, n: usize, ignore: Ig
     requires n_value { Rattle.rules.specs.Fragments.exists (store_in store.now) (sort_of sort) n ≡ true }
     ensures { result ≡ length (Keys.key (renamed (list_in types.now) (store_in store.now)) (ignore_of ignore) (sort_of sort) n) }
 {
-    let mut none = [0u8; 1];
-    put_fragment(store, types, &mut none[1..], sort, n, ignore)
+    let terms = Terms {
+        store,
+        types,
+        ignore,
+    };
+    let mut key = Sink::new(&mut []);
+    put_fragment(&terms, &mut key, sort, n);
+    key.length()
 }
 
 // Whether a fragment's key fits into so many bytes. Where they are enough for any key, its length is not asked for.
@@ -89,29 +88,33 @@ fn key_fits(store: &[u32], types: &[u32], room: usize, sort: Sort, n: usize, ign
     requires n_value { Rattle.rules.specs.Fragments.exists (store_in store.now) (sort_of sort) n ≡ true }
     ensures { result ≡ leb (length (Keys.key (renamed (list_in types.now) (store_in store.now)) (ignore_of ignore) (sort_of sort) n)) room }
 {
-    if room >= LONGEST_KEY {
-        return true;
-    }
-    key_length(store, types, sort, n, ignore) <= room
+    room >= LONGEST_KEY || key_length(store, types, sort, n, ignore) <= room
 }
 
 // Write the key of a fragment into lent bytes, unless it does not exist or its key does not fit. In a sound store nothing is nested too deep.
 pub fn fragment_key(
     store: &[u32],
     types: &[u32],
-    key: &mut [u8],
+    lent: &mut [u8],
     sort: Sort,
     n: u32,
     ignore: Ignore,
-) -> Keyed
+) -> Result<u32, Cause>
     requires { Readable store.now types.now }
-    ensures { Answered true store.now (list_in types.now) (ignore_of ignore) (sort_of sort) n key.old key.new result }
+    ensures { Answered true store.now (list_in types.now) (ignore_of ignore) (sort_of sort) n lent.old lent.new (keyed_of result) }
 {
     if !exists(store, sort, n) {
-        return Keyed::Refused(2);
+        return Err(Cause::NotThere);
     }
-    if !key_fits(store, types, key.len(), sort, n as usize, ignore) {
-        return Keyed::Refused(13);
+    if !key_fits(store, types, lent.len(), sort, n as usize, ignore) {
+        return Err(Cause::NoRoom);
     }
-    Keyed::Length(put_fragment(store, types, key, sort, n as usize, ignore) as u32)
+    let terms = Terms {
+        store,
+        types,
+        ignore,
+    };
+    let mut key = Sink::new(lent);
+    put_fragment(&terms, &mut key, sort, n as usize);
+    Ok(key.length() as u32)
 }

@@ -1,8 +1,8 @@
 // Keys: a fragment's structure as bytes, to be kept and put in order outside of any store.
 //
 // A key is what the hash takes in, with the count of every list ahead of it, so that it can be read back: two fragments have the same key
-// if they are equal, and only then. As in `key_bytes`, every function that writes takes the rest of the lent key, and returns how many bytes
-// it writes there, whether they fit or not. So the same walk tells a key's length, where nothing is lent, and writes it.
+// if they are equal, and only then. A walk puts it into a sink, which counts bytes whether they fit or not. So the same walk tells a key's
+// length, where nothing is lent, and writes it.
 #![tactic(auto)]
 
 pub mod alone;
@@ -11,5 +11,4 @@ pub mod keys;
 pub mod names;
 pub mod passes;
 pub mod shells;
-pub mod types;
 pub mod walk;

@@ -2,95 +2,53 @@
 ghost use Rattle.std.specs.Prelude.{◌<◌};
 ghost use Rattle.rules.specs.Lists.{concat_map};
 ghost use Rattle.layout.specs.Columns.{columns};
-ghost use Rattle.layout.specs.Reading.{block_count, store_in};
-ghost use Rattle.fragments.specs.Options.{options_of, Readable};
+ghost use Rattle.layout.specs.Reading.{block_count};
 ghost use Rattle.fragments.specs.Order.{block_list, BlocksExist};
+ghost use Rattle.numbering.specs.Numbered.{DefinitionsFit};
 ghost use Rattle.numbering.specs.Parts.{block_shells, op_shells};
-ghost use Rattle.keys.specs.Written.{from, up_to, Wrote, KeyFits};
+ghost use Rattle.fragments.specs.Terms.{store_read, options_in};
+ghost use Rattle.keys.specs.Written.{place, Wrote};
 
 use crate::shells::{put_block_shell, put_op_shell};
-use fragments::ignoring::Ignore;
-use fragments::order::next_in;
+use fragments::order::BlocksIn;
+use fragments::terms::Terms;
 use fragments::types::Blocks;
-use key_bytes::counts::{blocks_counted, ops_counted};
-use key_bytes::sink::{least, put_count};
-use layout::children::{Found, next_op};
+use key_bytes::counts::{count_blocks, count_ops};
+use key_bytes::sink::Sink;
+use layout::ops_in::OpsIn;
 use numbering::words::WalkNumbers;
 
 // Pass 1: how many blocks there are, then every block's shell.
-pub fn put_block_shells(
-    store: &[u32],
-    types: &[u32],
-    numbers: &mut WalkNumbers,
-    key: &mut [u8],
-    blocks: Blocks,
-    ignore: Ignore,
-) -> usize
-    requires readable { Readable store.now types.now }
-    requires blocks_exist { BlocksExist (columns store.now) blocks }
-    requires key_fits { KeyFits (store_in store.now) (options_of ignore types.now) (block_shells (block_list (store_in store.now) blocks)) (from numbers.old key.old) }
-    ensures { Wrote (store_in store.now) (options_of ignore types.now) (block_shells (block_list (store_in store.now) blocks)) (from numbers.old key.old) (up_to numbers.new key.new result) }
+pub fn put_block_shells(terms: &Terms, numbers: &mut WalkNumbers, key: &mut Sink, blocks: Blocks)
+    requires blocks_exist { BlocksExist (columns terms.now.store.now) blocks }
+    requires definitions_fit { DefinitionsFit (store_read terms.now) (block_shells (block_list (store_read terms.now) blocks)) numbers.old }
+    ensures { Wrote (store_read terms.now) (options_in terms.now) (block_shells (block_list (store_read terms.now) blocks)) (place numbers.old key.old) (place numbers.new key.new) }
 {
-    let mut at = put_count(key, blocks_counted(store, blocks, key.len()));
-    let mut from = 0;
-    loop {
-        let Found::At(b) = next_in(store, blocks, from) else {
-            return at;
-        };
-        let rest = least(at, key.len());
-        at += put_block_shell(store, types, numbers, &mut key[rest..], b, ignore);
-        from = b + 1;
+    key.put_counted(|| count_blocks(terms.store, blocks));
+    for b in BlocksIn::new(terms.store, blocks) {
+        put_block_shell(terms, numbers, key, b);
     }
 }
 
 // Pass 2 of one block: how many operations it has, then their shells.
-fn put_op_shells_in(
-    store: &[u32],
-    types: &[u32],
-    numbers: &mut WalkNumbers,
-    key: &mut [u8],
-    b: usize,
-    ignore: Ignore,
-) -> usize
-    requires readable { Readable store.now types.now }
-    requires b_bound { b < block_count (columns store.now) }
-    requires key_fits { KeyFits (store_in store.now) (options_of ignore types.now) (op_shells (store_in store.now) b) (from numbers.old key.old) }
-    ensures { Wrote (store_in store.now) (options_of ignore types.now) (op_shells (store_in store.now) b) (from numbers.old key.old) (up_to numbers.new key.new result) }
+fn put_op_shells_in(terms: &Terms, numbers: &mut WalkNumbers, key: &mut Sink, b: usize)
+    requires b_bound { b < block_count (columns terms.now.store.now) }
+    requires definitions_fit { DefinitionsFit (store_read terms.now) (op_shells (store_read terms.now) b) numbers.old }
+    ensures { Wrote (store_read terms.now) (options_in terms.now) (op_shells (store_read terms.now) b) (place numbers.old key.old) (place numbers.new key.new) }
 {
-    let mut at = put_count(key, ops_counted(store, b, key.len()));
-    let mut from = 0;
-    loop {
-        let Found::At(n) = next_op(store, b, from) else {
-            return at;
-        };
-        let rest = least(at, key.len());
-        at += put_op_shell(store, types, numbers, &mut key[rest..], n, ignore);
-        from = n + 1;
+    key.put_counted(|| count_ops(terms.store, b));
+    for n in OpsIn::new(terms.store, b) {
+        put_op_shell(terms, numbers, key, n);
     }
 }
 
 // Pass 2: the shells of every block's operations.
-pub fn put_op_shells(
-    store: &[u32],
-    types: &[u32],
-    numbers: &mut WalkNumbers,
-    key: &mut [u8],
-    blocks: Blocks,
-    ignore: Ignore,
-) -> usize
-    requires readable { Readable store.now types.now }
-    requires blocks_exist { BlocksExist (columns store.now) blocks }
-    requires key_fits { KeyFits (store_in store.now) (options_of ignore types.now) (concat_map (op_shells (store_in store.now)) (block_list (store_in store.now) blocks)) (from numbers.old key.old) }
-    ensures { Wrote (store_in store.now) (options_of ignore types.now) (concat_map (op_shells (store_in store.now)) (block_list (store_in store.now) blocks)) (from numbers.old key.old) (up_to numbers.new key.new result) }
+pub fn put_op_shells(terms: &Terms, numbers: &mut WalkNumbers, key: &mut Sink, blocks: Blocks)
+    requires blocks_exist { BlocksExist (columns terms.now.store.now) blocks }
+    requires definitions_fit { DefinitionsFit (store_read terms.now) (concat_map (op_shells (store_read terms.now)) (block_list (store_read terms.now) blocks)) numbers.old }
+    ensures { Wrote (store_read terms.now) (options_in terms.now) (concat_map (op_shells (store_read terms.now)) (block_list (store_read terms.now) blocks)) (place numbers.old key.old) (place numbers.new key.new) }
 {
-    let mut at = 0;
-    let mut from = 0;
-    loop {
-        let Found::At(b) = next_in(store, blocks, from) else {
-            return at;
-        };
-        let rest = least(at, key.len());
-        at += put_op_shells_in(store, types, numbers, &mut key[rest..], b, ignore);
-        from = b + 1;
+    for b in BlocksIn::new(terms.store, blocks) {
+        put_op_shells_in(terms, numbers, key, b);
     }
 }

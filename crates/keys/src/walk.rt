@@ -1,56 +1,38 @@
 // An operation in full, and a list of blocks in full. The three functions call one another; this ends since a region holds fewer operations
 // than the operation around it. An operation's uses are written after everything in its list of blocks is numbered, and before anything in
-// its own regions is.
+// its own regions is. The walk numbers and the key stay two parameters: of a sink within another struct it is not proved what the lent bytes
+// hold in the end.
 ghost use Rattle.std.specs.Prelude.{◌<◌};
 ghost use Rattle.layout.specs.Columns.{columns};
-ghost use Rattle.layout.specs.Reading.{op_count, block_count, store_in};
-ghost use Rattle.fragments.specs.Options.{options_of, Readable};
+ghost use Rattle.layout.specs.Reading.{op_count, block_count};
 ghost use Rattle.fragments.specs.Order.{block_list, BlocksExist};
+ghost use Rattle.numbering.specs.Numbered.{DefinitionsFit};
 ghost use Rattle.numbering.specs.Parts.{full_steps, ops_in_full, listed_steps};
-ghost use Rattle.keys.specs.Written.{from, up_to, Wrote, KeyFits};
+ghost use Rattle.fragments.specs.Terms.{store_read, options_in};
+ghost use Rattle.keys.specs.Written.{place, Wrote};
 
 use crate::names::put_names;
 use crate::passes::{put_block_shells, put_op_shells};
-use fragments::ignoring::Ignore;
-use fragments::order::next_in;
+use fragments::order::BlocksIn;
+use fragments::terms::Terms;
 use fragments::types::Blocks;
-use key_bytes::sink::least;
-use layout::children::{Found, next_op};
+use key_bytes::sink::Sink;
 use layout::columns::{OP_REGION_END, OP_REGION_FIRST, number};
+use layout::ops_in::OpsIn;
 use numbering::words::WalkNumbers;
 
 // Complete an operation by its operands, successors and nested regions.
 // Writes nothing that `put_op_shell` has written.
 #[cycle(put_blocks_full_put_op_full_put_ops_full)]
-pub fn put_op_full(
-    store: &[u32],
-    types: &[u32],
-    numbers: &mut WalkNumbers,
-    key: &mut [u8],
-    n: usize,
-    ignore: Ignore,
-) -> usize
-    requires readable { Readable store.now types.now }
-    requires n_bound { n < op_count (columns store.now) }
-    requires key_fits { KeyFits (store_in store.now) (options_of ignore types.now) (full_steps (store_in store.now) n) (from numbers.old key.old) }
-    ensures { Wrote (store_in store.now) (options_of ignore types.now) (full_steps (store_in store.now) n) (from numbers.old key.old) (up_to numbers.new key.new result) }
+pub fn put_op_full(terms: &Terms, numbers: &mut WalkNumbers, key: &mut Sink, n: usize)
+    requires n_bound { n < op_count (columns terms.now.store.now) }
+    requires definitions_fit { DefinitionsFit (store_read terms.now) (full_steps (store_read terms.now) n) numbers.old }
+    ensures { Wrote (store_read terms.now) (options_in terms.now) (full_steps (store_read terms.now) n) (place numbers.old key.old) (place numbers.new key.new) }
 {
-    let mut at = put_names(store, numbers, key, n);
-    let end = number(store, OP_REGION_END, n);
-    let mut r = number(store, OP_REGION_FIRST, n);
-    while r < end {
-        let rest = least(at, key.len());
-        at += put_blocks_full(
-            store,
-            types,
-            numbers,
-            &mut key[rest..],
-            Blocks::InRegion(r),
-            ignore,
-        );
-        r += 1;
+    put_names(terms, numbers, key, n);
+    for r in number(terms.store, OP_REGION_FIRST, n)..number(terms.store, OP_REGION_END, n) {
+        put_blocks_full(terms, numbers, key, Blocks::InRegion(r));
     }
-    at
 }
 
 // A list of blocks, the following components in order:
@@ -60,56 +42,26 @@ pub fn put_op_full(
 //
 // So any use of a block or value that is defined anywhere in the list is already numbered by the time it's written: forward references too.
 #[cycle(put_blocks_full_put_op_full_put_ops_full)]
-pub fn put_blocks_full(
-    store: &[u32],
-    types: &[u32],
-    numbers: &mut WalkNumbers,
-    key: &mut [u8],
-    blocks: Blocks,
-    ignore: Ignore,
-) -> usize
-    requires readable { Readable store.now types.now }
-    requires blocks_exist { BlocksExist (columns store.now) blocks }
-    requires key_fits { KeyFits (store_in store.now) (options_of ignore types.now) (listed_steps (store_in store.now) (block_list (store_in store.now) blocks)) (from numbers.old key.old) }
-    ensures { Wrote (store_in store.now) (options_of ignore types.now) (listed_steps (store_in store.now) (block_list (store_in store.now) blocks)) (from numbers.old key.old) (up_to numbers.new key.new result) }
+pub fn put_blocks_full(terms: &Terms, numbers: &mut WalkNumbers, key: &mut Sink, blocks: Blocks)
+    requires blocks_exist { BlocksExist (columns terms.now.store.now) blocks }
+    requires definitions_fit { DefinitionsFit (store_read terms.now) (listed_steps (store_read terms.now) (block_list (store_read terms.now) blocks)) numbers.old }
+    ensures { Wrote (store_read terms.now) (options_in terms.now) (listed_steps (store_read terms.now) (block_list (store_read terms.now) blocks)) (place numbers.old key.old) (place numbers.new key.new) }
 {
-    let first = put_block_shells(store, types, numbers, key, blocks, ignore);
-    let second = least(first, key.len());
-    let mut at = first + put_op_shells(store, types, numbers, &mut key[second..], blocks, ignore);
-    let mut from = 0;
-    loop {
-        let Found::At(b) = next_in(store, blocks, from) else {
-            return at;
-        };
-        let rest = least(at, key.len());
-        at += put_ops_full(store, types, numbers, &mut key[rest..], b, ignore);
-        from = b + 1;
+    put_block_shells(terms, numbers, key, blocks);
+    put_op_shells(terms, numbers, key, blocks);
+    for b in BlocksIn::new(terms.store, blocks) {
+        put_ops_full(terms, numbers, key, b);
     }
 }
 
 // Pass 3 of one block: its operations in full.
 #[cycle(put_blocks_full_put_op_full_put_ops_full)]
-fn put_ops_full(
-    store: &[u32],
-    types: &[u32],
-    numbers: &mut WalkNumbers,
-    key: &mut [u8],
-    b: usize,
-    ignore: Ignore,
-) -> usize
-    requires readable { Readable store.now types.now }
-    requires b_bound { b < block_count (columns store.now) }
-    requires key_fits { KeyFits (store_in store.now) (options_of ignore types.now) (ops_in_full (store_in store.now) b) (from numbers.old key.old) }
-    ensures { Wrote (store_in store.now) (options_of ignore types.now) (ops_in_full (store_in store.now) b) (from numbers.old key.old) (up_to numbers.new key.new result) }
+fn put_ops_full(terms: &Terms, numbers: &mut WalkNumbers, key: &mut Sink, b: usize)
+    requires b_bound { b < block_count (columns terms.now.store.now) }
+    requires definitions_fit { DefinitionsFit (store_read terms.now) (ops_in_full (store_read terms.now) b) numbers.old }
+    ensures { Wrote (store_read terms.now) (options_in terms.now) (ops_in_full (store_read terms.now) b) (place numbers.old key.old) (place numbers.new key.new) }
 {
-    let mut at = 0;
-    let mut from = 0;
-    loop {
-        let Found::At(n) = next_op(store, b, from) else {
-            return at;
-        };
-        let rest = least(at, key.len());
-        at += put_op_full(store, types, numbers, &mut key[rest..], n, ignore);
-        from = n + 1;
+    for n in OpsIn::new(terms.store, b) {
+        put_op_full(terms, numbers, key, n);
     }
 }

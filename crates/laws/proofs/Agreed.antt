@@ -4,6 +4,7 @@ use Prim.Native.Nat.{ℕ}
 use mathlib.Core.Bool.{Bool, true, false}
 use mathlib.Core.List.{List}
 use mathlib.Core.Path.{◌≡◌, refl, sym, ap, ap₂, ◌∙◌}
+use Rattle.std.specs.Prelude.{Ok, Err}
 use Rattle.rules.specs.Store.{Store, sound}
 use Rattle.rules.specs.Fragments.{Sort, op, block, region}
 use Rattle.rules.specs.Shells.{Ignore}
@@ -23,30 +24,29 @@ use Rattle.rules.proofs.Rust.Hash.{hashes_as_the_rust}
 use Rattle.layout.specs.Reading.{store_in}
 use Rattle.journal.specs.Words.{sound_lent}
 use Rattle.mapping.specs.MappingWords.{mapping_of}
-use Rattle.pairing.specs.Told.{answer_of}
+use Rattle.pairing.specs.Told.{answer_of, compared_of}
+use Rattle.pairing.specs.declared.types.Unequal.TheVariants as code
 use Rattle.equivalence.specs.Calls as comparisons
-use Rattle.pairing.specs.declared.types.EqResult.{EqResult}
-use Rattle.pairing.specs.declared.types.EqResult.TheVariants as code
-use Rattle.hashing.specs.declared.types.Hashed.TheVariants.{Hash}
+use Rattle.laws.specs.Answers.{EqAnswer}
 use Rattle.laws.specs.Demand2.{verdict_of, AnswersAgree, Demand2OfCode}
 use Rattle.laws.proofs.Obeyed.{ruled, here, equal_only, hash_said}
 
 -- an answer that names a pair names it in the Rust's words too
-names_only : (q : EqResult) (p : Pair) (n : ℕ) → answer_of q ≡ neq p n → verdict_of q ≡ named p
-unfolding answer_of verdict_of named named_by pair_of
-names_only (code.Eq m) p n e = cc
-names_only (code.FirstNEQOps l r m) p n e = let k : pair_of op l r ≡ p = cc in ap named k
-names_only (code.FirstNEQRegions l r m) p n e = let k : pair_of region l r ≡ p = cc in ap named k
-names_only (code.FirstNEQBlocks l r m) p n e = let k : pair_of block l r ≡ p = cc in ap named k
-names_only (code.Refused m) p n e = cc
+names_only : (q : EqAnswer) (p : Pair) (n : ℕ) → compared_of q ≡ neq p n → verdict_of q ≡ named p
+unfolding answer_of compared_of verdict_of named named_by pair_of
+names_only (Ok (Ok m)) p n e = cc
+names_only (Ok (Err (code.FirstNEQOps l r m))) p n e = let k : pair_of op l r ≡ p = cc in ap named k
+names_only (Ok (Err (code.FirstNEQRegions l r m))) p n e = let k : pair_of region l r ≡ p = cc in ap named k
+names_only (Ok (Err (code.FirstNEQBlocks l r m))) p n e = let k : pair_of block l r ≡ p = cc in ap named k
+names_only (Err cause) p n e = cc
 
-eq_word : (q : EqResult) (n : ℕ) → answer_of q ≡ eq n → verdict_of q ≡ rust.Eq
+eq_word : (q : EqAnswer) (n : ℕ) → compared_of q ≡ eq n → verdict_of q ≡ rust.Eq
 unfolding verdict_of
 eq_word q n e = ap verdict_of (equal_only q n e)
 
 -- a walk that has not run too deep, and an answer of the rules that is the code's
-same_words : (w : Walk) → ((t : State) → w ≡ ended too_deep t → ⊥) → (m after : Mapping) (q : EqResult)
-    → comparison_of w m ≡ record { answer = answer_of q; mapping = after } → answered w ≡ rust.answers (verdict_of q) after
+same_words : (w : Walk) → ((t : State) → w ≡ ended too_deep t → ⊥) → (m after : Mapping) (q : EqAnswer)
+    → comparison_of w m ≡ record { answer = compared_of q; mapping = after } → answered w ≡ rust.answers (verdict_of q) after
 unfolding comparison_of answered result_of standing
 same_words (on st) deep m after q e =
     let k : verdict_of q ≡ rust.Eq = eq_word q st.paired (sym (ap (λ (c : Comparison). c.answer) e)) in
@@ -67,8 +67,8 @@ module _ (b : List ℕ) (sd : sound_lent b ≡ true) (types : List ℕ) (th : ty
   sound_read = renamed_sound types (store_in b) (ruled b sd types th ig f)
 
   module _ (l r : ℕ) (il : In (store_in b) f l) (ir : In (store_in b) f r) (before after : List ℕ) (am : allowed (store_in b) (mapping_of before) ≡ true)
-      (q : EqResult) (a : comparisons.Answered (sound_lent b) b types before after ig f l r q) where
-    walked : comparison_of (compare read ig f l r (mapping_of before)) (mapping_of before) ≡ record { answer = answer_of q; mapping = mapping_of after }
+      (q : EqAnswer) (a : comparisons.Answered (sound_lent b) b types before after ig f l r (compared_of q)) where
+    walked : comparison_of (compare read ig f l r (mapping_of before)) (mapping_of before) ≡ record { answer = compared_of q; mapping = mapping_of after }
     walked =
         sym (comparison_is (store_in b) (ruled b sd types th ig f) ig f types th (mapping_of before) am l r il ir)
         ∙ ap (λ (t : Bool). comparison t (store_in b) types (mapping_of before) ig f l r) (sym sd)
@@ -89,7 +89,7 @@ module _ (b : List ℕ) (sd : sound_lent b ≡ true) (types : List ℕ) (th : ty
         compared = walked;
         compared_as_the_rust = as_the_rust;
         hashed = λ n i h a. hash_said b sd types th ig f n i h a;
-        hashed_as_the_rust = λ n i h a. hash_said b sd types th ig f n i h a ∙ ap Hash (sym (hashes_as_the_rust read sound_read ig f n (here b sd types th ig f n i)));
+        hashed_as_the_rust = λ n i h a. hash_said b sd types th ig f n i h a ∙ ap Ok (sym (hashes_as_the_rust read sound_read ig f n (here b sd types th ig f n i)));
       }
 
 pub demand2_of_code : Demand2OfCode

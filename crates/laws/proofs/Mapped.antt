@@ -22,8 +22,7 @@ use Rattle.journal.specs.Words.{sound_lent}
 use Rattle.building.specs.Calls.{AfterCalls}
 use Rattle.building.proofs.Answering.{after_calls}
 use Rattle.mapping.specs.MappingWords.{mapping_of}
-use Rattle.pairing.specs.declared.types.EqResult.{EqResult}
-use Rattle.laws.specs.Answers.{Compares, SaysEqual}
+use Rattle.laws.specs.Answers.{EqAnswer, Compares, SaysEqual}
 use Rattle.laws.specs.Mapped.{Leaves, MappingsObey, MappingLawsOfCode}
 use Rattle.laws.proofs.Obeyed as obeyed
 
@@ -45,7 +44,7 @@ module _ (b : List ℕ) (sd : sound_lent b ≡ true) (types : List ℕ) (th : ty
   unfolding MappingLawsOfSound RenamedSound
   mapping_laws = mapping_laws_of_sound read (renamed_sound types (store_in b) (obeyed.ruled b sd types th ig f)) ig f
 
-  module _ (x y : ℕ) (ix : In (store_in b) f x) (iy : In (store_in b) f y) (q : EqResult) (words : List ℕ) (l : Leaves b types ig f x y q words) where
+  module _ (x y : ℕ) (ix : In (store_in b) f x) (iy : In (store_in b) f y) (q : EqAnswer) (words : List ℕ) (l : Leaves b types ig f x y q words) where
     said : SaysEqual q → Equal read ig f x y
     unfolding Leaves Compares
     said e = obeyed.said b sd types th ig f x y ix iy q (words, l) e

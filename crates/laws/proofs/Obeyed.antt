@@ -5,6 +5,7 @@ use Prim.Native.Nat.{ℕ}
 use mathlib.Core.Bool.{Bool, true}
 use mathlib.Core.List.{List}
 use mathlib.Core.Path.{◌≡◌, sym, ap, subst, ◌∙◌}
+use Rattle.std.specs.Prelude.{Ok, Err}
 use Rattle.rules.specs.Store.{Store, sound}
 use Rattle.rules.specs.Fragments.{Sort, Premise}
 use Rattle.rules.specs.Shells.{Ignore}
@@ -24,29 +25,26 @@ use Rattle.building.specs.Calls.{AfterCalls}
 use Rattle.building.proofs.Answering.{after_calls}
 use Rattle.mapping.specs.MappingWords.{mapping_of, empty_words}
 use Rattle.equivalence.specs.Calls as comparisons
-use Rattle.pairing.specs.Told.{answer_of}
+use Rattle.pairing.specs.Told.{answer_of, compared_of}
 use Rattle.mapping.proofs.Unmapped.{empty_words_lem}
-use Rattle.pairing.specs.declared.types.EqResult.{EqResult}
-use Rattle.pairing.specs.declared.types.EqResult.TheVariants.{Eq, FirstNEQOps, FirstNEQRegions, FirstNEQBlocks, Refused}
+use Rattle.pairing.specs.declared.types.Unequal.TheVariants.{FirstNEQOps, FirstNEQRegions, FirstNEQBlocks}
 use Rattle.hashing.specs.Calls as hashes
-use Rattle.hashing.specs.declared.types.Hashed.{Hashed}
-use Rattle.hashing.specs.declared.types.Hashed.TheVariants as code
-use Rattle.laws.specs.Answers.{Compares, Hashes, SaysEqual, AnswersObey, Demand3OfCode}
+use Rattle.laws.specs.Answers.{EqAnswer, HashAnswer, Compares, Hashes, SaysEqual, AnswersObey, Demand3OfCode}
 
 -- ---- single answers
 
-pub equal_only : (q : EqResult) (n : ℕ) → answer_of q ≡ eq n → q ≡ Eq n
-unfolding answer_of
-equal_only (Eq m) n e = let k : m ≡ n = cc in ap Eq k
-equal_only (FirstNEQOps l r m) n e = cc
-equal_only (FirstNEQRegions l r m) n e = cc
-equal_only (FirstNEQBlocks l r m) n e = cc
-equal_only (Refused m) n e = cc
+pub equal_only : (q : EqAnswer) (n : ℕ) → compared_of q ≡ eq n → q ≡ Ok (Ok n)
+unfolding answer_of compared_of
+equal_only (Ok (Ok m)) n e = let k : m ≡ n = cc in ap (λ (x : ℕ). Ok (Ok x)) k
+equal_only (Ok (Err (FirstNEQOps l r m))) n e = cc
+equal_only (Ok (Err (FirstNEQRegions l r m))) n e = cc
+equal_only (Ok (Err (FirstNEQBlocks l r m))) n e = cc
+equal_only (Err cause) n e = cc
 
-pub hash_only : (h : Hashed) (w : ℕ) → hashes.hashed_of h ≡ hash_is w → h ≡ code.Hash w
+pub hash_only : (h : HashAnswer) (w : ℕ) → hashes.hashed_of h ≡ hash_is w → h ≡ Ok w
 unfolding hashes.hashed_of
-hash_only (code.Hash v) w e = let k : v ≡ w = cc in ap code.Hash k
-hash_only (code.Refused c) w e = cc
+hash_only (Ok v) w e = let k : v ≡ w = cc in ap Ok k
+hash_only (Err cause) w e = cc
 
 module _ (b : List ℕ) (sd : sound_lent b ≡ true) (types : List ℕ) (th : types_hold types ≡ true) (ig : Ignore) (f : Sort) where
   pub ruled : sound (store_in b) ≡ true
@@ -70,26 +68,26 @@ module _ (b : List ℕ) (sd : sound_lent b ≡ true) (types : List ℕ) (th : ty
 
   module _ (x y : ℕ) (ix : In (store_in b) f x) (iy : In (store_in b) f y) where
     -- the rules' comparison has this answer, and leaves what the words are read as
-    pub told : (q : EqResult) (words : List ℕ) → comparisons.Answered (sound_lent b) b types empty_words words ig f x y q
-        → comparison true (store_in b) types empty_mapping ig f x y ≡ record { answer = answer_of q; mapping = mapping_of words }
+    pub told : (q : EqAnswer) (words : List ℕ) → comparisons.Answered (sound_lent b) b types empty_words words ig f x y (compared_of q)
+        → comparison true (store_in b) types empty_mapping ig f x y ≡ record { answer = compared_of q; mapping = mapping_of words }
     told q words h =
-        subst (λ (m : Mapping). comparison true (store_in b) types m ig f x y ≡ record { answer = answer_of q; mapping = mapping_of words }) empty_words_lem
-        (subst (λ (t : Bool). comparison t (store_in b) types (mapping_of empty_words) ig f x y ≡ record { answer = answer_of q; mapping = mapping_of words }) sd h.told)
+        subst (λ (m : Mapping). comparison true (store_in b) types m ig f x y ≡ record { answer = compared_of q; mapping = mapping_of words }) empty_words_lem
+        (subst (λ (t : Bool). comparison t (store_in b) types (mapping_of empty_words) ig f x y ≡ record { answer = compared_of q; mapping = mapping_of words }) sd h.told)
 
-    answered : (q : EqResult) → Compares b types ig f x y q → (comparison true (store_in b) types empty_mapping ig f x y).answer ≡ answer_of q
+    answered : (q : EqAnswer) → Compares b types ig f x y q → (comparison true (store_in b) types empty_mapping ig f x y).answer ≡ compared_of q
     unfolding Compares
     answered q (words, h) = ap (λ (c : Comparison). c.answer) (told q words h)
 
-    pub says : (q : EqResult) → Compares b types ig f x y q → Equal read ig f x y → SaysEqual q
+    pub says : (q : EqAnswer) → Compares b types ig f x y q → Equal read ig f x y → SaysEqual q
     says q c e =
         let w = (equal_answered (store_in b) ruled types th ig f x y ix iy).0 e in
         (w.0, equal_only q w.0 (sym (answered q c) ∙ w.1))
 
-    pub said : (q : EqResult) → Compares b types ig f x y q → SaysEqual q → Equal read ig f x y
-    unfolding answer_of
-    said q c (n, e) = (equal_answered (store_in b) ruled types th ig f x y ix iy).1 (n, answered q c ∙ ap answer_of e)
+    pub said : (q : EqAnswer) → Compares b types ig f x y q → SaysEqual q → Equal read ig f x y
+    unfolding answer_of compared_of
+    said q c (n, e) = (equal_answered (store_in b) ruled types th ig f x y ix iy).1 (n, answered q c ∙ ap compared_of e)
 
-  pub hash_said : (x : ℕ) → In (store_in b) f x → (h : Hashed) → Hashes b types ig f x h → h ≡ code.Hash (hash read ig f x)
+  pub hash_said : (x : ℕ) → In (store_in b) f x → (h : HashAnswer) → Hashes b types ig f x h → h ≡ Ok (hash read ig f x)
   unfolding Hashes
   hash_said x ix h a =
       hash_only h (hash read ig f x)
@@ -102,7 +100,7 @@ module _ (b : List ℕ) (sd : sound_lent b ≡ true) (types : List ℕ) (th : ty
         symmetric = λ a d ia id m q p c k e. says d a id ia p k (laws.symmetric a d (here a ia) (here d id) (apart a d m) (said a d ia id q c e));
         transitive = λ a d g ia id ig' m n q p r c k o e u. says a g ia ig' r o (laws.transitive a d g (here a ia) (here d id) (here g ig') (apart a d m) (apart d g n) (said a d ia id q c e) (said d g id ig' p k u));
         hashes = λ a d ia id m q c e h k x y.
-            (hash read ig f a, hash_said a ia h x, hash_said d id k y ∙ ap code.Hash (sym (laws.hashes a d (here a ia) (here d id) (apart a d m) (said a d ia id q c e))));
+            (hash read ig f a, hash_said a ia h x, hash_said d id k y ∙ ap Ok (sym (laws.hashes a d (here a ia) (here d id) (apart a d m) (said a d ia id q c e))));
       }
 
 pub demand3_of_code : Demand3OfCode

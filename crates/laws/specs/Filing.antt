@@ -1,7 +1,8 @@
 -- Order 2 of what the offered calls answer: "A filer relies on this: with an empty mapping and under the premise of the laws, 0 comes for
 -- two operations, two blocks or two regions exactly when they are equal under that ignore rule", and under a list of renamed types. An answer is any that meets the offered
 -- call's contract, as in `Answers`.
-use Rattle.std.specs.Prelude.{ℕ, true, List, ◌↔◌, ◌≡◌, pos, take}
+use Rattle.std.specs.Prelude.{ℕ, true, List, ◌↔◌, ◌≡◌, pos, take, Ok}
+use Rattle.std.specs.declared.cmp.Ordering.{Ordering}
 use Rattle.rules.specs.Lists.{all}
 use Rattle.rules.specs.Fragments.{Sort, Premise}
 use Rattle.rules.specs.Shells.{Ignore}
@@ -12,19 +13,16 @@ use Rattle.rules.specs.Laws.{In}
 use Rattle.layout.specs.Reading.{store_in}
 use Rattle.journal.specs.Words.{sound_lent}
 use Rattle.building.specs.Calls.{Made, IsEmpty}
-use Rattle.pairing.specs.declared.types.EqResult.{EqResult}
 use Rattle.keys.specs.Calls as keys
 use Rattle.key_bytes.specs.Order.{ordering_of}
-use Rattle.keys.specs.declared.types.Keyed.TheVariants.{Length}
-use Rattle.key_bytes.specs.declared.types.Ordering.{Ordering}
-use Rattle.laws.specs.Answers.{Compares, SaysEqual}
+use Rattle.laws.specs.Answers.{EqAnswer, Compares, SaysEqual}
 
 -- the offered key call of a has written this key into some lent bytes (`operation_key`, `basic_block_key`, `region_key`)
 pub record Writes (buffer types : List ℕ) (ig : Ignore) (f : Sort) (a : ℕ) (key : List ℕ) : Type 0 where
   pub before : List ℕ
   pub after : List ℕ
   pub length : ℕ
-  pub answered : keys.Answered (sound_lent buffer) buffer types ig f a before after (Length length)
+  pub answered : keys.Answered (sound_lent buffer) buffer types ig f a before after (keys.keyed_of (Ok length))
   pub begin : take length after ≡ key
 
 -- two such keys compare as r (`compare_keys`)
@@ -35,7 +33,7 @@ Compare k l r = ordering_of r ≡ compare_bytes k l
 unfoldable pub AnswersFile : List ℕ → List ℕ → Ignore → Sort → Type 0
 AnswersFile buffer types ig f =
     (a b : ℕ) → In (store_in buffer) f a → In (store_in buffer) f b → Premise (store_in buffer) f a b
-    → (q : EqResult) → Compares buffer types ig f a b q
+    → (q : EqAnswer) → Compares buffer types ig f a b q
     → (k l : List ℕ) → Writes buffer types ig f a k → Writes buffer types ig f b l → (r : Ordering) → Compare k l r
     → (ordering_number (ordering_of r) ≡ pos 0) ↔ SaysEqual q
 

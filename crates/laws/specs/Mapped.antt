@@ -14,28 +14,28 @@ use Rattle.journal.specs.Words.{sound_lent}
 use Rattle.building.specs.Calls.{Made, IsEmpty}
 use Rattle.mapping.specs.MappingWords.{mapping_of, empty_words}
 use Rattle.equivalence.specs.Calls as comparisons
-use Rattle.pairing.specs.declared.types.EqResult.{EqResult}
-use Rattle.laws.specs.Answers.{SaysEqual}
+use Rattle.pairing.specs.Told.{compared_of}
+use Rattle.laws.specs.Answers.{EqAnswer, SaysEqual}
 
 -- the offered comparison of a with b, lent this list of types and an empty mapping, answers q and leaves these words
-unfoldable pub Leaves : List ℕ → List ℕ → Ignore → Sort → ℕ → ℕ → EqResult → List ℕ → Type 0
-Leaves buffer types ig f a b q words = comparisons.Answered (sound_lent buffer) buffer types empty_words words ig f a b q
+unfoldable pub Leaves : List ℕ → List ℕ → Ignore → Sort → ℕ → ℕ → EqAnswer → List ℕ → Type 0
+Leaves buffer types ig f a b q words = comparisons.Answered (sound_lent buffer) buffer types empty_words words ig f a b (compared_of q)
 
 -- the rules' laws, of the words on one buffer, for one list of types, ignore rule and sort of fragment. Backwards, and one followed by another,
 -- under the premise of the laws, or where the comparison that gives the other mapping says equal
 pub record MappingsObey (buffer types : List ℕ) (ig : Ignore) (f : Sort) : Type 0 where
   pub bijective :
       (a b : ℕ) → In (store_in buffer) f a → In (store_in buffer) f b
-      → (q : EqResult) (words : List ℕ) → Leaves buffer types ig f a b q words → SaysEqual q
+      → (q : EqAnswer) (words : List ℕ) → Leaves buffer types ig f a b q words → SaysEqual q
       → (t : Table) → Bijection (table_of (mapping_of words) t) (defines_of (store_in buffer) f a t) (defines_of (store_in buffer) f b t)
   pub backwards :
       (a b : ℕ) → In (store_in buffer) f a → In (store_in buffer) f b
-      → (q p : EqResult) (there back : List ℕ) → Leaves buffer types ig f a b q there → Leaves buffer types ig f b a p back
+      → (q p : EqAnswer) (there back : List ℕ) → Leaves buffer types ig f a b q there → Leaves buffer types ig f b a p back
       → SaysEqual q → Premise (store_in buffer) f a b ⊎ SaysEqual p
       → Backwards (mapping_of there) (mapping_of back)
   pub followed :
       (a b c : ℕ) → In (store_in buffer) f a → In (store_in buffer) f b → In (store_in buffer) f c
-      → (q p r : EqResult) (first second whole : List ℕ)
+      → (q p r : EqAnswer) (first second whole : List ℕ)
       → Leaves buffer types ig f a b q first → Leaves buffer types ig f b c p second → Leaves buffer types ig f a c r whole
       → SaysEqual q → SaysEqual p → (Premise (store_in buffer) f a b × Premise (store_in buffer) f b c) ⊎ SaysEqual r
       → Followed (mapping_of first) (mapping_of second) (mapping_of whole)

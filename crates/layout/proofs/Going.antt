@@ -61,9 +61,6 @@ module _ {C : Cols} {owners count most size : ℕ} {test : ℕ → Bool} {firsts
 
 -- the child before `left`
 module _ {C : Cols} {owners count most size : ℕ} {test : ℕ → Bool} {firsts : List ℕ} {left : ℕ} (g : Going C owners count most size test firsts left) (l : 0 < left) where
-  pub going_few : left - 1 < most
-  going_few = omega (arith, g.low, g.few)
-
   pub going_word : {w : ℕ} → w ≡ at C owners (left - 1) → w < size
   going_word e = omega (arith, e, g.words (left - 1) (omega (arith, g.low)))
 

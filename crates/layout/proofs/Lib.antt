@@ -16,9 +16,11 @@ pub mod ChildList
 pub mod Finds
 pub mod Linking
 pub mod Following
+pub mod Sorts
 pub mod Going
 pub mod Seeking
 pub mod Slots
 pub mod Empty
 pub mod OwnerKeys
 pub mod KindWords
+pub mod Std

@@ -6,12 +6,12 @@ use native.Mathlib.Omega.{arith}
 use mathlib.Core.Bool.{Bool, true, false, cond, ◌&&◌}
 use mathlib.Core.Option.{Option, none, some}
 use mathlib.Core.Path.{◌≡◌, refl, sym, ap, subst, ◌∙◌}
-use borrow.Author.Tests.{eqb-true, eq-eqb, ne_eqb, ltb-true, lt-ltb, le-ltb}
+use borrow.Author.Tests.{eqb-true, eq-eqb, ne_eqb, ltb-true, lt-ltb}
 use lib.Dec.{eqb, ltb}
 use Rattle.rules.proofs.Basics.Tests.{and_left, and_right, and_both}
 use Rattle.layout.specs.Columns.{Cols, at, op_parent, op_next, region_block_end, block_region, block_op_end, block_next}
 use Rattle.layout.specs.Reading.{op_count, block_count, parent_from}
-use Rattle.layout.specs.declared.children.Found.TheVariants.{At}
+use Rattle.std.specs.Prelude as std
 use Rattle.layout.specs.Children.{first_word, word_from, found_from, link_found, behind_child}
 use Rattle.layout.specs.Soundness.{placed, next_child, link_holds, parent_linked, op_linked, block_linked}
 use Rattle.layout.proofs.Laid.{Laid}
@@ -55,13 +55,9 @@ module _ (next link end n : ℕ) where
       ap (λ (b : Bool). b && cond (eqb next 0) (eqb end (n + 1)) true) (eq-eqb link next e)
       ∙ ap (λ (b : Bool). cond b (eqb end (n + 1)) true) (eq-eqb next 0 z)
 
-pub parent_linked_lem : (C : Cols) (n b w next : ℕ) → w ≡ suc b → parent_linked C n (parent_from w) next ≡ link_holds next (at C op_next n) (at C block_op_end b) n
-unfolding parent_linked parent_from
-parent_linked_lem C n b w next e = ap (λ (v : ℕ). parent_linked C n (parent_from v) next) e
-
 -- ---- the next child
 
-pub link_at : (link : ℕ) → (link ≡ 0 → ⊥) → At link ≡ link_found link
+pub link_at : (link : ℕ) → (link ≡ 0 → ⊥) → std.Some link ≡ link_found link
 unfolding link_found
 link_at zero ne = absurd (ne refl)
 link_at (suc n) ne = refl
@@ -92,15 +88,6 @@ pub record Behind (C : Cols) (owners count w from : ℕ) : Type 0 where
   pub above : 0 < from
   pub exists : from - 1 < count
   pub word : at C owners (from - 1) ≡ w
-
-pub behind_none : (C : Cols) (owners count w from : ℕ) → from ≡ 0 → behind_child C owners count w from ≡ false
-unfolding behind_child
-behind_none C owners count w from z = ap (behind_child C owners count w) z
-
-pub behind_high : (C : Cols) (owners count w from : ℕ) → count < from → behind_child C owners count w from ≡ false
-unfolding behind_child
-behind_high C owners count w zero l = refl
-behind_high C owners count w (suc n) l = ap (λ (b : Bool). b && eqb (at C owners n) w) (le-ltb n count (omega arith))
 
 pub behind_by_lem : (C : Cols) (owners count w from : ℕ) → (from ≡ 0 → ⊥) → from ≤ count → behind_child C owners count w from ≡ eqb (at C owners (from - 1)) w
 unfolding behind_child

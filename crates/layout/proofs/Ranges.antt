@@ -44,10 +44,6 @@ in_from a (suc n) k l h = go (dec_lt a k) (in_from (suc a) n k)
     go (yes m) rest = Memᴰ.tail (rest (omega arith) (omega arith))
     go (no m) rest = let e : k ≡ a = omega arith in Memᴰ.head e
 
-pub in_range : (a e k : ℕ) → a ≤ k → k < e → Memᴰ k (range a e)
-unfolding range
-in_range a e k l h = in_from a (e - a) k l (omega arith)
-
 module _ {A : Type 0} (p : A → Bool) (f : ℕ → A) where
   numbers_from_lem : (i n a e : ℕ) → a ≤ e → e ≤ i + n → ((j : ℕ) → i ≤ j → j < i + n → p (f j) ≡ true → InRange a e j) → ((j : ℕ) → InRange a e j → p (f j) ≡ true)
       → numbers_from i p (tabulate_from i n f) ≡ range (max i a) e

@@ -3,15 +3,15 @@ use Prim.Native.Nat.{ℕ, zero, suc, ◌+◌, ◌-◌, ◌<◌, ◌≤◌}
 use native.Mathlib.Decide.{ℕ_discrete}
 use native.Mathlib.Nat.{not-suc-le-zero}
 use native.Mathlib.Omega.{arith}
-use mathlib.Core.Bool.{Bool, true, false, not, ◌&&◌}
+use mathlib.Core.Bool.{Bool, true, false, ◌&&◌}
 use mathlib.Core.List.{List, [], ◌∷◌}
 use mathlib.Core.Path.{◌≡◌, refl, sym, ap, ap₂, subst, ◌∙◌}
-use borrow.Author.Tests.{eqb-true, le-leb, lt-leb, not-true, not-false}
+use borrow.Author.Tests.{le-leb, lt-leb}
 use lib.Dec.{eqb, leb}
 use lib.ListN.{length, get_or, drop, length-drop}
-use lib.Seq.{length-take-le, get_or-take, get_or-drop, ext_get_or}
+use lib.Seq.{length-take-le, get_or-take, get_or-drop}
 use Rattle.rules.specs.Lists.{every, all, all_below, same_list}
-use Rattle.rules.proofs.Basics.Tests.{and_both, all_at, all_below_at, all_below_of, numbers_same}
+use Rattle.rules.proofs.Basics.Tests.{and_both, all_at, all_below_at, all_below_of}
 use Rattle.rules.proofs.Basics.Appended.{mem_get_d}
 use Rattle.layout.specs.Columns.{Cols, at}
 use Rattle.layout.specs.Reading.{slice}
@@ -93,13 +93,6 @@ pub next : (t : Bool) (ts : List Bool) {r : Bool} → t ≡ true → every ts �
 unfolding every
 next t ts h e = ap (λ (b : Bool). b && every ts) h ∙ e
 
--- a test that was answered, and whose answer was asked for by `!`
-pub failed : {r t : Bool} → r ≡ t → not r ≡ true → t ≡ false
-failed {r = r} e h = sym e ∙ not-true r h
-
-pub held : {r t : Bool} → r ≡ t → not r ≡ false → t ≡ true
-held {r = r} e h = sym e ∙ not-false r h
-
 -- a number that was read, and compared with the most it may be
 module _ {r n m : ℕ} (e : r ≡ n) where
   pub above : m < r → leb n m ≡ false
@@ -170,10 +163,6 @@ unfolding end_before
 later_end C k zero h = absurd (h refl)
 later_end C k (suc n) h = ap (at C k) (let e : suc n - 1 ≡ n = omega arith in e)
 
--- two lists, at one place
-abbrev pub agree_at : (ℕ → ℕ → Bool) → List ℕ → List ℕ → ℕ → Bool
-agree_at p xs ys i = p (get_or xs i 0) (get_or ys i 0)
-
 -- ---- equal lists
 
 pub same_length : (xs ys : List ℕ) → (length xs ≡ length ys → ⊥) → same_list eqb xs ys ≡ false
@@ -182,13 +171,3 @@ same_length [] [] ne = absurd (ne refl)
 same_length [] (y ∷ ys) ne = refl
 same_length (x ∷ xs) [] ne = refl
 same_length (x ∷ xs) (y ∷ ys) ne = and_false (eqb x y) (same_list eqb xs ys) (same_length xs ys (λ e. ne (ap suc e)))
-
-pub same_fail : (xs ys : List ℕ) (i : ℕ) → i < length xs → i < length ys → (get_or xs i 0 ≡ get_or ys i 0 → ⊥) → same_list eqb xs ys ≡ false
-same_fail xs ys i l r ne = not_same (same_list eqb xs ys) refl
-  where
-    not_same : (t : Bool) → same_list eqb xs ys ≡ t → same_list eqb xs ys ≡ false
-    not_same true e = absurd (ne (ap (λ (zs : List ℕ). get_or zs i 0) ((numbers_same xs ys).0 e)))
-    not_same false e = e
-
-pub same_pass : (xs ys : List ℕ) → length xs ≡ length ys → Before (agree_at eqb xs ys) (length xs) → same_list eqb xs ys ≡ true
-same_pass xs ys e b = (numbers_same xs ys).1 (ext_get_or 0 xs ys e (λ i l. eqb-true _ _ (b i l)))

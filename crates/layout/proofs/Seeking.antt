@@ -12,8 +12,7 @@ use Rattle.rules.specs.Lists.{numbers_from, numbers_where}
 use Rattle.rules.specs.Store.{Store, Op, Block, no_op, no_block, is_parent, ops_of, blocks_of}
 use Rattle.rules.proofs.Soundness.Children.{numbers_at}
 use Rattle.layout.specs.Children.{first_from, on_from, found_from}
-use Rattle.layout.specs.declared.children.Found.{Found}
-use Rattle.layout.specs.declared.children.Found.TheVariants.{At, Nothing}
+use Rattle.std.specs.Prelude as std
 
 -- each entry is below all later ones
 abbrev pub Rising : List ℕ → Type 0
@@ -22,12 +21,12 @@ Rising (x ∷ xs) = ((y : ℕ) → Memᴰ y xs → x < y) × Rising xs
 
 -- ---- what an answer says of the list
 
-pub found_at : (r : Found) (q : Option ℕ) (x : ℕ) → r ≡ found_from q → r ≡ At x → q ≡ some x
+pub found_at : (r : std.Option ℕ) (q : Option ℕ) (x : ℕ) → r ≡ found_from q → r ≡ std.Some x → q ≡ some x
 unfolding found_from
 found_at r none x e h = cc
 found_at r (some y) x e h = cc
 
-pub found_nothing : (r : Found) (q : Option ℕ) → r ≡ found_from q → r ≡ Nothing → q ≡ none
+pub found_nothing : (r : std.Option ℕ) (q : Option ℕ) → r ≡ found_from q → r ≡ std.None → q ≡ none
 unfolding found_from
 found_nothing r none e h = refl
 found_nothing r (some y) e h = cc
@@ -152,12 +151,12 @@ pub record NextChild (xs : List ℕ) (from n : ℕ) : Type 0 where
 next_of : (from n : ℕ) (xs : List ℕ) → Rising xs → first_from from xs ≡ some n → NextChild xs from n
 next_of from n xs rise e = let w = found_in from n xs e in record { child = w.0; later = w.1; rest = from_found from n xs rise e }
 
-pub next_op : (s : Store) (b from n : ℕ) (r : Found) → r ≡ found_from (first_from from (ops_of s b)) → r ≡ At n → NextChild (ops_of s b) from n
+pub next_op : (s : Store) (b from n : ℕ) (r : std.Option ℕ) → r ≡ found_from (first_from from (ops_of s b)) → r ≡ std.Some n → NextChild (ops_of s b) from n
 next_op s b from n r e h = next_of from n (ops_of s b) (ops_rise s b) (found_at r _ n e h)
 
-pub next_block : (s : Store) (r from b : ℕ) (q : Found) → q ≡ found_from (first_from from (blocks_of s r)) → q ≡ At b → NextChild (blocks_of s r) from b
+pub next_block : (s : Store) (r from b : ℕ) (q : std.Option ℕ) → q ≡ found_from (first_from from (blocks_of s r)) → q ≡ std.Some b → NextChild (blocks_of s r) from b
 next_block s r from b q e h = next_of from b (blocks_of s r) (blocks_rise s r) (found_at q _ b e h)
 
 -- where none was found, nothing is left
-pub none_next : (from : ℕ) (xs : List ℕ) (r : Found) → r ≡ found_from (first_from from xs) → r ≡ Nothing → on_from from xs ≡ []
+pub none_next : (from : ℕ) (xs : List ℕ) (r : std.Option ℕ) → r ≡ found_from (first_from from xs) → r ≡ std.None → on_from from xs ≡ []
 none_next from xs r e h = from_none from xs (found_nothing r _ e h)

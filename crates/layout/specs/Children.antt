@@ -2,8 +2,7 @@
 use Rattle.std.specs.Prelude.{ℕ, zero, suc, Bool, false, cond, ◌&&◌, List, [], ◌∷◌, eqb, leb, ltb}
 use Rattle.std.proofs.Math.Option.{Option, none, some}
 use Rattle.layout.specs.Columns.{Cols, at}
-use Rattle.layout.specs.declared.children.Found.{Found}
-use Rattle.layout.specs.declared.children.Found.TheVariants.{At, Nothing}
+use Rattle.std.specs.Prelude as std
 
 -- the first entry not below n
 unfoldable pub first_from : ℕ → List ℕ → Option ℕ
@@ -26,14 +25,14 @@ word_from none = 0
 word_from (some n) = n
 
 -- the same as the code's answer
-unfoldable pub found_from : Option ℕ → Found
-found_from none = Nothing
-found_from (some n) = At n
+unfoldable pub found_from : Option ℕ → std.Option ℕ
+found_from none = std.None
+found_from (some n) = std.Some n
 
 -- what a link leads to
-unfoldable pub link_found : ℕ → Found
-link_found zero = Nothing
-link_found (suc n) = At (suc n)
+unfoldable pub link_found : ℕ → std.Option ℕ
+link_found zero = std.None
+link_found (suc n) = std.Some (suc n)
 
 -- the number before `from` is that of a child, of so many, which has the word w in a column of owners
 unfoldable pub behind_child : Cols → ℕ → ℕ → ℕ → ℕ → Bool

@@ -4,4 +4,6 @@ pub mod Reading
 pub mod Owners
 pub mod Soundness
 pub mod Children
+pub mod OpsLeft
+pub mod Families
 pub mod Causes

@@ -14,29 +14,18 @@ use crate::row_checks::{block_laid, op_laid, region_laid, value_laid};
 use crate::rows::end_before;
 
 // The counts are within the totals of document 01.
+#[tactic(auto, unfolding(crate::specs::Soundness::counts_hold, crate::specs::Reading::op_count, crate::specs::Reading::block_count, crate::specs::Reading::region_count, crate::specs::Reading::value_count, crate::specs::Reading::operand_count, crate::specs::Reading::successor_count, crate::specs::Reading::attribute_count, rules::specs::Lists::every))]
 fn counts_hold(store: &[u32]) -> bool
     requires { length store.now ≡ buffer_length }
     ensures { result ≡ counts_hold (columns store.now) }
 {
-    if number(store, COUNTS, OPS) > 512 {
-        return false;
-    }
-    if number(store, COUNTS, BLOCKS) > 256 {
-        return false;
-    }
-    if number(store, COUNTS, REGIONS) > 256 {
-        return false;
-    }
-    if number(store, COUNTS, VALUES) > 2048 {
-        return false;
-    }
-    if number(store, COUNTS, OPERANDS) > 2048 {
-        return false;
-    }
-    if number(store, COUNTS, SUCCESSORS) > 512 {
-        return false;
-    }
-    number(store, COUNTS, ATTRIBUTES) <= 1024
+    number(store, COUNTS, OPS) <= 512
+        && number(store, COUNTS, BLOCKS) <= 256
+        && number(store, COUNTS, REGIONS) <= 256
+        && number(store, COUNTS, VALUES) <= 2048
+        && number(store, COUNTS, OPERANDS) <= 2048
+        && number(store, COUNTS, SUCCESSORS) <= 512
+        && number(store, COUNTS, ATTRIBUTES) <= 1024
 }
 
 // Row i of a table is laid out. A table is named by its index among the counts: OPS, BLOCKS, REGIONS or VALUES.
@@ -61,12 +50,10 @@ fn rows_laid(store: &[u32], table: usize) -> bool
     ensures { result ≡ all_below (at (columns store.now) counts table) (row_laid (columns store.now) table) }
 {
     let count = number(store, COUNTS, table);
-    let mut i = 0;
-    while i < count {
+    for i in 0..count {
         if !row_laid(store, table, i) {
             return false;
         }
-        i += 1;
     }
     true
 }
@@ -80,10 +67,8 @@ fn sum_of(store: &[u32], column: usize, n: usize) -> usize
     ensures { result ≡ sum (tabulate n (at (columns store.now) column)) }
 {
     let mut total: usize = 0;
-    let mut i = 0;
-    while i < n {
+    for i in 0..n {
         total += number(store, column, i);
-        i += 1;
     }
     total
 }
@@ -102,6 +87,7 @@ fn attribute_sum(store: &[u32]) -> usize
 
 // The shared lists of operands and of successors end where the last operation's slice ends, and there are as many attributes as their
 // owners count.
+#[tactic(auto, unfolding(crate::specs::Soundness::counts_laid, crate::specs::Reading::op_count, crate::specs::Reading::operand_count, crate::specs::Reading::successor_count, crate::specs::Reading::attribute_count, rules::specs::Lists::every))]
 fn counts_laid(store: &[u32]) -> bool
     requires counts_bounded { CountsBounded store.now }
     requires store_value { all_below (op_count (columns store.now)) (op_laid (columns store.now)) ≡ true }
@@ -109,40 +95,23 @@ fn counts_laid(store: &[u32]) -> bool
     ensures { result ≡ counts_laid (columns store.now) }
 {
     let ops = number(store, COUNTS, OPS);
-    if end_before(store, OP_OPERAND_END, ops) != number(store, COUNTS, OPERANDS) {
-        return false;
-    }
-    if end_before(store, OP_SUCCESSOR_END, ops) != number(store, COUNTS, SUCCESSORS) {
-        return false;
-    }
-    attribute_sum(store) == number(store, COUNTS, ATTRIBUTES)
+    end_before(store, OP_OPERAND_END, ops) == number(store, COUNTS, OPERANDS)
+        && end_before(store, OP_SUCCESSOR_END, ops) == number(store, COUNTS, SUCCESSORS)
+        && attribute_sum(store) == number(store, COUNTS, ATTRIBUTES)
 }
 
 // The buffer is laid out.
+#[tactic(auto, unfolding(crate::specs::Soundness::laid_out, crate::specs::Soundness::row_laid, crate::specs::Reading::op_count, crate::specs::Reading::block_count, crate::specs::Reading::region_count, crate::specs::Reading::value_count, rules::specs::Lists::every))]
 pub fn laid_out(store: &[u32]) -> bool
     requires { length store.now ≡ buffer_length }
     ensures { result ≡ laid_out (columns store.now) }
 {
-    if !counts_hold(store) {
-        return false;
-    }
-    if !rows_laid(store, OPS) {
-        return false;
-    }
-    if !rows_laid(store, BLOCKS) {
-        return false;
-    }
-    if !rows_laid(store, REGIONS) {
-        return false;
-    }
-    if !rows_laid(store, VALUES) {
-        return false;
-    }
-    if !counts_laid(store) {
-        return false;
-    }
-    if !ops_linked(store) {
-        return false;
-    }
-    blocks_linked(store)
+    counts_hold(store)
+        && rows_laid(store, OPS)
+        && rows_laid(store, BLOCKS)
+        && rows_laid(store, REGIONS)
+        && rows_laid(store, VALUES)
+        && counts_laid(store)
+        && ops_linked(store)
+        && blocks_linked(store)
 }

@@ -1,107 +1,87 @@
 // Children are found one after the other: the next operation of a block, or the next block of a region, from a number on. And the operation
 // around a block.
-ghost use Rattle.std.specs.Prelude.{◌≡◌, [], ◌∷◌, max, ◌-◌, ◌<◌, ◌≤◌, length};
+ghost use Rattle.std.specs.Prelude.{◌≡◌, ℕ, List, [], ◌∷◌, ◌-◌, ◌<◌, ◌≤◌, length};
 ghost use Rattle.rules.specs.Store.{ops_of, blocks_of};
 ghost use Rattle.layout.specs.Columns.{buffer_length, column_size, columns, column_count};
 ghost use Rattle.layout.specs.Reading.{block_count, region_count, around, store_in};
 ghost use Rattle.layout.specs.Soundness.{Arranged};
 ghost use Rattle.layout.specs.Children.{first_from, first_word, found_from, link_found, behind_child};
+ghost use Rattle.layout.specs.Families.{OwnsChildren};
 
-use crate::columns::{
-    BLOCK_NEXT, BLOCK_OP_END, BLOCK_OP_FIRST, BLOCK_REGION, BLOCKS, COUNTS, OP_NEXT, OP_PARENT,
-    OPS, REGION_BLOCK_END, REGION_BLOCK_FIRST, REGION_OP, at, number,
-};
-
-// A child's number, or that there is none.
-#[derive(Clone, Copy)]
-pub enum Found {
-    At(usize),
-    Nothing,
-}
+use crate::columns::{BLOCK_REGION, COUNTS, REGION_OP, at, number};
+use crate::families::{BLOCKS_IN_REGIONS, Family, OPS_IN_BLOCKS};
 
 // The first index from `a` up to `e` at which a column has the word `w`.
-fn first_at(store: &[u32], column: usize, w: u32, a: usize, e: usize) -> Found
+fn first_at(store: &[u32], column: usize, w: u32, a: usize, e: usize) -> Option<usize>
     requires store_len { length store.now ≡ buffer_length }
     requires column_lt_column_count { column < column_count }
     requires e_bound { e ≤ column_size column }
     ensures { result ≡ found_from (first_word (columns store.now) column w a (e - a)) }
 {
-    let mut i = a;
-    while i < e {
+    for i in a..e {
         if at(store, column, i) == w {
-            return Found::At(i);
+            return Some(i);
         }
-        i += 1;
     }
-    Found::Nothing
-}
-
-// The larger of two numbers.
-fn larger(a: usize, b: usize) -> usize
-    ensures { result ≡ max a b }
-{
-    if a < b {
-        return b;
-    }
-    a
+    None
 }
 
 // The number before `from` is that of a child, of `count` children, whose owner's word is `w`.
+#[tactic(auto, unfolding(crate::specs::Children::behind_child, rules::specs::Lists::every))]
 pub fn is_behind(store: &[u32], owners: usize, count: usize, w: u32, from: usize) -> bool
     requires store_len { length store.now ≡ buffer_length }
     requires owners_lt_column_count { owners < column_count }
     requires count_bound { count ≤ column_size owners }
     ensures { result ≡ behind_child (columns store.now) owners count w from }
 {
-    if from == 0 {
-        return false;
-    }
-    if from > count {
-        return false;
-    }
-    at(store, owners, from - 1) == w
+    from != 0 && from <= count && at(store, owners, from - 1) == w
 }
 
 // What a link leads to: 0 is no child's link.
-fn linked(link: usize) -> Found
+fn linked(link: usize) -> Option<usize>
     ensures { result ≡ link_found link }
 {
     if link == 0 {
-        return Found::Nothing;
+        return None;
     }
-    Found::At(link)
+    Some(link)
 }
 
-// The first operation of a block whose number is not below `from`. Behind an operation of the block its link tells; else the block's range
-// is searched, which a store built by calls begins with its first operation.
-pub fn next_op(store: &[u32], block: usize, from: usize) -> Found
+// The first child of an owner whose number is not below `from`. Behind a child of the owner its link tells; else the owner's range is
+// searched, which a store built by calls begins with its first child. (Out of line, a walk takes half as long again.)
+#[inline(always)]
+fn next_child(store: &[u32], family: Family, owner: usize, from: usize) -> Option<usize>
+    ghost children: { List ℕ }
+    requires store_len { length store.now ≡ buffer_length }
+    requires owns_children { OwnsChildren (columns store.now) family owner children }
+    ensures { result ≡ found_from (first_from from children) }
+{
+    let count = number(store, COUNTS, family.table);
+    let word = (owner + family.shift) as u32;
+    if is_behind(store, family.owners, count, word, from) {
+        return linked(number(store, family.links, from - 1));
+    }
+    let start = from.max(number(store, family.firsts, owner));
+    let end = number(store, family.ends, owner);
+    first_at(store, family.owners, word, start, end)
+}
+
+// The first operation of a block whose number is not below `from`.
+pub fn next_op(store: &[u32], block: usize, from: usize) -> Option<usize>
     requires arranged { Arranged store.now }
     requires block_bound { block < block_count (columns store.now) }
     ensures { result ≡ found_from (first_from from (ops_of (store_in store.now) block)) }
 {
-    let ops = number(store, COUNTS, OPS);
-    let parent = block as u32 + 1;
-    if is_behind(store, OP_PARENT, ops, parent, from) {
-        return linked(number(store, OP_NEXT, from - 1));
-    }
-    let start = larger(from, number(store, BLOCK_OP_FIRST, block));
-    let end = number(store, BLOCK_OP_END, block);
-    first_at(store, OP_PARENT, parent, start, end)
+    next_child(store, OPS_IN_BLOCKS, block, from)
 }
 
-// The first block of a region whose number is not below `from`, likewise.
-pub fn next_block(store: &[u32], region: usize, from: usize) -> Found
+// The first block of a region whose number is not below `from`.
+pub fn next_block(store: &[u32], region: usize, from: usize) -> Option<usize>
     requires arranged { Arranged store.now }
     requires region_bound { region < region_count (columns store.now) }
     ensures { result ≡ found_from (first_from from (blocks_of (store_in store.now) region)) }
 {
-    let blocks = number(store, COUNTS, BLOCKS);
-    if is_behind(store, BLOCK_REGION, blocks, region as u32, from) {
-        return linked(number(store, BLOCK_NEXT, from - 1));
-    }
-    let start = larger(from, number(store, REGION_BLOCK_FIRST, region));
-    let end = number(store, REGION_BLOCK_END, region);
-    first_at(store, BLOCK_REGION, region as u32, start, end)
+    next_child(store, BLOCKS_IN_REGIONS, region, from)
 }
 
 // The operation around a block.
@@ -114,11 +94,11 @@ pub fn op_around(store: &[u32], block: usize) -> usize
 }
 
 // The same of a list that has only `n`.
-pub fn one_from(n: usize, from: usize) -> Found
+pub fn one_from(n: usize, from: usize) -> Option<usize>
     ensures { result ≡ found_from (first_from from (n ∷ [])) }
 {
     if from <= n {
-        return Found::At(n);
+        return Some(n);
     }
-    Found::Nothing
+    None
 }

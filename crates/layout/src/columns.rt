@@ -246,6 +246,22 @@ pub fn put_same(store: &mut [u32], column: usize, n: usize, count: usize, v: u32
     fill_at(store, from, count, v);
 }
 
+// Copies the words of a column from `a` up to `e` over those of the column `into`, from word `to` on. Where the two lie over one another, each
+// word is read before it is overwritten.
+pub fn copy(store: &mut [u32], into: usize, to: usize, column: usize, a: usize, e: usize)
+    requires store_len { length store.old ≡ buffer_length }
+    requires into_lt_column_count { into < column_count }
+    requires column_lt_column_count { column < column_count }
+    requires a_le_e { a ≤ e }
+    requires e_bound { e ≤ column_size column }
+    requires to_bound { to + (e - a) ≤ column_size into }
+    ensures { columns store.new ≡ write_range (columns store.old) into to (slice (columns store.old column) a e) }
+{
+    let from = base(column);
+    let behind = base(into);
+    store.copy_within(from + a..from + e, behind + to);
+}
+
 // Inserts a word at `a`: the words of a column from `a` up to `e` move one place on, and the word at `e` is overwritten.
 pub fn insert(store: &mut [u32], column: usize, a: usize, e: usize, v: u32)
     requires store_len { length store.old ≡ buffer_length }

@@ -1,4 +1,5 @@
-// Whether a number is that of an operation, a block, a region or a value.
+// Whether a number is that of an operation, a block, a region or a value. Four one-line tests, each held to its own rule: one with the table as
+// a parameter would need four contracts all the same.
 ghost use Rattle.std.specs.Prelude.{◌≡◌, length};
 ghost use Rattle.rules.specs.Store.{op_exists, block_exists, region_exists, value_exists};
 ghost use Rattle.layout.specs.Columns.{buffer_length};

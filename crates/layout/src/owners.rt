@@ -10,7 +10,7 @@ use crate::columns::{BLOCK_ATTRIBUTES, FIRST_BLOCK_SLOT, OP_ATTRIBUTES, number};
 use crate::existing::{block_exists, op_exists};
 
 // What an attribute is set on.
-#[derive(Clone, Copy)]
+#[derive(Clone, Copy, PartialEq, Eq, Debug)]
 pub enum Owner {
     Op(u32),
     Block(u32),

@@ -17,6 +17,7 @@ use crate::rows::{holds, is_tiled, owns};
 
 // Operation n may stand in block b: the operation around b has a smaller number and is one region less deep, and n lies in b's range of
 // operations.
+#[tactic(auto, unfolding(crate::specs::Soundness::placed, crate::specs::Reading::block_count, crate::specs::Reading::region_count, rules::specs::Lists::every))]
 fn placed_in(store: &[u32], n: usize, b: usize) -> bool
     requires counts_bounded { CountsBounded store.now }
     requires n_bound { n < 512 }
@@ -34,10 +35,7 @@ fn placed_in(store: &[u32], n: usize, b: usize) -> bool
         return false;
     }
     let outer = at(store, OP_DEPTH, around) as usize;
-    if number(store, OP_DEPTH, n) != outer + 1 {
-        return false;
-    }
-    holds(store, BLOCK_OP_FIRST, BLOCK_OP_END, b, n)
+    number(store, OP_DEPTH, n) == outer + 1 && holds(store, BLOCK_OP_FIRST, BLOCK_OP_END, b, n)
 }
 
 // Operation n stands so in its parent block, or it has no parent and its depth is 0.
@@ -90,6 +88,7 @@ fn arguments_owned(store: &[u32], m: usize) -> bool
 }
 
 // Operation n's slices of the two shared lists begin where those of the operation before it end.
+#[tactic(auto, unfolding(crate::specs::Soundness::lists_tiled, crate::specs::Reading::operand_count, crate::specs::Reading::successor_count, rules::specs::Lists::every))]
 fn lists_tiled(store: &[u32], n: usize) -> bool
     requires counts_bounded { CountsBounded store.now }
     requires n_bound { n < 512 }
@@ -104,65 +103,49 @@ fn lists_tiled(store: &[u32], n: usize) -> bool
 }
 
 // Operation n's row is laid out.
+#[tactic(auto, unfolding(crate::specs::Soundness::op_laid, rules::specs::Lists::every))]
 pub fn op_laid(store: &[u32], n: usize) -> bool
     requires counts_bounded { CountsBounded store.now }
     requires n_bound { n < 512 }
     ensures { result ≡ op_laid (columns store.now) n }
 {
-    if !is_placed(store, n) {
-        return false;
-    }
-    if !regions_owned(store, n) {
-        return false;
-    }
-    if !results_owned(store, n) {
-        return false;
-    }
-    if !lists_tiled(store, n) {
-        return false;
-    }
-    number(store, OP_ATTRIBUTES, n) <= 8
+    is_placed(store, n)
+        && regions_owned(store, n)
+        && results_owned(store, n)
+        && lists_tiled(store, n)
+        && number(store, OP_ATTRIBUTES, n) <= 8
 }
 
 // Block m's row is laid out.
+#[tactic(auto, unfolding(crate::specs::Soundness::block_laid, crate::specs::Reading::region_count, crate::specs::Reading::op_count, rules::specs::Lists::every))]
 pub fn block_laid(store: &[u32], m: usize) -> bool
     requires counts_bounded { CountsBounded store.now }
     requires m_bound { m < 256 }
     ensures { result ≡ block_laid (columns store.now) m }
 {
     let region = number(store, BLOCK_REGION, m);
-    if region >= number(store, COUNTS, REGIONS) {
-        return false;
-    }
-    if !holds(store, REGION_BLOCK_FIRST, REGION_BLOCK_END, region, m) {
-        return false;
-    }
-    if !arguments_owned(store, m) {
-        return false;
-    }
-    if number(store, BLOCK_OP_END, m) > number(store, COUNTS, OPS) {
-        return false;
-    }
-    number(store, BLOCK_ATTRIBUTES, m) <= 8
+    region < number(store, COUNTS, REGIONS)
+        && holds(store, REGION_BLOCK_FIRST, REGION_BLOCK_END, region, m)
+        && arguments_owned(store, m)
+        && number(store, BLOCK_OP_END, m) <= number(store, COUNTS, OPS)
+        && number(store, BLOCK_ATTRIBUTES, m) <= 8
 }
 
 // Region g's row is laid out.
+#[tactic(auto, unfolding(crate::specs::Soundness::region_laid, crate::specs::Reading::op_count, crate::specs::Reading::block_count, rules::specs::Lists::every))]
 pub fn region_laid(store: &[u32], g: usize) -> bool
     requires counts_bounded { CountsBounded store.now }
     requires g_bound { g < 256 }
     ensures { result ≡ region_laid (columns store.now) g }
 {
     let op = number(store, REGION_OP, g);
-    if op >= number(store, COUNTS, OPS) {
-        return false;
-    }
-    if !holds(store, OP_REGION_FIRST, OP_REGION_END, op, g) {
-        return false;
-    }
-    number(store, REGION_BLOCK_END, g) <= number(store, COUNTS, BLOCKS)
+    op < number(store, COUNTS, OPS)
+        && holds(store, OP_REGION_FIRST, OP_REGION_END, op, g)
+        && number(store, REGION_BLOCK_END, g) <= number(store, COUNTS, BLOCKS)
 }
 
 // Value v lies in its owner's range.
+#[tactic(auto, unfolding(crate::specs::Soundness::value_laid, crate::specs::Soundness::in_owner, crate::specs::Reading::owner_from, crate::specs::Reading::op_count, crate::specs::Reading::block_count, rules::specs::Lists::every))]
 pub fn value_laid(store: &[u32], v: usize) -> bool
     requires counts_bounded { CountsBounded store.now }
     requires v_bound { v < 2048 }
@@ -176,8 +159,6 @@ pub fn value_laid(store: &[u32], v: usize) -> bool
         }
         return holds(store, OP_RESULT_FIRST, OP_RESULT_END, owner, v);
     }
-    if owner >= number(store, COUNTS, BLOCKS) {
-        return false;
-    }
-    holds(store, BLOCK_ARGUMENT_FIRST, BLOCK_ARGUMENT_END, owner, v)
+    owner < number(store, COUNTS, BLOCKS)
+        && holds(store, BLOCK_ARGUMENT_FIRST, BLOCK_ARGUMENT_END, owner, v)
 }

@@ -8,23 +8,19 @@ use crate::columns::{number, words};
 use crate::lists::all_are;
 
 // The range from `a` to `e` does not end before it begins, and none of its numbers is `n` or above.
+#[tactic(auto, unfolding(crate::specs::Soundness::ranged, rules::specs::Lists::every))]
 pub fn ranged(a: usize, e: usize, n: usize) -> bool
     ensures { result ≡ Rattle.layout.specs.Soundness.ranged a e n }
 {
-    if e < a {
-        return false;
-    }
-    e <= n
+    e >= a && e <= n
 }
 
 // The number `n` lies in the range from `a` to `e`.
+#[tactic(auto, unfolding(crate::specs::Soundness::within, rules::specs::Lists::every))]
 pub fn within(a: usize, e: usize, n: usize) -> bool
     ensures { result ≡ Rattle.layout.specs.Soundness.within a e n }
 {
-    if n < a {
-        return false;
-    }
-    n < e
+    n >= a && n < e
 }
 
 // Each word of a column in the range from `a` to `e` is `w`.
@@ -86,16 +82,14 @@ pub fn row_words(store: &[u32], first: usize, end: usize, row: usize, column: us
 }
 
 // The range from `a` to `e` is one of numbers below `total`, and each word of a column in it is `w`.
+#[tactic(auto, unfolding(crate::specs::Soundness::owned_within, rules::specs::Lists::every))]
 pub fn owns(store: &[u32], column: usize, a: usize, e: usize, total: usize, w: u32) -> bool
     requires store_len { length store.now ≡ buffer_length }
     requires column_lt_column_count { column < column_count }
     requires total_bound { total ≤ column_size column }
     ensures { result ≡ owned_within (columns store.now) column a e total w }
 {
-    if !ranged(a, e, total) {
-        return false;
-    }
-    all_owned(store, column, a, e, w)
+    ranged(a, e, total) && all_owned(store, column, a, e, w)
 }
 
 // Where the slice of a shared list ends that stands before operation n's; `column` has the ends.
@@ -112,6 +106,7 @@ pub fn end_before(store: &[u32], column: usize, n: usize) -> usize
 }
 
 // Operation n's slice of a shared list begins where the one before it ends, and is one of the first `total` words.
+#[tactic(auto, unfolding(crate::specs::Soundness::tiled, rules::specs::Lists::every))]
 pub fn is_tiled(store: &[u32], first: usize, end: usize, n: usize, total: usize) -> bool
     requires store_len { length store.now ≡ buffer_length }
     requires first_lt_column_count { first < column_count }
@@ -122,8 +117,5 @@ pub fn is_tiled(store: &[u32], first: usize, end: usize, n: usize, total: usize)
 {
     let a = number(store, first, n);
     let e = number(store, end, n);
-    if a != end_before(store, end, n) {
-        return false;
-    }
-    ranged(a, e, total)
+    a == end_before(store, end, n) && ranged(a, e, total)
 }

@@ -25,13 +25,10 @@ fn keys_rise(store: &[u32], first: usize, count: usize) -> bool
     requires first_bound { first + 8 ≤ slot_count }
     ensures { result ≡ keys_rise (attributes_from (columns store.now) first count) }
 {
-    let mut i = 0;
-    while i + 1 < count {
-        let next = i + 1;
-        if at(store, SLOT_KEY, first + i) >= at(store, SLOT_KEY, first + next) {
+    for i in 1..count {
+        if at(store, SLOT_KEY, first + i - 1) >= at(store, SLOT_KEY, first + i) {
             return false;
         }
-        i = next;
     }
     true
 }
@@ -53,10 +50,7 @@ fn attributes_hold(store: &[u32], first: usize, count: usize) -> bool
     requires first_bound { first + 8 ≤ slot_count }
     ensures { result ≡ attributes_hold (attributes_from (columns store.now) first count) }
 {
-    if !keys_rise(store, first, count) {
-        return false;
-    }
-    kinds_fit(store, first, count)
+    keys_rise(store, first, count) && kinds_fit(store, first, count)
 }
 
 // An operation's operands are values of the store.
@@ -135,18 +129,17 @@ fn block_rules(store: &[u32], m: usize) -> bool
     attributes_hold(store, first, number(store, BLOCK_ATTRIBUTES, m))
 }
 
-// Each operation keeps the rules.
+// Each operation keeps the rules. (One function for this and `blocks_hold`, with the test as a closure in the range's `all`, was tried: that the
+// closure may be called with each number stayed open.)
 fn ops_hold(store: &[u32]) -> bool
     requires { Arranged store.now }
     ensures { result ≡ all_below (op_count (columns store.now)) (op_rules (columns store.now)) }
 {
     let ops = number(store, COUNTS, OPS);
-    let mut n = 0;
-    while n < ops {
+    for n in 0..ops {
         if !op_rules(store, n) {
             return false;
         }
-        n += 1;
     }
     true
 }
@@ -157,12 +150,10 @@ fn blocks_hold(store: &[u32]) -> bool
     ensures { result ≡ all_below (block_count (columns store.now)) (block_rules (columns store.now)) }
 {
     let blocks = number(store, COUNTS, BLOCKS);
-    let mut m = 0;
-    while m < blocks {
+    for m in 0..blocks {
         if !block_rules(store, m) {
             return false;
         }
-        m += 1;
     }
     true
 }
@@ -172,8 +163,5 @@ pub fn is_ruled(store: &[u32]) -> bool
     requires { Arranged store.now }
     ensures { result ≡ sound (store_in store.now) }
 {
-    if !ops_hold(store) {
-        return false;
-    }
-    blocks_hold(store)
+    ops_hold(store) && blocks_hold(store)
 }

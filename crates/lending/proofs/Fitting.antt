@@ -1,16 +1,21 @@
 -- The counts of a mark's row, and those of the tables, word by word. Assumes nothing.
-use Prim.Native.Nat.{ℕ, ◌+◌, ◌*◌}
+use Prim.Native.Nat.{ℕ, ◌+◌, ◌*◌, ◌≤◌}
 use native.Mathlib.Omega.{arith}
-use mathlib.Core.Bool.{Bool}
+use mathlib.Core.Bool.{Bool, true, false, cond}
 use mathlib.Core.List.{[], ◌∷◌}
-use mathlib.Core.Path.{◌≡◌}
-use lib.Dec.{leb}
+use mathlib.Core.Path.{◌≡◌, refl}
+use borrow.Author.Tests.{ltb-false}
+use lib.Dec.{leb, ltb}
+use Rattle.std.specs.Option.{unwrap_or}
+use Rattle.std.specs.Prelude.{Some, None}
 use Rattle.rules.specs.Lists.{every}
 use Rattle.layout.specs.Columns.{Cols, at, counts, mark_counts}
 use Rattle.layout.specs.Reading.{op_count, block_count, region_count, value_count, store_of}
-use Rattle.layout.proofs.Tabulate.{ops_length, blocks_length, regions_length, values_length}
+use Rattle.layout.proofs.Tabulate.{length_tabulate, ops_length, blocks_length, regions_length, values_length}
 use Rattle.journal.specs.Journal.{counts_of, counts_within}
-use Rattle.journal.specs.Words.{row_counts}
+use Rattle.journal.specs.Words.{mark_count, row_counts, row_at, rows_of}
+use Rattle.marks.specs.Raw.{row_of, row_found}
+use Rattle.marks.proofs.Sought.{place_most}
 
 module _ (C : Cols) (i : ℕ) where
   abbrev fits : ℕ → Bool
@@ -26,3 +31,17 @@ module _ (C : Cols) (i : ℕ) where
       ∷ leb (at C mark_counts (8 * i + 2)) (regions_length C t)
       ∷ leb (at C mark_counts (8 * i + 3)) (values_length C t)
       ∷ [])
+
+-- the row of a mark, and how many rows there are where it has none
+module _ (C : Cols) (k : ℕ) where
+  row_low : row_of C k ≤ mark_count C
+  unfolding rows_of
+  row_low = omega (arith, place_most k (rows_of C), length_tabulate (mark_count C) (row_at C))
+
+  pub row_placed : unwrap_or (row_found C k) (mark_count C) ≡ row_of C k
+  unfolding row_found
+  row_placed = go (ltb (row_of C k) (mark_count C)) refl
+    where
+      go : (b : Bool) → ltb (row_of C k) (mark_count C) ≡ b → unwrap_or (cond b (Some (row_of C k)) None) (mark_count C) ≡ row_of C k
+      go true e = refl
+      go false e = omega (arith, row_low, ltb-false (row_of C k) (mark_count C) e)

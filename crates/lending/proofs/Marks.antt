@@ -1,16 +1,15 @@
 -- What is asked of the words alone and what is asked row by row are together what is asked of marks; without a mark nothing is. Assumes
 -- nothing.
-use Prim.Native.Nat.{ℕ, ◌+◌, ◌<◌, ◌≤◌}
+use Prim.Native.Nat.{ℕ, ◌<◌, ◌≤◌}
 use native.Mathlib.Omega.{arith}
 use mathlib.Core.Bool.{Bool, true, false, ◌&&◌}
-use mathlib.Core.List.{List, [], ◌++◌, append-nil}
+use mathlib.Core.List.{List}
 use mathlib.Core.Path.{◌≡◌, refl, sym, ap, ◌∙◌}
 use borrow.Author.Tests.{leb-true, le-leb, eqb-true, eq-eqb, ne_eqb}
-use lib.ListN.{length, drop, drop_of_length-le}
 use Rattle.rules.specs.Lists.{all_below}
 use Rattle.rules.specs.Marks.{max_marks, max_remembered}
 use Rattle.rules.proofs.Basics.Tests.{and_left, and_both, passed, every_of, all_below_of, clash}
-use Rattle.layout.specs.Columns.{Cols, columns, at, pasted, journal_counts}
+use Rattle.layout.specs.Columns.{Cols, columns, at, journal_counts}
 use Rattle.layout.specs.Soundness.{sound_buffer}
 use Rattle.layout.proofs.Scans.{same_tests}
 use Rattle.layout.proofs.Empty.{sound_facts}
@@ -110,10 +109,3 @@ module _ (b : List ℕ) where
 
   pub lent_bare : sound_buffer b ≡ true → mark_count (columns b) ≡ 0 → true ≡ sound_lent b
   lent_bare e none = sym (bare_lent b (sound_facts b e) none)
-
--- the whole written over as much
-pub copied_whole : (zs bs : List ℕ) → length bs ≡ length zs → pasted zs 0 bs ≡ bs
-copied_whole zs bs e =
-    let short : length zs ≤ 0 + length bs = omega (arith, e) in
-    let none : drop (0 + length bs) zs ≡ [] = drop_of_length-le zs short in
-    ap (λ (l : List ℕ). bs ++ l) none ∙ append-nil bs

@@ -93,3 +93,6 @@ module _ (b : List ℕ) (i end : ℕ) (fit : row_fits (columns b) i end ≡ true
                 λ yes. rests_back D U (columns t) undid.behind kept
                 (subst (λ (s : Store). counts_within (counts_of s) (counts_of (store_of D)) ≡ true) (sym (reads ∙ cut_is)) (left_within D i end));
           }
+
+-- what a step back asks for, and how it ends early
+pub ruleset going_back = (unfit, place_within, not_undone, cut_within)

@@ -7,7 +7,6 @@ ghost use Rattle.journal.specs.Words.{mark_count, marks_hold_in, sound_lent};
 use crate::steps::rows_hold;
 use crate::words::words_hold;
 use layout::columns::{COUNTS, MARKS, STORE_LENGTH, at};
-use layout::lists::copy_at;
 
 // The marks of a buffer whose tables are sound, of which at least one is set. The copy takes a large frame, so this must stay a call of its
 // own and not become a part of `is_sound`: that it is called from elsewhere too (`marks_are_sound`) keeps it one.
@@ -20,30 +19,23 @@ fn marks_hold(store: &[u32]) -> bool
         return false;
     }
     let mut copy = [0; STORE_LENGTH];
-    copy_at(&mut copy, 0, store);
+    copy.copy_from_slice(store);
     rows_hold(&mut copy)
 }
 
 // The marks of a buffer whose tables are known to be sound.
+#[tactic(auto, unfolding(journal::specs::Words::mark_count))]
 pub fn marks_are_sound(store: &[u32]) -> bool
     requires { IsSound store.now }
     ensures { result ≡ marks_hold_in (columns store.now) }
 {
-    if at(store, COUNTS, MARKS) == 0 {
-        return true;
-    }
-    marks_hold(store)
+    at(store, COUNTS, MARKS) == 0 || marks_hold(store)
 }
 
 // The tables are sound, and so are those of every mark. Without a mark that is one word more than the tables' check.
+#[tactic(auto, unfolding(journal::specs::Words::mark_count))]
 pub fn is_sound(store: &[u32]) -> bool
     ensures { result ≡ sound_lent store.now }
 {
-    if !layout::sound::is_sound(store) {
-        return false;
-    }
-    if at(store, COUNTS, MARKS) == 0 {
-        return true;
-    }
-    marks_hold(store)
+    layout::sound::is_sound(store) && (at(store, COUNTS, MARKS) == 0 || marks_hold(store))
 }

@@ -12,6 +12,7 @@ use layout::sound::is_sound;
 use undoing::entries::undo_between;
 
 // From the row after it, whose place is `end`, to row i: the journal between them is undone, and the tables are cut.
+#[tactic(auto, using(crate::proofs::Step::going_back))]
 fn step_back(copy: &mut [u32], i: usize, end: usize) -> bool
     requires sound { IsSound copy.old }
     requires copy_bound { mark_count (columns copy.old) ≤ 8 }
@@ -31,6 +32,7 @@ fn step_back(copy: &mut [u32], i: usize, end: usize) -> bool
 }
 
 // All rows hold: each can be gone back to, from the youngest to the oldest, before which nothing is remembered.
+#[tactic(auto, using(crate::proofs::Marks::words_facts, crate::proofs::Reached::end_fits), unfolding(journal::specs::Words::mark_count, journal::specs::Words::entry_count))]
 pub fn rows_hold(copy: &mut [u32]) -> bool
     requires sound { IsSound copy.old }
     requires nonzero { 0 < mark_count (columns copy.old) }
@@ -38,12 +40,10 @@ pub fn rows_hold(copy: &mut [u32]) -> bool
     ensures { result ≡ rows_hold_in (columns copy.old) }
 {
     let mut end = number(copy, JOURNAL_COUNTS, ENTRIES);
-    let mut i = number(copy, COUNTS, MARKS);
-    while i > 0 {
-        if !step_back(copy, i - 1, end) {
+    for i in (0..number(copy, COUNTS, MARKS)).rev() {
+        if !step_back(copy, i, end) {
             return false;
         }
-        i -= 1;
         end = number(copy, MARK_PLACE, i);
     }
     end == 0

@@ -14,22 +14,17 @@ use marks::freeing::replaced_before;
 use marks::rows::row_of;
 
 // There are no more marks and entries than there is room for, and the replacements are counted and few.
+#[tactic(auto, unfolding(crate::specs::Lending::words_hold, rules::specs::Lists::every, journal::specs::Words::mark_count, journal::specs::Words::entry_count))]
 pub fn words_hold(store: &[u32]) -> bool
     requires { length store.now ≡ buffer_length }
     ensures { result ≡ words_hold (columns store.now) }
 {
-    if number(store, COUNTS, MARKS) > 8 {
-        return false;
-    }
     let entries = number(store, JOURNAL_COUNTS, ENTRIES);
-    if entries > 2048 {
+    if number(store, COUNTS, MARKS) > 8 || entries > 2048 {
         return false;
     }
     let replaced = replaced_before(store, entries);
-    if number(store, JOURNAL_COUNTS, REPLACED) != replaced {
-        return false;
-    }
-    replaced <= 1024
+    number(store, JOURNAL_COUNTS, REPLACED) == replaced && replaced <= 1024
 }
 
 // Count k of row i is within that of the tables.
@@ -39,30 +34,25 @@ fn count_fits(store: &[u32], i: usize, k: usize) -> bool
     requires k_bound { k < 8 }
     ensures { result ≡ leb (Rattle.layout.specs.Columns.at (columns store.now) mark_counts (8 * i + k)) (Rattle.layout.specs.Columns.at (columns store.now) counts k) }
 {
-    let most = at(store, COUNTS, k);
-    at(store, MARK_COUNTS, 8 * i + k) <= most
+    at(store, MARK_COUNTS, 8 * i + k) <= at(store, COUNTS, k)
 }
 
 // So are the counts of operations, blocks, regions and values.
+#[tactic(auto, using(crate::proofs::Fitting::within_is), unfolding(rules::specs::Lists::every))]
 fn counts_fit(store: &[u32], i: usize) -> bool
     requires store_len { length store.now ≡ buffer_length }
     requires i_bound { i < 8 }
     ensures { result ≡ counts_within (row_counts (columns store.now) i) (counts_of (store_in store.now)) }
 {
-    if !count_fits(store, i, OPS) {
-        return false;
-    }
-    if !count_fits(store, i, BLOCKS) {
-        return false;
-    }
-    if !count_fits(store, i, REGIONS) {
-        return false;
-    }
-    count_fits(store, i, VALUES)
+    count_fits(store, i, OPS)
+        && count_fits(store, i, BLOCKS)
+        && count_fits(store, i, REGIONS)
+        && count_fits(store, i, VALUES)
 }
 
 // Row i has the number of a mark that no row before it has, and its place and counts are within those of the row after it, whose place is
 // `end` and to whose counts the tables are cut.
+#[tactic(auto, using(crate::proofs::Fitting::row_placed), unfolding(crate::specs::Lending::row_fits, rules::specs::Lists::every, journal::specs::Words::mark_count, marks::specs::Raw::row_found))]
 pub fn row_fits(store: &[u32], i: usize, end: usize) -> bool
     requires store_len { length store.now ≡ buffer_length }
     requires store_bound { mark_count (columns store.now) ≤ 8 }
@@ -70,17 +60,11 @@ pub fn row_fits(store: &[u32], i: usize, end: usize) -> bool
     ensures { result ≡ row_fits (columns store.now) i end }
 {
     let mark = at(store, MARK_NUMBER, i);
-    if mark < 1 {
+    if mark < 1 || mark > 8 {
         return false;
     }
-    if mark > 8 {
-        return false;
-    }
-    if row_of(store, mark) != i {
-        return false;
-    }
-    if number(store, MARK_PLACE, i) > end {
-        return false;
-    }
-    counts_fit(store, i)
+    let marks = number(store, COUNTS, MARKS);
+    row_of(store, mark).unwrap_or(marks) == i
+        && number(store, MARK_PLACE, i) <= end
+        && counts_fit(store, i)
 }

@@ -1,5 +1,5 @@
 -- The digits of a number: written from the last down they stand as the rules have them, and there are as many as its tenths can be taken. Assumes nothing.
-use Prim.Native.Nat.{ℕ, zero, suc, ◌+◌, ◌-◌, ◌/◌, ◌%◌, ◌^◌, ◌≤◌, ◌<◌}
+use Prim.Native.Nat.{ℕ, zero, suc, ◌+◌, ◌-◌, ◌*◌, ◌/◌, ◌%◌, ◌^◌, ◌≤◌, ◌<◌}
 use native.Mathlib.Nat.{add-zero, pow-suc, not-suc-le-zero}
 use native.Mathlib.Omega.{arith}
 use mathlib.Core.Bool.{Bool, true, false, cond}
@@ -46,21 +46,7 @@ pub record Filling (l : List ℕ) (at b count n : ℕ) (out : List ℕ) (rest le
   pub whole : left + length done ≡ count
 
 module _ (l : List ℕ) (at b count n : ℕ) where
-  pub filling_starts : Filling l at b count n l n count
-  filling_starts =
-      record {
-        done = [];
-        stands = pasted_none l (at + count);
-        digits = sym (append-nil (last_digits b count n));
-        whole = add-zero count;
-      }
-
   module _ (room : at + count ≤ length l) (out : List ℕ) (rest : ℕ) where
-    pub filling_length : (left : ℕ) → Filling l at b count n out rest left → length out ≡ length l
-    filling_length left f =
-        let w : left + length f.done ≡ count = f.whole in
-        ap length f.stands ∙ pasted_length l (at + left) f.done (omega arith)
-
     one_less : (k : ℕ) → Filling l at b count n out rest (suc k) → Filling l at b count n (set out (at + k) (digit (rest % b))) (rest / b) k
     unfolding last_digits
     one_less k f =
@@ -96,35 +82,24 @@ module _ (l : List ℕ) (at b count n : ℕ) where
 
 -- ---- how many there are
 
--- so many digits are counted; at most `more` turns follow
-pub record DigitCounting (n rest count : ℕ) : Type 0 where
-  pub more : ℕ
-  pub turns : count + more ≡ 10
-  pub counted : digit_count 10 n + 1 ≡ count + digit_count (suc more) rest
-  pub small : rest < 10 ^ suc more
-
-pub counting_starts : (n : ℕ) → n < 4294967296 → DigitCounting n n 1
-counting_starts n h = record { more = 9; turns = refl; counted = omega arith; small = omega arith }
-
-tenth : (n rest count k : ℕ) → 10 ≤ rest → count + k ≡ 10 → digit_count 10 n + 1 ≡ count + digit_count (suc k) rest → rest < 10 ^ suc k → DigitCounting n (rest / 10) (count + 1)
+pub no_tenths : (n m : ℕ) → n < 10 → digit_count (suc m) n ≡ 1
 unfolding digit_count
-tenth n rest count zero h t e s = let no : 1 ≤ 0 = omega arith in absurd (not-suc-le-zero no)
-tenth n rest count (suc k) h t e s =
-    let c : digit_count (suc (suc k)) rest ≡ suc (digit_count (suc k) (rest / 10)) = ap (λ (q : Bool). cond q 1 (suc (digit_count (suc k) (rest / 10)))) (le-ltb rest 10 h) in
-    record { more = k; turns = omega arith; counted = omega arith; small = omega (arith, pow-suc 10 (suc k)) }
+no_tenths n m h = ap (λ (q : Bool). cond q 1 (suc (digit_count m (n / 10)))) (lt-ltb n 10 h)
 
-pub counting_turn : (n rest count : ℕ) → 10 ≤ rest → DigitCounting n rest count → DigitCounting n (rest / 10) (count + 1)
-counting_turn n rest count h f = tenth n rest count f.more h f.turns f.counted f.small
+ten_power : (k : ℕ) → 1 ≤ 10 ^ k
+ten_power zero = omega arith
+ten_power (suc k) = omega (arith, pow-suc 10 k, ten_power k)
 
-one_digit : (k rest : ℕ) → rest < 10 → digit_count (suc k) rest ≡ 1
+-- a number between two powers of ten that follow each other
+pub between_powers : (k n m : ℕ) → 10 ^ k ≤ n → n < 10 * 10 ^ k → k < m → digit_count m n ≡ k + 1
 unfolding digit_count
-one_digit k rest h = ap (λ (q : Bool). cond q 1 (suc (digit_count k (rest / 10)))) (lt-ltb rest 10 h)
-
-pub counting_ends : (n rest count : ℕ) → rest < 10 → DigitCounting n rest count → count ≡ digit_count 10 n
-counting_ends n rest count h f =
-    let e : digit_count 10 n + 1 ≡ count + digit_count (suc f.more) rest = f.counted in
-    let o : digit_count (suc f.more) rest ≡ 1 = one_digit f.more rest h in
-    omega arith
+between_powers k n zero l h b = absurd (omega arith)
+between_powers zero n (suc m) l h b = no_tenths n m (omega arith)
+between_powers (suc k) n (suc m) l h b =
+    let p : 10 ^ suc k ≡ 10 ^ k * 10 = pow-suc 10 k in
+    let o : 1 ≤ 10 ^ k = ten_power k in
+    let i = between_powers k (n / 10) m (omega arith) (omega arith) (omega arith) in
+    ap (λ (q : Bool). cond q 1 (suc (digit_count m (n / 10)))) (le-ltb n 10 (omega arith)) ∙ omega arith
 
 few_digits : (k n : ℕ) → digit_count k n ≤ k
 unfolding digit_count

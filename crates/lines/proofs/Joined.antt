@@ -71,8 +71,3 @@ set_one l at b h =
     set_split l at b h
     ∙ ap (λ (k : ℕ). take at l ++ b ∷ drop k l) e
     ∙ sym (append_snoc (take at l) b (drop (at + length (b ∷ [])) l))
-
-pub put_one : (l : List ℕ) (at b : ℕ) → at + 1 ≤ length l → Wrote 1 l (set l at b) at (b ∷ []) (at + 1)
-put_one l at b h =
-    let less : at < length l = omega arith in
-    record { written = set_one l at b less; behind = refl; short = omega arith }

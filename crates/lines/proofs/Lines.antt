@@ -47,15 +47,6 @@ share_line_lem equal all share e = ap (λ (n : ℕ). text "share," ++ (decimal n
 
 -- ---- the share
 
-pub of_nothing : (slice whole : ℕ) → whole ≡ 0 → 0 ≡ per_cent slice whole
-unfolding per_cent
-of_nothing slice whole e = ap (λ (q : Bool). cond q 0 (nearest (slice * 100) whole)) (sym (eq-eqb whole 0 e))
-
-pub of_some : (slice whole : ℕ) → 0 < whole → nearest (slice * 100) whole ≡ per_cent slice whole
-unfolding per_cent
-of_some slice whole h =
-    ap (λ (q : Bool). cond q 0 (nearest (slice * 100) whole)) (sym (ne_eqb whole 0 (λ e. let no : 1 ≤ 0 = omega arith in not-suc-le-zero no)))
-
 -- a quotient is rounded up by one at most
 pub up_one : (quotient twice divisor : ℕ) → rounded_up quotient twice divisor ≤ 1
 unfolding rounded_up
@@ -65,26 +56,6 @@ up_one quotient twice divisor = go (ltb divisor twice) (eqb twice divisor)
     go true s = omega arith
     go false true = omega arith
     go false false = omega arith
-
--- the same, as the code tests it
-module _ (quotient twice divisor : ℕ) where
-  pub up_past : divisor < twice → 1 ≡ rounded_up quotient twice divisor
-  unfolding rounded_up
-  up_past l = sym (ap (λ (t : Bool). cond t 1 (cond (eqb twice divisor) (quotient % 2) 0)) (lt-ltb divisor twice l))
-
-  pub up_half : twice ≡ divisor → quotient % 2 ≡ rounded_up quotient twice divisor
-  unfolding rounded_up
-  up_half e =
-      sym
-      (ap (λ (t : Bool). cond t 1 (cond (eqb twice divisor) (quotient % 2) 0)) (le-ltb divisor twice (omega arith))
-      ∙ ap (λ (s : Bool). cond s (quotient % 2) 0) (eq-eqb twice divisor e))
-
-  pub up_not : twice ≤ divisor → (twice ≡ divisor → ⊥) → 0 ≡ rounded_up quotient twice divisor
-  unfolding rounded_up
-  up_not l ne =
-      sym
-      (ap (λ (t : Bool). cond t 1 (cond (eqb twice divisor) (quotient % 2) 0)) (le-ltb divisor twice l)
-      ∙ ap (λ (s : Bool). cond s (quotient % 2) 0) (ne_eqb twice divisor ne))
 
 pub at_most_all : (slice whole : ℕ) → slice ≤ whole → slice * 100 / whole ≤ 100
 at_most_all slice whole h = div-le_of_le-mul whole (omega arith)

@@ -1,5 +1,6 @@
 -- What the code reads of a listing's line, and what it writes.
 pub mod Pieces
+pub mod Fields
 pub mod Reading
 pub mod Parsing
 pub mod Wrote

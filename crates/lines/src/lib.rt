@@ -4,7 +4,6 @@
 pub mod parsing;
 pub mod pieces;
 pub mod printing;
-pub mod reader;
 pub mod reading;
 pub mod texts;
 pub mod writing;

@@ -1,69 +1,47 @@
 // The lines of a listing, from behind their first letter on. A line that has more fields than it may have is bad.
-ghost use Rattle.std.specs.Prelude.{◌≡◌, ◌≤◌, length};
-ghost use Rattle.rules.specs.Lines.{numbers, sort, attribute_line, operand_line, query_line, wholly};
-ghost use Rattle.lines.specs.Reading.{fields_left};
-ghost use Rattle.lines.specs.Parsing.{three_of, sort_read, owner_read, owner_fields, op_fields_of, operation_fields, attribute_line_of, operand_line_of, query_line_of, ReadBlock, ReadLists};
+ghost use Rattle.std.specs.Prelude.{◌≡◌, ℕ, ◌+◌, ◌≤◌, List, length, option_map};
+ghost use Rattle.rules.specs.Lines.{yes_or_no, sort, attribute_line, operand_line, query_line, wholly};
+ghost use Rattle.layout.specs.Owners.{owner_of};
+ghost use Rattle.fragments.specs.Sorts.{sort_of};
+ghost use Rattle.lines.specs.Reading.{told, read};
+ghost use Rattle.lines.specs.Parsing.{owner_fields, fields_as, operation_fields, attribute_line_of, operand_line_of, query_of, ReadBlock, ReadLists};
 
-use crate::reader::{bits_at, ended_at, items_at, number_at, parent_at, word_at};
-use crate::reading::{Bits, Items, ParentRead, Read, Word};
+use crate::reading::Fields;
 use calling::types::{Attribute, OpFields};
 use fragments::ignoring::Ignore;
 use fragments::types::Sort;
 use layout::owners::Owner;
 
-// Three numbers, and where the next field begins.
-#[derive(Clone, Copy)]
-pub enum Three {
-    At(u32, u32, u32, usize),
-    Bad,
-}
-
-// A sort of fragment, and where the next field begins.
-#[derive(Clone, Copy)]
-pub enum SortRead {
-    At(Sort, usize),
-    Bad,
-}
-
-// An owner of attributes, and where the field behind its number begins.
-#[derive(Clone, Copy)]
-pub enum OwnerRead {
-    At(Owner, usize),
-    Bad,
-}
-
-// An operation's fields, and where its lists begin.
-#[derive(Clone, Copy)]
-pub enum OpFieldsRead {
-    At(OpFields, usize),
-    Bad,
-}
-
 // How many results, operands and successors there are.
 #[derive(Clone, Copy)]
-pub enum OpListsRead {
-    Are(usize, usize, usize),
-    Bad,
+pub struct OpLists {
+    pub types: usize,
+    pub operands: usize,
+    pub successors: usize,
 }
 
-// A region, a label, a location, and how many arguments there are.
+// A line that makes a block: what it is given, and how many arguments there are.
 #[derive(Clone, Copy)]
-pub enum BlockLine {
-    Is(u32, u32, u32, usize),
-    Bad,
+pub struct BlockLine {
+    pub region: u32,
+    pub label: u32,
+    pub location: u32,
+    pub arguments: usize,
 }
 
+// A line that sets an attribute.
 #[derive(Clone, Copy)]
-pub enum AttributeLine {
-    Is(Owner, Attribute),
-    Bad,
+pub struct AttributeLine {
+    pub owner: Owner,
+    pub attribute: Attribute,
 }
 
-// An operation, an index and a value.
+// A line that sets an operand.
 #[derive(Clone, Copy)]
-pub enum OperandLine {
-    Is(u32, u32, u32),
-    Bad,
+pub struct OperandLine {
+    pub operation: u32,
+    pub index: u32,
+    pub value: u32,
 }
 
 // A sort of fragment, left, right, and the ignore rule.
@@ -75,187 +53,152 @@ pub struct Query {
     pub ignore: Ignore,
 }
 
-#[derive(Clone, Copy)]
-pub enum QueryLine {
-    Is(Query),
-    Bad,
-}
-
-// Three numbers.
-fn read_three(line: &[u8], at: usize) -> Three
-    ensures { three_of line.now result ≡ numbers 3 (fields_left line.now at) }
-{
-    let Read::At(a, p) = number_at(line, at) else {
-        return Three::Bad;
-    };
-    let Read::At(b, q) = number_at(line, p) else {
-        return Three::Bad;
-    };
-    let Read::At(c, next) = number_at(line, q) else {
-        return Three::Bad;
-    };
-    Three::At(a, b, c, next)
-}
-
 // `o`, `b` or `r`.
-fn read_sort(line: &[u8], at: usize) -> SortRead
-    ensures { sort_read line.now result ≡ sort (fields_left line.now at) }
+#[tactic(auto, unfolding(rules::specs::Lines::sort, rules::specs::Lines::field, rules::specs::Lines::one_of, rules::specs::Bytes::is_text, rules::specs::Lists::same_list, fragments::specs::Sorts::sort_of))]
+fn read_sort(fields: &mut Fields<'_>) -> Option<Sort>
+    ensures { sort fields.old ≡ read (option_map sort_of result) fields.new }
 {
-    let Word::At(letter, next) = word_at(line, at) else {
-        return SortRead::Bad;
-    };
-    match letter {
-        b'o' => SortRead::At(Sort::Op, next),
-        b'b' => SortRead::At(Sort::Block, next),
-        b'r' => SortRead::At(Sort::Region, next),
-        _ => SortRead::Bad,
+    match fields.letter()? {
+        b'o' => Some(Sort::Op),
+        b'b' => Some(Sort::Block),
+        b'r' => Some(Sort::Region),
+        _ => None,
+    }
+}
+
+// 1 for yes or 0 for no.
+#[tactic(auto, unfolding(rules::specs::Lines::yes_or_no))]
+fn yes_or_no(n: u32) -> Option<bool>
+    ensures { (fs : List (List ℕ)) → yes_or_no n fs ≡ read result fs }
+{
+    match n {
+        0 => Some(false),
+        1 => Some(true),
+        _ => None,
     }
 }
 
 // `o` or `b`, and a number.
-fn read_owner(line: &[u8], at: usize) -> OwnerRead
-    ensures { owner_read line.now result ≡ owner_fields (fields_left line.now at) }
+#[tactic(auto, unfolding(crate::specs::Parsing::owner_fields, rules::specs::Lines::owner, rules::specs::Lines::field, rules::specs::Lines::one_of, rules::specs::Bytes::is_text, rules::specs::Lists::same_list, layout::specs::Owners::owner_of))]
+fn read_owner(fields: &mut Fields<'_>) -> Option<Owner>
+    ensures { owner_fields fields.old ≡ read (option_map owner_of result) fields.new }
 {
-    let Word::At(letter, p) = word_at(line, at) else {
-        return OwnerRead::Bad;
-    };
-    let Read::At(n, next) = number_at(line, p) else {
-        return OwnerRead::Bad;
-    };
+    let letter = fields.letter()?;
+    let n = fields.number()?;
     match letter {
-        b'o' => OwnerRead::At(Owner::Op(n), next),
-        b'b' => OwnerRead::At(Owner::Block(n), next),
-        _ => OwnerRead::Bad,
+        b'o' => Some(Owner::Op(n)),
+        b'b' => Some(Owner::Block(n)),
+        _ => None,
     }
 }
 
 // What stands in an operation's line before its lists.
-pub fn read_op_fields(line: &[u8], at: usize) -> OpFieldsRead
-    ensures { op_fields_of line.now result ≡ operation_fields (fields_left line.now at) }
+#[tactic(auto, unfolding(crate::specs::Parsing::operation_fields))]
+pub fn read_op_fields(fields: &mut Fields<'_>) -> Option<OpFields>
+    ensures reads { operation_fields fields.old ≡ read (option_map fields_as result) fields.new }
+    ensures fewer { length fields.new ≤ length fields.old }
 {
-    let Read::At(kind, p) = number_at(line, at) else {
-        return OpFieldsRead::Bad;
-    };
-    let ParentRead::At(parent, q) = parent_at(line, p) else {
-        return OpFieldsRead::Bad;
-    };
-    let Read::At(location, r) = number_at(line, q) else {
-        return OpFieldsRead::Bad;
-    };
-    let Read::At(regions, next) = number_at(line, r) else {
-        return OpFieldsRead::Bad;
-    };
-    let fields = OpFields {
+    let kind = fields.number()?;
+    let parent = fields.parent()?;
+    let location = fields.number()?;
+    let regions = fields.number()?;
+    Some(OpFields {
         kind,
         parent,
         location,
         regions,
-    };
-    OpFieldsRead::At(fields, next)
+    })
 }
 
 // An operation's lists, each written to the start of the buffer for it.
+#[tactic(auto, unfolding(crate::specs::Parsing::operation_lists, rules::specs::Lines::wholly))]
 pub fn read_lists(
-    line: &[u8],
-    at: usize,
+    fields: &mut Fields<'_>,
     types: &mut [u32],
     operands: &mut [u32],
     successors: &mut [u32],
-) -> OpListsRead
-    requires line_in_bounds { length line.now ≤ length types.old }
-    requires line_in_bounds_2 { length line.now ≤ length operands.old }
-    requires line_in_bounds_3 { length line.now ≤ length successors.old }
-    ensures { ReadLists line.now at types.new operands.new successors.new result }
+) -> Option<OpLists>
+    requires types_fit { length fields.old ≤ length types.old + 1 }
+    requires operands_fit { length fields.old ≤ length operands.old + 1 }
+    requires successors_fit { length fields.old ≤ length successors.old + 1 }
+    ensures { ReadLists fields.old types.new operands.new successors.new result }
 {
-    let Items::At(a, p) = items_at(line, at, types) else {
-        return OpListsRead::Bad;
-    };
-    let Items::At(b, q) = items_at(line, p, operands) else {
-        return OpListsRead::Bad;
-    };
-    let Items::At(c, next) = items_at(line, q, successors) else {
-        return OpListsRead::Bad;
-    };
-    if !ended_at(line, next) {
-        return OpListsRead::Bad;
-    }
-    OpListsRead::Are(a, b, c)
+    let types = fields.items(types)?;
+    let operands = fields.items(operands)?;
+    let successors = fields.items(successors)?;
+    fields.is_empty().then_some(OpLists {
+        types,
+        operands,
+        successors,
+    })
 }
 
 // `b` region, label, location, arguments, whose types are written to the start of `types`.
-pub fn block_line(line: &[u8], at: usize, types: &mut [u32]) -> BlockLine
-    requires { length line.now ≤ length types.old }
-    ensures { ReadBlock line.now at types.new result }
+#[tactic(auto, unfolding(rules::specs::Lines::block_line, rules::specs::Lines::wholly))]
+pub fn block_line(fields: &mut Fields<'_>, types: &mut [u32]) -> Option<BlockLine>
+    requires { length fields.old ≤ length types.old + 1 }
+    ensures { ReadBlock fields.old types.new result }
 {
-    let Three::At(region, label, location, p) = read_three(line, at) else {
-        return BlockLine::Bad;
-    };
-    let Items::At(count, next) = items_at(line, p, types) else {
-        return BlockLine::Bad;
-    };
-    if !ended_at(line, next) {
-        return BlockLine::Bad;
-    }
-    BlockLine::Is(region, label, location, count)
+    let region = fields.number()?;
+    let label = fields.number()?;
+    let location = fields.number()?;
+    let arguments = fields.items(types)?;
+    fields.is_empty().then_some(BlockLine {
+        region,
+        label,
+        location,
+        arguments,
+    })
 }
 
 // `a` o or b, number, key, kind, content. The attribute is not inherent.
-pub fn attribute_line(line: &[u8], at: usize) -> AttributeLine
-    ensures { attribute_line_of result ≡ wholly (attribute_line (fields_left line.now at)) }
+#[tactic(auto, unfolding(rules::specs::Lines::attribute_line, rules::specs::Lines::wholly))]
+pub fn attribute_line(fields: &mut Fields<'_>) -> Option<AttributeLine>
+    ensures { wholly (attribute_line fields.old) ≡ told (option_map attribute_line_of result) }
 {
-    let OwnerRead::At(owner, p) = read_owner(line, at) else {
-        return AttributeLine::Bad;
-    };
-    let Three::At(key, kind, content, next) = read_three(line, p) else {
-        return AttributeLine::Bad;
-    };
-    if !ended_at(line, next) {
-        return AttributeLine::Bad;
-    }
+    let owner = read_owner(fields)?;
+    let key = fields.number()?;
+    let kind = fields.number()?;
+    let content = fields.number()?;
     let attribute = Attribute {
         key,
         kind,
         content,
         inherent: false,
     };
-    AttributeLine::Is(owner, attribute)
+    fields
+        .is_empty()
+        .then_some(AttributeLine { owner, attribute })
 }
 
 // `s` operation, index, value.
-pub fn operand_line(line: &[u8], at: usize) -> OperandLine
-    ensures { operand_line_of result ≡ wholly (operand_line (fields_left line.now at)) }
+#[tactic(auto, unfolding(rules::specs::Lines::operand_line, rules::specs::Lines::wholly))]
+pub fn operand_line(fields: &mut Fields<'_>) -> Option<OperandLine>
+    ensures { wholly (operand_line fields.old) ≡ told (option_map operand_line_of result) }
 {
-    let Three::At(n, index, value, p) = read_three(line, at) else {
-        return OperandLine::Bad;
-    };
-    if !ended_at(line, p) {
-        return OperandLine::Bad;
-    }
-    OperandLine::Is(n, index, value)
+    let operation = fields.number()?;
+    let index = fields.number()?;
+    let value = fields.number()?;
+    fields.is_empty().then_some(OperandLine {
+        operation,
+        index,
+        value,
+    })
 }
 
 // `q` o, b or r, left, right, 1 to ignore locations or 0 not to, the 64 bits as one number.
-pub fn query_line(line: &[u8], at: usize) -> QueryLine
-    ensures { query_line_of result ≡ wholly (query_line (fields_left line.now at)) }
+#[tactic(auto, unfolding(rules::specs::Lines::query_line, rules::specs::Lines::wholly))]
+pub fn query_line(fields: &mut Fields<'_>) -> Option<Query>
+    ensures { wholly (query_line fields.old) ≡ told (option_map query_of result) }
 {
-    let SortRead::At(sort, p) = read_sort(line, at) else {
-        return QueryLine::Bad;
-    };
-    let Three::At(left, right, flag, q) = read_three(line, p) else {
-        return QueryLine::Bad;
-    };
-    if flag > 1 {
-        return QueryLine::Bad;
-    }
-    let Bits::At(bits, next) = bits_at(line, q) else {
-        return QueryLine::Bad;
-    };
-    if !ended_at(line, next) {
-        return QueryLine::Bad;
-    }
-    let locations = flag == 1;
+    let sort = read_sort(fields)?;
+    let left = fields.number()?;
+    let right = fields.number()?;
+    let flag = fields.number()?;
+    let locations = yes_or_no(flag)?;
+    let bits = fields.bits()?;
     let ignore = Ignore { locations, bits };
-    QueryLine::Is(Query {
+    fields.is_empty().then_some(Query {
         sort,
         left,
         right,

@@ -11,9 +11,9 @@ ghost use Rattle.lines.specs.Room.{number_room, refusal_room, equal_room, sort_r
 use crate::writing::{put_byte, put_decimal, put_hexadecimal, put_text};
 use fragments::types::Sort;
 
-const COMMA: u8 = 44;
+const COMMA: u8 = b',';
 
-const LINE_FEED: u8 = 10;
+const LINE_FEED: u8 = b'\n';
 
 // A number and the comma behind it.
 fn put_field(out: &mut [u8], at: usize, n: u32) -> usize
@@ -53,6 +53,7 @@ pub fn put_equal(out: &mut [u8], at: usize, paired: u32) -> usize
 }
 
 // A sort of fragment and the comma behind it.
+#[tactic(auto, unfolding(rules::specs::Listings::sort_text, fragments::specs::Sorts::sort_of))]
 fn put_sort(out: &mut [u8], at: usize, sort: Sort) -> usize
     requires { at + sort_room ≤ length out.old }
     ensures { Wrote sort_room out.old out.new at (sort_text (sort_of sort) ++ (comma ∷ [])) result }
@@ -87,6 +88,7 @@ pub fn put_hashes(out: &mut [u8], at: usize, l: u64, r: u64) -> usize
 }
 
 // Whether a quotient is rounded up, 1 or 0, by twice the rest: past the half it is, at the half to the even number.
+#[tactic(auto, unfolding(rules::specs::Listings::rounded_up))]
 fn rounded_up(quotient: u32, twice: u32, divisor: u32) -> u32
     ensures { result ≡ rounded_up quotient twice divisor }
 {
@@ -100,6 +102,7 @@ fn rounded_up(quotient: u32, twice: u32, divisor: u32) -> u32
 }
 
 // How many per cent `part` is of `whole`, to the nearest; 0 if there is nothing.
+#[tactic(auto, using(crate::proofs::Lines::at_most_all, crate::proofs::Lines::up_one), unfolding(rules::specs::Listings::per_cent, rules::specs::Listings::nearest))]
 fn per_cent(part: u32, whole: u32) -> u32
     requires part_le_whole { part ≤ whole }
     requires whole_le_max_ops { whole ≤ max_ops }

@@ -1,208 +1,176 @@
-// The fields of one line, read by position: each function reads the field that begins at `at`, and tells where the next one begins. A line
-// is its bytes before the line feed. A position one past its end says that no field is left.
-ghost use Rattle.std.specs.Prelude.{◌≡◌, ◌+◌, ◌≤◌, length};
+// The fields of one line, which is its bytes before the line feed: each call reads the field that is next, and steps on behind its comma.
+ghost use Rattle.std.specs.Prelude.{◌≡◌, ◌≢◌, ◌+◌, ◌^◌, ◌≤◌, [], ◌∷◌, length, drop, MatchOption, option_map};
 ghost use Rattle.rules.specs.Bytes.{number_below};
-ghost use Rattle.rules.specs.Lines.{field, ignore_bits, parent_block};
-ghost use Rattle.layout.specs.Reading.{slice};
-ghost use Rattle.lines.specs.Reading.{fields_left, FieldEnd, nothing_left, one_byte, block_meaning, digit_value, starts_well, number_of, bits_of, parent_read, word_of, ReadNumber, ReadItems};
+ghost use Rattle.rules.specs.Lines.{fields_of, field, number, numbers, items, ignore_bits, parent_block};
+ghost use Rattle.calling.specs.Types.{parent_of};
+ghost use Rattle.lines.specs.Reading.{nothing_left, one_byte, digit_of, starts_well, told, read, ReadItems};
 
 use crate::pieces::piece_end;
-use calling::types::Parent;
+use crate::texts::same_bytes;
+use std::marker::Model;
 
-// A number, or bytes that are none.
-#[derive(Clone, Copy)]
-pub enum Number {
-    Is(u64),
-    Bad,
+// The fields that are not read yet: what stands behind the last comma that was passed, or nothing. A clause sees the list of them.
+#[derive(Drop)]
+pub struct Fields<'a> {
+    rest: Option<&'a [u8]>,
 }
 
-// A number within 32 bits, and where the next field begins.
-#[derive(Clone, Copy)]
-pub enum Read {
-    At(u32, usize),
-    Bad,
+impl<'a> Model for Fields<'a> {
+    ghost use Rattle.std.specs.Prelude.{List, ℕ, option_copied};
+
+    ghost Value = { List (List ℕ) };
+
+    ghost use Rattle.lines.specs.Fields.{fields_in};
+
+    ghost view = { λ s. fields_in (option_copied s.rest) };
 }
 
-// A number within 64 bits, and where the next field begins.
-#[derive(Clone, Copy)]
-pub enum Bits {
-    At(u64, usize),
-    Bad,
-}
-
-// A parent block or `-`, and where the next field begins.
-#[derive(Clone, Copy)]
-pub enum ParentRead {
-    At(Parent, usize),
-    Bad,
-}
-
-// The byte of a field of one byte, and where the next field begins.
-#[derive(Clone, Copy)]
-pub enum Word {
-    At(u8, usize),
-    Bad,
-}
-
-// How many items there are, and where the field behind them begins.
-#[derive(Clone, Copy)]
-pub enum Items {
-    At(usize, usize),
-    Bad,
-}
-
-// Where the field from `at` on ends: at the first comma, or at the line's end.
-fn field_end(line: &[u8], at: usize) -> usize
-    requires { at ≤ length line.now }
-    ensures { FieldEnd line.now at result }
-{
-    piece_end(line, at, b',')
-}
-
-// No field is left.
-pub fn at_end(line: &[u8], at: usize) -> bool
-    ensures { result ≡ nothing_left (fields_left line.now at) }
-{
-    at > line.len()
-}
-
-// What a digit stands for; 10 for any other byte.
-fn digit_value(b: u8) -> u64
-    ensures { result ≡ digit_value b }
-{
-    if b < b'0' {
-        return 10;
+impl<'a> Fields<'a> {
+    // All fields of a line.
+    pub fn new(line: &'a [u8]) -> Fields<'a>
+        ensures fields { result ≡ fields_of line.now }
+        ensures few { length result ≤ length line.now + 1 }
+    {
+        Fields { rest: Some(line) }
     }
-    if b > b'9' {
-        return 10;
+
+    // No field is left.
+    pub fn is_empty(&self) -> bool
+        ensures { result ≡ nothing_left self.now }
+    {
+        self.rest.is_none()
     }
-    (b - b'0') as u64
+
+    // The bytes that are not read yet: none where no field is left.
+    pub fn rest(&self) -> &'a [u8]
+        ensures left { self.now ≢ [] → self.now ≡ fields_of result.now }
+        ensures ended { self.now ≡ [] → result.now ≡ [] }
+    {
+        self.rest.unwrap_or(b"")
+    }
+
+    // The next field.
+    fn next(&mut self) -> Option<&'a [u8]>
+        ensures { MatchOption result ((self.old ≡ []) × (self.new ≡ [])) (λ f. self.old ≡ f.now ∷ self.new) }
+    {
+        let rest = self.rest?;
+        let end = piece_end(rest, 0, b',');
+        self.rest = rest.get(end + 1..);
+        Some(&rest[..end])
+    }
+
+    // A number within 32 bits.
+    #[tactic(auto, unfolding(rules::specs::Lines::number, rules::specs::Lines::field))]
+    pub fn number(&mut self) -> Option<u32>
+        ensures reads { number self.old ≡ read result self.new }
+        ensures passed { self.new ≡ drop 1 self.old }
+    {
+        let field = self.next()?;
+        parse_u32(field)
+    }
+
+    // A number within 64 bits.
+    #[tactic(auto, unfolding(rules::specs::Lines::ignore_bits, rules::specs::Lines::field))]
+    pub fn bits(&mut self) -> Option<u64>
+        ensures reads { ignore_bits self.old ≡ read result self.new }
+        ensures passed { self.new ≡ drop 1 self.old }
+    {
+        let field = self.next()?;
+        parse_u64(field)
+    }
+
+    // The byte of a field of one byte.
+    #[tactic(auto, unfolding(rules::specs::Lines::field))]
+    pub fn letter(&mut self) -> Option<u8>
+        ensures reads { field one_byte self.old ≡ read result self.new }
+        ensures passed { self.new ≡ drop 1 self.old }
+    {
+        let field = self.next()?;
+        match field {
+            [byte] => Some(*byte),
+            _ => None,
+        }
+    }
+
+    // A parent block or `-`.
+    #[tactic(auto, unfolding(rules::specs::Lines::field, rules::specs::Lines::parent_block, rules::specs::Lines::parent_meaning, rules::specs::Bytes::is_text, calling::specs::Types::parent_of))]
+    pub fn parent(&mut self) -> Option<Option<u32>>
+        ensures reads { parent_block self.old ≡ read (option_map parent_of result) self.new }
+        ensures passed { self.new ≡ drop 1 self.old }
+    {
+        let field = self.next()?;
+        if same_bytes(field, b"-") {
+            return Some(None);
+        }
+        let block = parse_u32(field)?;
+        Some(Some(block))
+    }
+
+    // As many numbers as `list` has words, which are written to it.
+    pub fn numbers(&mut self, list: &mut [u32]) -> Option<()>
+        ensures { numbers (length list.old) self.old ≡ read (option_map (λ _. list.new) result) self.new }
+    {
+        for x in list.iter_mut() {
+            *x = self.number()?;
+        }
+        Some(())
+    }
+
+    // A list: how many items, then the items, which are written to the start of `list`. They fit, since each has a field.
+    pub fn items(&mut self, list: &mut [u32]) -> Option<usize>
+        requires { length self.old ≤ length list.old + 1 }
+        ensures { ReadItems self.old self.new list.new result }
+    {
+        let count = self.number()? as usize;
+        if count > list.len() {
+            return None;
+        }
+        self.numbers(&mut list[..count])?;
+        Some(count)
+    }
 }
 
-// The bytes from a up to e may be a number, by how they start: there is at least one, and no leading `0`.
-fn starts_well(line: &[u8], a: usize, e: usize) -> bool
-    requires a_le_e { a ≤ e }
-    requires e_in_bounds { e ≤ length line.now }
-    ensures { result ≡ starts_well (slice line.now a e) }
+// What a digit stands for.
+#[tactic(auto, unfolding(rules::specs::Bytes::is_digit))]
+fn digit(b: u8) -> Option<u64>
+    ensures { digit_of b ≡ told result }
 {
-    let n = e - a;
-    if n == 0 {
-        return false;
+    match b {
+        b'0'..=b'9' => Some((b - b'0') as u64),
+        _ => None,
     }
-    if n == 1 {
-        return true;
-    }
-    line[a] != b'0'
 }
 
-// The number that the bytes from a on up to e stand for, if it is no more than `most`. More digits only make it larger.
-fn number_to(line: &[u8], a: usize, e: usize, most: u64) -> Number
-    requires a_le_e { a ≤ e }
-    requires e_in_bounds { e ≤ length line.now }
-    requires le_most { 9 ≤ most }
-    ensures { number_of result ≡ number_below (most + 1) (slice line.now a e) }
+// The bytes may be a number, by how they start: there is at least one, and no leading `0`.
+fn starts_well(digits: &[u8]) -> bool
+    ensures { result ≡ starts_well digits.now }
 {
-    if !starts_well(line, a, e) {
-        return Number::Bad;
+    match digits {
+        [] => false,
+        [_] => true,
+        [first, ..] => *first != b'0',
+    }
+}
+
+// The number within 64 bits that the bytes stand for.
+fn parse_u64(digits: &[u8]) -> Option<u64>
+    ensures { number_below (2 ^ 64) digits.now ≡ told result }
+{
+    if !starts_well(digits) {
+        return None;
     }
     let mut n: u64 = 0;
-    let mut i = a;
-    while i < e {
-        let d = digit_value(line[i]);
-        if d > 9 {
-            return Number::Bad;
-        }
-        if n > (most - d) / 10 {
-            return Number::Bad;
-        }
-        n = n * 10 + d;
-        i += 1;
+    for b in digits {
+        let d = digit(*b)?;
+        n = n.checked_mul(10)?.checked_add(d)?;
     }
-    Number::Is(n)
+    Some(n)
 }
 
-// A number within 32 bits.
-pub fn read_number(line: &[u8], at: usize) -> Read
-    ensures { ReadNumber line.now at result }
+// The number within 32 bits that the bytes stand for.
+fn parse_u32(digits: &[u8]) -> Option<u32>
+    ensures { number_below (2 ^ 32) digits.now ≡ told result }
 {
-    if at > line.len() {
-        return Read::Bad;
-    }
-    let e = field_end(line, at);
-    match number_to(line, at, e, 0xffff_ffff) {
-        Number::Is(n) => Read::At(n as u32, e + 1),
-        Number::Bad => Read::Bad,
-    }
-}
-
-// A number within 64 bits.
-pub fn read_bits(line: &[u8], at: usize) -> Bits
-    ensures { bits_of line.now result ≡ ignore_bits (fields_left line.now at) }
-{
-    if at > line.len() {
-        return Bits::Bad;
-    }
-    let e = field_end(line, at);
-    match number_to(line, at, e, 0xffff_ffff_ffff_ffff) {
-        Number::Is(n) => Bits::At(n, e + 1),
-        Number::Bad => Bits::Bad,
-    }
-}
-
-// The byte of a field of one byte.
-pub fn read_word(line: &[u8], at: usize) -> Word
-    ensures { word_of line.now result ≡ field one_byte (fields_left line.now at) }
-{
-    if at > line.len() {
-        return Word::Bad;
-    }
-    let e = field_end(line, at);
-    if e - at != 1 {
-        return Word::Bad;
-    }
-    Word::At(line[at], e + 1)
-}
-
-// A parent block.
-fn read_block(line: &[u8], at: usize) -> ParentRead
-    ensures { parent_read line.now result ≡ field block_meaning (fields_left line.now at) }
-{
-    match read_number(line, at) {
-        Read::At(n, next) => ParentRead::At(Parent::Block(n), next),
-        Read::Bad => ParentRead::Bad,
-    }
-}
-
-// A parent block or `-`.
-pub fn read_parent(line: &[u8], at: usize) -> ParentRead
-    ensures { parent_read line.now result ≡ parent_block (fields_left line.now at) }
-{
-    let Word::At(b, next) = read_word(line, at) else {
-        return read_block(line, at);
-    };
-    if b != b'-' {
-        return read_block(line, at);
-    }
-    ParentRead::At(Parent::None, next)
-}
-
-// A list: how many items, then the items, written to the start of `list`. They fit: a line has more bytes than items.
-pub fn read_items(line: &[u8], at: usize, list: &mut [u32]) -> Items
-    requires { length line.now ≤ length list.old }
-    ensures { ReadItems line.now at list.new result }
-{
-    let Read::At(count, first) = read_number(line, at) else {
-        return Items::Bad;
-    };
-    let mut p = first;
-    let mut i = 0;
-    while i < count as usize {
-        let Read::At(x, next) = read_number(line, p) else {
-            return Items::Bad;
-        };
-        list[i] = x;
-        p = next;
-        i += 1;
-    }
-    Items::At(i, p)
+    let n = parse_u64(digits)?;
+    u32::try_from(n).ok()
 }

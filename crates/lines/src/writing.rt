@@ -16,23 +16,18 @@ pub fn put_text(out: &mut [u8], at: usize, text: &[u8]) -> usize
     requires { at + length text.now ≤ length out.old }
     ensures { Wrote (length text.now) out.old out.new at text.now result }
 {
-    let mut j = 0;
-    while j < text.len() {
-        out[at + j] = text[j];
-        j += 1;
-    }
-    at + text.len()
+    let end = at + text.len();
+    out[at..end].copy_from_slice(text);
+    end
 }
 
 // A digit's byte: `0` to `9`, then `a` to `f`.
+#[tactic(auto, unfolding(rules::specs::Bytes::digit))]
 fn digit(d: u8) -> u8
     requires { d < 16 }
     ensures { result ≡ Rattle.rules.specs.Bytes.digit d }
 {
-    if d < 10 {
-        return 48 + d;
-    }
-    87 + d
+    if d < 10 { b'0' + d } else { b'a' - 10 + d }
 }
 
 // The last `count` digits of a number; they are written from the last one back.
@@ -43,10 +38,8 @@ fn put_digits(out: &mut [u8], at: usize, base: u64, count: usize, n: u64) -> usi
     ensures { Wrote count out.old out.new at (last_digits base count n) result }
 {
     let mut rest = n;
-    let mut left = count;
-    while left > 0 {
-        left -= 1;
-        out[at + left] = digit((rest % base) as u8);
+    for i in (0..count).rev() {
+        out[at + i] = digit((rest % base) as u8);
         rest /= base;
     }
     at + count
@@ -56,13 +49,10 @@ fn put_digits(out: &mut [u8], at: usize, base: u64, count: usize, n: u64) -> usi
 fn digit_count(n: u32) -> usize
     ensures { result ≡ digit_count 10 n }
 {
-    let mut rest = n;
-    let mut count = 1;
-    while rest >= 10 {
-        rest /= 10;
-        count += 1;
+    match n.checked_ilog10() {
+        Some(k) => k as usize + 1,
+        None => 1,
     }
-    count
 }
 
 pub fn put_decimal(out: &mut [u8], at: usize, n: u32) -> usize
@@ -73,6 +63,7 @@ pub fn put_decimal(out: &mut [u8], at: usize, n: u32) -> usize
     put_digits(out, at, 10, count, n as u64)
 }
 
+#[tactic(auto, unfolding(rules::specs::Bytes::hexadecimal))]
 pub fn put_hexadecimal(out: &mut [u8], at: usize, w: u64) -> usize
     requires { at + hexadecimal_room ≤ length out.old }
     ensures { Wrote hexadecimal_room out.old out.new at (hexadecimal w) result }

@@ -1,21 +1,19 @@
--- What the numbers that cross to another language mean: the answers of the calls, and two of their arguments.
+-- What the numbers that cross to another language mean: the answers of the calls, which are the rules' own, and two of their arguments.
+use Rattle.std.specs.Prelude as std
 use Rattle.std.specs.Prelude.{ℕ, Bool, cond, not, eqb}
 use Rattle.std.proofs.Math.Option.{Option, none, some}
 use Rattle.rules.specs.Store as rules
+use Rattle.rules.specs.Fragments.{op, block, region}
 use Rattle.rules.specs.Shells.{Ignore}
-use Rattle.pairing.specs.declared.types.EqResult.{EqResult}
-use Rattle.pairing.specs.declared.types.EqResult.TheVariants as EqResults
+use Rattle.rules.specs.Comparison.{pair_of}
+use Rattle.rules.specs.Answers.{Compared, eq, neq, refused, Hashed, hash_is, refused_hash}
+use Rattle.rules.specs.Keys.{Keyed, key_length, refused_key}
+use Rattle.rules.specs.Runs.{Repeated, run_found, no_run, refused_run}
+use Rattle.rules.specs.Building as building
+use Rattle.rules.specs.Building.{Built}
 use Rattle.mapping.specs.declared.types.Entries as found
-use Rattle.hashing.specs.declared.types.Hashed.{Hashed}
-use Rattle.hashing.specs.declared.types.Hashed.TheVariants as Hashes
-use Rattle.keys.specs.declared.types.Keyed.{Keyed}
-use Rattle.keys.specs.declared.types.Keyed.TheVariants as Keyeds
-use Rattle.runs.specs.declared.types.Repeated.{Repeated}
-use Rattle.runs.specs.declared.types.Repeated.TheVariants as Repeateds
-use Rattle.calling.specs.declared.types.Built.{Built}
-use Rattle.calling.specs.declared.types.Built.TheVariants as Builts
-use Rattle.listing.specs.declared.types.Listed.{Listed}
-use Rattle.listing.specs.declared.types.Listed.TheVariants as Listeds
+use Rattle.listing.specs.Calls as listing
+use Rattle.listing.specs.Calls.{Told}
 use Rattle.link.specs.declared.answers.Verdict.{Verdict}
 use Rattle.link.specs.declared.answers.Sum.{Sum}
 use Rattle.link.specs.declared.answers.KeyAnswer.{KeyAnswer}
@@ -27,45 +25,49 @@ use Rattle.link.specs.declared.answers.Entries.{Entries}
 -- ---- answers
 
 -- code 0 is equal, 1 names operations, 2 blocks, 3 regions, any other is a refusal
-unfoldable pub verdict_means : Verdict → EqResult
+unfoldable pub verdict_means : Verdict → Compared
 verdict_means v =
-    cond (eqb v.code 0) (EqResults.Eq v.paired)
-    (cond (eqb v.code 1) (EqResults.FirstNEQOps v.left v.right v.paired)
-    (cond (eqb v.code 2) (EqResults.FirstNEQBlocks v.left v.right v.paired)
-    (cond (eqb v.code 3) (EqResults.FirstNEQRegions v.left v.right v.paired)
-    (EqResults.Refused v.left))))
+    cond (eqb v.code 0) (eq v.paired)
+    (cond (eqb v.code 1) (neq (pair_of op v.left v.right) v.paired)
+    (cond (eqb v.code 2) (neq (pair_of block v.left v.right) v.paired)
+    (cond (eqb v.code 3) (neq (pair_of region v.left v.right) v.paired)
+    (refused v.left))))
 
 -- code 0 is a hash, any other a refusal
 unfoldable pub sum_means : Sum → Hashed
-sum_means s = cond (eqb s.code 0) (Hashes.Hash s.word) (Hashes.Refused s.cause)
+sum_means s = cond (eqb s.code 0) (hash_is s.word) (refused_hash s.cause)
 
 -- code 0 is a key's length, any other a refusal
 unfoldable pub key_answer_means : KeyAnswer → Keyed
-key_answer_means k = cond (eqb k.code 0) (Keyeds.Length k.length) (Keyeds.Refused k.cause)
+key_answer_means k = cond (eqb k.code 0) (key_length k.length) (refused_key k.cause)
 
 -- code 0 is two starts, 1 none, any other a refusal
 unfoldable pub run_means : RunAnswer → Repeated
 run_means r =
-    cond (eqb r.code 0) (Repeateds.Found r.left r.right)
-    (cond (eqb r.code 1) Repeateds.None
-    (Repeateds.Refused r.left))
+    cond (eqb r.code 0) (run_found (record { left = r.left; right = r.right }))
+    (cond (eqb r.code 1) no_run
+    (refused_run r.left))
 
 -- code 0 is a new number, 1 accepted, any other a refusal
 unfoldable pub outcome_means : Outcome → Built
 outcome_means o =
-    cond (eqb o.code 0) (Builts.Made o.number)
-    (cond (eqb o.code 1) Builts.Accepted
-    (Builts.Refused o.number))
+    cond (eqb o.code 0) (building.made o.number)
+    (cond (eqb o.code 1) building.accepted
+    (building.refused o.number))
 
 -- code 0 is printed, 1 a refusal, any other too little room
-unfoldable pub output_means : Output → Listed
+unfoldable pub output_means : Output → Told
 output_means o =
-    cond (eqb o.code 0) (Listeds.Printed o.bytes)
-    (cond (eqb o.code 1) (Listeds.Refused o.cause)
-    Listeds.NoRoom)
+    cond (eqb o.code 0) (listing.printed o.bytes)
+    (cond (eqb o.code 1) (listing.refused o.cause)
+    listing.no_room)
 
 unfoldable pub entries_mean : Entries → found.Entries
 entries_mean e = record { value = e.value; end = e.end; owner = e.owner; past = e.past }
+
+-- 0 is a list that is refused, any other number the words of its index
+unfoldable pub index_means : ℕ → std.Option ℕ
+index_means n = cond (eqb n 0) std.None (std.Some n)
 
 -- ---- arguments
 

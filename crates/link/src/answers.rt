@@ -1,16 +1,20 @@
 // What crosses to another language: an enum can't, so an answer is a struct of numbers, and a parent or an owner a bool and a number.
 ghost use Rattle.std.specs.Prelude.{◌≡◌};
 ghost use Rattle.layout.specs.Owners.{owner_of};
-ghost use Rattle.calling.specs.Types.{parent_of};
+ghost use Rattle.calling.specs.Types.{parent_of, made_of, done_of};
+ghost use Rattle.pairing.specs.Told.{compared_of};
+ghost use Rattle.hashing.specs.Calls.{hashed_of};
+ghost use Rattle.keys.specs.Calls.{keyed_of};
+ghost use Rattle.runs.specs.Calls.{found_of};
+ghost use Rattle.listing.specs.Calls.{told_of};
 ghost use Rattle.link.specs.Codes.{entries_mean, verdict_means, sum_means, key_answer_means, run_means, outcome_means, output_means, parent_from, owner_from};
 
-use building::types::{Built, Parent};
 use equivalence::types::EqResult;
-use hashing::types::Hashed;
-use keys::types::Keyed;
+use layout::causes::Cause;
 use layout::owners::Owner;
-use listing::types::Listed;
-use runs::types::Repeated;
+use listing::types::Unprinted;
+use pairing::types::Unequal;
+use runs::types::Starts;
 
 // The codes of a verdict: equal, the first unequal operations, blocks or regions, and a refusal.
 const EQ: u32 = 0;
@@ -22,6 +26,13 @@ const NEQ_BLOCKS: u32 = 2;
 const NEQ_REGIONS: u32 = 3;
 
 const NO_VERDICT: u32 = 4;
+
+// The codes of an outcome: a new number, accepted, and a refusal.
+const MADE: u32 = 0;
+
+const ACCEPTED: u32 = 1;
+
+const REFUSED: u32 = 2;
 
 // Unequal things are `left` and `right`. The cause of a refusal is `left`.
 #[repr(C)]
@@ -88,6 +99,7 @@ pub struct Entries {
     pub past: u32,
 }
 
+#[tactic(auto, unfolding(crate::specs::Codes::entries_mean))]
 pub fn of_entries(e: mapping::types::Entries) -> Entries
     ensures { entries_mean result ≡ e }
 {
@@ -99,124 +111,150 @@ pub fn of_entries(e: mapping::types::Entries) -> Entries
     }
 }
 
-pub fn of_verdict(q: EqResult) -> Verdict
-    ensures { verdict_means result ≡ q }
+#[tactic(auto, unfolding(crate::specs::Codes::verdict_means, pairing::specs::Told::compared_of, pairing::specs::Told::answer_of))]
+pub fn of_verdict(q: Result<EqResult, Cause>) -> Verdict
+    ensures { verdict_means result ≡ compared_of q }
 {
     match q {
-        EqResult::Eq(n) => Verdict {
+        Ok(Ok(n)) => Verdict {
             code: EQ,
             left: 0,
             right: 0,
             paired: n,
         },
-        EqResult::FirstNEQOps(l, r, n) => Verdict {
+        Ok(Err(Unequal::FirstNEQOps(l, r, n))) => Verdict {
             code: NEQ_OPS,
             left: l,
             right: r,
             paired: n,
         },
-        EqResult::FirstNEQBlocks(l, r, n) => Verdict {
+        Ok(Err(Unequal::FirstNEQBlocks(l, r, n))) => Verdict {
             code: NEQ_BLOCKS,
             left: l,
             right: r,
             paired: n,
         },
-        EqResult::FirstNEQRegions(l, r, n) => Verdict {
+        Ok(Err(Unequal::FirstNEQRegions(l, r, n))) => Verdict {
             code: NEQ_REGIONS,
             left: l,
             right: r,
             paired: n,
         },
-        EqResult::Refused(k) => Verdict {
+        Err(cause) => Verdict {
             code: NO_VERDICT,
-            left: k,
+            left: cause.number(),
             right: 0,
             paired: 0,
         },
     }
 }
 
-pub fn of_hash(h: Hashed) -> Sum
-    ensures { sum_means result ≡ h }
+#[tactic(auto, unfolding(crate::specs::Codes::sum_means, hashing::specs::Calls::hashed_of))]
+pub fn of_hash(h: Result<u64, Cause>) -> Sum
+    ensures { sum_means result ≡ hashed_of h }
 {
     match h {
-        Hashed::Hash(w) => Sum {
-            word: w,
+        Ok(word) => Sum {
+            word,
             code: 0,
             cause: 0,
         },
-        Hashed::Refused(k) => Sum {
+        Err(cause) => Sum {
             word: 0,
             code: 1,
-            cause: k,
+            cause: cause.number(),
         },
     }
 }
 
-pub fn of_key(k: Keyed) -> KeyAnswer
-    ensures { key_answer_means result ≡ k }
+#[tactic(auto, unfolding(crate::specs::Codes::key_answer_means, keys::specs::Calls::keyed_of))]
+pub fn of_key(k: Result<u32, Cause>) -> KeyAnswer
+    ensures { key_answer_means result ≡ keyed_of k }
 {
     match k {
-        Keyed::Length(n) => KeyAnswer {
-            length: n,
+        Ok(length) => KeyAnswer {
+            length,
             code: 0,
             cause: 0,
         },
-        Keyed::Refused(n) => KeyAnswer {
+        Err(cause) => KeyAnswer {
             length: 0,
             code: 1,
-            cause: n,
+            cause: cause.number(),
         },
     }
 }
 
-pub fn of_run(r: Repeated) -> RunAnswer
-    ensures { run_means result ≡ r }
+#[tactic(auto, unfolding(crate::specs::Codes::run_means, runs::specs::Calls::found_of))]
+pub fn of_run(r: Result<Option<Starts>, Cause>) -> RunAnswer
+    ensures { run_means result ≡ found_of r }
 {
     match r {
-        Repeated::Found(left, right) => RunAnswer {
+        Ok(Some(two)) => RunAnswer {
             code: 0,
-            left,
-            right,
+            left: two.left,
+            right: two.right,
         },
-        Repeated::None => RunAnswer {
+        Ok(None) => RunAnswer {
             code: 1,
             left: 0,
             right: 0,
         },
-        Repeated::Refused(n) => RunAnswer {
+        Err(cause) => RunAnswer {
             code: 2,
-            left: n,
+            left: cause.number(),
             right: 0,
         },
     }
 }
 
-pub fn of_built(b: Built) -> Outcome
-    ensures { outcome_means result ≡ b }
+// A call that makes something.
+#[tactic(auto, unfolding(crate::specs::Codes::outcome_means, calling::specs::Types::made_of))]
+pub fn of_made(b: Result<u32, Cause>) -> Outcome
+    ensures { outcome_means result ≡ made_of b }
 {
     match b {
-        Built::Made(n) => Outcome { code: 0, number: n },
-        Built::Accepted => Outcome { code: 1, number: 0 },
-        Built::Refused(k) => Outcome { code: 2, number: k },
+        Ok(number) => Outcome { code: MADE, number },
+        Err(cause) => Outcome {
+            code: REFUSED,
+            number: cause.number(),
+        },
     }
 }
 
-pub fn of_listed(l: Listed) -> Output
-    ensures { output_means result ≡ l }
+// A call that makes nothing.
+#[tactic(auto, unfolding(crate::specs::Codes::outcome_means, calling::specs::Types::done_of))]
+pub fn of_done(b: Result<(), Cause>) -> Outcome
+    ensures { outcome_means result ≡ done_of b }
+{
+    match b {
+        Ok(()) => Outcome {
+            code: ACCEPTED,
+            number: 0,
+        },
+        Err(cause) => Outcome {
+            code: REFUSED,
+            number: cause.number(),
+        },
+    }
+}
+
+#[tactic(auto, unfolding(crate::specs::Codes::output_means, listing::specs::Calls::told_of))]
+pub fn of_listed(l: Result<usize, Unprinted>) -> Output
+    ensures { output_means result ≡ told_of l }
 {
     match l {
-        Listed::Printed(n) => Output {
-            bytes: n,
+        Ok(bytes) => Output {
+            bytes,
             code: 0,
             cause: 0,
         },
-        Listed::Refused(k) => Output {
+        Err(Unprinted::Refused(cause)) => Output {
             bytes: 0,
             code: 1,
-            cause: k,
+            cause: cause.number(),
         },
-        Listed::NoRoom => Output {
+        Err(Unprinted::NoRoom) => Output {
             bytes: 0,
             code: 2,
             cause: 0,
@@ -224,20 +262,20 @@ pub fn of_listed(l: Listed) -> Output
     }
 }
 
-pub fn parent(placed: bool, block: u32) -> Parent
+#[tactic(auto, unfolding(calling::specs::Types::parent_of, crate::specs::Codes::parent_from))]
+pub fn parent(placed: bool, block: u32) -> Option<u32>
     ensures { parent_of result ≡ parent_from placed block }
 {
-    if placed {
-        return Parent::Block(block);
-    }
-    Parent::None
+    placed.then_some(block)
 }
 
+#[tactic(auto, unfolding(layout::specs::Owners::owner_of, crate::specs::Codes::owner_from))]
 pub fn owner(blocks: bool, n: u32) -> Owner
     ensures { owner_of result ≡ owner_from blocks n }
 {
     if blocks {
-        return Owner::Block(n);
+        Owner::Block(n)
+    } else {
+        Owner::Op(n)
     }
-    Owner::Op(n)
 }

@@ -1,5 +1,5 @@
 // The calls on a store that is known to be sound, with an index of a list of renamed types, and with a mapping that is known to be allowed:
-// none of them is tested. Those that change a store ask for the tables of its marks to be sound too (`IsLent`), and leave them so.
+// none of them is tested. C has no generics: a function for each sort of fragment. Those that change a store ask for the tables of its marks to be sound too (`IsLent`), and leave them so.
 ghost use Rattle.std.specs.Prelude.{true, ◌≡◌, length};
 ghost use Rattle.rules.specs.Mapping.{allowed};
 ghost use Rattle.rules.specs.Types.{renamed};
@@ -19,20 +19,20 @@ ghost use Rattle.rules.specs.Marks.{build, set_mark, go_back};
 ghost use Rattle.marks.specs.Doing.{IsLent, DidMarked};
 ghost use Rattle.copying.specs.Cloned.{Cloned};
 ghost use Rattle.equivalence.specs.Calls as comparing;
-ghost use Rattle.hashing.specs.Calls as hashing;
+ghost use Rattle.rules.specs.Answers.{hashed};
+ghost use Rattle.rules.specs.Runs.{repeated_run};
 ghost use Rattle.keys.specs.Calls as keys;
-ghost use Rattle.runs.specs.Calls as finding;
-ghost use Rattle.link.specs.Codes.{entries_mean, verdict_means, sum_means, key_answer_means, run_means, outcome_means, ignoring, parent_from, owner_from, attribute_from};
+ghost use Rattle.link.specs.Codes.{entries_mean, index_means, verdict_means, sum_means, key_answer_means, run_means, outcome_means, ignoring, parent_from, owner_from, attribute_from};
 
 use crate::answers::{
-    Entries, KeyAnswer, Outcome, RunAnswer, Sum, Verdict, of_built, of_entries, of_hash, of_key,
-    of_run, of_verdict, owner, parent,
+    Entries, KeyAnswer, Outcome, RunAnswer, Sum, Verdict, of_done, of_entries, of_hash, of_key,
+    of_made, of_run, of_verdict, owner, parent,
 };
-use building::types::Attribute;
-use calling::types::OpFields;
+use calling::types::{Attribute, OpFields};
 use equivalence::comparison::{fragments_eq, operations_eq};
 use equivalence::types::Fragments;
 use fragments::ignoring::Ignore;
+use fragments::terms::Terms;
 use fragments::types::Sort;
 use hashing::hashes::fragment_hash;
 use keys::keys::{fragment_key, key_length};
@@ -59,13 +59,13 @@ pub extern "C" fn wz_known_marks_are_sound(store: &[u32]) -> bool
 }
 
 // Tests a list of renamed types, and makes the index of it that the calls below are lent as `types`: it is as many of these words as the
-// answer says, which is 0 for a list that is refused (by 14). No words are the index of the empty list.
+// answer says, which is 0, as C has no Option, for a list that is refused (by 14). No words are the index of the empty list.
 #[unsafe(no_mangle)]
 pub extern "C" fn wz_known_index_types(types: &[u32], index: &mut [u32]) -> usize
     requires { length index.old ≡ index_length }
-    ensures { Indexes types.now index.new result }
+    ensures { Indexes types.now index.new (index_means result) }
 {
-    index_types(types, index)
+    index_types(types, index).unwrap_or(0)
 }
 
 // 0 is an operation, 1 a block, any other a region.
@@ -124,7 +124,7 @@ pub extern "C" fn wz_known_new_operation(
         location,
         regions,
     };
-    of_built(remembering::adding_calls::new_operation(store, fields, types, operands, successors))
+    of_made(remembering::adding_calls::new_operation(store, fields, types, operands, successors))
 }
 
 #[unsafe(no_mangle)]
@@ -143,7 +143,7 @@ pub extern "C" fn wz_known_new_block(
       types = types.now;
     }))) (outcome_means result) }
 {
-    of_built(remembering::adding_calls::new_block(store, region, label, location, types))
+    of_made(remembering::adding_calls::new_block(store, region, label, location, types))
 }
 
 #[unsafe(no_mangle)]
@@ -159,7 +159,7 @@ pub extern "C" fn wz_known_set_attribute(
     requires { IsLent store.old }
     ensures { DidMarked store.old store.new (build (set_attribute (owner_from blocks n) (attribute_from key kind content inherent))) (outcome_means result) }
 {
-    of_built(remembering::attributes::set_attribute(
+    of_done(remembering::attributes::set_attribute(
         store,
         owner(blocks, n),
         Attribute {
@@ -176,7 +176,7 @@ pub extern "C" fn wz_known_set_operand(store: &mut [u32], n: u32, i: u32, v: u32
     requires { IsLent store.old }
     ensures { DidMarked store.old store.new (build (set_operand (record { operation = n; index = i; value = v }))) (outcome_means result) }
 {
-    of_built(remembering::operands::set_operand(store, n, i, v))
+    of_done(remembering::operands::set_operand(store, n, i, v))
 }
 
 #[unsafe(no_mangle)]
@@ -184,7 +184,7 @@ pub extern "C" fn wz_known_set_mark(store: &mut [u32], mark: u32) -> Outcome
     requires { IsLent store.old }
     ensures { DidMarked store.old store.new (set_mark mark) (outcome_means result) }
 {
-    of_built(marks::setting::set_mark(store, mark))
+    of_done(marks::setting::set_mark(store, mark))
 }
 
 #[unsafe(no_mangle)]
@@ -192,7 +192,7 @@ pub extern "C" fn wz_known_go_back(store: &mut [u32], mark: u32) -> Outcome
     requires { IsLent store.old }
     ensures { DidMarked store.old store.new (go_back mark) (outcome_means result) }
 {
-    of_built(returning::going::go_back(store, mark))
+    of_done(returning::going::go_back(store, mark))
 }
 
 #[unsafe(no_mangle)]
@@ -207,7 +207,7 @@ pub extern "C" fn wz_known_clone_operation(
     requires mapping_value { allowed (store_in store.old) (mapping_of mapping.old) ≡ true }
     ensures { Cloned true store.old store.new mapping.old mapping.new n (parent_from placed block) (outcome_means result) }
 {
-    of_built(copying::cloning::clone_operation(store, n, parent(placed, block), mapping))
+    of_made(copying::cloning::clone_operation(store, n, parent(placed, block), mapping))
 }
 
 #[unsafe(no_mangle)]
@@ -224,7 +224,12 @@ pub extern "C" fn wz_known_operation_eq(
     requires mapping_value { allowed (store_in store.now) (mapping_of mapping.old) ≡ true }
     ensures { comparing.Answered true store.now (list_in types.now) mapping.old mapping.new (ignoring locations bits) op lhs rhs (verdict_means result) }
 {
-    of_verdict(operations_eq(store, types, mapping, lhs, rhs, Ignore { locations, bits }))
+    let terms = Terms {
+        store,
+        types,
+        ignore: Ignore { locations, bits },
+    };
+    of_verdict(operations_eq(&terms, mapping, lhs, rhs))
 }
 
 #[unsafe(no_mangle)]
@@ -236,9 +241,14 @@ pub extern "C" fn wz_known_operation_hash(
     bits: u64,
 ) -> Sum
     requires { Readable store.now types.now }
-    ensures { hashing.Answered true store.now (list_in types.now) (ignoring locations bits) op n (sum_means result) }
+    ensures { hashed true (store_in store.now) (list_in types.now) (ignoring locations bits) op n ≡ sum_means result }
 {
-    of_hash(fragment_hash(store, types, Sort::Op, n, Ignore { locations, bits }))
+    let terms = Terms {
+        store,
+        types,
+        ignore: Ignore { locations, bits },
+    };
+    of_hash(fragment_hash(&terms, Sort::Op, n))
 }
 
 #[unsafe(no_mangle)]
@@ -255,17 +265,17 @@ pub extern "C" fn wz_known_basic_block_eq(
     requires mapping_value { allowed (store_in store.now) (mapping_of mapping.old) ≡ true }
     ensures { comparing.Answered true store.now (list_in types.now) mapping.old mapping.new (ignoring locations bits) Rattle.rules.specs.Fragments.block lhs rhs (verdict_means result) }
 {
-    of_verdict(fragments_eq(
+    let terms = Terms {
         store,
         types,
-        mapping,
-        Fragments {
-            sort: Sort::Block,
-            lhs,
-            rhs,
-        },
-        Ignore { locations, bits },
-    ))
+        ignore: Ignore { locations, bits },
+    };
+    let of = Fragments {
+        sort: Sort::Block,
+        lhs,
+        rhs,
+    };
+    of_verdict(fragments_eq(&terms, mapping, of))
 }
 
 #[unsafe(no_mangle)]
@@ -277,9 +287,14 @@ pub extern "C" fn wz_known_basic_block_hash(
     bits: u64,
 ) -> Sum
     requires { Readable store.now types.now }
-    ensures { hashing.Answered true store.now (list_in types.now) (ignoring locations bits) Rattle.rules.specs.Fragments.block n (sum_means result) }
+    ensures { hashed true (store_in store.now) (list_in types.now) (ignoring locations bits) Rattle.rules.specs.Fragments.block n ≡ sum_means result }
 {
-    of_hash(fragment_hash(store, types, Sort::Block, n, Ignore { locations, bits }))
+    let terms = Terms {
+        store,
+        types,
+        ignore: Ignore { locations, bits },
+    };
+    of_hash(fragment_hash(&terms, Sort::Block, n))
 }
 
 #[unsafe(no_mangle)]
@@ -296,17 +311,17 @@ pub extern "C" fn wz_known_region_eq(
     requires mapping_value { allowed (store_in store.now) (mapping_of mapping.old) ≡ true }
     ensures { comparing.Answered true store.now (list_in types.now) mapping.old mapping.new (ignoring locations bits) Rattle.rules.specs.Fragments.region lhs rhs (verdict_means result) }
 {
-    of_verdict(fragments_eq(
+    let terms = Terms {
         store,
         types,
-        mapping,
-        Fragments {
-            sort: Sort::Region,
-            lhs,
-            rhs,
-        },
-        Ignore { locations, bits },
-    ))
+        ignore: Ignore { locations, bits },
+    };
+    let of = Fragments {
+        sort: Sort::Region,
+        lhs,
+        rhs,
+    };
+    of_verdict(fragments_eq(&terms, mapping, of))
 }
 
 #[unsafe(no_mangle)]
@@ -318,9 +333,14 @@ pub extern "C" fn wz_known_region_hash(
     bits: u64,
 ) -> Sum
     requires { Readable store.now types.now }
-    ensures { hashing.Answered true store.now (list_in types.now) (ignoring locations bits) Rattle.rules.specs.Fragments.region n (sum_means result) }
+    ensures { hashed true (store_in store.now) (list_in types.now) (ignoring locations bits) Rattle.rules.specs.Fragments.region n ≡ sum_means result }
 {
-    of_hash(fragment_hash(store, types, Sort::Region, n, Ignore { locations, bits }))
+    let terms = Terms {
+        store,
+        types,
+        ignore: Ignore { locations, bits },
+    };
+    of_hash(fragment_hash(&terms, Sort::Region, n))
 }
 
 #[unsafe(no_mangle)]
@@ -459,7 +479,12 @@ pub extern "C" fn wz_known_repeated_run(
     bits: u64,
 ) -> RunAnswer
     requires { Readable store.now types.now }
-    ensures { finding.Answered true store.now (list_in types.now) (ignoring locations bits) block length (run_means result) }
+    ensures { repeated_run true (store_in store.now) (list_in types.now) (ignoring locations bits) block length ≡ run_means result }
 {
-    of_run(block_runs(store, types, block, length, Ignore { locations, bits }))
+    let terms = Terms {
+        store,
+        types,
+        ignore: Ignore { locations, bits },
+    };
+    of_run(block_runs(&terms, block, length))
 }

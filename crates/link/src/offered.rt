@@ -1,4 +1,4 @@
-// The offered calls, on any words.
+// The offered calls, on any words. C has no generics: a function for each sort of fragment.
 ghost use Rattle.std.specs.Prelude.{◌≡◌};
 ghost use Rattle.rules.specs.Building.{new_operation, new_block, set_attribute, set_operand};
 ghost use Rattle.rules.specs.Fragments.{op};
@@ -8,19 +8,20 @@ ghost use Rattle.journal.specs.Words.{sound_lent};
 ghost use Rattle.marks.specs.Doing as building;
 ghost use Rattle.copying.specs.Calls as copying;
 ghost use Rattle.equivalence.specs.Calls as comparing;
-ghost use Rattle.hashing.specs.Calls as hashing;
+ghost use Rattle.rules.specs.Answers.{hashed};
+ghost use Rattle.rules.specs.Runs.{repeated_run};
+ghost use Rattle.layout.specs.Reading.{store_in};
 ghost use Rattle.keys.specs.Calls as keys;
-ghost use Rattle.runs.specs.Calls as finding;
 ghost use Rattle.link.specs.Codes.{verdict_means, sum_means, key_answer_means, run_means, outcome_means, ignoring, parent_from, owner_from, attribute_from};
 
 use crate::answers::{
-    KeyAnswer, Outcome, RunAnswer, Sum, Verdict, of_built, of_hash, of_key, of_run, of_verdict,
-    owner, parent,
+    KeyAnswer, Outcome, RunAnswer, Sum, Verdict, of_done, of_hash, of_key, of_made, of_run,
+    of_verdict, owner, parent,
 };
-use building::types::Attribute;
+use calling::types::Attribute;
 use fragments::ignoring::Ignore;
 use key_bytes::order::compare_keys;
-use key_bytes::types::Ordering;
+use std::cmp::Ordering;
 
 #[unsafe(no_mangle)]
 pub extern "C" fn wz_is_sound(store: &[u32]) -> bool
@@ -51,7 +52,7 @@ pub extern "C" fn wz_new_operation(
       successors = successors.now;
     }))) (outcome_means result) }
 {
-    of_built(building::calls::new_operation(
+    of_made(building::calls::new_operation(
         store,
         kind,
         parent(placed, block),
@@ -78,7 +79,7 @@ pub extern "C" fn wz_new_block(
       types = types.now;
     }))) (outcome_means result) }
 {
-    of_built(building::calls::new_block(store, region, label, location, types))
+    of_made(building::calls::new_block(store, region, label, location, types))
 }
 
 #[unsafe(no_mangle)]
@@ -93,7 +94,7 @@ pub extern "C" fn wz_set_attribute(
 ) -> Outcome
     ensures { building.Answered store.old store.new (build (set_attribute (owner_from blocks n) (attribute_from key kind content inherent))) (outcome_means result) }
 {
-    of_built(building::calls::set_attribute(
+    of_done(building::calls::set_attribute(
         store,
         owner(blocks, n),
         Attribute {
@@ -109,21 +110,21 @@ pub extern "C" fn wz_set_attribute(
 pub extern "C" fn wz_set_operand(store: &mut [u32], n: u32, i: u32, v: u32) -> Outcome
     ensures { building.Answered store.old store.new (build (set_operand (record { operation = n; index = i; value = v }))) (outcome_means result) }
 {
-    of_built(building::calls::set_operand(store, n, i, v))
+    of_done(building::calls::set_operand(store, n, i, v))
 }
 
 #[unsafe(no_mangle)]
 pub extern "C" fn wz_set_mark(store: &mut [u32], mark: u32) -> Outcome
     ensures { building.Answered store.old store.new (set_mark mark) (outcome_means result) }
 {
-    of_built(building::calls::set_mark(store, mark))
+    of_done(building::calls::set_mark(store, mark))
 }
 
 #[unsafe(no_mangle)]
 pub extern "C" fn wz_go_back(store: &mut [u32], mark: u32) -> Outcome
     ensures { building.Answered store.old store.new (go_back mark) (outcome_means result) }
 {
-    of_built(building::calls::go_back(store, mark))
+    of_done(building::calls::go_back(store, mark))
 }
 
 #[unsafe(no_mangle)]
@@ -136,7 +137,7 @@ pub extern "C" fn wz_clone_operation(
 ) -> Outcome
     ensures { copying.Answered store.old store.new mapping.old mapping.new n (parent_from placed block) (outcome_means result) }
 {
-    of_built(copying::calls::clone_operation(store, n, parent(placed, block), mapping))
+    of_made(copying::calls::clone_operation(store, n, parent(placed, block), mapping))
 }
 
 #[unsafe(no_mangle)]
@@ -169,7 +170,7 @@ pub extern "C" fn wz_operation_hash(
     locations: bool,
     bits: u64,
 ) -> Sum
-    ensures { hashing.Answered (sound_lent store.now) store.now types.now (ignoring locations bits) op n (sum_means result) }
+    ensures { hashed (sound_lent store.now) (store_in store.now) types.now (ignoring locations bits) op n ≡ sum_means result }
 {
     of_hash(hashing::calls::operation_hash(store, types, n, Ignore { locations, bits }))
 }
@@ -204,7 +205,7 @@ pub extern "C" fn wz_basic_block_hash(
     locations: bool,
     bits: u64,
 ) -> Sum
-    ensures { hashing.Answered (sound_lent store.now) store.now types.now (ignoring locations bits) Rattle.rules.specs.Fragments.block n (sum_means result) }
+    ensures { hashed (sound_lent store.now) (store_in store.now) types.now (ignoring locations bits) Rattle.rules.specs.Fragments.block n ≡ sum_means result }
 {
     of_hash(hashing::calls::basic_block_hash(store, types, n, Ignore { locations, bits }))
 }
@@ -239,7 +240,7 @@ pub extern "C" fn wz_region_hash(
     locations: bool,
     bits: u64,
 ) -> Sum
-    ensures { hashing.Answered (sound_lent store.now) store.now types.now (ignoring locations bits) Rattle.rules.specs.Fragments.region n (sum_means result) }
+    ensures { hashed (sound_lent store.now) (store_in store.now) types.now (ignoring locations bits) Rattle.rules.specs.Fragments.region n ≡ sum_means result }
 {
     of_hash(hashing::calls::region_hash(store, types, n, Ignore { locations, bits }))
 }
@@ -296,7 +297,7 @@ pub extern "C" fn wz_repeated_run(
     locations: bool,
     bits: u64,
 ) -> RunAnswer
-    ensures { finding.Answered (sound_lent store.now) store.now types.now (ignoring locations bits) block length (run_means result) }
+    ensures { repeated_run (sound_lent store.now) (store_in store.now) types.now (ignoring locations bits) block length ≡ run_means result }
 {
     of_run(runs::calls::repeated_run(store, types, block, length, Ignore { locations, bits }))
 }

@@ -1,33 +1,41 @@
 -- A line that means a building call does what the call does. Assumes nothing.
-use Prim.Native.Nat.{ℕ}
-use mathlib.Core.Option.{Option, none, some, some-injective, none-ne-some}
-use mathlib.Core.List.{List}
-use mathlib.Core.Path.{◌≡◌, refl, sym, ap, ap₂, subst, ◌∙◌}
+use Rattle.std.specs.Prelude as std
+use Rattle.std.proofs.Common.{◌≡◌, ℕ, List, refl, sym, ap, ap₂, subst, ◌∙◌}
+use Rattle.std.proofs.Math.Option.{Option, none, some, some-injective, none-ne-some}
 use Rattle.rules.specs.Store.{Store}
 use Rattle.rules.specs.Building.{Call, Built, made, accepted, refused}
 use Rattle.rules.specs.Lines.{Line, building}
 use Rattle.rules.specs.Listings.{Tally, building_does, line_does}
 use Rattle.layout.specs.Reading.{store_in}
-use Rattle.layout.specs.Causes.{cause_of}
+use Rattle.layout.specs.Causes.{number_of, cause_of}
 use Rattle.layout.specs.Soundness.{IsSound}
 use Rattle.layout.specs.declared.causes.Cause.{Cause}
-use Rattle.layout.specs.declared.causes.Cause.TheVariants.{Is}
+use Rattle.layout.specs.declared.causes.Cause.TheVariants.{BadLine}
 use Rattle.journal.specs.Words.{mark_count}
-use Rattle.calling.specs.Types.{built_of}
+use Rattle.calling.specs.Types.{made_of, done_of}
 use Rattle.calling.specs.Doing.{Did}
-use Rattle.calling.specs.declared.types.Built as code
-use Rattle.listing.specs.Building.{refusal_in, led_to, LineDid}
+use Rattle.listing.specs.Building.{led_to, LineDid}
+
+-- what a line that builds answers
+abbrev pub Done : Type 0
+Done = std.Result (Unit {0}) Cause
 
 -- a line that means nothing
-pub unread : (entry : List ℕ) (line : Option Line) → none ≡ line → IsSound entry → LineDid entry entry line (Is 10)
+pub unread : (entry : List ℕ) (line : Option Line) → line ≡ none → IsSound entry → LineDid entry entry line (std.Err BadLine)
 unfolding line_does led_to cause_of
 unread entry line e h =
     record {
-      does = λ p t. sym (ap (line_does p (record { store = store_in entry; tally = t })) e);
+      does = λ p t. ap (line_does p (record { store = store_in entry; tally = t })) e;
       sound = h;
       marks = refl;
       unchanged = λ cause q. refl;
     }
+
+-- why a call was refused, if it was
+unfoldable refusal_in : Built → Option ℕ
+refusal_in (made n) = none
+refusal_in accepted = none
+refusal_in (refused cause) = some cause
 
 outcome : (b : Built) (s s' : Store) (t : Tally) → building_does b s' (record { store = s; tally = t }) ≡ led_to (record { store = s'; tally = t }) (refusal_in b)
 unfolding building_does led_to refusal_in
@@ -41,22 +49,38 @@ refused_is (made n) cause h = absurd (none-ne-some _ h)
 refused_is accepted cause h = absurd (none-ne-some _ h)
 refused_is (refused k) cause h = ap refused (some-injective _ _ h)
 
+refusal_of : (r : Done) → cause_of r ≡ refusal_in (done_of r)
+unfolding cause_of refusal_in done_of
+refusal_of (std.Ok u) = refl
+refusal_of (std.Err k) = refl
+
 -- a line that means a call
-module _ (entry exit : List ℕ) (c : Call) (b : code.Built) (r : Cause) (did : Did entry exit c b) (cause : cause_of r ≡ refusal_in (built_of b)) where
-  pub line_built : (line : Option Line) → some (building c) ≡ line → LineDid entry exit line r
+module _ {entry exit : List ℕ} {c : Call} {line : Option Line} (e : line ≡ some (building c)) where
+  answered : (b : Built) (r : Done) → Did entry exit c b → cause_of r ≡ refusal_in b → LineDid entry exit line r
   unfolding line_does cause_of mark_count
-  line_built line e =
+  answered b r did cause =
       record {
         does = λ p t.
-            sym (ap (line_does p (record { store = store_in entry; tally = t })) e)
+            ap (line_does p (record { store = store_in entry; tally = t })) e
             ∙ ap₂ (λ (x : Built) (s : Store). building_does x s (record { store = store_in entry; tally = t })) (sym did.answered) (sym did.reads)
-            ∙ outcome (built_of b) (store_in entry) (store_in exit) t
+            ∙ outcome b (store_in entry) (store_in exit) t
             ∙ ap (led_to (record { store = store_in exit; tally = t })) (sym cause);
         sound = did.sound;
         marks = did.behind.marks;
-        unchanged = λ k q. did.unchanged k (refused_is (built_of b) k (sym cause ∙ ap cause_of q));
+        unchanged = λ k q. did.unchanged (number_of k) (refused_is b (number_of k) (sym cause ∙ ap cause_of q));
       }
 
+  pub line_made : (n : ℕ) → Did entry exit c (made_of (std.Ok n)) → LineDid entry exit line (std.Ok tt)
+  unfolding cause_of refusal_in made_of
+  line_made n did = answered (made n) (std.Ok tt) did refl
+
+  pub line_refused : (k : Cause) → Did entry exit c (made_of (std.Err k)) → LineDid entry exit line (std.Err k)
+  unfolding cause_of refusal_in made_of
+  line_refused k did = answered (refused (number_of k)) (std.Err k) did refl
+
+  pub line_done : (r : Done) → Did entry exit c (done_of r) → LineDid entry exit line r
+  line_done r did = answered (done_of r) r did (refusal_of r)
+
 -- the same line, said in another way
-pub as_meant : {entry exit : List ℕ} {r : Cause} {line line' : Option Line} → LineDid entry exit line r → line ≡ line' → LineDid entry exit line' r
+pub as_meant : {entry exit : List ℕ} {r : Done} {line line' : Option Line} → LineDid entry exit line r → line ≡ line' → LineDid entry exit line' r
 as_meant {entry} {exit} {r} h e = subst (λ (l : Option Line). LineDid entry exit l r) e h

@@ -4,6 +4,7 @@ use Prim.Native.Nat.{ℕ, ◌+◌, ◌-◌, ◌<◌, ◌≤◌}
 use native.Mathlib.Omega.{arith}
 use mathlib.Core.Bool.{Bool, true, false, cond}
 use mathlib.Core.Option.{some, none-ne-some}
+use Rattle.std.specs.Prelude as std
 use mathlib.Core.List.{List, [], ◌∷◌}
 use mathlib.Core.Path.{◌≡◌, refl, sym, ap, ap₂, subst, ◌∙◌}
 use borrow.Author.Tests.{le-leb, lt-leb}
@@ -14,21 +15,22 @@ use Rattle.rules.specs.Bytes.{text, is_text, line_feed, Pieces, cut_at}
 use Rattle.rules.specs.Building.{first_failed}
 use Rattle.rules.specs.Listings.{header_tests, header_cause, listing_cause, behind_first, max_line, max_listing}
 use Rattle.rules.proofs.Basics.Tests.{numbers_same}
-use Rattle.layout.specs.Causes.{cause_of}
+use Rattle.layout.specs.Causes.{number_of, cause_of}
 use Rattle.layout.specs.Reading.{slice}
-use Rattle.layout.specs.declared.causes.Cause.TheVariants.{None, Is}
+use Rattle.layout.specs.declared.causes.Cause.{Cause}
+use Rattle.layout.specs.declared.causes.Cause.TheVariants.{BadHeader, BadLength}
 use Rattle.layout.proofs.Scans.{slice_length}
 use Rattle.lines.specs.Pieces.{pieces_from, PieceEnd}
 use Rattle.listing.specs.Stepping.{Headed}
 
 -- a refused first line
-refused : (listing : List ℕ) (k : ℕ) → listing_cause listing ≡ some k → Headed listing (Is k)
+refused : (listing : List ℕ) (k : Cause) → listing_cause listing ≡ some (number_of k) → Headed listing (std.Err k)
 unfolding cause_of
-refused listing k h = record { same = sym h; begun = λ q. absurd (none-ne-some k (sym (ap cause_of q))) }
+refused listing k h = record { same = sym h; begun = λ q. absurd (none-ne-some (number_of k) (sym (ap cause_of q))) }
 
-pub too_long_lem : (listing : List ℕ) → max_listing < length listing → Headed listing (Is 11)
+pub too_long_lem : (listing : List ℕ) → max_listing < length listing → Headed listing (std.Err BadLength)
 unfolding listing_cause
-too_long_lem listing h = refused listing 11 (ap (λ (t : Bool). cond t (header_cause (cut_at line_feed listing).whole (cut_at line_feed listing).rest) (some 11)) (lt-leb (length listing) max_listing h))
+too_long_lem listing h = refused listing BadLength (ap (λ (t : Bool). cond t (header_cause (cut_at line_feed listing).whole (cut_at line_feed listing).rest) (some 11)) (lt-leb (length listing) max_listing h))
 
 module _ (listing : List ℕ) (short : length listing ≤ max_listing) where
   by_header : listing_cause listing ≡ header_cause (cut_at line_feed listing).whole (cut_at line_feed listing).rest
@@ -44,8 +46,8 @@ module _ (listing : List ℕ) (short : length listing ≤ max_listing) where
   no_bytes [] e = refl
   no_bytes (x ∷ xs) e = absurd (let z : ⊥ = omega arith in z)
 
-  pub nothing : length listing ≡ 0 → Headed listing (Is 9)
-  nothing e = refused listing 9 (by_header ∙ no_bytes listing e)
+  pub nothing : length listing ≡ 0 → Headed listing (std.Err BadHeader)
+  nothing e = refused listing BadHeader (by_header ∙ no_bytes listing e)
 
   module _ (e : ℕ) (end : PieceEnd listing 0 line_feed e) where
     some_bytes : (xs : List ℕ) → (length xs ≡ 0 → ⊥) → header_cause [] xs ≡ some 11
@@ -53,8 +55,8 @@ module _ (listing : List ℕ) (short : length listing ≤ max_listing) where
     some_bytes [] h = absurd (h refl)
     some_bytes (x ∷ xs) h = refl
 
-    pub unended : (length listing ≡ 0 → ⊥) → e ≡ length listing → Headed listing (Is 11)
-    unended h q = refused listing 11 (by_pieces _ (end.unended (omega arith)) ∙ some_bytes listing h)
+    pub unended : (length listing ≡ 0 → ⊥) → e ≡ length listing → Headed listing (std.Err BadLength)
+    unended h q = refused listing BadLength (by_pieces _ (end.unended (omega arith)) ∙ some_bytes listing h)
 
     module _ (l : (e ≡ length listing → ⊥)) where
       ended : e < length listing
@@ -67,10 +69,10 @@ module _ (listing : List ℕ) (short : length listing ≤ max_listing) where
       line_length : length (slice listing 0 e) ≡ e
       line_length = slice_length listing 0 e end.within ∙ (let z : e - 0 ≡ e = omega arith in z)
 
-      pub line_too_long : max_line < e → Headed listing (Is 11)
+      pub line_too_long : max_line < e → Headed listing (std.Err BadLength)
       unfolding header_tests first_failed
       line_too_long h =
-          refused listing 11 (tested ∙ ap (λ (t : Bool). first_failed ((t, 11) ∷ (is_text "opstore,1" (slice listing 0 e), 9) ∷ [])) (lt-leb _ max_line (subst (λ (n : ℕ). max_line < n) (sym line_length) h)))
+          refused listing BadLength (tested ∙ ap (λ (t : Bool). first_failed ((t, 11) ∷ (is_text "opstore,1" (slice listing 0 e), 9) ∷ [])) (lt-leb _ max_line (subst (λ (n : ℕ). max_line < n) (sym line_length) h)))
 
       module _ (fits : e ≤ max_line) where
         whole_line : slice listing 0 e ≡ take e listing
@@ -83,11 +85,11 @@ module _ (listing : List ℕ) (short : length listing ≤ max_listing) where
             tested
             ∙ ap₂ (λ (a b : Bool). first_failed ((a, 11) ∷ (b, 9) ∷ [])) (le-leb _ max_line (subst (λ (n : ℕ). n ≤ max_line) (sym line_length) fits)) (ap (λ (xs : List ℕ). same_list eqb xs (text "opstore,1")) whole_line ∙ q)
 
-        pub other_line : same_list eqb (take e listing) (text "opstore,1") ≡ false → Headed listing (Is 9)
+        pub other_line : same_list eqb (take e listing) (text "opstore,1") ≡ false → Headed listing (std.Err BadHeader)
         unfolding first_failed
-        other_line q = refused listing 9 (compared false q)
+        other_line q = refused listing BadHeader (compared false q)
 
-        pub header : same_list eqb (take e listing) (text "opstore,1") ≡ true → Headed listing None
+        pub header : same_list eqb (take e listing) (text "opstore,1") ≡ true → Headed listing (std.Ok tt)
         unfolding first_failed cause_of behind_first pieces_from
         header q =
             let nine : e ≡ 9 = sym line_length ∙ ap length (whole_line ∙ (numbers_same (take e listing) (text "opstore,1")).0 q) in

@@ -4,9 +4,9 @@ mod Heading
 mod Emptied
 mod Built
 mod Meant
-mod Unequal
-mod Verdicts
+mod Letters
 mod Hashes
 mod Steps
 mod Runs
 mod Whole
+mod Verdicts

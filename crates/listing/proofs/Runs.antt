@@ -4,6 +4,7 @@ use Prim.Native.Nat.{ℕ, suc, ◌+◌, ◌-◌, ◌*◌, ◌<◌, ◌≤◌}
 use native.Mathlib.Numerals.{add-one}
 use native.Mathlib.Omega.{arith}
 use mathlib.Core.Bool.{true}
+use Rattle.std.specs.Prelude as std
 use mathlib.Core.List.{List, [], ◌∷◌, ◌++◌, append_assoc}
 use mathlib.Core.Path.{◌≡◌, refl, sym, ap, ap₂, subst, ◌∙◌}
 use lib.ListN.{length, drop, length-drop}
@@ -19,15 +20,16 @@ use Rattle.layout.proofs.Scans.{slice_length}
 use Rattle.journal.specs.Words.{marked_in, sound_lent}
 use Rattle.marks.proofs.Bare.{bare_lent, bare_reads}
 use Rattle.mapping.specs.MappingWords.{empty_words}
-use Rattle.tally.specs.Tally.{tally_of, IsTally}
+use Rattle.tally.specs.Tally.{tally_of}
+use Rattle.tally.specs.declared.types.Place.{Place}
+use Rattle.layout.specs.Causes.{number_of}
+use Rattle.layout.specs.declared.causes.Cause.{Cause}
 use Rattle.lines.specs.Pieces.{pieces_from, PieceEnd}
 use Rattle.lines.specs.Wrote.{Wrote}
 use Rattle.lines.specs.Room.{refusal_room, share_room}
 use Rattle.lines.proofs.Joined.{then, said, within, nothing}
 use Rattle.listing.specs.declared.types.Program.{Program}
 use Rattle.listing.specs.declared.types.Program.TheVariants.{Twins, Sums}
-use Rattle.listing.specs.declared.types.LineResult.{LineResult}
-use Rattle.listing.specs.declared.types.LineResult.TheVariants.{On, Stopped}
 use Rattle.listing.specs.Progress.{program_of, progress_of}
 use Rattle.listing.specs.Asking.{step_room, outcome_of, Goes}
 use Rattle.listing.specs.Stepping.{second_line, closes, Bare, LineDoes, Ran}
@@ -127,19 +129,19 @@ module _ (p : Program) (listing : List ℕ) where
     unfolding leaves
     leaves_here = ap (λ (q : Pieces). (leaves (program_of p) now q.whole).store) no_pieces
 
-closing : (p : Program) (store tally : List ℕ) → (program_of p).close (progress_of store tally) ≡ closes p tally
+closing : (p : Program) (store : List ℕ) (tally : List Place) → (program_of p).close (progress_of store tally) ≡ closes p tally
 unfolding program_of closes progress_of twins_program sums_program
 closing Twins store tally = refl
 closing Sums store tally = refl
 
 -- ---- the loop
 
-pub as_known : {p : Program} {line store store' tally tally' out out' : List ℕ} {at : ℕ} {r q : LineResult} → r ≡ q
-    → LineDoes p line store store' tally tally' out out' at r → LineDoes p line store store' tally tally' out out' at q
-as_known {p} {line} {store} {store'} {tally} {tally'} {out} {out'} {at} e d = subst (LineDoes p line store store' tally tally' out out' at) e d
+-- a refusal, by the number of its cause
+pub numbered : {before after : List ℕ} {at r : ℕ} (n : ℕ) {k q : ℕ} → k ≡ q → Wrote refusal_room before after at (refusal n k) r → Wrote refusal_room before after at (refusal n q) r
+numbered {before} {after} {at} {r} n e w = subst (λ (x : ℕ). Wrote refusal_room before after at (refusal n x) r) e w
 
 module _ (p : Program) (listing : List ℕ) (from : ℕ) (before : List ℕ) where
-  pub record Running (store mapping tally out : List ℕ) (at n start : ℕ) : Type 0 where
+  pub record Running (store mapping : List ℕ) (tally : List Place) (out : List ℕ) (at n start : ℕ) : Type 0 where
     pub bare : Bare store
     pub empty : mapping ≡ empty_words
     pub bytes : List ℕ
@@ -148,14 +150,13 @@ module _ (p : Program) (listing : List ℕ) (from : ℕ) (before : List ℕ) whe
     pub store_left : leaves_from p listing from at_start ≡ leaves_from p listing start (progress_of store tally)
     pub room : at + spare ≤ per_byte * start
     pub within : start ≤ length listing
-    pub counts : IsTally tally
     pub lines : n ≤ start
 
 module _ {p : Program} {listing : List ℕ} {from : ℕ} {before : List ℕ} (roomy : max_output ≤ length before) (short : length listing ≤ max_listing) where
-  pub running_starts : (store mapping tally : List ℕ) → Bare store → store_in store ≡ empty_store → mapping ≡ empty_words → IsTally tally → tally_of tally ≡ no_tally
+  pub running_starts : (store mapping : List ℕ) (tally : List Place) → Bare store → store_in store ≡ empty_store → mapping ≡ empty_words → tally_of tally ≡ no_tally
       → second_line ≤ from → from ≤ length listing → Running p listing from before store mapping tally before 0 2 from
   unfolding progress_of at_start
-  running_starts store mapping tally bare reads e counts none long h =
+  running_starts store mapping tally bare reads e none long h =
       record {
         bare = bare;
         empty = e;
@@ -165,11 +166,10 @@ module _ {p : Program} {listing : List ℕ} {from : ℕ} {before : List ℕ} (ro
         store_left = ap₂ (λ (s : Store) (t : rules.Tally). leaves_from p listing from (record { store = s; tally = t })) (sym reads) (sym none);
         room = omega arith;
         within = h;
-        counts = counts;
         lines = omega arith;
       }
 
-  module _ {store mapping tally out : List ℕ} {at n start : ℕ} (inv : Running p listing from before store mapping tally out at n start) where
+  module _ {store mapping : List ℕ} {tally : List Place} {out : List ℕ} {at n start : ℕ} (inv : Running p listing from before store mapping tally out at n start) where
     pub has_room : at + spare ≤ length before
     has_room = let a = inv.room in let b = inv.within in omega arith
 
@@ -216,12 +216,12 @@ module _ {p : Program} {listing : List ℕ} {from : ℕ} {before : List ℕ} (ro
           (nothing_more p listing n start e end (progress_of store tally) l q)
           mapping inv.empty
 
-      module _ (m : e ≡ length listing → ⊥) (store' tally' out' : List ℕ) where
+      module _ (m : e ≡ length listing → ⊥) (store' : List ℕ) (tally' : List Place) (out' : List ℕ) where
         ended : e < length listing
         ended = let w : e ≤ length listing = end.within in omega arith
 
-        module _ (k : ℕ) (did : LineDoes p (slice listing start e) store store' tally tally' out out' at (Stopped k)) where
-          stops_there : does (program_of p) (progress_of store tally) (slice listing start e) ≡ stops k
+        module _ (k : Cause) (did : LineDoes p (slice listing start e) store store' tally tally' out out' at (std.Err k)) where
+          stops_there : does (program_of p) (progress_of store tally) (slice listing start e) ≡ stops (number_of k)
           unfolding outcome_of
           stops_there = did.step.does
 
@@ -229,15 +229,15 @@ module _ {p : Program} {listing : List ℕ} {from : ℕ} {before : List ℕ} (ro
           unfolding Goes
           same_out = did.step.goes
 
-          pub ran_stopped : (mapping' after : List ℕ) (r : ℕ) → mapping' ≡ empty_words → Wrote refusal_room out' after at (refusal n k) r → Ran p listing from store' mapping' before after r
+          pub ran_stopped : (mapping' after : List ℕ) (r : ℕ) → mapping' ≡ empty_words → Wrote refusal_room out' after at (refusal n (number_of k)) r → Ran p listing from store' mapping' before after r
           unfolding progress_of
           ran_stopped mapping' after r q w =
-              ran (refusal n k) refusal_room store' after r (did.unchanged k refl) (omega arith) (subst (λ (xs : List ℕ). Wrote refusal_room xs after at (refusal n k) r) same_out w)
-              (stops_here p listing n start e end (progress_of store tally) ended k stops_there)
-              (left_here_lem p listing n start e end (progress_of store tally) ended k stops_there)
+              ran (refusal n (number_of k)) refusal_room store' after r (did.unchanged k refl) (omega arith) (subst (λ (xs : List ℕ). Wrote refusal_room xs after at (refusal n (number_of k)) r) same_out w)
+              (stops_here p listing n start e end (progress_of store tally) ended (number_of k) stops_there)
+              (left_here_lem p listing n start e end (progress_of store tally) ended (number_of k) stops_there)
               mapping' q
 
-        module _ (next : ℕ) (did : LineDoes p (slice listing start e) store store' tally tally' out out' at (On next)) where
+        module _ (next : ℕ) (did : LineDoes p (slice listing start e) store store' tally tally' out out' at (std.Ok next)) where
           goes_there : does (program_of p) (progress_of store tally) (slice listing start e) ≡ prints did.step.bytes (progress_of store' tally')
           unfolding outcome_of
           goes_there = did.step.does
@@ -270,6 +270,5 @@ module _ {p : Program} {listing : List ℕ} {from : ℕ} {before : List ℕ} (ro
                 store_left = inv.store_left ∙ left_on_lem p listing n start e end (progress_of store tally) ended did.step.bytes (progress_of store' tally') goes_there;
                 room = omega arith;
                 within = omega arith;
-                counts = did.step.counts;
                 lines = omega arith;
               }

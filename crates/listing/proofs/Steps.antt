@@ -1,7 +1,8 @@
 -- What a line does, by its letter: the code goes by the same tests as the rules. Assumes nothing.
 use Prim.Native.Nat.{ℕ, ◌<◌, ◌≤◌}
-use mathlib.Core.Bool.{Bool, true, false, cond, true≢false}
+use mathlib.Core.Bool.{Bool, true, false, cond}
 use mathlib.Core.Option.{Option, none, some}
+use Rattle.std.specs.Prelude as std
 use mathlib.Core.List.{List, []}
 use mathlib.Core.Path.{◌≡◌, refl, ap, ◌∙◌}
 use borrow.Author.Tests.{le-leb, lt-leb, eqb-true, eqb-false}
@@ -9,41 +10,32 @@ use lib.Dec.{eqb}
 use lib.ListN.{length}
 use Rattle.rules.specs.Lists.{same_list}
 use Rattle.rules.specs.Bytes.{is_text}
-use Rattle.rules.specs.Lines.{Line, field, one_of, operation_line, block_line, attribute_line, operand_line, query_line, letter, wholly, parse}
+use Rattle.rules.specs.Lines.{Line, fields_of, field, one_of, operation_line, block_line, attribute_line, operand_line, query_line, letter, wholly, parse}
 use Rattle.rules.specs.Listings as rules
 use Rattle.rules.specs.Listings.{LineOutcome, stops, line_does, does, max_line}
-use Rattle.layout.specs.Causes.{cause_of}
+use Rattle.layout.specs.Causes.{number_of, cause_of}
 use Rattle.layout.specs.Soundness.{IsSound}
 use Rattle.layout.specs.declared.causes.Cause.{Cause}
-use Rattle.layout.specs.declared.causes.Cause.TheVariants.{None, Is}
-use Rattle.tally.specs.Tally.{tally_of, IsTally}
-use Rattle.lines.specs.Reading.{fields_left, one_byte}
-use Rattle.lines.proofs.Letters.{no_letter, letter_is, other_letter}
+use Rattle.tally.specs.Tally.{tally_of}
+use Rattle.tally.specs.declared.types.Place.{Place}
+use Rattle.lines.specs.Reading.{one_byte}
+use Rattle.listing.proofs.Letters.{no_letter, letter_is, other_letter}
 use Rattle.listing.specs.declared.types.Program.{Program}
-use Rattle.listing.specs.declared.types.LineResult.{LineResult}
-use Rattle.listing.specs.declared.types.LineResult.TheVariants.{On, Stopped}
 use Rattle.listing.specs.Progress.{program_of, progress_of}
 use Rattle.listing.specs.Building.{building_line, led_to, LineDid}
-use Rattle.listing.specs.Asking.{step_room, outcome_of, Goes, Stepped}
+use Rattle.listing.specs.Asking.{step_room, LineResult, outcome_of, Goes, Stepped}
 use Rattle.listing.specs.Stepping.{LineDoes}
 use Rattle.lines.proofs.Joined.{nothing}
 
 -- ---- steps
 
-pub stopped : (o : LineOutcome) (store tally out : List ℕ) (at k : ℕ) → IsTally tally → o ≡ stops k → Stepped o store tally out out at (Stopped k)
+pub stopped : (o : LineOutcome) (store : List ℕ) (tally : List Place) (out : List ℕ) (at : ℕ) (k : Cause) → o ≡ stops (number_of k) → Stepped o store tally out out at (std.Err k)
 unfolding outcome_of Goes
-stopped o store tally out at k h e = record { bytes = []; does = e; goes = refl; counts = h }
+stopped o store tally out at k e = record { bytes = []; does = e; goes = refl }
 
-pub same_outcome : {o p : LineOutcome} {store tally before after : List ℕ} {at : ℕ} {r : LineResult} → o ≡ p
+pub same_outcome : {o p : LineOutcome} {store : List ℕ} {tally : List Place} {before after : List ℕ} {at : ℕ} {r : LineResult} → o ≡ p
     → Stepped p store tally before after at r → Stepped o store tally before after at r
-same_outcome e s = record { bytes = s.bytes; does = e ∙ s.does; goes = s.goes; counts = s.counts }
-
-abbrev is_on : LineResult → Bool
-is_on (On next) = true
-is_on (Stopped k) = false
-
-goes_on : {at k : ℕ} → On at ≡ Stopped k → ⊥
-goes_on h = true≢false (ap (λ r. is_on r) h)
+same_outcome e s = record { bytes = s.bytes; does = e ∙ s.does; goes = s.goes }
 
 -- ---- a line by its letter
 
@@ -57,11 +49,11 @@ module _ (p : rules.Program) (now : rules.Progress) (line : List ℕ) where
     unfolding does
     by_meaning meant e = ap (λ (t : Bool). cond t (line_does p now (parse line)) (stops 11)) (le-leb (length line) max_line short) ∙ ap (line_does p now) e
 
-    pub unlettered : field one_byte (fields_left line 0) ≡ none → does p now line ≡ stops 10
+    pub unlettered : field one_byte (fields_of line) ≡ none → does p now line ≡ stops 10
     unfolding line_does
     unlettered h = by_meaning none (no_letter line h)
 
-    module _ (b : ℕ) (gs : List (List ℕ)) (h : field one_byte (fields_left line 0) ≡ some (b, gs)) where
+    module _ (b : ℕ) (gs : List (List ℕ)) (h : field one_byte (fields_of line) ≡ some (b, gs)) where
       pub asks : b ≡ 113 → does p now line ≡ line_does p now (wholly (query_line gs))
       unfolding letter field one_of is_text same_list
       asks e = by_meaning _ (letter_is line gs b h 113 query_line refl e)
@@ -82,41 +74,35 @@ module _ (p : rules.Program) (now : rules.Progress) (line : List ℕ) where
 
 -- ---- what the code does
 
-module _ (p : Program) (line store tally out : List ℕ) (at : ℕ) (sound : IsSound store) (counts : IsTally tally) where
-  pub line_stopped : (k : ℕ) → does (program_of p) (progress_of store tally) line ≡ stops k → LineDoes p line store store tally tally out out at (Stopped k)
-  line_stopped k e = record { step = stopped _ store tally out at k counts e; sound = sound; marks = refl; unchanged = λ cause q. refl }
+module _ (p : Program) (line store : List ℕ) (tally : List Place) (out : List ℕ) (at : ℕ) (sound : IsSound store) where
+  pub line_stopped : (k : Cause) → does (program_of p) (progress_of store tally) line ≡ stops (number_of k) → LineDoes p line store store tally tally out out at (std.Err k)
+  line_stopped k e = record { step = stopped _ store tally out at k e; sound = sound; marks = refl; unchanged = λ cause q. refl }
 
-  pub line_asked : (tally' after : List ℕ) (r : LineResult) (o : LineOutcome) → does (program_of p) (progress_of store tally) line ≡ o
+  pub line_asked : (tally' : List Place) (after : List ℕ) (r : LineResult) (o : LineOutcome) → does (program_of p) (progress_of store tally) line ≡ o
       → Stepped o store tally' out after at r → LineDoes p line store store tally tally' out after at r
   line_asked tally' after r o e s = record { step = same_outcome e s; sound = sound; marks = refl; unchanged = λ cause q. refl }
 
-  module _ (exit : List ℕ) (meant : Option Line) (r : Cause) (e : does (program_of p) (progress_of store tally) line ≡ line_does (program_of p) (progress_of store tally) meant) (did : LineDid store exit meant r) where
-    led : does (program_of p) (progress_of store tally) line ≡ led_to (progress_of exit tally) (cause_of r)
+  module _ (exit : List ℕ) (meant : Option Line) (e : does (program_of p) (progress_of store tally) line ≡ line_does (program_of p) (progress_of store tally) meant) where
+    led : (r : std.Result (Unit {0}) Cause) → LineDid store exit meant r → does (program_of p) (progress_of store tally) line ≡ led_to (progress_of exit tally) (cause_of r)
     unfolding progress_of
-    led = e ∙ did.does (program_of p) (tally_of tally)
+    led r did = e ∙ did.does (program_of p) (tally_of tally)
 
-    pub line_refused : (k : ℕ) → r ≡ Is k → LineDoes p line store exit tally tally out out at (Stopped k)
+    pub line_refused : (k : Cause) → LineDid store exit meant (std.Err k) → LineDoes p line store exit tally tally out out at (std.Err k)
     unfolding led_to cause_of
-    line_refused k q =
+    line_refused k did =
         record {
-          step = stopped _ exit tally out at k counts (led ∙ ap (λ (x : Cause). led_to (progress_of exit tally) (cause_of x)) q);
+          step = stopped _ exit tally out at k (led (std.Err k) did);
           sound = did.sound;
           marks = did.marks;
-          unchanged = λ cause z. did.unchanged k q;
+          unchanged = λ cause z. did.unchanged k refl;
         }
 
-    pub line_built : r ≡ None → LineDoes p line store exit tally tally out out at (On at)
+    pub line_built : LineDid store exit meant (std.Ok tt) → LineDoes p line store exit tally tally out out at (std.Ok at)
     unfolding led_to cause_of outcome_of Goes
-    line_built q =
+    line_built did =
         record {
-          step =
-              record {
-                bytes = [];
-                does = led ∙ ap (λ (x : Cause). led_to (progress_of exit tally) (cause_of x)) q;
-                goes = nothing step_room out at;
-                counts = counts;
-              };
+          step = record { bytes = []; does = led (std.Ok tt) did; goes = nothing step_room out at };
           sound = did.sound;
           marks = did.marks;
-          unchanged = λ cause z. absurd (goes_on z);
+          unchanged = λ cause z. absurd (cc);
         }

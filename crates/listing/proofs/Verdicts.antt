@@ -1,7 +1,9 @@
 -- A comparison that is begun with no entries answers what the rules answer for the empty mapping, and what is printed and counted of it
 -- is what `twins` does for a `q`. Assumes nothing.
 use Prim.Native.Nat.{ℕ}
-use mathlib.Core.Bool.{Bool, true, false, true≢false, ◌&&◌}
+use mathlib.Core.Bool.{Bool, true, false, ◌&&◌}
+use Rattle.std.specs.Prelude as std
+use Rattle.std.specs.Result.{is_ok}
 use mathlib.Core.List.{List, []}
 use mathlib.Core.Option.{some}
 use mathlib.Core.Path.{◌≡◌, refl, sym, ap, subst, ◌∙◌}
@@ -13,7 +15,7 @@ use Rattle.rules.specs.Shells.{Ignore}
 use Rattle.rules.specs.Mapping.{Mapping, empty_mapping, allowed}
 use Rattle.rules.specs.Lists.{every, all}
 use Rattle.rules.specs.Types.{whole_rows, old_types, present_types, each_once, types_hold}
-use Rattle.rules.specs.Answers.{Comparison, refused, compare_tests, comparison_by, comparison}
+use Rattle.rules.specs.Answers.{Compared, Comparison, refused, compare_tests, comparison_by, comparison}
 use Rattle.rules.specs.Listings as rules
 use Rattle.rules.specs.Listings.{prints, tallied, line_does, twins_answer, twins_program}
 use Rattle.rules.proofs.Basics.Tests.{and_right}
@@ -22,18 +24,20 @@ use Rattle.layout.specs.Reading.{store_in}
 use Rattle.fragments.specs.Sorts.{sort_of}
 use Rattle.fragments.specs.Ignoring.{ignore_of}
 use Rattle.mapping.specs.MappingWords.{mapping_length, mapping_of, empty_words}
-use Rattle.pairing.specs.Told.{answer_of}
+use Rattle.pairing.specs.Told.{answer_of, compared_of}
 use Rattle.equivalence.specs.Calls.{Answered}
-use Rattle.pairing.specs.declared.types.EqResult.{EqResult}
-use Rattle.pairing.specs.declared.types.EqResult.TheVariants.{Eq, FirstNEQOps, FirstNEQRegions, FirstNEQBlocks, Refused}
+use Rattle.pairing.specs.declared.types.Unequal.{Unequal}
+use Rattle.pairing.specs.declared.types.Unequal.TheVariants.{FirstNEQOps, FirstNEQRegions, FirstNEQBlocks}
+use Rattle.layout.specs.Causes.{number_of}
+use Rattle.layout.specs.declared.causes.Cause.{Cause}
 use Rattle.mapping.proofs.Unmapped.{empty_words_lem}
-use Rattle.tally.specs.Tally.{tally_of, IsTally, Tallied}
+use Rattle.tally.specs.Tally.{tally_of, Tallied}
+use Rattle.tally.specs.declared.types.Place.{Place}
 use Rattle.lines.specs.Parsing.{query_of}
 use Rattle.lines.specs.Wrote.{Wrote}
 use Rattle.lines.specs.declared.parsing.Query.{Query}
-use Rattle.listing.specs.declared.types.LineResult.TheVariants.{On, Stopped}
 use Rattle.listing.specs.Progress.{progress_of}
-use Rattle.listing.specs.Asking.{is_eq, verdict_line, answer_to, QueryCompared, step_room, outcome_of, Goes, Stepped}
+use Rattle.listing.specs.Asking.{verdict_line, answer_to, QueryCompared, step_room, outcome_of, Goes, Stepped}
 use Rattle.listing.proofs.Emptied.{empty_length}
 
 -- ---- the empty mapping
@@ -50,33 +54,34 @@ as_many m after e long = long ∙ ap length e ∙ empty_length
 
 -- ---- the comparison
 
-module _ (b m after left : List ℕ) (q : Query) (r : EqResult) (e : m ≡ empty_words) where
-  answered : Answered true b [] m after (ignore_of q.ignore) (sort_of q.sort) q.left q.right r → answer_of r ≡ answer_to b q
+module _ (b m after : List ℕ) (q : Query) (r : std.Result (std.Result ℕ Unequal) Cause) (e : m ≡ empty_words)
+    (h : Answered true b [] m after (ignore_of q.ignore) (sort_of q.sort) q.left q.right (compared_of r)) where
+  answered : compared_of r ≡ answer_to b q
   unfolding answer_to
-  answered h =
+  answered =
       let ig = ignore_of q.ignore in
       let f = sort_of q.sort in
       sym
-      (subst (λ (x : Mapping). (comparison true (store_in b) [] x ig f q.left q.right).answer ≡ answer_of r) (words_are m e)
+      (subst (λ (x : Mapping). (comparison true (store_in b) [] x ig f q.left q.right).answer ≡ compared_of r) (words_are m e)
       (ap (λ (c : Comparison). c.answer) h.told))
 
-  pub compares : Answered true b [] m after (ignore_of q.ignore) (sort_of q.sort) q.left q.right r
-      → left ≡ empty_words → QueryCompared b left q r
-  compares h w = record { same = answered h; empty = w }
+  pub compares : (left : List ℕ) → left ≡ empty_words → QueryCompared b left q r
+  compares left w = record { same = answered; empty = w }
+
+-- a refused one has entered nothing
+pub refuses : (b m after : List ℕ) (q : Query) (cause : Cause) → m ≡ empty_words
+    → Answered true b [] m after (ignore_of q.ignore) (sort_of q.sort) q.left q.right (compared_of (std.Err cause)) → QueryCompared b after q (std.Err cause)
+unfolding compared_of
+refuses b m after q cause e h = compares b m after q (std.Err cause) e h after (h.unchanged (number_of cause) refl ∙ e)
 
 -- ---- an answer that is not refused: both fragments exist
 
--- an answer by another variant than the last
-abbrev pub NotRefused : EqResult → Type 0
-NotRefused q = (cause : ℕ) → q ≡ Refused cause → ⊥
-
-answers : (q : EqResult) → NotRefused q → (cause : ℕ) → answer_of q ≡ refused cause → ⊥
+not_refused : (res : std.Result ℕ Unequal) (cause : ℕ) → answer_of res ≡ refused cause → ⊥
 unfolding answer_of
-answers (Eq n) k cause h = true≢false cc
-answers (FirstNEQOps l r n) k cause h = true≢false cc
-answers (FirstNEQRegions l r n) k cause h = true≢false cc
-answers (FirstNEQBlocks l r n) k cause h = true≢false cc
-answers (Refused c) k cause h = k c refl
+not_refused (std.Ok n) cause h = cc
+not_refused (std.Err (FirstNEQOps l r n)) cause h = cc
+not_refused (std.Err (FirstNEQRegions l r n)) cause h = cc
+not_refused (std.Err (FirstNEQBlocks l r n)) cause h = cc
 
 -- with a sound store and an allowed mapping, a missing fragment is refused
 missing : (s : Store) (m : Mapping) (ig : Ignore) (f : Sort) (l r : ℕ) → allowed s m ≡ true → (exists s f l && exists s f r) ≡ false
@@ -84,9 +89,9 @@ missing : (s : Store) (m : Mapping) (ig : Ignore) (f : Sort) (l r : ℕ) → all
 unfolding comparison comparison_by compare_tests first_failed types_hold whole_rows old_types present_types each_once every all
 missing s m ig f l r a e = rw (a, e) refl
 
-pub right_exists : (b : List ℕ) (q : Query) (r : EqResult) → answer_of r ≡ answer_to b q → NotRefused r → exists (store_in b) (sort_of q.sort) q.right ≡ true
-unfolding answer_to
-right_exists b q r same k = go (exists S f q.left && exists S f q.right) refl
+pub right_exists : (b left : List ℕ) (q : Query) (res : std.Result ℕ Unequal) → QueryCompared b left q (std.Ok res) → exists (store_in b) (sort_of q.sort) q.right ≡ true
+unfolding answer_to compared_of
+right_exists b left q res h = go (exists S f q.left && exists S f q.right) refl
   where
     S : Store
     S = store_in b
@@ -96,49 +101,43 @@ right_exists b q r same k = go (exists S f q.left && exists S f q.right) refl
 
     go : (t : Bool) → (exists S f q.left && exists S f q.right) ≡ t → exists S f q.right ≡ true
     go true e = and_right (exists S f q.left) (exists S f q.right) e
-    go false e = absurd (answers r k 2 (same ∙ missing S empty_mapping (ignore_of q.ignore) f q.left q.right (empty_allowed S) e))
+    go false e = absurd (not_refused res 2 (h.same ∙ missing S empty_mapping (ignore_of q.ignore) f q.left q.right (empty_allowed S) e))
 
 -- ---- what `twins` does for a `q`
 
-module _ (b tally : List ℕ) (q : Query) where
-  twins_asks : line_does twins_program (progress_of b tally) (some (query_of q)) ≡ twins_answer (answer_to b q) (sort_of q.sort) q.right (progress_of b tally)
-  unfolding line_does twins_program progress_of query_of answer_to
+module _ (b : List ℕ) (tally : List Place) (q : Query) where
+  abbrev pub asked : rules.LineOutcome
+  asked = line_does twins_program (progress_of b tally) (some (query_of q))
+
+  twins_asks : asked ≡ twins_answer (answer_to b q) (sort_of q.sort) q.right (progress_of b tally)
+  unfolding line_does twins_program progress_of answer_to
   twins_asks = refl
 
+  pub twins_stops : (left out : List ℕ) (at : ℕ) (cause : Cause) → QueryCompared b left q (std.Err cause) → Stepped asked b tally out out at (std.Err cause)
+  unfolding twins_answer compared_of outcome_of Goes
+  twins_stops left out at cause h = record { bytes = []; does = twins_asks ∙ ap (λ (x : Compared). twins_answer x (sort_of q.sort) q.right (progress_of b tally)) (sym h.same); goes = refl }
+
   -- the line is printed, and the right fragment goes into the tally
-  counted_as : (r : EqResult) → NotRefused r
-      → twins_answer (answer_of r) (sort_of q.sort) q.right (progress_of b tally)
-      ≡ prints (verdict_line (answer_of r))
-      (record { store = store_in b; tally = tallied (is_eq (answer_of r)) (fragment_ops (store_in b) (sort_of q.sort) q.right) (tally_of tally) })
-  unfolding twins_answer verdict_line is_eq answer_of progress_of
-  counted_as (Eq n) k = refl
-  counted_as (FirstNEQOps x y n) k = refl
-  counted_as (FirstNEQRegions x y n) k = refl
-  counted_as (FirstNEQBlocks x y n) k = refl
-  counted_as (Refused c) k = absurd (answers (Refused c) k c refl)
+  counted_as : (res : std.Result ℕ Unequal)
+      → twins_answer (answer_of res) (sort_of q.sort) q.right (progress_of b tally)
+      ≡ prints (verdict_line (answer_of res))
+      (record { store = store_in b; tally = tallied (is_ok res) (fragment_ops (store_in b) (sort_of q.sort) q.right) (tally_of tally) })
+  unfolding twins_answer verdict_line answer_of progress_of
+  counted_as (std.Ok n) = refl
+  counted_as (std.Err (FirstNEQOps x y n)) = refl
+  counted_as (std.Err (FirstNEQRegions x y n)) = refl
+  counted_as (std.Err (FirstNEQBlocks x y n)) = refl
 
-  pub twins_stops : (out : List ℕ) (at : ℕ) (r : EqResult) (cause : ℕ) → IsTally tally → answer_of r ≡ answer_to b q → r ≡ Refused cause
-      → Stepped (line_does twins_program (progress_of b tally) (some (query_of q))) b tally out out at (Stopped cause)
-  unfolding twins_answer answer_of outcome_of Goes
-  twins_stops out at r cause h same e =
-      record { bytes = []; does = twins_asks ∙ rw (← same, e) refl; goes = refl; counts = h }
-
-  module _ (after : List ℕ) (r : EqResult) (m : Tallied (store_in b) (sort_of q.sort) q.right (is_eq (answer_of r)) tally after) where
-    prints_on : NotRefused r
-        → twins_answer (answer_of r) (sort_of q.sort) q.right (progress_of b tally) ≡ prints (verdict_line (answer_of r)) (progress_of b after)
+  module _ (after : List Place) (left : List ℕ) (res : std.Result ℕ Unequal) (h : QueryCompared b left q (std.Ok res)) (m : Tallied (store_in b) (sort_of q.sort) q.right (is_ok res) tally after) where
+    prints_on : twins_answer (answer_of res) (sort_of q.sort) q.right (progress_of b tally) ≡ prints (verdict_line (answer_of res)) (progress_of b after)
     unfolding progress_of
-    prints_on k =
-        counted_as r k ∙ ap (λ (t : rules.Tally). prints (verdict_line (answer_of r)) (record { store = store_in b; tally = t })) (sym m.reads)
+    prints_on = counted_as res ∙ ap (λ (t : rules.Tally). prints (verdict_line (answer_of res)) (record { store = store_in b; tally = t })) (sym m.reads)
 
-    pub twins_goes : (out out' : List ℕ) (at next : ℕ) → answer_of r ≡ answer_to b q → NotRefused r → Wrote step_room out out' at (verdict_line (answer_of r)) next
-        → Stepped (line_does twins_program (progress_of b tally) (some (query_of q))) b after out out' at (On next)
-    unfolding outcome_of Goes
-    twins_goes out out' at next same k w =
+    pub twins_goes : (out out' : List ℕ) (at next : ℕ) → Wrote step_room out out' at (verdict_line (answer_of res)) next → Stepped asked b after out out' at (std.Ok next)
+    unfolding outcome_of Goes compared_of
+    twins_goes out out' at next w =
         record {
-          bytes = verdict_line (answer_of r);
-          does =
-              twins_asks
-              ∙ subst (λ x. twins_answer x (sort_of q.sort) q.right (progress_of b tally) ≡ prints (verdict_line (answer_of r)) (progress_of b after)) same (prints_on k);
+          bytes = verdict_line (answer_of res);
+          does = twins_asks ∙ ap (λ (x : Compared). twins_answer x (sort_of q.sort) q.right (progress_of b tally)) (sym h.same) ∙ prints_on;
           goes = w;
-          counts = m.holds;
         }

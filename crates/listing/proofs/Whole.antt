@@ -13,33 +13,34 @@ use Rattle.rules.specs.Building.{first_failed}
 use Rattle.rules.specs.Marks.{unmarked}
 use Rattle.rules.specs.Listings as rules
 use Rattle.rules.specs.Listings.{refusal, run, at_start, leaves, listing_cause, behind_first, unless, store_after, max_output}
-use Rattle.layout.specs.Causes.{cause_of}
+use Rattle.std.specs.Prelude as std
+use Rattle.layout.specs.Causes.{number_of, cause_of}
 use Rattle.layout.specs.Columns.{buffer_length}
 use Rattle.layout.specs.declared.causes.Cause.{Cause}
-use Rattle.layout.specs.declared.causes.Cause.TheVariants.{None, Is}
+use Rattle.layout.specs.declared.causes.Cause.TheVariants.{NotSound, BadMapping}
 use Rattle.lines.specs.Pieces.{pieces_from}
 use Rattle.lines.specs.Wrote.{Wrote}
 use Rattle.lines.specs.Room.{refusal_room}
 use Rattle.lines.proofs.Joined.{said, within}
 use Rattle.mapping.specs.MappingWords.{mapping_length, empty_words}
 use Rattle.listing.specs.declared.types.Program.{Program}
-use Rattle.listing.specs.declared.types.Listed.TheVariants.{Printed, Refused, NoRoom}
+use Rattle.listing.specs.declared.types.Unprinted.TheVariants.{Refused, NoRoom}
 use Rattle.listing.specs.Progress.{program_of}
 use Rattle.listing.specs.Stepping.{second_line, Headed, Ran}
-use Rattle.listing.specs.Calls.{Buffers, buffer_tests, PrintsListing, Answered, buffers}
+use Rattle.listing.specs.Calls.{Buffers, buffer_tests, PrintsListing, told_of, Answered, buffers}
 
 -- ---- the first line
 
 -- a refused first line leaves the buffers as they were
-module _ (p : Program) (listing store mapping out after : List ℕ) (n k : ℕ) (r : Cause) (h : Headed listing r) (e : r ≡ Is k) where
-  refused_for : listing_cause listing ≡ some k
+module _ (p : Program) (listing store mapping out after : List ℕ) (n : ℕ) (k : Cause) (h : Headed listing (std.Err k)) where
+  refused_for : listing_cause listing ≡ some (number_of k)
   unfolding cause_of
-  refused_for = sym h.same ∙ ap cause_of e
+  refused_for = sym h.same
 
-  pub first_refused : Wrote refusal_room out after 0 (refusal 1 k) n → PrintsListing (program_of p) listing (buffers store mapping out) (buffers store mapping after) n
+  pub first_refused : Wrote refusal_room out after 0 (refusal 1 (number_of k)) n → PrintsListing (program_of p) listing (buffers store mapping out) (buffers store mapping after) n
   unfolding buffers rules.listed unless
   first_refused w =
-      let clash : listing_cause listing ≡ none → ⊥ = λ q. none-ne-some k (sym q ∙ refused_for) in
+      let clash : listing_cause listing ≡ none → ⊥ = λ q. none-ne-some (number_of k) (sym q ∙ refused_for) in
       record {
         wrote = within (said w (sym (ap (λ (c : Option ℕ). unless c (run (program_of p) 2 at_start (behind_first (cut_at line_feed listing).whole) (cut_at line_feed listing).rest)) refused_for))) (omega arith);
         leaves =
@@ -52,16 +53,16 @@ module _ (p : Program) (listing store mapping out after : List ℕ) (n k : ℕ) 
       }
 
 -- behind an accepted one the lines run
-module _ (p : Program) (listing store mapping out store' mapping' out' : List ℕ) (n : ℕ) (r : Cause) (h : Headed listing r) (e : r ≡ None) (ran : Ran p listing second_line store' mapping' out out' n) where
+module _ (p : Program) (listing store mapping out store' mapping' out' : List ℕ) (n : ℕ) (h : Headed listing (std.Ok tt)) (ran : Ran p listing second_line store' mapping' out out' n) where
   accepted : listing_cause listing ≡ none
   unfolding cause_of
-  accepted = sym h.same ∙ ap cause_of e
+  accepted = sym h.same
 
   printed : rules.listed (program_of p) listing ≡ run (program_of p) 2 at_start (pieces_from line_feed listing second_line).whole (pieces_from line_feed listing second_line).rest
   unfolding rules.listed unless
   printed =
       ap (λ (c : Option ℕ). unless c (run (program_of p) 2 at_start (behind_first (cut_at line_feed listing).whole) (cut_at line_feed listing).rest)) accepted
-      ∙ ap₂ (λ (ls : List (List ℕ)) (rest : List ℕ). run (program_of p) 2 at_start ls rest) (h.begun e).lines (h.begun e).rest
+      ∙ ap₂ (λ (ls : List (List ℕ)) (rest : List ℕ). run (program_of p) 2 at_start ls rest) (h.begun refl).lines (h.begun refl).rest
 
   pub all_ran : PrintsListing (program_of p) listing (buffers store mapping out) (buffers store' mapping' out') n
   unfolding buffers store_after
@@ -71,7 +72,7 @@ module _ (p : Program) (listing store mapping out store' mapping' out' : List �
         leaves =
             record {
               refused = λ cause q. absurd (none-ne-some cause (sym accepted ∙ q));
-              reads = λ q. ran.left ∙ ap (λ (ls : List (List ℕ)). unmarked (leaves (program_of p) at_start ls).store) (sym (h.begun e).lines);
+              reads = λ q. ran.left ∙ ap (λ (ls : List (List ℕ)). unmarked (leaves (program_of p) at_start ls).store) (sym (h.begun refl).lines);
               sound = λ q. ran.sound;
               empty = λ q. ran.empty;
             };
@@ -84,13 +85,13 @@ module _ (p : rules.Program) (listing store mapping out : List ℕ) where
   unfolding buffers buffer_tests
   tested a b e f = ap₂ (λ (x y : Bool). first_failed ((x, 1) ∷ (y, 8) ∷ [])) e f
 
-  pub wrong_store : (length store ≡ buffer_length → ⊥) → Answered p listing (buffers store mapping out) (buffers store mapping out) (Refused 1)
-  unfolding Answered first_failed
+  pub wrong_store : (length store ≡ buffer_length → ⊥) → Answered p listing (buffers store mapping out) (buffers store mapping out) (told_of (std.Err (Refused NotSound)))
+  unfolding told_of Answered first_failed
   wrong_store h = (tested false (eqb (length mapping) mapping_length) (ne_eqb _ _ h) refl, refl)
 
   module _ (s : length store ≡ buffer_length) where
-    pub wrong_mapping : (length mapping ≡ mapping_length → ⊥) → Answered p listing (buffers store mapping out) (buffers store mapping out) (Refused 8)
-    unfolding Answered first_failed
+    pub wrong_mapping : (length mapping ≡ mapping_length → ⊥) → Answered p listing (buffers store mapping out) (buffers store mapping out) (told_of (std.Err (Refused BadMapping)))
+    unfolding told_of Answered first_failed
     wrong_mapping h = (tested true false (eq-eqb _ _ s) (ne_eqb _ _ h), refl)
 
     module _ (m : length mapping ≡ mapping_length) where
@@ -98,12 +99,12 @@ module _ (p : rules.Program) (listing store mapping out : List ℕ) where
       unfolding first_failed
       right_lengths = tested true true (eq-eqb _ _ s) (eq-eqb _ _ m)
 
-      pub no_room_lem : length out < max_output → Answered p listing (buffers store mapping out) (buffers store mapping out) NoRoom
-      unfolding Answered buffers
+      pub no_room_lem : length out < max_output → Answered p listing (buffers store mapping out) (buffers store mapping out) (told_of (std.Err NoRoom))
+      unfolding told_of Answered buffers
       no_room_lem h = (right_lengths, h, refl)
 
-      pub answered : (after : Buffers) (n : ℕ) → max_output ≤ length out → PrintsListing p listing (buffers store mapping out) after n → Answered p listing (buffers store mapping out) after (Printed n)
-      unfolding Answered buffers
+      pub answered : (after : Buffers) (n : ℕ) → max_output ≤ length out → PrintsListing p listing (buffers store mapping out) after n → Answered p listing (buffers store mapping out) after (told_of (std.Ok n))
+      unfolding told_of Answered buffers
       answered after n h pr = (right_lengths, h, pr)
 
 -- a mapping with no entry stays one

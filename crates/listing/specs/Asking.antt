@@ -1,28 +1,24 @@
 -- What a `q` prints and leaves.
-use Rattle.std.specs.Prelude.{ℕ, Bool, true, false, List, [], ◌≡◌}
+use Rattle.std.specs.Prelude as std
+use Rattle.std.specs.Prelude.{ℕ, true, List, [], ◌≡◌}
 use Rattle.rules.specs.Answers.{Compared, eq, neq, refused, comparison}
 use Rattle.rules.specs.Mapping.{empty_mapping}
 use Rattle.rules.specs.Listings.{LineOutcome, prints, stops, equal_line, unequal_line}
+use Rattle.layout.specs.Causes.{number_of}
 use Rattle.layout.specs.Reading.{store_in}
+use Rattle.layout.specs.declared.causes.Cause.{Cause}
 use Rattle.fragments.specs.Sorts.{sort_of}
 use Rattle.fragments.specs.Ignoring.{ignore_of}
 use Rattle.mapping.specs.MappingWords.{empty_words}
-use Rattle.pairing.specs.Told.{answer_of}
-use Rattle.pairing.specs.declared.types.EqResult.{EqResult}
-use Rattle.tally.specs.Tally.{IsTally}
+use Rattle.pairing.specs.Told.{compared_of}
+use Rattle.pairing.specs.declared.types.Unequal.{Unequal}
+use Rattle.tally.specs.declared.types.Place.{Place}
 use Rattle.lines.specs.Wrote.{Wrote}
 use Rattle.lines.specs.Room.{unequal_room}
 use Rattle.lines.specs.declared.parsing.Query.{Query}
-use Rattle.listing.specs.declared.types.LineResult.{LineResult}
-use Rattle.listing.specs.declared.types.LineResult.TheVariants.{On, Stopped}
 use Rattle.listing.specs.Progress.{progress_of}
 
 -- ---- a comparison
-
-unfoldable pub is_eq : Compared → Bool
-is_eq (eq paired) = true
-is_eq (neq p paired) = false
-is_eq (refused cause) = false
 
 -- the line of a comparison; a refused one has none
 unfoldable pub verdict_line : Compared → List ℕ
@@ -35,8 +31,8 @@ unfoldable pub answer_to : List ℕ → Query → Compared
 answer_to store q = (comparison true (store_in store) [] empty_mapping (ignore_of q.ignore) (sort_of q.sort) q.left q.right).answer
 
 -- it is answered, and the mapping is empty again
-pub record QueryCompared (store mapping : List ℕ) (q : Query) (r : EqResult) : Type 0 where
-  pub same : answer_of r ≡ answer_to store q
+pub record QueryCompared (store mapping : List ℕ) (q : Query) (r : std.Result (std.Result ℕ Unequal) Cause) : Type 0 where
+  pub same : compared_of r ≡ answer_to store q
   pub empty : mapping ≡ empty_words
 
 -- ---- a step: what is printed goes behind what was printed, and the rules' outcome is this
@@ -45,17 +41,20 @@ pub record QueryCompared (store mapping : List ℕ) (q : Query) (r : EqResult) :
 abbrev pub step_room : ℕ
 step_room = unequal_room
 
-unfoldable pub outcome_of : List ℕ → List ℕ → List ℕ → LineResult → LineOutcome
-outcome_of store tally bytes (On next) = prints bytes (progress_of store tally)
-outcome_of store tally bytes (Stopped cause) = stops cause
+-- how many bytes are printed behind it, or the cause for which the line is refused
+abbrev pub LineResult : Type 0
+LineResult = std.Result ℕ Cause
+
+unfoldable pub outcome_of : List ℕ → List Place → List ℕ → LineResult → LineOutcome
+outcome_of store tally bytes (std.Ok next) = prints bytes (progress_of store tally)
+outcome_of store tally bytes (std.Err cause) = stops (number_of cause)
 
 unfoldable pub Goes : List ℕ → List ℕ → ℕ → List ℕ → LineResult → Type 0
-Goes before after at bytes (On next) = Wrote step_room before after at bytes next
-Goes before after at bytes (Stopped cause) = after ≡ before
+Goes before after at bytes (std.Ok next) = Wrote step_room before after at bytes next
+Goes before after at bytes (std.Err cause) = after ≡ before
 
 -- of a step that leaves this store and this tally, where so many bytes were printed before
-pub record Stepped (outcome : LineOutcome) (store tally before after : List ℕ) (at : ℕ) (r : LineResult) : Type 0 where
+pub record Stepped (outcome : LineOutcome) (store : List ℕ) (tally : List Place) (before after : List ℕ) (at : ℕ) (r : LineResult) : Type 0 where
   pub bytes : List ℕ
   pub does : outcome ≡ outcome_of store tally bytes r
   pub goes : Goes before after at bytes r
-  pub counts : IsTally tally

@@ -1,7 +1,7 @@
 -- What a line that builds does: the outcome of the rules, whatever program it stands in.
+use Rattle.std.specs.Prelude as std
 use Rattle.std.specs.Prelude.{ℕ, cond, List, [], ◌≡◌, eqb}
 use Rattle.std.proofs.Math.Option.{Option, none, some}
-use Rattle.rules.specs.Building.{Built, made, accepted, refused}
 use Rattle.rules.specs.Lines.{Line, operation_line, block_line, attribute_line, operand_line, wholly}
 use Rattle.rules.specs.Listings.{Progress, Program, Tally, LineOutcome, prints, stops, line_does}
 use Rattle.layout.specs.Columns.{columns}
@@ -9,14 +9,7 @@ use Rattle.layout.specs.Reading.{store_in}
 use Rattle.layout.specs.Causes.{cause_of}
 use Rattle.layout.specs.Soundness.{IsSound}
 use Rattle.layout.specs.declared.causes.Cause.{Cause}
-use Rattle.layout.specs.declared.causes.Cause.TheVariants.{Is}
 use Rattle.journal.specs.Words.{mark_count}
-
--- why a call was refused, if it was
-unfoldable pub refusal_in : Built → Option ℕ
-refusal_in (made n) = none
-refusal_in accepted = none
-refusal_in (refused cause) = some cause
 
 -- a line that builds, by its letter: `o`, `b`, `a` or `s`
 unfoldable pub building_line : ℕ → List (List ℕ) → Option Line
@@ -29,8 +22,8 @@ unfoldable pub led_to : Progress → Option ℕ → LineOutcome
 led_to next none = prints [] next
 led_to next (some cause) = stops cause
 
-pub record LineDid (entry exit : List ℕ) (line : Option Line) (r : Cause) : Type 0 where
+pub record LineDid (entry exit : List ℕ) (line : Option Line) (r : std.Result (Unit {0}) Cause) : Type 0 where
   pub does : (p : Program) (t : Tally) → line_does p (record { store = store_in entry; tally = t }) line ≡ led_to (record { store = store_in exit; tally = t }) (cause_of r)
   pub sound : IsSound exit
   pub marks : mark_count (columns exit) ≡ mark_count (columns entry)
-  pub unchanged : (cause : ℕ) → r ≡ Is cause → exit ≡ entry
+  pub unchanged : (cause : Cause) → r ≡ std.Err cause → exit ≡ entry

@@ -1,4 +1,5 @@
 -- What the two offered functions give for every listing and all lent buffers.
+use Rattle.std.specs.Prelude as std
 use Rattle.std.specs.Prelude.{ℕ, ◌<◌, ◌≤◌, Bool, true, List, [], ◌∷◌, ◌≡◌, eqb, length}
 use Rattle.std.proofs.Math.Option.{none, some}
 use Rattle.rules.specs.Building.{first_failed}
@@ -8,8 +9,9 @@ use Rattle.layout.specs.Columns.{buffer_length}
 use Rattle.journal.specs.Words.{marked_in, sound_lent}
 use Rattle.lines.specs.Wrote.{Wrote}
 use Rattle.mapping.specs.MappingWords.{mapping_length, empty_words}
-use Rattle.listing.specs.declared.types.Listed.{Listed}
-use Rattle.listing.specs.declared.types.Listed.TheVariants.{Printed, Refused, NoRoom}
+use Rattle.layout.specs.Causes.{number_of}
+use Rattle.listing.specs.declared.types.Unprinted.{Unprinted}
+use Rattle.listing.specs.declared.types.Unprinted.TheVariants.{Refused, NoRoom}
 
 -- the lent buffers and what they are afterwards
 pub record Buffers : Type 0 where
@@ -34,12 +36,23 @@ pub record PrintsListing (p : Program) (listing : List ℕ) (before after : Buff
   pub wrote : Wrote max_output before.out after.out 0 (listed p listing) n
   pub leaves : LeavesBuffers p listing before after
 
+-- what is told of a listing: how many bytes are printed, why a lent buffer is refused, or that there is too little room
+pub data Told : Type 0 where
+  printed : ℕ → Told
+  refused : ℕ → Told
+  no_room : Told
+
+unfoldable pub told_of : std.Result ℕ Unprinted → Told
+told_of (std.Ok n) = printed n
+told_of (std.Err (Refused cause)) = refused (number_of cause)
+told_of (std.Err NoRoom) = no_room
+
 -- buffers of their lengths and room enough: the listing is printed; else every word and byte is as it was
-unfoldable pub Answered : Program → List ℕ → Buffers → Buffers → Listed → Type 0
-Answered p listing before after (Printed n) =
+unfoldable pub Answered : Program → List ℕ → Buffers → Buffers → Told → Type 0
+Answered p listing before after (printed n) =
     (first_failed (buffer_tests before) ≡ none) × (max_output ≤ length before.out) × PrintsListing p listing before after n
-Answered p listing before after (Refused cause) = (first_failed (buffer_tests before) ≡ some cause) × (after ≡ before)
-Answered p listing before after NoRoom = (first_failed (buffer_tests before) ≡ none) × (length before.out < max_output) × (after ≡ before)
+Answered p listing before after (refused cause) = (first_failed (buffer_tests before) ≡ some cause) × (after ≡ before)
+Answered p listing before after no_room = (first_failed (buffer_tests before) ≡ none) × (length before.out < max_output) × (after ≡ before)
 
 -- buffers by name
 unfoldable pub buffers : List ℕ → List ℕ → List ℕ → Buffers

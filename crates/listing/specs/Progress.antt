@@ -4,6 +4,7 @@ use Rattle.rules.specs.Listings as rules
 use Rattle.rules.specs.Listings.{twins_program, sums_program}
 use Rattle.layout.specs.Reading.{store_in}
 use Rattle.tally.specs.Tally.{tally_of}
+use Rattle.tally.specs.declared.types.Place.{Place}
 use Rattle.listing.specs.declared.types.Program.{Program}
 use Rattle.listing.specs.declared.types.Program.TheVariants.{Twins, Sums}
 
@@ -11,6 +12,6 @@ unfoldable pub program_of : Program → rules.Program
 program_of Twins = twins_program
 program_of Sums = sums_program
 
--- the words of the store, and those of the tally
-unfoldable pub progress_of : List ℕ → List ℕ → rules.Progress
+-- the words of the store, and the places of the tally
+unfoldable pub progress_of : List ℕ → List Place → rules.Progress
 progress_of store tally = record { store = store_in store; tally = tally_of tally }

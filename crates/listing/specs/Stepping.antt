@@ -1,4 +1,5 @@
 -- What a line does, and what the lines from one on do.
+use Rattle.std.specs.Prelude as std
 use Rattle.std.specs.Prelude.{ℕ, ◌≤◌, true, List, [], ◌≡◌, length}
 use Rattle.rules.specs.Bytes.{line_feed, cut_at}
 use Rattle.rules.specs.Listings.{does, run, at_start, leaves, share, share_line, listing_cause, behind_first, max_listing, max_output}
@@ -7,17 +8,15 @@ use Rattle.layout.specs.Columns.{columns}
 use Rattle.layout.specs.Causes.{cause_of}
 use Rattle.layout.specs.Soundness.{IsSound}
 use Rattle.layout.specs.declared.causes.Cause.{Cause}
-use Rattle.layout.specs.declared.causes.Cause.TheVariants.{None}
 use Rattle.journal.specs.Words.{mark_count, marked_in, sound_lent}
 use Rattle.mapping.specs.MappingWords.{empty_words}
 use Rattle.tally.specs.Tally.{tally_of}
+use Rattle.tally.specs.declared.types.Place.{Place}
 use Rattle.lines.specs.Pieces.{pieces_from}
 use Rattle.lines.specs.Wrote.{Wrote}
 use Rattle.listing.specs.declared.types.Program.{Program}
 use Rattle.listing.specs.declared.types.Program.TheVariants.{Twins, Sums}
-use Rattle.listing.specs.declared.types.LineResult.{LineResult}
-use Rattle.listing.specs.declared.types.LineResult.TheVariants.{Stopped}
-use Rattle.listing.specs.Asking.{Stepped}
+use Rattle.listing.specs.Asking.{LineResult, Stepped}
 use Rattle.listing.specs.Progress.{program_of, progress_of}
 
 -- ---- the first line
@@ -34,12 +33,12 @@ pub record StartsWithHeader (listing : List ℕ) : Type 0 where
   pub rest : (cut_at line_feed listing).rest ≡ (pieces_from line_feed listing second_line).rest
 
 -- why no line behind the first is read; else it is the header
-pub record Headed (listing : List ℕ) (r : Cause) : Type 0 where
+pub record Headed (listing : List ℕ) (r : std.Result (Unit {0}) Cause) : Type 0 where
   pub same : cause_of r ≡ listing_cause listing
-  pub begun : r ≡ None → StartsWithHeader listing
+  pub begun : r ≡ std.Ok tt → StartsWithHeader listing
 
 -- what is printed behind the last line
-unfoldable pub closes : Program → List ℕ → List ℕ
+unfoldable pub closes : Program → List Place → List ℕ
 closes Twins tally = share_line (share (tally_of tally))
 closes Sums tally = []
 
@@ -51,11 +50,11 @@ pub record Bare (store : List ℕ) : Type 0 where
   pub unmarked : mark_count (columns store) ≡ 0
 
 -- what the code does for a line, as what the rules' program does
-pub record LineDoes (p : Program) (line store store' tally tally' out out' : List ℕ) (at : ℕ) (r : LineResult) : Type 0 where
+pub record LineDoes (p : Program) (line store store' : List ℕ) (tally tally' : List Place) (out out' : List ℕ) (at : ℕ) (r : LineResult) : Type 0 where
   pub step : Stepped (does (program_of p) (progress_of store tally) line) store' tally' out out' at r
   pub sound : IsSound store'
   pub marks : mark_count (columns store') ≡ mark_count (columns store)
-  pub unchanged : (cause : ℕ) → r ≡ Stopped cause → store' ≡ store
+  pub unchanged : (cause : Cause) → r ≡ std.Err cause → store' ≡ store
 
 -- ---- the lines from a position on, at which the second line begins
 

@@ -1,99 +1,88 @@
 // The lines that build: each is read whole, and then its call is made. A list has no more items than its line has bytes.
-ghost use Rattle.std.specs.Prelude.{◌≡◌, ◌≤◌, length};
+ghost use Rattle.std.specs.Prelude.{◌+◌, ◌≤◌, length};
 ghost use Rattle.rules.specs.Listings.{max_line};
 ghost use Rattle.rules.specs.Lines.{operation_line, block_line, attribute_line, operand_line, wholly};
-ghost use Rattle.layout.specs.Causes.{cause_of};
 ghost use Rattle.layout.specs.Soundness.{IsSound};
-ghost use Rattle.calling.specs.Types.{built_of};
-ghost use Rattle.lines.specs.Reading.{fields_left};
-ghost use Rattle.listing.specs.Building.{refusal_in, LineDid, building_line};
+ghost use Rattle.listing.specs.Building.{LineDid, building_line};
 
 use crate::header::MAX_LINE;
-use calling::types::Built;
+use adding::blocks::new_block;
+use adding::operations::new_operation;
 use layout::causes::Cause;
-use lines::parsing::{
-    AttributeLine, BlockLine, OpFieldsRead, OpListsRead, OperandLine, attribute_line, block_line,
-    operand_line, read_lists, read_op_fields,
-};
+use lines::parsing::{attribute_line, block_line, operand_line, read_lists, read_op_fields};
+use lines::reading::Fields;
+use setting::attributes::set_attribute;
+use setting::operands::set_operand;
 
-// Why a call was refused, if it was.
-fn refusal_in(built: Built) -> Cause
-    ensures { cause_of result ≡ refusal_in (built_of built) }
-{
-    match built {
-        Built::Made(_) => Cause::None,
-        Built::Accepted => Cause::None,
-        Built::Refused(cause) => Cause::Is(cause),
-    }
-}
-
-fn operation_does(store: &mut [u32], line: &[u8], at: usize) -> Cause
+fn operation_does(store: &mut [u32], line: &mut Fields<'_>) -> Result<(), Cause>
     requires sound { IsSound store.old }
-    requires line_len_bound { length line.now ≤ max_line }
-    ensures { LineDid store.old store.new (wholly (operation_line (fields_left line.now at))) result }
+    requires line_len_bound { length line.old ≤ max_line + 1 }
+    ensures { LineDid store.old store.new (wholly (operation_line line.old)) result }
 {
-    let OpFieldsRead::At(fields, next) = read_op_fields(line, at) else {
-        return Cause::Is(10);
+    let Some(fields) = read_op_fields(line) else {
+        return Err(Cause::BadLine);
     };
     let mut types = [0; MAX_LINE];
     let mut operands = [0; MAX_LINE];
     let mut successors = [0; MAX_LINE];
-    let lists = read_lists(line, next, &mut types, &mut operands, &mut successors);
-    let OpListsRead::Are(a, b, c) = lists else {
-        return Cause::Is(10);
+    let Some(lists) = read_lists(line, &mut types, &mut operands, &mut successors) else {
+        return Err(Cause::BadLine);
     };
-    refusal_in(adding::operations::new_operation(
+    new_operation(
         store,
         fields,
-        &types[..a],
-        &operands[..b],
-        &successors[..c],
-    ))
+        &types[..lists.types],
+        &operands[..lists.operands],
+        &successors[..lists.successors],
+    )?;
+    Ok(())
 }
 
-fn block_does(store: &mut [u32], line: &[u8], at: usize) -> Cause
+fn block_does(store: &mut [u32], line: &mut Fields<'_>) -> Result<(), Cause>
     requires sound { IsSound store.old }
-    requires line_len_bound { length line.now ≤ max_line }
-    ensures { LineDid store.old store.new (wholly (block_line (fields_left line.now at))) result }
+    requires line_len_bound { length line.old ≤ max_line + 1 }
+    ensures { LineDid store.old store.new (wholly (block_line line.old)) result }
 {
     let mut types = [0; MAX_LINE];
-    let BlockLine::Is(region, label, location, n) = block_line(line, at, &mut types) else {
-        return Cause::Is(10);
+    let Some(block) = block_line(line, &mut types) else {
+        return Err(Cause::BadLine);
     };
-    refusal_in(adding::blocks::new_block(store, region, label, location, &types[..n]))
+    let types = &types[..block.arguments];
+    new_block(store, block.region, block.label, block.location, types)?;
+    Ok(())
 }
 
-fn attribute_does(store: &mut [u32], line: &[u8], at: usize) -> Cause
+fn attribute_does(store: &mut [u32], line: &mut Fields<'_>) -> Result<(), Cause>
     requires { IsSound store.old }
-    ensures { LineDid store.old store.new (wholly (attribute_line (fields_left line.now at))) result }
+    ensures { LineDid store.old store.new (wholly (attribute_line line.old)) result }
 {
-    let AttributeLine::Is(owner, attribute) = attribute_line(line, at) else {
-        return Cause::Is(10);
+    let Some(read) = attribute_line(line) else {
+        return Err(Cause::BadLine);
     };
-    refusal_in(setting::attributes::set_attribute(store, owner, attribute))
+    set_attribute(store, read.owner, read.attribute)
 }
 
-fn operand_does(store: &mut [u32], line: &[u8], at: usize) -> Cause
+fn operand_does(store: &mut [u32], line: &mut Fields<'_>) -> Result<(), Cause>
     requires { IsSound store.old }
-    ensures { LineDid store.old store.new (wholly (operand_line (fields_left line.now at))) result }
+    ensures { LineDid store.old store.new (wholly (operand_line line.old)) result }
 {
-    let OperandLine::Is(n, index, value) = operand_line(line, at) else {
-        return Cause::Is(10);
+    let Some(read) = operand_line(line) else {
+        return Err(Cause::BadLine);
     };
-    refusal_in(setting::operands::set_operand(store, n, index, value))
+    set_operand(store, read.operation, read.index, read.value)
 }
 
-// A line that builds, which is read from `at` on, behind its letter; any other letter is unknown.
-pub fn building_does(store: &mut [u32], line: &[u8], letter: u8, at: usize) -> Cause
+// A line that builds, which is read behind its letter; any other letter is unknown.
+pub fn building_does(store: &mut [u32], letter: u8, line: &mut Fields<'_>) -> Result<(), Cause>
     requires sound { IsSound store.old }
-    requires line_len_bound { length line.now ≤ max_line }
-    ensures { LineDid store.old store.new (building_line letter (fields_left line.now at)) result }
+    requires line_len_bound { length line.old ≤ max_line + 1 }
+    ensures { LineDid store.old store.new (building_line letter line.old) result }
 {
     match letter {
-        b'o' => operation_does(store, line, at),
-        b'b' => block_does(store, line, at),
-        b'a' => attribute_does(store, line, at),
-        b's' => operand_does(store, line, at),
-        _ => Cause::Is(10),
+        b'o' => operation_does(store, line),
+        b'b' => block_does(store, line),
+        b'a' => attribute_does(store, line),
+        b's' => operand_does(store, line),
+        _ => Err(Cause::BadLine),
     }
 }

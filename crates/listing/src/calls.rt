@@ -2,10 +2,11 @@
 // lengths, and less room than is always enough.
 ghost use Rattle.rules.specs.Listings.{twins_program, sums_program};
 ghost use Rattle.mapping.specs.MappingWords.{empty_words};
-ghost use Rattle.listing.specs.Calls.{Answered, buffers};
+ghost use Rattle.listing.specs.Calls.{told_of, Answered, buffers};
 
 use crate::running::listed;
-use crate::types::{Listed, Program};
+use crate::types::{Program, Unprinted};
+use layout::causes::Cause;
 use mapping::mapping::NO_IMAGE;
 
 // How many words a store has, how many words a mapping has, and how many bytes are enough for all that may be printed: five for each byte of
@@ -16,31 +17,36 @@ pub const MAPPING: usize = mapping::mapping::MAPPING_LENGTH;
 
 pub const ROOM: usize = 327680;
 
-pub fn twins(listing: &[u8], store: &mut [u32], mapping: &mut [u32], out: &mut [u8]) -> Listed
-    ensures { Answered twins_program listing.now (buffers store.old mapping.old out.old) (buffers store.new mapping.new out.new) result }
+pub fn twins(
+    listing: &[u8],
+    store: &mut [u32],
+    mapping: &mut [u32],
+    out: &mut [u8],
+) -> Result<usize, Unprinted>
+    ensures { Answered twins_program listing.now (buffers store.old mapping.old out.old) (buffers store.new mapping.new out.new) (told_of result) }
 {
     if store.len() != STORE {
-        return Listed::Refused(1);
+        return Err(Unprinted::Refused(Cause::NotSound));
     }
     if mapping.len() != MAPPING {
-        return Listed::Refused(8);
+        return Err(Unprinted::Refused(Cause::BadMapping));
     }
     if out.len() < ROOM {
-        return Listed::NoRoom;
+        return Err(Unprinted::NoRoom);
     }
-    Listed::Printed(listed(Program::Twins, listing, store, mapping, out))
+    Ok(listed(Program::Twins, listing, store, mapping, out))
 }
 
 // It compares nothing, and so is lent no mapping.
-pub fn sums(listing: &[u8], store: &mut [u32], out: &mut [u8]) -> Listed
-    ensures { Answered sums_program listing.now (buffers store.old empty_words out.old) (buffers store.new empty_words out.new) result }
+pub fn sums(listing: &[u8], store: &mut [u32], out: &mut [u8]) -> Result<usize, Unprinted>
+    ensures { Answered sums_program listing.now (buffers store.old empty_words out.old) (buffers store.new empty_words out.new) (told_of result) }
 {
     if store.len() != STORE {
-        return Listed::Refused(1);
+        return Err(Unprinted::Refused(Cause::NotSound));
     }
     if out.len() < ROOM {
-        return Listed::NoRoom;
+        return Err(Unprinted::NoRoom);
     }
     let mut mapping = [NO_IMAGE; MAPPING];
-    Listed::Printed(listed(Program::Sums, listing, store, &mut mapping, out))
+    Ok(listed(Program::Sums, listing, store, &mut mapping, out))
 }

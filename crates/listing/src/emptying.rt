@@ -7,8 +7,7 @@ ghost use Rattle.mapping.specs.MappingWords.{mapping_length, empty_words};
 ghost use Rattle.listing.specs.Stepping.{Bare};
 
 use layout::columns::{COUNTS, put_same};
-use layout::lists::fill_at;
-use mapping::mapping::{MAPPING_LENGTH, NO_IMAGE};
+use mapping::mapping::NO_IMAGE;
 
 // A store is empty when its counts are 0, the number of set marks among them: no other word is read then, and so they stay as they are.
 pub fn empty_store(store: &mut [u32])
@@ -23,5 +22,5 @@ pub fn empty_mapping(mapping: &mut [u32])
     requires { length mapping.old ≡ mapping_length }
     ensures { mapping.new ≡ empty_words }
 {
-    fill_at(mapping, 0, MAPPING_LENGTH, NO_IMAGE);
+    mapping.fill(NO_IMAGE);
 }

@@ -14,24 +14,24 @@ pub const MAX_LINE: usize = 512;
 pub const SECOND_LINE: usize = 10;
 
 // Why the first line is refused, if it is.
-pub fn header_cause(listing: &[u8]) -> Cause
+pub fn header_cause(listing: &[u8]) -> Result<(), Cause>
     ensures { Headed listing.now result }
 {
     if listing.len() > MAX_LISTING {
-        return Cause::Is(11);
+        return Err(Cause::BadLength);
     }
     if listing.len() == 0 {
-        return Cause::Is(9);
+        return Err(Cause::BadHeader);
     }
     let end = piece_end(listing, 0, b'\n');
     if end == listing.len() {
-        return Cause::Is(11);
+        return Err(Cause::BadLength);
     }
     if end > MAX_LINE {
-        return Cause::Is(11);
+        return Err(Cause::BadLength);
     }
     if !same_bytes(&listing[..end], b"opstore,1") {
-        return Cause::Is(9);
+        return Err(Cause::BadHeader);
     }
-    Cause::None
+    Ok(())
 }

@@ -6,7 +6,6 @@ ghost use Rattle.layout.specs.Columns.{buffer_length};
 ghost use Rattle.layout.specs.Reading.{store_in};
 ghost use Rattle.layout.specs.Soundness.{IsSound};
 ghost use Rattle.mapping.specs.MappingWords.{mapping_length, empty_words};
-ghost use Rattle.tally.specs.Tally.{IsTally};
 ghost use Rattle.listing.specs.Progress.{program_of};
 ghost use Rattle.listing.specs.Asking.{step_room};
 ghost use Rattle.listing.specs.Stepping.{second_line, Bare, LineDoes, Ran};
@@ -17,48 +16,46 @@ use crate::building_lines::building_does;
 use crate::closing::close;
 use crate::emptying::{empty_mapping, empty_store};
 use crate::header::{MAX_LINE, SECOND_LINE, header_cause};
-use crate::types::{LineResult, Program, Progress};
+use crate::types::{Program, Progress};
 use layout::causes::Cause;
 use lines::parsing::query_line;
 use lines::pieces::piece_end;
 use lines::printing::put_refusal;
-use lines::reader::word_at;
-use lines::reading::Word;
-use tally::counting::TALLY_LENGTH;
+use lines::reading::Fields;
+use tally::types::{Place, TALLY_LENGTH, Tally};
 
-// One line: its length, its letter, and then what it does.
+// One line: its length, its letter, and then what it does. The lent buffers are no struct: one of `&mut`s would need clauses of separation
+// logic at each caller, which is no plainer.
 fn line_does(
     store: &mut [u32],
     mapping: &mut [u32],
-    tally: &mut [u8],
+    tally: &mut Tally,
     out: &mut [u8],
     progress: Progress,
     line: &[u8],
-) -> LineResult
+) -> Result<usize, Cause>
     requires sound { IsSound store.old }
     requires mapping_value { mapping.old ≡ empty_words }
-    requires tally { IsTally tally.old }
     requires step_room_in_bounds { progress.at + step_room ≤ length out.old }
     ensures line_does { LineDoes progress.program line.now store.old store.new tally.old tally.new out.old out.new progress.at result }
     ensures mapping_after { mapping.new ≡ empty_words }
 {
     if line.len() > MAX_LINE {
-        return LineResult::Stopped(11);
+        return Err(Cause::BadLength);
     }
-    let Word::At(letter, at) = word_at(line, 0) else {
-        return LineResult::Stopped(10);
+    let mut fields = Fields::new(line);
+    let Some(letter) = fields.letter() else {
+        return Err(Cause::BadLine);
     };
     if letter == b'q' {
-        let query = query_line(line, at);
+        let query = query_line(&mut fields);
         return query_does(store, mapping, tally, out, progress, query);
     }
-    match building_does(store, line, letter, at) {
-        Cause::Is(cause) => LineResult::Stopped(cause),
-        Cause::None => LineResult::On(progress.at),
-    }
+    building_does(store, letter, &mut fields)?;
+    Ok(progress.at)
 }
 
-// The lines from the second on, which begins at `from`.
+// The lines from the second on, which begins at `from`. (No index is counted: a line ends where the next line feed is sought and found.)
 fn run(
     program: Program,
     listing: &[u8],
@@ -76,14 +73,15 @@ fn run(
     requires max_output_in_bounds { max_output ≤ length out.old }
     ensures { Ran program listing.now from store.new mapping.new out.old out.new result }
 {
-    let mut tally: [u8; TALLY_LENGTH] = [0; TALLY_LENGTH];
+    let mut tally = [Place::Outside; TALLY_LENGTH];
     let mut at = 0;
     let mut number = 2;
     let mut start = from;
+    // From line end to line end, and no `for` over pieces: one that no line feed ends would have to be told apart all the same.
     while start < listing.len() {
         let end = piece_end(listing, start, b'\n');
         if end == listing.len() {
-            return put_refusal(out, at, number, 11);
+            return put_refusal(out, at, number, Cause::BadLength.number());
         }
         let progress = Progress { program, at };
         let step = line_does(
@@ -95,8 +93,8 @@ fn run(
             &listing[start..end],
         );
         match step {
-            LineResult::Stopped(cause) => return put_refusal(out, at, number, cause),
-            LineResult::On(next) => at = next,
+            Err(cause) => return put_refusal(out, at, number, cause.number()),
+            Ok(next) => at = next,
         }
         start = end + 1;
         number += 1;
@@ -117,9 +115,8 @@ pub fn listed(
     requires max_output_in_bounds { max_output ≤ length out.old }
     ensures { PrintsListing (program_of program) listing.now (buffers store.old mapping.old out.old) (buffers store.new mapping.new out.new) result }
 {
-    let cause = header_cause(listing);
-    if let Cause::Is(number) = cause {
-        return put_refusal(out, 0, 1, number);
+    if let Err(cause) = header_cause(listing) {
+        return put_refusal(out, 0, 1, cause.number());
     }
     empty_store(store);
     empty_mapping(mapping);

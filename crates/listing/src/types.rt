@@ -1,6 +1,7 @@
-// The two programs, how far one is, and what it answers.
+// The two programs, how far one is, and why a listing is not printed.
+use layout::causes::Cause;
 
-#[derive(Clone, Copy)]
+#[derive(Clone, Copy, PartialEq, Eq, Debug)]
 pub enum Program {
     Twins,
     Sums,
@@ -13,17 +14,9 @@ pub struct Progress {
     pub at: usize,
 }
 
-// What a line results in: how many bytes are printed behind it, or the cause for which it is refused.
-#[derive(Clone, Copy)]
-pub enum LineResult {
-    On(usize),
-    Stopped(u32),
-}
-
-// How many bytes a listing prints. A lent buffer that is not of its length is refused by its number; too little room has none.
-#[derive(Clone, Copy)]
-pub enum Listed {
-    Printed(usize),
-    Refused(u32),
+// Why a listing is not printed: a lent buffer is not of its length, or there is too little room.
+#[derive(Clone, Copy, PartialEq, Eq, Debug)]
+pub enum Unprinted {
+    Refused(Cause),
     NoRoom,
 }

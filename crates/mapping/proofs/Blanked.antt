@@ -1,5 +1,6 @@
 -- Words that are blanked where they may have an image are the empty mapping: every other word had none. Assumes nothing.
 use Rattle.std.proofs.Common.{◌≡◌, ℕ, ◌+◌, ◌-◌, ◌<◌, ◌≤◌, ◌⊎◌, List, length, get_or, replicate, sym, refl, ap, ◌∙◌, inl, inr, ⊎_elim, arith, ext_get_or, le-ltb, lt-ltb}
+use Rattle.std.proofs.lemmas.List.{get_or_default}
 use native.Mathlib.Decide.{dec_lt}
 use lib.ListN.{length-replicate, get_or-replicate, get_or-eq_default}
 use Rattle.rules.specs.Mapping.{no_image}
@@ -8,7 +9,6 @@ use Rattle.layout.proofs.Pasted.{pasted_length, pasted_old, pasted_new, pasted_p
 use Rattle.mapping.specs.MappingWords.{mapping_length, empty_words}
 use Rattle.mapping.specs.Unmapping.{Held, EntriesIn, blanked}
 use Rattle.mapping.specs.declared.types.Entries.{Entries}
-use Rattle.mapping.proofs.Searching.{read_as}
 
 module _ (w : List ℕ) (a e : ℕ) where
   pub blank_over : a < e → blanked w a e ≡ pasted w a (replicate (e - a) no_image)
@@ -38,7 +38,7 @@ module _ (w : List ℕ) (a e : ℕ) where
             long = length-replicate (e - a) no_image
 
             old : k < a ⊎ (e ≤ k) → get_or w k 0 ≡ no_image
-            old out = ⊎_elim (λ n. read_as w k 0 no_image b ∙ n) (λ r. ⊎_elim (λ x. absurd (omega arith)) (λ x. absurd (omega arith)) out) h
+            old out = ⊎_elim (λ n. get_or_default w k 0 no_image b ∙ n) (λ r. ⊎_elim (λ x. absurd (omega arith)) (λ x. absurd (omega arith)) out) h
 
             at_word : Dec (k < a) → Dec (k < e) → get_or (pasted w a (replicate (e - a) no_image)) k 0 ≡ no_image
             at_word (yes u) d = pasted_old w a (replicate (e - a) no_image) (omega (arith, long)) k u ∙ old (inl u)
@@ -52,7 +52,7 @@ module _ (w : List ℕ) (a e : ℕ) where
         go : Dec (k < length w) → Dec (a < e) → get_or (blanked w a e) k no_image ≡ no_image
         go (no b) d = get_or-eq_default (blanked w a e) no_image (omega (arith, blank_length))
         go (yes b) (yes l) =
-            read_as (blanked w a e) k no_image 0 (omega (arith, blank_length)) ∙ ap (λ (x : List ℕ). get_or x k 0) (blank_over l) ∙ written l b
+            get_or_default (blanked w a e) k no_image 0 (omega (arith, blank_length)) ∙ ap (λ (x : List ℕ). get_or x k 0) (blank_over l) ∙ written l b
         go (yes b) (no l) =
             ap (λ (x : List ℕ). get_or x k no_image) (blank_not (omega arith))
             ∙ ⊎_elim (λ n. n) (λ r. absurd (omega (arith, r.0, r.1))) h

@@ -1,6 +1,6 @@
 -- The search for entries: at its start every block and operation with an image may be unfound; one that is found leaves the others, and its
 -- row has all of its values; and when none is left, every entry has been found. Assumes nothing.
-use Rattle.std.proofs.Common.{◌≡◌, ℕ, zero, suc, ◌+◌, ◌-◌, ◌<◌, ◌≤◌, Bool, true, false, not, ◌&&◌, eqb, ltb, ◌⊎◌, List, [], ◌∷◌, length, get_or, drop, sym, refl, ap, ◌∙◌, subst, inl, inr, ⊎_elim, le_refl, le_of_suc-le-suc, not-suc-le-zero, arith, get_or-drop, get_or-take, ltb-true, le-ltb, lt-ltb, eq-eqb, ne_eqb}
+use Rattle.std.proofs.Common.{◌≡◌, ℕ, ◌+◌, ◌-◌, ◌<◌, ◌≤◌, Bool, true, false, not, ◌&&◌, eqb, ltb, ◌⊎◌, List, length, get_or, drop, sym, refl, ap, ◌∙◌, subst, inl, inr, ⊎_elim, le_refl, arith, get_or-drop, get_or-take, ltb-true, le-ltb, lt-ltb, eq-eqb, ne_eqb}
 use native.Mathlib.Decide.{ℕ_discrete, dec_lt}
 use lib.ListN.{get_or-eq_default}
 use Rattle.rules.specs.Store.{Owner, of_op, of_block, Value, value_at}
@@ -17,9 +17,7 @@ use Rattle.layout.proofs.Scans.{and_false}
 use Rattle.layout.proofs.Tabulate.{values_length, value_read}
 use Rattle.mapping.specs.MappingWords.{mapping_of}
 use Rattle.mapping.specs.Unmapping.{Held, EntriesIn, whole_mapping, owner_word, OwnerAt, first_value, end_value, OwnValuesAt, OwnersAt, SeenOf, Searched, Widened}
-use Rattle.mapping.specs.declared.types.OwnValues.{OwnValues}
 use Rattle.mapping.specs.declared.types.Search.{Search}
-use Rattle.mapping.specs.declared.types.Seen.{Seen}
 
 -- ---- a value and its owner
 
@@ -91,56 +89,50 @@ module _ (C : Cols) (laid : Laid C) where
   unfolding op_count
   op_most = laid.counts.ops
 
-  pub blocks_seen : (n : ℕ) (r : Seen) → n ≡ at C counts 1 → SeenOf 2048 n r → OwnersAt C r.from r.to
+  pub blocks_seen : (n from to : ℕ) → n ≡ at C counts 1 → SeenOf 2048 n from to → OwnersAt C from to
   unfolding block_count
-  blocks_seen n r e s =
+  blocks_seen n from to e s =
       record {
         rises = s.rises;
         ends = omega (arith, s.ends, block_most);
         each = λ i a b. record {
-          from = omega (arith, s.from);
+          from = omega (arith, s.begins);
           block = λ l. omega (arith, s.ends);
           op = λ l. omega (arith, s.ends, block_most);
         };
       }
 
-  pub ops_seen : (n : ℕ) (r : Seen) → n ≡ at C counts 0 → SeenOf 2304 n r → OwnersAt C r.from r.to
+  pub ops_seen : (n from to : ℕ) → n ≡ at C counts 0 → SeenOf 2304 n from to → OwnersAt C from to
   unfolding op_count
-  ops_seen n r e s =
+  ops_seen n from to e s =
       record {
         rises = s.rises;
         ends = omega (arith, s.ends, op_most);
         each = λ i a b. record {
-          from = omega (arith, s.from);
-          block = λ l. omega (arith, s.from);
+          from = omega (arith, s.begins);
+          block = λ l. omega (arith, s.begins);
           op = λ l. omega (arith, s.ends);
         };
       }
 
 -- ---- a row's values, as the code reads them
 
-module _ (C : Cols) (laid : Laid C) (i : ℕ) (o : OwnerAt C i) (r : OwnValues) where
-  pub block_values : i < 2304 → r.first ≡ at C block_argument_first (i - 2048) → r.end ≡ at C block_argument_end (i - 2048) → OwnValuesAt C i r
+module _ (C : Cols) (laid : Laid C) (i : ℕ) (o : OwnerAt C i) (first end : ℕ) where
+  pub block_values : i < 2304 → first ≡ at C block_argument_first (i - 2048) → end ≡ at C block_argument_end (i - 2048) → OwnValuesAt C i first end
   unfolding first_value end_value
   block_values l f e =
       let t = lt-ltb i 2304 l in
       let fits = (laid.block (i - 2048) (o.block l)).arguments.range.fits in
-      record { first = rw t f; end = rw t e; fits = rw t (omega (arith, fits, laid.counts.values)) }
+      record { begins = rw t f; ends = rw t e; fits = rw t (omega (arith, fits, laid.counts.values)) }
 
-  pub op_values : 2304 ≤ i → r.first ≡ at C op_result_first (i - 2304) → r.end ≡ at C op_result_end (i - 2304) → OwnValuesAt C i r
+  pub op_values : 2304 ≤ i → first ≡ at C op_result_first (i - 2304) → end ≡ at C op_result_end (i - 2304) → OwnValuesAt C i first end
   unfolding first_value end_value
   op_values l f e =
       let t = le-ltb i 2304 l in
       let fits = (laid.op (i - 2304) (o.op l)).results.range.fits in
-      record { first = rw t f; end = rw t e; fits = rw t (omega (arith, fits, laid.counts.values)) }
+      record { begins = rw t f; ends = rw t e; fits = rw t (omega (arith, fits, laid.counts.values)) }
 
 -- ---- where a word's entry is
-
--- a word that is read, whatever it would be read as past the end
-pub read_as : (w : List ℕ) (i d e : ℕ) → i < length w → get_or w i d ≡ get_or w i e
-read_as [] i d e l = absurd (not-suc-le-zero l)
-read_as (x ∷ w) zero d e l = refl
-read_as (x ∷ w) (suc i) d e l = read_as w i d e (le_of_suc-le-suc l)
 
 held_map : (w : List ℕ) (k a e a' e' : ℕ) {P Q : Type 0} → a' ≤ a → e ≤ e' → (P → ((a' ≤ k) × (k < e')) ⊎ Q) → Held w k a e P → Held w k a' e' Q
 unfolding Held
@@ -203,7 +195,7 @@ module _ (C : Cols) (laid : Laid C) (w : List ℕ) (paired : ℕ) (by : EnteredB
           let owner : (value_at (store_of C) v).owner ≡ owner_at C laid v = ap (λ (x : Value). x.owner) (value_read C v there) in
           ne (sym (get_or-take 2048 w v no_image b) ∙ by.values v (rw owner (o.entry w e)))
 
-  pub at_first : (i : ℕ) (s : Search) → s.left ≡ paired → s.end ≡ 0 → s.past ≡ 0 → Searched C w i s
+  pub at_first : (i : ℕ) (s : Search) → s.left ≡ paired → s.found.end ≡ 0 → s.found.past ≡ 0 → Searched C w i s
   unfolding Held
   at_first i s left end past =
       record {
@@ -217,26 +209,13 @@ module _ (C : Cols) (laid : Laid C) (w : List ℕ) (paired : ℕ) (by : EnteredB
       }
     where
       go : (v : ℕ) → v < 2048 → Dec (get_or w v no_image ≡ no_image)
-          → (get_or w v no_image ≡ no_image) ⊎ (((s.value ≤ v) × (v < s.end)) ⊎ ((v < value_count C) × (mapped w (owner_word (owner_at C laid v)) ≡ true)))
+          → (get_or w v no_image ≡ no_image) ⊎ (((s.found.value ≤ v) × (v < s.found.end)) ⊎ ((v < value_count C) × (mapped w (owner_word (owner_at C laid v)) ≡ true)))
       go v b (yes e) = inl e
       go v b (no ne) = inr (inr (with_owner v b ne))
 
 -- ---- one more is found
 
 module _ (C : Cols) (laid : Laid C) (w : List ℕ) (i : ℕ) (s r : Search) (q : Searched C w i s) where
-  -- or nothing is there
-  pub passed_by : get_or w i no_image ≡ no_image → Searched C w (i + 1) s
-  passed_by e =
-      record {
-        unfound = q.unfound;
-        few = q.few;
-        values = q.values;
-        owners = q.owners;
-        ahead = λ k b. q.ahead k (omega arith);
-        values_fit = q.values_fit;
-        owners_fit = q.owners_fit;
-      }
-
   module _ (from : 2048 ≤ i) (to : i < 2816) (some : get_or w i no_image ≡ no_image → ⊥) (wide : Widened C i s r) where
     still : ℕ → Bool
     still k = q.unfound k && not (eqb k i)
@@ -263,10 +242,10 @@ module _ (C : Cols) (laid : Laid C) (w : List ℕ) (i : ℕ) (s r : Search) (q :
         (ap still e ∙ gone) (ap q.unfound e ∙ here) (λ k h. before (2048 + k) h)
 
     value_held : (v : ℕ) → (v < value_count C) × (q.unfound (owner_word (owner_at C laid v)) ≡ true)
-        → ((r.value ≤ v) × (v < r.end)) ⊎ ((v < value_count C) × (still (owner_word (owner_at C laid v)) ≡ true))
+        → ((r.found.value ≤ v) × (v < r.found.end)) ⊎ ((v < value_count C) × (still (owner_word (owner_at C laid v)) ≡ true))
     value_held v (there, u) = go (ℕ_discrete (owner_word (owner_at C laid v)) i)
       where
-        go : Dec (owner_word (owner_at C laid v) ≡ i) → ((r.value ≤ v) × (v < r.end)) ⊎ ((v < value_count C) × (still (owner_word (owner_at C laid v)) ≡ true))
+        go : Dec (owner_word (owner_at C laid v) ≡ i) → ((r.found.value ≤ v) × (v < r.found.end)) ⊎ ((v < value_count C) × (still (owner_word (owner_at C laid v)) ≡ true))
         go (yes e) =
             let o = owned_at C laid v there in
             let f : first_value C i ≤ v = subst (λ (k : ℕ). first_value C k ≤ v) e o.first in
@@ -274,10 +253,10 @@ module _ (C : Cols) (laid : Laid C) (w : List ℕ) (i : ℕ) (s r : Search) (q :
             inl (omega (arith, wide.own.0), omega (arith, wide.own.1))
         go (no ne) = inr (there, off _ ne u)
 
-    owner_held : (k : ℕ) → q.unfound k ≡ true → ((r.owner ≤ k) × (k < r.past)) ⊎ (still k ≡ true)
+    owner_held : (k : ℕ) → q.unfound k ≡ true → ((r.found.owner ≤ k) × (k < r.found.past)) ⊎ (still k ≡ true)
     owner_held k u = go (ℕ_discrete k i)
       where
-        go : Dec (k ≡ i) → ((r.owner ≤ k) × (k < r.past)) ⊎ (still k ≡ true)
+        go : Dec (k ≡ i) → ((r.found.owner ≤ k) × (k < r.found.past)) ⊎ (still k ≡ true)
         go (yes e) = inl (omega (arith, wide.word.0), omega (arith, wide.word.1))
         go (no ne) = inr (off k ne u)
 
@@ -315,7 +294,7 @@ module _ (C : Cols) (laid : Laid C) (w : List ℕ) where
         let e : 2048 + (k - 2048) ≡ k = omega arith in
         clash h (ap q.unfound (sym e) ∙ count_none (λ (j : ℕ). q.unfound (2048 + j)) 768 (omega (arith, q.few)) (k - 2048) (omega arith))
 
-    pub at_last : EntriesIn w (record { value = s.value; end = s.end; owner = s.owner; past = s.past })
+    pub at_last : EntriesIn w s.found
     unfolding Held
     at_last =
         record {
@@ -324,20 +303,20 @@ module _ (C : Cols) (laid : Laid C) (w : List ℕ) where
           owners_fit = q.owners_fit;
         }
       where
-        value : (k : ℕ) → (get_or w k no_image ≡ no_image) ⊎ (((s.value ≤ k) × (k < s.end)) ⊎ ((k < value_count C) × (q.unfound (owner_word (owner_at C laid k)) ≡ true)))
-            → (get_or w k no_image ≡ no_image) ⊎ (((s.value ≤ k) × (k < s.end)) ⊎ ((s.owner ≤ k) × (k < s.past)))
+        value : (k : ℕ) → (get_or w k no_image ≡ no_image) ⊎ (((s.found.value ≤ k) × (k < s.found.end)) ⊎ ((k < value_count C) × (q.unfound (owner_word (owner_at C laid k)) ≡ true)))
+            → (get_or w k no_image ≡ no_image) ⊎ (((s.found.value ≤ k) × (k < s.found.end)) ⊎ ((s.found.owner ≤ k) × (k < s.found.past)))
         value k (inl e) = inl e
         value k (inr (inl h)) = inr (inl h)
         value k (inr (inr (there, u))) = let o = owned_at C laid k there in absurd (nowhere _ o.from o.to u)
 
-        owner : (k : ℕ) → 2048 ≤ k → k < 2816 → (get_or w k no_image ≡ no_image) ⊎ (((s.owner ≤ k) × (k < s.past)) ⊎ (q.unfound k ≡ true))
-            → (get_or w k no_image ≡ no_image) ⊎ (((s.value ≤ k) × (k < s.end)) ⊎ ((s.owner ≤ k) × (k < s.past)))
+        owner : (k : ℕ) → 2048 ≤ k → k < 2816 → (get_or w k no_image ≡ no_image) ⊎ (((s.found.owner ≤ k) × (k < s.found.past)) ⊎ (q.unfound k ≡ true))
+            → (get_or w k no_image ≡ no_image) ⊎ (((s.found.value ≤ k) × (k < s.found.end)) ⊎ ((s.found.owner ≤ k) × (k < s.found.past)))
         owner k a b (inl e) = inl e
         owner k a b (inr (inl h)) = inr (inr h)
         owner k a b (inr (inr u)) = absurd (nowhere k a b u)
 
         go : (k : ℕ) → Dec (k < 2048) → Dec (k < 2816)
-            → (get_or w k no_image ≡ no_image) ⊎ (((s.value ≤ k) × (k < s.end)) ⊎ ((s.owner ≤ k) × (k < s.past)))
+            → (get_or w k no_image ≡ no_image) ⊎ (((s.found.value ≤ k) × (k < s.found.end)) ⊎ ((s.found.owner ≤ k) × (k < s.found.past)))
         go k (yes l) d = value k (q.values k l)
         go k (no l) (yes m) = owner k (omega arith) m (q.owners k (omega arith))
         go k (no l) (no m) = inl (get_or-eq_default w no_image (omega arith))

@@ -7,8 +7,6 @@ use Rattle.layout.specs.Columns.{Cols, at, pasted, op_result_first, op_result_en
 use Rattle.layout.specs.Reading.{op_count, block_count, value_count, owner_from}
 use Rattle.mapping.specs.declared.types.Entries.{Entries}
 use Rattle.mapping.specs.declared.types.Search.{Search}
-use Rattle.mapping.specs.declared.types.Seen.{Seen}
-use Rattle.mapping.specs.declared.types.OwnValues.{OwnValues}
 
 -- ---- what is found
 
@@ -49,9 +47,9 @@ first_value C i = cond (nat_lt i 2304) (at C block_argument_first (i - 2048)) (a
 unfoldable pub end_value : Cols → ℕ → ℕ
 end_value C i = cond (nat_lt i 2304) (at C block_argument_end (i - 2048)) (at C op_result_end (i - 2304))
 
-pub record OwnValuesAt (C : Cols) (i : ℕ) (r : OwnValues) : Type 0 where
-  pub first : r.first ≡ first_value C i
-  pub end : r.end ≡ end_value C i
+pub record OwnValuesAt (C : Cols) (i first end : ℕ) : Type 0 where
+  pub begins : first ≡ first_value C i
+  pub ends : end ≡ end_value C i
   pub fits : end_value C i ≤ 2048
 
 -- each of these words has the entry of a block or an operation that exists
@@ -61,10 +59,10 @@ pub record OwnersAt (C : Cols) (from to : ℕ) : Type 0 where
   pub each : (i : ℕ) → from ≤ i → i < to → OwnerAt C i
 
 -- the next so many blocks or operations, whose entries begin with word base, of which there are so many
-pub record SeenOf (base count : ℕ) (r : Seen) : Type 0 where
-  pub from : base ≤ r.from
-  pub rises : r.from ≤ r.to
-  pub ends : r.to ≤ base + count
+pub record SeenOf (base count from to : ℕ) : Type 0 where
+  pub begins : base ≤ from
+  pub rises : from ≤ to
+  pub ends : to ≤ base + count
 
 -- the search has looked at words before i alone: which blocks and operations may have an entry that is not found, no more of them than are
 -- left; every entry of a value is found, or its owner's is not; every other entry is found, or is one of these
@@ -72,17 +70,17 @@ pub record Searched (C : Cols) (w : List ℕ) (i : ℕ) (s : Search) : Type 0 wh
   pub unfound : ℕ → Bool
   pub few : count_below 768 (λ (k : ℕ). unfound (2048 + k)) ≤ s.left
   pub values : (v : ℕ) → v < 2048
-      → Held w v s.value s.end ((v < value_count C) × (unfound (owner_word (owner_from (at C value_owner v))) ≡ true))
-  pub owners : (k : ℕ) → 2048 ≤ k → Held w k s.owner s.past (unfound k ≡ true)
+      → Held w v s.found.value s.found.end ((v < value_count C) × (unfound (owner_word (owner_from (at C value_owner v))) ≡ true))
+  pub owners : (k : ℕ) → 2048 ≤ k → Held w k s.found.owner s.found.past (unfound k ≡ true)
   pub ahead : (k : ℕ) → i ≤ k → (slice_index_or w k no_image ≡ no_image) ⊎ (unfound k ≡ true)
-  pub values_fit : s.end ≤ 2048
-  pub owners_fit : s.past ≤ 2816
+  pub values_fit : s.found.end ≤ 2048
+  pub owners_fit : s.found.past ≤ 2816
 
 -- one more is found, at word i, with its values
 pub record Widened (C : Cols) (i : ℕ) (s r : Search) : Type 0 where
   pub left : r.left + 1 ≡ s.left
-  pub values : (r.value ≤ s.value) × (s.end ≤ r.end)
-  pub own : (r.value ≤ first_value C i) × (end_value C i ≤ r.end)
-  pub owners : (r.owner ≤ s.owner) × (s.past ≤ r.past)
-  pub word : (r.owner ≤ i) × (i < r.past)
-  pub fit : (s.end ≤ 2048 → r.end ≤ 2048) × (s.past ≤ 2816 → r.past ≤ 2816)
+  pub values : (r.found.value ≤ s.found.value) × (s.found.end ≤ r.found.end)
+  pub own : (r.found.value ≤ first_value C i) × (end_value C i ≤ r.found.end)
+  pub owners : (r.found.owner ≤ s.found.owner) × (s.found.past ≤ r.found.past)
+  pub word : (r.found.owner ≤ i) × (i < r.found.past)
+  pub fit : (s.found.end ≤ 2048 → r.found.end ≤ 2048) × (s.found.past ≤ 2816 → r.found.past ≤ 2816)

@@ -10,26 +10,9 @@ pub struct Entries {
     pub past: u32,
 }
 
-// The search for entries: those found so far lie in these ranges, and `left` more blocks and operations may have one.
+// The search for entries: those found so far are there, and `left` more blocks and operations may have one.
 #[derive(Clone, Copy)]
 pub struct Search {
     pub left: u32,
-    pub value: u32,
-    pub end: u32,
-    pub owner: u32,
-    pub past: u32,
-}
-
-// Words of the mapping that are looked at: from the first up to the second.
-#[derive(Clone, Copy)]
-pub struct Seen {
-    pub from: usize,
-    pub to: usize,
-}
-
-// The values of a block or operation: from the first up to the second.
-#[derive(Clone, Copy)]
-pub struct OwnValues {
-    pub first: u32,
-    pub end: u32,
+    pub found: Entries,
 }

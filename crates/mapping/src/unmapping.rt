@@ -10,13 +10,13 @@ ghost use Rattle.mapping.specs.MappingWords.{mapping_length, mapping_of, empty_w
 ghost use Rattle.mapping.specs.Unmapping.{whole_mapping, EntriesIn, blanked, OwnerAt, OwnValuesAt, OwnersAt, SeenOf, Searched, Widened};
 
 use crate::mapping::{BLOCK_ENTRIES, NO_IMAGE, OP_ENTRIES};
-use crate::types::{Entries, OwnValues, Search, Seen};
+use crate::types::{Entries, Search};
 use fragments::types::Sort;
 use layout::columns::{
     BLOCK_ARGUMENT_END, BLOCK_ARGUMENT_FIRST, BLOCK_OP_FIRST, BLOCKS, COUNTS, OP_REGION_FIRST,
     OP_RESULT_END, OP_RESULT_FIRST, OPS, REGION_BLOCK_FIRST, at, number,
 };
-use layout::lists::fill_at;
+use std::ops::Range;
 
 // More operations and blocks than this are not searched for: to write over the whole mapping costs less.
 const FEW: u32 = 24;
@@ -26,45 +26,18 @@ const BLOCKS_SEEN: usize = 16;
 
 const OPS_SEEN: usize = 64;
 
-fn low(a: u32, b: u32) -> u32
-    ensures upper_bound { result ≤ a }
-    ensures upper_bound_2 { result ≤ b }
-{
-    if a < b {
-        return a;
-    }
-    b
-}
-
-fn high(a: u32, b: u32) -> u32
-    ensures lower_bound { a ≤ result }
-    ensures lower_bound_2 { b ≤ result }
-    ensures fact { (result ≡ a) ⊎ (result ≡ b) }
-{
-    if a < b {
-        return b;
-    }
-    a
-}
-
-// The values of the block or operation whose entry is word i of the mapping.
-fn own_values(store: &[u32], i: usize) -> OwnValues
+// The values of the block or operation whose entry is word i of the mapping: from the first up to the end.
+fn own_values(store: &[u32], i: usize) -> Range<u32>
     requires sound { IsSound store.now }
     requires owner_at { OwnerAt (columns store.now) i }
-    ensures { OwnValuesAt (columns store.now) i result }
+    ensures { OwnValuesAt (columns store.now) i result.start result.end }
 {
     if i < OP_ENTRIES {
         let b = i - BLOCK_ENTRIES;
-        return OwnValues {
-            first: at(store, BLOCK_ARGUMENT_FIRST, b),
-            end: at(store, BLOCK_ARGUMENT_END, b),
-        };
+        return at(store, BLOCK_ARGUMENT_FIRST, b)..at(store, BLOCK_ARGUMENT_END, b);
     }
     let n = i - OP_ENTRIES;
-    OwnValues {
-        first: at(store, OP_RESULT_FIRST, n),
-        end: at(store, OP_RESULT_END, n),
-    }
+    at(store, OP_RESULT_FIRST, n)..at(store, OP_RESULT_END, n)
 }
 
 // The search with the block or operation whose entry is word i.
@@ -77,33 +50,34 @@ fn found(store: &[u32], search: Search, i: usize) -> Search
 {
     let own = own_values(store, i);
     let word = i as u32;
+    let before = search.found;
     Search {
         left: search.left - 1,
-        value: low(search.value, own.first),
-        end: high(search.end, own.end),
-        owner: low(search.owner, word),
-        past: high(search.past, word + 1),
+        found: Entries {
+            value: before.value.min(own.start),
+            end: before.end.max(own.end),
+            owner: before.owner.min(word),
+            past: before.past.max(word + 1),
+        },
     }
 }
 
 // The search with what these words of the mapping have.
-fn look(store: &[u32], mapping: &[u32], from: usize, to: usize, search: Search) -> Search
+fn look(store: &[u32], mapping: &[u32], seen: Range<usize>, search: Search) -> Search
     requires sound { IsSound store.now }
     requires mapping_len { length mapping.now ≡ mapping_length }
-    requires owners_at { OwnersAt (columns store.now) from to }
-    requires searched { Searched (columns store.now) mapping.now from search }
-    ensures { Searched (columns store.now) mapping.now to result }
+    requires owners_at { OwnersAt (columns store.now) seen.start seen.end }
+    requires searched { Searched (columns store.now) mapping.now seen.start search }
+    ensures { Searched (columns store.now) mapping.now seen.end result }
 {
     let mut s = search;
-    let mut i = from;
-    while i < to {
+    for i in seen {
         if s.left == 0 {
             return s;
         }
         if mapping[i] != NO_IMAGE {
             s = found(store, s, i);
         }
-        i += 1;
     }
     s
 }
@@ -125,16 +99,10 @@ fn first_block(store: &[u32], sort: Sort, l: usize, paired: u32) -> usize
     requires { length store.now ≡ buffer_length }
 {
     match sort {
+        Sort::Op if paired < 2 => 256,
         Sort::Op => {
-            if paired < 2 {
-                return 256;
-            }
-            guess(
-                store,
-                REGION_BLOCK_FIRST,
-                guess(store, OP_REGION_FIRST, l, 512),
-                256,
-            )
+            let region = guess(store, OP_REGION_FIRST, l, 512);
+            guess(store, REGION_BLOCK_FIRST, region, 256)
         }
         Sort::Block => l,
         Sort::Region => guess(store, REGION_BLOCK_FIRST, l, 256),
@@ -152,28 +120,15 @@ fn first_op(store: &[u32], sort: Sort, l: usize, b: usize) -> usize
     }
 }
 
-// The words of so many entries from number `first` on, of `count` that begin with word `base`.
-fn seen(base: usize, count: usize, first: usize, most: usize) -> Seen
+// The words of at most so many entries from number `first` on, of `count` that begin with word `base`.
+fn seen(base: usize, count: usize, first: usize, most: usize) -> Range<usize>
     requires count_bound { base + count ≤ 2816 }
     requires most_bound { most ≤ 2816 }
-    ensures { SeenOf base count result }
+    ensures { SeenOf base count result.start result.end }
 {
-    if first >= count {
-        return Seen {
-            from: base + count,
-            to: base + count,
-        };
-    }
-    if first + most >= count {
-        return Seen {
-            from: base + first,
-            to: base + count,
-        };
-    }
-    Seen {
-        from: base + first,
-        to: base + first + most,
-    }
+    let from = first.min(count);
+    let to = count.min(from + most);
+    base + from..base + to
 }
 
 // The search for what a comparison with this left fragment, which counts so many pairs, has made in an empty mapping.
@@ -187,18 +142,21 @@ fn searched(store: &[u32], mapping: &[u32], sort: Sort, l: usize, paired: u32) -
     let n = first_op(store, sort, l, b);
     let blocks = seen(BLOCK_ENTRIES, number(store, COUNTS, BLOCKS), b, BLOCKS_SEEN);
     let ops = seen(OP_ENTRIES, number(store, COUNTS, OPS), n, OPS_SEEN);
-    let nothing = Search {
-        left: paired,
+    let nowhere = Entries {
         value: 2048,
         end: 0,
         owner: 2816,
         past: 0,
     };
-    let in_blocks = look(store, mapping, blocks.from, blocks.to, nothing);
-    look(store, mapping, ops.from, ops.to, in_blocks)
+    let nothing = Search {
+        left: paired,
+        found: nowhere,
+    };
+    look(store, mapping, ops, look(store, mapping, blocks, nothing))
 }
 
 // All of a mapping.
+#[tactic(auto, unfolding(crate::specs::Unmapping::whole_mapping))]
 fn everywhere() -> Entries
     ensures { result ≡ whole_mapping }
 {
@@ -224,12 +182,7 @@ pub fn entered(store: &[u32], mapping: &[u32], sort: Sort, l: u32, paired: u32) 
     if search.left > 0 {
         return everywhere();
     }
-    Entries {
-        value: search.value,
-        end: search.end,
-        owner: search.owner,
-        past: search.past,
-    }
+    search.found
 }
 
 // Takes the entries out whose words these are.
@@ -238,11 +191,12 @@ fn blank(mapping: &mut [u32], from: usize, end: usize)
     ensures { mapping.new ≡ blanked mapping.old from end }
 {
     if from < end {
-        fill_at(mapping, from, end - from, NO_IMAGE);
+        mapping[from..end].fill(NO_IMAGE);
     }
 }
 
 // Empties a mapping whose entries are there.
+#[tactic(auto, using(crate::proofs::Blanked::blank_both))]
 pub fn unmap(mapping: &mut [u32], entries: Entries)
     requires mapping_len { length mapping.old ≡ mapping_length }
     requires entries_in { EntriesIn mapping.old entries }

@@ -1,10 +1,9 @@
 // What the entries of a lent mapping do, and which are there afterwards.
-use crate::answers::{equal, unequal};
 use crate::form::Store;
 use equivalence::calls::operation_eq;
 use fragments::ignoring::Ignore;
-use layout::lists::words_eq;
 use mapping::mapping::{MAPPING_LENGTH, NO_IMAGE, OP_ENTRIES};
+use pairing::types::Unequal;
 
 pub type Mapping = [u32; MAPPING_LENGTH];
 
@@ -24,16 +23,13 @@ fn fields(store: &Store, value: u32, res: u32, twins: bool) -> bool {
     let mut after = mapping;
     after[2] = 3;
     after[OP_ENTRIES + 1] = 2;
-    let none: [u32; 0] = [];
-    let answer = operation_eq(store, &none, &mut mapping, 1, 2, ignore_nothing());
-    if !words_eq(&mapping, &after) {
-        return false;
-    }
-    if twins {
-        equal(answer, 1)
+    let expected = if twins {
+        Ok(1)
     } else {
-        unequal(answer, 1, 2, 1)
-    }
+        Err(Unequal::FirstNEQOps(1, 2, 1))
+    };
+    operation_eq(store, &[], &mut mapping, 1, 2, ignore_nothing()) == Ok(expected)
+        && mapping == after
 }
 
 // The fields read different values.
@@ -56,11 +52,7 @@ pub fn stay(store: &Store) -> bool {
     let mut mapping: Mapping = [NO_IMAGE; MAPPING_LENGTH];
     mapping[0] = 1;
     let lent = mapping;
-    let none: [u32; 0] = [];
-    unequal(
-        operation_eq(store, &none, &mut mapping, 0, 1, ignore_nothing()),
-        0,
-        1,
-        0,
-    ) && words_eq(&mapping, &lent)
+    let differ = Unequal::FirstNEQOps(0, 1, 0);
+    operation_eq(store, &[], &mut mapping, 0, 1, ignore_nothing()) == Ok(Err(differ))
+        && mapping == lent
 }

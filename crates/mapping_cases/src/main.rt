@@ -3,7 +3,6 @@
 // writes says whether the answers of a group of cases were those of document 01.
 #![tactic(auto)]
 
-mod answers;
 mod entries;
 mod form;
 mod refusals;

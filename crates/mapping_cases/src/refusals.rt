@@ -1,23 +1,21 @@
 // Refusals of comparisons that lend a mapping. Nothing of a refused mapping changes.
-use crate::answers::{equal, refused};
 use crate::entries::{Mapping, ignore_nothing};
 use crate::form::Store;
 use equivalence::calls::{basic_block_eq, operation_eq, region_eq};
 use equivalence::types::EqResult;
 use fragments::types::Sort;
+use layout::causes::Cause;
 use layout::columns::OPS;
-use layout::lists::words_eq;
 use mapping::mapping::{BLOCK_ENTRIES, MAPPING_LENGTH, NO_IMAGE, OP_ENTRIES};
 
-// What is asked, of the fragment by this number with itself, and why it is refused.
-#[derive(Clone, Copy)]
-struct Refusal {
-    n: u32,
-    cause: u32,
-}
-
 // The comparison of a fragment with itself.
-fn compare(store: &[u32], types: &[u32], mapping: &mut [u32], sort: Sort, n: u32) -> EqResult {
+fn compare(
+    store: &[u32],
+    types: &[u32],
+    mapping: &mut [u32],
+    sort: Sort,
+    n: u32,
+) -> Result<EqResult, Cause> {
     match sort {
         Sort::Op => operation_eq(store, types, mapping, n, n, ignore_nothing()),
         Sort::Region => region_eq(store, types, mapping, n, n, ignore_nothing()),
@@ -25,82 +23,36 @@ fn compare(store: &[u32], types: &[u32], mapping: &mut [u32], sort: Sort, n: u32
     }
 }
 
-// It is refused. `kept` is a copy of the mapping.
-fn refuses(
+// It is refused, and the mapping stays as it is lent.
+fn refuses<const N: usize>(
     store: &[u32],
     types: &[u32],
-    mapping: &mut [u32],
-    kept: &[u32],
+    lent: [u32; N],
     sort: Sort,
-    why: Refusal,
+    n: u32,
+    cause: Cause,
 ) -> bool {
-    let answer = compare(store, types, mapping, sort, why.n);
-    if !refused(answer, why.cause) {
-        return false;
-    }
-    words_eq(mapping, kept)
+    let mut mapping = lent;
+    compare(store, types, &mut mapping, sort, n) == Err(cause) && mapping == lent
 }
 
-// The same of each of the three comparisons, under a list of renamed types.
-fn all_refuse_under(
+// The same of each of the three comparisons.
+fn all_refuse<const N: usize>(
     store: &[u32],
     types: &[u32],
-    mapping: &mut [u32],
-    kept: &[u32],
+    lent: [u32; N],
     n: u32,
-    cause: u32,
+    cause: Cause,
 ) -> bool {
-    if !refuses(store, types, mapping, kept, Sort::Op, Refusal { n, cause }) {
-        return false;
-    }
-    if !refuses(
-        store,
-        types,
-        mapping,
-        kept,
-        Sort::Region,
-        Refusal { n, cause },
-    ) {
-        return false;
-    }
-    refuses(
-        store,
-        types,
-        mapping,
-        kept,
-        Sort::Block,
-        Refusal { n, cause },
-    )
-}
-
-// The same with no type renamed.
-fn all_refuse(store: &[u32], mapping: &mut [u32], kept: &[u32], n: u32, cause: u32) -> bool {
-    let none: [u32; 0] = [];
-    all_refuse_under(store, &none, mapping, kept, n, cause)
-}
-
-// The same of a mapping of the right length, under a list.
-fn mapping_refused(
-    store: &Store,
-    types: &[u32],
-    mapping: &mut Mapping,
-    kept: &Mapping,
-    n: u32,
-    cause: u32,
-) -> bool {
-    all_refuse_under(store, types, mapping, kept, n, cause)
+    refuses(store, types, lent, Sort::Op, n, cause)
+        && refuses(store, types, lent, Sort::Region, n, cause)
+        && refuses(store, types, lent, Sort::Block, n, cause)
 }
 
 // An entry too few, and one too many.
 pub fn lengths(store: &Store) -> bool {
-    let mut short: [u32; 2815] = [NO_IMAGE; 2815];
-    let short_kept = short;
-    if !all_refuse(store, &mut short, &short_kept, 0, 8) {
-        return false;
-    }
-    let mut long: [u32; 2817] = [NO_IMAGE; 2817];
-    let long_kept = long;
-    all_refuse(store, &mut long, &long_kept, 0, 8)
+    all_refuse(store, &[], [NO_IMAGE; 2815], 0, Cause::BadMapping)
+        && all_refuse(store, &[], [NO_IMAGE; 2817], 0, Cause::BadMapping)
 }
 
 // A mapping with this one entry is refused.
@@ -109,9 +61,7 @@ fn not_allowed(store: &Store, entry: usize, image: u32) -> bool {
     if entry < MAPPING_LENGTH {
         mapping[entry] = image;
     }
-    let kept = mapping;
-    let none: [u32; 0] = [];
-    mapping_refused(store, &none, &mut mapping, &kept, 0, 8)
+    all_refuse(store, &[], mapping, 0, Cause::BadMapping)
 }
 
 // An entry of a value, block or operation that is not there.
@@ -136,24 +86,12 @@ pub fn allowed(store: &Store) -> bool {
     mapping[3] = 3;
     mapping[BLOCK_ENTRIES] = 0;
     mapping[OP_ENTRIES + 2] = 2;
-    let none: [u32; 0] = [];
-    equal(
-        operation_eq(store, &none, &mut mapping, 1, 1, ignore_nothing()),
-        1,
-    )
+    operation_eq(store, &[], &mut mapping, 1, 1, ignore_nothing()) == Ok(Ok(1))
 }
 
 // A list of renamed types that is refused.
 fn list_refused(store: &Store, types: &[u32]) -> bool {
-    let mut mapping: Mapping = [NO_IMAGE; MAPPING_LENGTH];
-    mapping_refused(
-        store,
-        types,
-        &mut mapping,
-        &[NO_IMAGE; MAPPING_LENGTH],
-        9,
-        14,
-    )
+    all_refuse(store, types, [NO_IMAGE; MAPPING_LENGTH], 9, Cause::BadTypes)
 }
 
 // A half row, an old type twice, a chain, a swap, a type that becomes itself, and a list that is too long.
@@ -170,24 +108,13 @@ pub fn lists(store: &Store) -> bool {
 // A store that is not sound comes before the mapping, the mapping before the list of renamed types, and the list before a fragment that is
 // not there.
 pub fn first_cause(store: &Store) -> bool {
-    let half: [u32; 1] = [1];
-    let mut mapping: Mapping = [NO_IMAGE; MAPPING_LENGTH];
-    if !mapping_refused(
-        store,
-        &[1, 2],
-        &mut mapping,
-        &[NO_IMAGE; MAPPING_LENGTH],
-        9,
-        2,
-    ) {
-        return false;
-    }
+    let half = [1];
+    let empty = [NO_IMAGE; MAPPING_LENGTH];
+    let mut mapping = empty;
     mapping[0] = 4;
-    let kept = mapping;
-    if !mapping_refused(store, &half, &mut mapping, &kept, 9, 8) {
-        return false;
-    }
     let mut counted = *store;
     counted[OPS] = 513;
-    mapping_refused(&counted, &half, &mut mapping, &kept, 9, 1)
+    all_refuse(store, &[1, 2], empty, 9, Cause::NotThere)
+        && all_refuse(store, &half, mapping, 9, Cause::BadMapping)
+        && all_refuse(&counted, &half, mapping, 9, Cause::NotSound)
 }

@@ -4,11 +4,9 @@ use Prim.Native.Nat.{ℕ}
 use mathlib.Core.Bool.{Bool, true, false, cond}
 use mathlib.Core.List.{List}
 use mathlib.Core.Path.{◌≡◌, refl, sym, ap, ◌∙◌}
-use Rattle.rules.specs.Building.{refused}
+use Rattle.rules.specs.Building.{Built, refused}
 use Rattle.rules.specs.Marks.{MarkedCall, marked_answer}
 use Rattle.rules.proofs.Basics.Tests.{clash}
-use Rattle.calling.specs.declared.types.Built.{Built}
-use Rattle.calling.specs.Types.{built_of}
 use Rattle.journal.specs.Words.{marked_in, sound_lent}
 use Rattle.marks.specs.Doing.{DidMarked, Answered}
 
@@ -16,7 +14,7 @@ module _ (b : List ℕ) (c : MarkedCall) (r : Built) where
   chosen : (t : Bool) → sound_lent b ≡ t → cond (sound_lent b) (marked_answer (marked_in b) c) (refused 1) ≡ cond t (marked_answer (marked_in b) c) (refused 1)
   chosen t e = ap (λ (x : Bool). cond x (marked_answer (marked_in b) c) (refused 1)) e
 
-  pub turned_down : sound_lent b ≡ false → built_of r ≡ refused 1 → Answered b b c r
+  pub turned_down : sound_lent b ≡ false → r ≡ refused 1 → Answered b b c r
   turned_down h q =
       record {
         answered = q ∙ sym (chosen false h);

@@ -1,31 +1,34 @@
 -- A run of words written into a column one by one: one turn, what stands behind it, and the end. Assumes nothing.
 use Prim.Native.Nat.{ℕ, ◌+◌, ◌-◌, ◌<◌, ◌≤◌}
+use native.Mathlib.Numerals.{add-one}
 use native.Mathlib.Omega.{arith}
 use mathlib.Core.Bool.{Bool, true, false, cond}
-use mathlib.Core.List.{List}
+use mathlib.Core.List.{List, ◌++◌}
 use mathlib.Core.Path.{◌≡◌, refl, sym, ap, ◌∙◌, fun_ext}
 use borrow.Author.Tests.{eqb-true}
 use lib.Dec.{eqb}
-use lib.ListN.{length, get_or, set}
-use lib.Seq.{paste, paste-zero, drop-paste, get_or-drop}
+use lib.ListN.{length, get_or, set, take, drop}
+use lib.Seq.{paste, paste-suc, drop-paste, get_or-drop, take-length}
 use Rattle.layout.specs.Columns.{Cols, column_size, at, pasted, write, write_range}
-use Rattle.layout.specs.Reading.{slice}
 use Rattle.layout.proofs.Laid.{Shaped}
-use Rattle.layout.proofs.Scans.{slice_length, slice_at}
-use Rattle.layout.proofs.Copies.{copy_turn, copy_done}
-use Rattle.marks.specs.Raw.{copied, Downward}
+
+module _ (d vs : List ℕ) (at : ℕ) (room : at + length vs ≤ length d) (to : List ℕ) (j : ℕ) (so_far : to ≡ paste d at vs j) where
+  copy_turn : j < length vs → (v : ℕ) → v ≡ get_or vs j 0 → set to (at + j) v ≡ paste d at vs (j + 1)
+  copy_turn l v e =
+      ap (λ (xs : List ℕ). set xs (at + j) v) so_far
+      ∙ ap (λ (x : ℕ). set (paste d at vs j) (at + j) x) e
+      ∙ paste-suc d at vs j 0 (omega arith) l
+      ∙ ap (λ (k : ℕ). paste d at vs k) (sym (add-one j))
+
+  copy_done : j ≡ length vs → to ≡ pasted d at vs
+  copy_done e =
+      so_far ∙ ap (λ (k : ℕ). paste d at vs k) e
+      ∙ ap (λ (xs : List ℕ). take at d ++ xs ++ drop (at + length vs) d) (take-length vs)
 
 module _ (C : Cols) (k n : ℕ) (vs : List ℕ) where
   -- the first i of the words are written
   abbrev pub partly : ℕ → Cols
   partly i m = cond (eqb m k) (paste (C m) n vs i) (C m)
-
-  pub run_starts : C ≡ partly 0
-  run_starts = fun_ext (λ m. go m (eqb m k))
-    where
-      go : (m : ℕ) (b : Bool) → C m ≡ cond b (paste (C m) n vs 0) (C m)
-      go m true = paste-zero (C m) n vs
-      go m false = refl
 
   module _ (shaped : Shaped C) (fits : n + length vs ≤ column_size k) where
     room : (m : ℕ) → eqb m k ≡ true → n + length vs ≤ length (C m)
@@ -63,24 +66,3 @@ module _ (C : Cols) (k n : ℕ) (vs : List ℕ) where
         go : (m : ℕ) (b : Bool) → eqb m k ≡ b → cond b (paste (C m) n vs i) (C m) ≡ cond b (pasted (C m) n vs) (C m)
         go m true t = copy_done (C m) vs n (room m t) (paste (C m) n vs i) i refl l
         go m false t = refl
-
--- ---- words that are copied
-
-module _ (C : Cols) (k n j a e : ℕ) where
-  abbrev pub copying : ℕ → Cols
-  copying i = partly C k n (slice (C j) a e) i
-
-  module _ (shaped : Shaped C) (rises : a ≤ e) (from : e ≤ column_size j) (fits : n + (e - a) ≤ column_size k) where
-    many : length (slice (C j) a e) ≡ e - a
-    many = slice_length (C j) a e (omega (arith, shaped j))
-
-    pub copy_turns : Downward k n j a → (i : ℕ) → i < e - a → write (copying i) k (n + i) (at (copying i) j (a + i)) ≡ copying (i + 1)
-    unfolding at
-    copy_turns down i l =
-        run_turn C k n (slice (C j) a e) shaped (omega (arith, many)) i _ (omega (arith, many))
-        (run_behind C k n (slice (C j) a e) shaped (omega (arith, many)) i j (a + i) (omega (arith, many)) (λ z. let low : n ≤ a = down z in omega arith)
-        ∙ sym (slice_at (C j) a e i l))
-
-    pub copy_ends : (i : ℕ) → i ≤ e - a → e - a ≤ i → copying i ≡ copied C k n j a e
-    unfolding copied
-    copy_ends i l h = run_ends C k n (slice (C j) a e) shaped (omega (arith, many)) i (omega (arith, many))

@@ -7,14 +7,12 @@ use mathlib.Core.List.{List}
 use mathlib.Core.Option.{Option, none, some}
 use mathlib.Core.Path.{◌≡◌, refl, sym, ap, ◌∙◌}
 use Rattle.rules.specs.Store.{Store}
-use Rattle.rules.specs.Building.{Call, new_operation, new_block, set_attribute, set_operand, refused, acceptance, first_failed}
+use Rattle.rules.specs.Building.{Built, Call, new_operation, new_block, set_attribute, set_operand, refused, acceptance, first_failed}
 use Rattle.rules.specs.Marks.{MarkedStore, MarkedCall, max_marks, build, set_mark, go_back, copy, marked_tests, marked_applied, marked_acceptance, marked_answer_by, marked_by, marked_answer, marked}
 use Rattle.layout.specs.Columns.{columns}
 use Rattle.layout.specs.Soundness.{IsSound}
 use Rattle.journal.specs.Journal.{Journaled, marked_of, journal_sound}
 use Rattle.journal.specs.Words.{mark_count, journaled_of, journal_holds, marked_in}
-use Rattle.calling.specs.declared.types.Built.{Built}
-use Rattle.calling.specs.Types.{built_of}
 use Rattle.marks.specs.Doing.{IsLent, DidMarked}
 use Rattle.marks.proofs.Lent.{lent_of}
 
@@ -34,7 +32,7 @@ never t (go_back k) cause h = let z : ◌≡◌ {A = ℕ} 0 1 = cc in omega arit
 never t (copy ok n place) cause h = let z : ◌≡◌ {A = ℕ} 0 1 = cc in omega arith
 
 module _ (b : List ℕ) (c : MarkedCall) (r : Built) where
-  pub marked_refuse : IsLent b → (cause : ℕ) → first_failed (marked_tests (marked_in b) c) ≡ some cause → built_of r ≡ refused cause → DidMarked b b c r
+  pub marked_refuse : IsLent b → (cause : ℕ) → first_failed (marked_tests (marked_in b) c) ≡ some cause → r ≡ refused cause → DidMarked b b c r
   unfolding marked_answer marked marked_answer_by marked_by
   marked_refuse h cause e q =
       record {
@@ -46,7 +44,7 @@ module _ (b : List ℕ) (c : MarkedCall) (r : Built) where
 
   pub marked_work : (exit : List ℕ) (j : Journaled) → first_failed (marked_tests (marked_in b) c) ≡ none → journaled_of (columns exit) ≡ j
       → marked_of j ≡ marked_applied (marked_of (journaled_of (columns b))) c → journal_sound j ≡ true → mark_count (columns exit) ≤ max_marks
-      → journal_holds (columns exit) ≡ true → IsSound exit → built_of r ≡ marked_acceptance (marked_in b) c → DidMarked b exit c r
+      → journal_holds (columns exit) ≡ true → IsSound exit → r ≡ marked_acceptance (marked_in b) c → DidMarked b exit c r
   unfolding marked_answer marked marked_answer_by marked_by
   marked_work exit j e step reads journal few holds tables q =
       record {

@@ -1,14 +1,16 @@
 -- Lists made of the numbers below n: one entry taken out, the first ones gone, one more at the end; and what holds of every entry. Assumes
 -- nothing.
 use Prim.Native.Nat.{ℕ, zero, suc, ◌+◌, ◌-◌, ◌<◌, ◌≤◌}
-use native.Mathlib.Nat.{not-suc-le-zero}
+use native.Mathlib.Nat.{not-suc-le-zero, zero-add}
 use native.Mathlib.Decide.{dec_lt}
 use native.Mathlib.Omega.{arith}
 use mathlib.Core.List.{List, [], ◌∷◌, ◌++◌, map}
 use mathlib.Core.Path.{◌≡◌, refl, sym, ap, ap₂, subst, ◌∙◌}
 use lib.ListN.{length, get_or, take, drop, length-append, length-drop, get_or-append}
 use lib.Seq.{length-take-le, get_or-take, get_or-drop, ext_get_or, take_at, drop_at}
-use Rattle.layout.specs.Reading.{tabulate, tabulate_from}
+use Rattle.layout.specs.Columns.{Cols, at}
+use Rattle.layout.specs.Reading.{tabulate, tabulate_from, slice}
+use Rattle.layout.proofs.Scans.{slice_length, slice_at}
 use Rattle.layout.proofs.Pasted.{get_d_behind}
 use Rattle.layout.proofs.Tabulate.{length_tabulate, get_d_tabulate, tabulate_cong, tabulate_suc, tabulate_add, map_from}
 
@@ -113,3 +115,11 @@ module _ {A : Type 0} (P : A → Type 0) where
   pub every_append : (xs ys : List A) → Every xs → Every ys → Every (xs ++ ys)
   every_append [] ys h k = k
   every_append (x ∷ xs) ys h k = (h.0, every_append xs ys h.1 k)
+
+-- the first words of a column
+pub first_words : (C : Cols) (k n : ℕ) → n ≤ length (C k) → slice (C k) 0 n ≡ tabulate n (at C k)
+unfolding at
+first_words C k n l =
+    let many : length (slice (C k) 0 n) ≡ n = slice_length (C k) 0 n l ∙ (let z : n - 0 ≡ n = omega arith in z) in
+    ext_get_or 0 _ _ (many ∙ sym (length_tabulate n (at C k)))
+    (λ i h. slice_at (C k) 0 n i (omega (arith, many)) ∙ ap (λ (x : ℕ). get_or (C k) x 0) (zero-add i) ∙ sym (get_d_tabulate n (at C k) i 0 (omega (arith, many))))

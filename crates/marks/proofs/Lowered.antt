@@ -11,7 +11,7 @@ use Rattle.layout.proofs.Laid.{Shaped}
 use Rattle.layout.proofs.Tabulate.{length_tabulate, get_d_tabulate}
 use Rattle.journal.specs.Words.{mark_count}
 use Rattle.marks.specs.Raw.{places_back}
-use Rattle.marks.proofs.Copies.{partly, run_starts, run_behind, run_turn, run_ends}
+use Rattle.marks.proofs.Copies.{partly, run_behind, run_turn, run_ends}
 
 module _ (C : Cols) (n : ℕ) where
   abbrev lower : List ℕ
@@ -20,9 +20,6 @@ module _ (C : Cols) (n : ℕ) where
   -- the first i are lowered
   abbrev pub lowering : ℕ → Cols
   lowering i = partly C mark_place 0 lower i
-
-  pub lower_starts : C ≡ lowering 0
-  lower_starts = run_starts C mark_place 0 lower
 
   module _ (shaped : Shaped C) (few : mark_count C ≤ 8) where
     many : length lower ≡ mark_count C

@@ -9,7 +9,7 @@ use borrow.Author.Tests.{ltb-true, ltb-false, ne_eqb, le-leb, lt-leb}
 use lib.Dec.{leb, ltb}
 use lib.ListN.{length, take, drop, length-append, length-drop, drop_of_length-le}
 use lib.Seq.{take_all}
-use Rattle.rules.specs.Building.{first_failed}
+use Rattle.rules.specs.Building.{accepted, first_failed}
 use Rattle.rules.specs.Marks.{set_mark, is_mark, max_marks, marked_tests, marked_acceptance}
 use Rattle.rules.proofs.Basics.Tests.{and_both}
 use Rattle.layout.specs.Columns.{Cols, columns, at, mark_place}
@@ -17,8 +17,6 @@ use Rattle.layout.specs.Reading.{store_of}
 use Rattle.layout.proofs.Buffer.{columns_shaped}
 use Rattle.layout.proofs.Scans.{and_false}
 use Rattle.layout.proofs.Tabulate.{length_tabulate}
-use Rattle.calling.specs.declared.types.Built.TheVariants as Builts
-use Rattle.calling.specs.Types.{built_of}
 use Rattle.calling.proofs.Causes.{none_fail, fails, passes}
 use Rattle.journal.specs.Journal.{Entry, counts_of, no_counts, replaced_in, MarkRow, Journaled, oldest_place, placed_back, freed, rows_without, journaled_mark, journal_sound}
 use Rattle.journal.specs.Words.{mark_count, journal_of, rows_of, journaled_of, journal_holds, marked_in}
@@ -29,7 +27,7 @@ use Rattle.journal.proofs.Short.{journal_short}
 use Rattle.journal.proofs.KeptMark.{mark_sound}
 use Rattle.marks.specs.Raw.{place_in, begun, row_taken, mark_taken, row_added, Freeable, with_mark}
 use Rattle.marks.specs.Doing.{DidMarked}
-use Rattle.marks.proofs.Lent.{Lent}
+use Rattle.marks.proofs.Lent.{Lent, lent_facts}
 use Rattle.marks.proofs.Doing.{marked_work}
 use Rattle.marks.proofs.Tables.{TablesKept, store_kept, sound_kept}
 use Rattle.marks.proofs.Few.{numbered_few}
@@ -242,9 +240,12 @@ module _ (b : List ℕ) (h : Lent b) (k : ℕ) (named : is_mark k ≡ true) wher
   unfolding marked_tests
   clear = passes (is_mark k) 16 [] named none_fail
 
-  pub mark_done : (exit : List ℕ) → length exit ≡ length b → columns exit ≡ with_mark B k → DidMarked b exit (set_mark k) Builts.Accepted
-  unfolding MarkRead marked_acceptance built_of
+  pub mark_done : (exit : List ℕ) → length exit ≡ length b → columns exit ≡ with_mark B k → DidMarked b exit (set_mark k) accepted
+  unfolding MarkRead marked_acceptance
   mark_done exit long e =
-      marked_work b (set_mark k) Builts.Accepted exit after clear (ap journaled_of e ∙ mark_reads) (mark_read (journaled_of B) k h.journal) after_sound
+      marked_work b (set_mark k) accepted exit after clear (ap journaled_of e ∙ mark_reads) (mark_read (journaled_of B) k h.journal) after_sound
       (omega (arith, ap mark_count e, count_is, fulls_few)) (ap journal_holds e ∙ mark_holds)
       (sound_kept b exit h.tables (long ∙ h.tables.sized) (subst (TablesKept B) (sym e) freed_so.kept)) refl
+
+-- what the steps of setting a mark ask for
+pub ruleset stays_lent = (lent_facts, begun_few, taken_few, added_free)

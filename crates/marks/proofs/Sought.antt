@@ -1,63 +1,49 @@
 -- The row of a mark, sought from the oldest on; and how the rows go on without it. Assumes nothing.
-use Prim.Native.Nat.{ℕ, zero, suc, ◌+◌, ◌<◌, ◌≤◌}
-use native.Mathlib.Nat.{add-zero, add-suc, suc-add, zero-add}
+use Prim.Native.Nat.{ℕ, zero, suc, ◌+◌, ◌≤◌}
 use native.Mathlib.Omega.{arith}
 use mathlib.Core.Bool.{Bool, true, false, cond, not, ◌||◌}
 use mathlib.Core.List.{List, [], ◌∷◌, ◌++◌}
-use mathlib.Core.Path.{◌≡◌, refl, sym, ap, subst, ◌∙◌}
-use borrow.Author.Tests.{not-true, eq-eqb, ne_eqb, eqb-true, lt-ltb, le-ltb, ltb-true}
-use lib.Dec.{ltb}
+use mathlib.Core.Path.{◌≡◌, refl, sym, ap, ap₂, subst, ◌∙◌}
+use borrow.Author.Tests.{eqb-true, lt-ltb, le-ltb, ltb-true}
+use lib.Dec.{eqb, ltb}
 use lib.ListN.{length, get_or, take, drop}
+use Rattle.std.specs.List.{position_or_len, position}
+use Rattle.std.specs.Prelude.{Some, None}
 use Rattle.rules.specs.Lists.{all, any, filter}
 use Rattle.rules.proofs.Basics.Tests.{and_both, or_false_left, or_false_right}
 use Rattle.rules.proofs.Basics.Filtered.{filter_whole}
 use Rattle.layout.specs.Columns.{Cols, at, mark_number}
 use Rattle.layout.specs.Reading.{tabulate, tabulate_from}
-use Rattle.layout.proofs.Scans.{Scanned, scan_on, same_tests}
+use Rattle.layout.proofs.Scans.{same_tests}
+use Rattle.layout.proofs.Tabulate.{length_tabulate}
 use Rattle.journal.specs.Journal.{MarkRow, row_has_number, rows_without, rows_up_to, row_or}
 use Rattle.journal.specs.Words.{mark_count, row_at, rows_of}
 use Rattle.journal.proofs.Rows.{Numbered}
-use Rattle.marks.specs.Raw.{place_in, row_of}
+use Rattle.marks.specs.Raw.{place_in, row_of, row_found}
 
 -- ---- the search
 
-place_from : (k : ℕ) (f : ℕ → MarkRow) (a n i : ℕ) → i ≤ n → ((j : ℕ) → j < i → row_has_number k (f (a + j)) ≡ false)
-    → (i < n → row_has_number k (f (a + i)) ≡ true) → place_in k (tabulate_from a n f) ≡ i
-unfolding place_in tabulate_from
-place_from k f a zero i l others here = omega arith
-place_from k f a (suc n) zero l others here = rw (subst (λ (x : ℕ). row_has_number k (f x) ≡ true) (add-zero a) (here (omega arith))) refl
-place_from k f a (suc n) (suc i) l others here =
-    rw (subst (λ (x : ℕ). row_has_number k (f x) ≡ false) (add-zero a) (others 0 (omega arith)))
-    (ap suc (place_from k f (suc a) n i (omega arith)
-    (λ j h. subst (λ (x : ℕ). row_has_number k (f x) ≡ false) (add-suc a j ∙ sym (suc-add a j)) (others (suc j) (omega arith)))
-    (λ h. subst (λ (x : ℕ). row_has_number k (f x) ≡ true) (add-suc a i ∙ sym (suc-add a i)) (here (omega arith)))))
+-- among the rows' numbers
+place_from : (k : ℕ) (f : ℕ → MarkRow) (a n : ℕ)
+    → position_or_len (λ (x : ℕ). eqb x k) (tabulate_from a n (λ (i : ℕ). (f i).number)) ≡ place_in k (tabulate_from a n f)
+unfolding place_in tabulate_from row_has_number
+place_from k f a zero = refl
+place_from k f a (suc n) = go (eqb (f a).number k) (place_from k f (suc a) n)
+  where
+    go : (b : Bool) → position_or_len (λ (x : ℕ). eqb x k) (tabulate_from (suc a) n (λ (i : ℕ). (f i).number)) ≡ place_in k (tabulate_from (suc a) n f)
+        → cond (not b) (1 + position_or_len (λ (x : ℕ). eqb x k) (tabulate_from (suc a) n (λ (i : ℕ). (f i).number))) 0 ≡ cond b 0 (suc (place_in k (tabulate_from (suc a) n f)))
+    go true e = refl
+    go false e = omega (arith, e)
 
-module _ (C : Cols) (k : ℕ) where
-  -- no row up to i has the number
-  abbrev pub Seeking : ℕ → ℕ → Type 0
-  Seeking count i = Scanned (λ (j : ℕ). not (row_has_number k (row_at C j))) (mark_count C) count i
+module _ (C : Cols) (k : ℕ) (numbers : List ℕ) (e : numbers ≡ tabulate (mark_count C) (at C mark_number)) where
+  sought : position_or_len (λ (x : ℕ). eqb x k) numbers ≡ row_of C k
+  unfolding rows_of row_at tabulate
+  sought = ap (position_or_len (λ (x : ℕ). eqb x k)) e ∙ place_from k (row_at C) 0 (mark_count C)
 
-  found : (i : ℕ) → i ≤ mark_count C → ((j : ℕ) → j < i → row_has_number k (row_at C j) ≡ false) → (i < mark_count C → row_has_number k (row_at C i) ≡ true) → i ≡ row_of C k
-  unfolding rows_of tabulate
-  found i l others here =
-      sym (place_from k (row_at C) 0 (mark_count C) i l
-      (λ j h. subst (λ (x : ℕ). row_has_number k (row_at C x) ≡ false) (sym (zero-add j)) (others j h))
-      (λ h. subst (λ (x : ℕ). row_has_number k (row_at C x) ≡ true) (sym (zero-add i)) (here h)))
-
-  module _ (count i : ℕ) (g : Seeking count i) where
-    before : (j : ℕ) → j < i → row_has_number k (row_at C j) ≡ false
-    before j h = not-true _ (g.passed j h)
-
-    pub seek_stops : i < count → at C mark_number i ≡ k → i ≡ row_of C k
-    unfolding row_has_number row_at
-    seek_stops l e = found i (omega (arith, g.counted)) before (λ h. eq-eqb (at C mark_number i) k e)
-
-    pub seek_turn : i < count → (at C mark_number i ≡ k → ⊥) → Seeking count (i + 1)
-    unfolding row_has_number row_at
-    seek_turn l ne = scan_on g l (ap not (ne_eqb (at C mark_number i) k ne))
-
-    pub seek_ends : count ≤ i → i ≡ row_of C k
-    seek_ends l = found i (omega (arith, g.counted, g.low)) before (λ h. absurd (omega (arith, g.counted)))
+  pub position_row : position (λ (x : ℕ). eqb x k) numbers ≡ row_found C k
+  unfolding row_found
+  position_row =
+      ap₂ (λ (i n : ℕ). cond (ltb i n) (Some i) None) sought (ap length e ∙ length_tabulate (mark_count C) (at C mark_number))
 
 -- ---- what stands there
 

@@ -1,5 +1,5 @@
 -- What an accepted call that sets a mark writes, column by column.
-use Rattle.std.specs.Prelude.{ℕ, suc, ◌+◌, ◌*◌, ◌-◌, ◌≤◌, ◌<◌, cond, List, [], ◌∷◌, ◌≡◌, eqb, ltb}
+use Rattle.std.specs.Prelude.{ℕ, suc, ◌+◌, ◌*◌, ◌-◌, ◌≤◌, ◌<◌, cond, List, [], ◌∷◌, eqb, ltb, Option, Some, None}
 use Rattle.rules.specs.Marks.{max_remembered}
 use Rattle.layout.specs.Columns.{Cols, at, write, write_range, counts, mark_number, mark_place, mark_counts, journal_counts, journal_sort, journal_owner, journal_key, journal_kind, journal_content}
 use Rattle.layout.specs.Reading.{tabulate, slice}
@@ -9,10 +9,6 @@ use Rattle.journal.specs.Words.{entry_at, mark_count, entry_count, rows_of}
 -- the words of column j from a up to e, written over those of column k from n on
 unfoldable pub copied : Cols → ℕ → ℕ → ℕ → ℕ → ℕ → Cols
 copied C k n j a e = write_range C k n (slice (C j) a e)
-
--- within one column words only move down
-abbrev pub Downward : ℕ → ℕ → ℕ → ℕ → Type 0
-Downward k n j a = j ≡ k → n ≤ a
 
 -- ---- rows of set marks
 
@@ -24,6 +20,10 @@ place_in k (r ∷ rs) = cond (row_has_number k r) 0 (suc (place_in k rs))
 -- the place of a mark's row
 abbrev pub row_of : Cols → ℕ → ℕ
 row_of C k = place_in k (rows_of C)
+
+-- the mark's row, if it is set
+unfoldable pub row_found : Cols → ℕ → Option ℕ
+row_found C k = cond (ltb (row_of C k) (mark_count C)) (Some (row_of C k)) None
 
 -- row i goes: those behind it move one down
 unfoldable pub row_taken : Cols → ℕ → Cols

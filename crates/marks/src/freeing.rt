@@ -5,10 +5,9 @@ ghost use Rattle.journal.specs.Journal.{replaced_in};
 ghost use Rattle.journal.specs.Words.{mark_count, entry_count};
 ghost use Rattle.marks.specs.Raw.{first_entries, entries_back, places_back, freed_before, freed_words, SetFrom, Freeable};
 
-use crate::copying::copy;
 use layout::columns::{
     COUNTS, ENTRIES, JOURNAL_CONTENT, JOURNAL_COUNTS, JOURNAL_KEY, JOURNAL_KIND, JOURNAL_OWNER,
-    JOURNAL_SORT, MARK_PLACE, MARKS, REPLACED, at, number, put,
+    JOURNAL_SORT, MARK_PLACE, MARKS, REPLACED, at, copy, number, put, words,
 };
 
 // How many of the first n entries are replacements.
@@ -17,18 +16,14 @@ pub fn replaced_before(store: &[u32], n: usize) -> usize
     requires n_bound { n ≤ 2048 }
     ensures { result ≡ replaced_in (first_entries (columns store.now) n) }
 {
-    let mut found = 0;
-    let mut i = 0;
-    while i < n {
-        if at(store, JOURNAL_SORT, i) < 2 {
-            found += 1;
-        }
-        i += 1;
-    }
-    found
+    words(store, JOURNAL_SORT, 0, n)
+        .iter()
+        .filter(|sort| **sort < 2)
+        .count()
 }
 
 // Moves the entries from n on to the journal's beginning.
+#[tactic(auto, unfolding(crate::specs::Raw::entries_back, crate::specs::Raw::copied, journal::specs::Words::entry_count))]
 fn move_entries(store: &mut [u32], n: usize)
     requires store_len { length store.old ≡ buffer_length }
     requires n_bound { n ≤ entry_count (columns store.old) }
@@ -44,6 +39,7 @@ fn move_entries(store: &mut [u32], n: usize)
 }
 
 // Lowers each mark's place by n.
+#[tactic(auto, unfolding(journal::specs::Words::mark_count))]
 fn place_back(store: &mut [u32], n: u32)
     requires store_len { length store.old ≡ buffer_length }
     requires store_bound { mark_count (columns store.old) ≤ 8 }
@@ -51,15 +47,14 @@ fn place_back(store: &mut [u32], n: u32)
     ensures { columns store.new ≡ places_back (columns store.old) n }
 {
     let count = number(store, COUNTS, MARKS);
-    let mut i = 0;
-    while i < count {
+    for i in 0..count {
         let place = at(store, MARK_PLACE, i);
         put(store, MARK_PLACE, i, place - n);
-        i += 1;
     }
 }
 
 // Frees the journal before entry n.
+#[tactic(auto, unfolding(crate::specs::Raw::freed_before, journal::specs::Words::entry_count))]
 fn free_before(store: &mut [u32], n: usize)
     requires store_len { length store.old ≡ buffer_length }
     requires freeable { Freeable (columns store.old) n }
@@ -75,14 +70,14 @@ fn free_before(store: &mut [u32], n: usize)
 }
 
 // Frees the journal before the oldest mark.
+#[tactic(auto, unfolding(crate::specs::Raw::freed_words))]
 pub fn free(store: &mut [u32])
     requires store_len { length store.old ≡ buffer_length }
     requires freeable { Freeable (columns store.old) (Rattle.layout.specs.Columns.at (columns store.old) mark_place 0) }
     ensures { columns store.new ≡ freed_words (columns store.old) }
 {
     let first = number(store, MARK_PLACE, 0);
-    if first == 0 {
-        return;
+    if first > 0 {
+        free_before(store, first);
     }
-    free_before(store, first);
 }

@@ -1,7 +1,6 @@
 // A mark set, on a lent buffer: its row, and the journal that is freed.
 #![tactic(auto)]
 
-pub mod copying;
 pub mod freeing;
 pub mod rows;
 pub mod setting;

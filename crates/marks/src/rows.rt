@@ -2,31 +2,28 @@
 ghost use Rattle.std.specs.Prelude.{◌≡◌, ◌<◌, ◌≤◌, length};
 ghost use Rattle.layout.specs.Columns.{buffer_length, columns};
 ghost use Rattle.journal.specs.Words.{mark_count};
-ghost use Rattle.marks.specs.Raw.{row_of, row_taken, mark_taken, row_added};
+ghost use Rattle.marks.specs.Raw.{row_found, row_taken, mark_taken, row_added};
 
-use crate::copying::copy;
 use layout::columns::{
-    COUNTS, ENTRIES, JOURNAL_COUNTS, MARK_COUNTS, MARK_NUMBER, MARK_PLACE, MARKS, at, number, put,
+    COUNTS, ENTRIES, JOURNAL_COUNTS, MARK_COUNTS, MARK_NUMBER, MARK_PLACE, MARKS, at, copy, number,
+    put, words,
 };
 
-// The row of the set mark with this number; how many marks are set where it isn't.
-pub fn row_of(store: &[u32], mark: u32) -> usize
+// The row of the set mark with this number.
+#[tactic(auto, unfolding(journal::specs::Words::mark_count))]
+pub fn row_of(store: &[u32], mark: u32) -> Option<usize>
     requires store_len { length store.now ≡ buffer_length }
     requires store_bound { mark_count (columns store.now) ≤ 8 }
-    ensures { result ≡ row_of (columns store.now) mark }
+    ensures { result ≡ row_found (columns store.now) mark }
 {
     let count = number(store, COUNTS, MARKS);
-    let mut i = 0;
-    while i < count {
-        if at(store, MARK_NUMBER, i) == mark {
-            return i;
-        }
-        i += 1;
-    }
-    i
+    words(store, MARK_NUMBER, 0, count)
+        .iter()
+        .position(|number| *number == mark)
 }
 
 // Takes row i out: the rows behind it move one down.
+#[tactic(auto, unfolding(crate::specs::Raw::row_taken, crate::specs::Raw::copied, journal::specs::Words::mark_count))]
 pub fn take_row(store: &mut [u32], i: usize)
     requires store_len { length store.old ≡ buffer_length }
     requires store_bound { mark_count (columns store.old) ≤ 8 }
@@ -41,19 +38,19 @@ pub fn take_row(store: &mut [u32], i: usize)
 }
 
 // Takes the mark's row out, if it is set.
+#[tactic(auto, using(crate::proofs::Chosen::row_there), unfolding(crate::specs::Raw::mark_taken, crate::specs::Raw::row_found, journal::specs::Words::mark_count))]
 pub fn take_mark(store: &mut [u32], mark: u32)
     requires store_len { length store.old ≡ buffer_length }
     requires store_bound { mark_count (columns store.old) ≤ 8 }
     ensures { columns store.new ≡ mark_taken (columns store.old) mark }
 {
-    let row = row_of(store, mark);
-    if row >= number(store, COUNTS, MARKS) {
-        return;
+    if let Some(row) = row_of(store, mark) {
+        take_row(store, row);
     }
-    take_row(store, row);
 }
 
 // Appends a row that names the present: the counts as they are, and a place behind the whole journal.
+#[tactic(auto, unfolding(crate::specs::Raw::row_added, crate::specs::Raw::copied, journal::specs::Words::mark_count, journal::specs::Words::entry_count))]
 pub fn add_row(store: &mut [u32], mark: u32)
     requires store_len { length store.old ≡ buffer_length }
     requires store_bound { mark_count (columns store.old) < 8 }

@@ -1,5 +1,6 @@
 // The call that sets a mark.
 ghost use Rattle.std.specs.Prelude.{◌≡◌, true, length};
+ghost use Rattle.calling.specs.Types.{done_of};
 ghost use Rattle.rules.specs.Marks.{set_mark, is_mark};
 ghost use Rattle.layout.specs.Columns.{buffer_length, columns};
 ghost use Rattle.marks.specs.Raw.{begun, with_mark};
@@ -7,22 +8,23 @@ ghost use Rattle.marks.specs.Doing.{IsLent, DidMarked};
 
 use crate::freeing::free;
 use crate::rows::{add_row, take_mark};
-use calling::types::Built;
+use layout::causes::Cause;
 use layout::columns::{COUNTS, ENTRIES, JOURNAL_COUNTS, MARKS, REPLACED, at, put};
 
 // Without a mark the journal's words may be anything: it begins with no entry.
+#[tactic(auto, unfolding(crate::specs::Raw::begun, journal::specs::Words::mark_count))]
 fn begin(store: &mut [u32])
     requires { length store.old ≡ buffer_length }
     ensures { columns store.new ≡ begun (columns store.old) }
 {
-    if at(store, COUNTS, MARKS) != 0 {
-        return;
+    if at(store, COUNTS, MARKS) == 0 {
+        put(store, JOURNAL_COUNTS, ENTRIES, 0);
+        put(store, JOURNAL_COUNTS, REPLACED, 0);
     }
-    put(store, JOURNAL_COUNTS, ENTRIES, 0);
-    put(store, JOURNAL_COUNTS, REPLACED, 0);
 }
 
 // Writes what the accepted call writes: the mark's old row goes, a new one comes, and what is before the oldest mark is freed.
+#[tactic(auto, using(crate::proofs::SetMark::stays_lent), unfolding(crate::specs::Raw::with_mark))]
 fn put_mark(store: &mut [u32], mark: u32)
     requires lent { IsLent store.old }
     requires mark_value { is_mark mark ≡ true }
@@ -35,16 +37,14 @@ fn put_mark(store: &mut [u32], mark: u32)
 }
 
 // The call, on a lent buffer.
-pub fn set_mark(store: &mut [u32], mark: u32) -> Built
+#[tactic(auto, using(crate::proofs::SetMark::is_mark_lem))]
+pub fn set_mark(store: &mut [u32], mark: u32) -> Result<(), Cause>
     requires { IsLent store.old }
-    ensures { DidMarked store.old store.new (set_mark mark) result }
+    ensures { DidMarked store.old store.new (set_mark mark) (done_of result) }
 {
-    if mark < 1 {
-        return Built::Refused(16);
-    }
-    if mark > 8 {
-        return Built::Refused(16);
+    if mark < 1 || mark > 8 {
+        return Err(Cause::NoMark);
     }
     put_mark(store, mark);
-    Built::Accepted
+    Ok(())
 }

@@ -1,6 +1,6 @@
 -- The walks that call one another: an operation in full is its names and then its regions one after the other, a region is its list of
 -- blocks, and a list of blocks is its three passes. Each pass goes through its list child by child, whatever its steps do. Assumes nothing.
-use Rattle.std.proofs.Common.{◌≡◌, ℕ, ◌+◌, ◌<◌, ◌≤◌, true, ltb, List, [], ◌∷◌, ◌++◌, map, length, get_or, sym, refl, ap, ◌∙◌, subst, add-one, arith, ltb-true, lt-ltb}
+use Rattle.std.proofs.Common.{◌≡◌, ℕ, ◌<◌, ◌≤◌, true, ltb, List, [], ◌∷◌, ◌++◌, map, length, get_or, sym, refl, ap, ◌∙◌, subst, arith, ltb-true, lt-ltb}
 use Rattle.rules.specs.Lists.{all, concat_map}
 use Rattle.rules.specs.Store.{Store, Owner, of_op, op_at, regions_of, value_exists, block_exists, max_blocks, max_own_regions, sound}
 use Rattle.rules.specs.Fragments.{Sort, op, block, region, Step, shell, names, full_op, list_steps, region_steps, levels, steps}
@@ -11,7 +11,6 @@ use Rattle.rules.proofs.Walking.EnoughSteps as enough
 use Rattle.layout.specs.Columns.{Cols}
 use Rattle.layout.specs.Reading.{op_count, store_of}
 use Rattle.layout.proofs.Tabulate.{ops_length}
-use Rattle.layout.proofs.Ranges.{range, range_empty, range_first}
 use Rattle.fragments.specs.Order.{block_list}
 use Rattle.fragments.specs.declared.types.Blocks.TheVariants.{InRegion, Alone}
 use Rattle.numbering.specs.Parts.{block_shells, op_shells, full_steps, ops_in_full, listed_steps}
@@ -63,15 +62,6 @@ module _ {A : Type 0} (W : StepRelation A) (s : Store) (n : ℕ) {a b : A} (does
   full_done {c} g =
       subst (λ (xs : List Step). W.Does xs a c) (ap (λ (xs : List ℕ). (names n ∷ []) ++ concat_map (in_region s) xs) (sym e) ∙ sym (full_parts s n))
       (W.both (names n ∷ []) (concat_map (in_region s) rs) does g)
-
-module _ (f : ℕ → List Step) (r e : ℕ) where
-  pub range_left : r < e → concat_map f (range r e) ≡ f r ++ concat_map f (range (r + 1) e)
-  unfolding concat_map
-  range_left l = ap (concat_map f) (range_first r e l) ∙ ap (λ (k : ℕ). f r ++ concat_map f (range k e)) (sym (add-one r))
-
-  pub range_over : e ≤ r → concat_map f (range r e) ≡ []
-  unfolding concat_map
-  range_over l = ap (concat_map f) (range_empty r e l)
 
 -- ---- the passes
 

@@ -19,10 +19,10 @@ pub fn holds_nothing(store: &[u32], sort: Sort, n: usize) -> bool
     requires n_value { exists (store_in store.now) (sort_of sort) n ≡ true }
     ensures { HoldsNothing (store_in store.now) (sort_of sort) n result }
 {
-    let Sort::Op = sort else {
-        return false;
-    };
-    op_regions(store, n) == 0
+    match sort {
+        Sort::Op => op_regions(store, n) == 0,
+        Sort::Block | Sort::Region => false,
+    }
 }
 
 // How a use of n is named where the numbers from `first` up to `end` are defined, and nothing else is.
@@ -30,11 +30,9 @@ pub fn own_name(first: usize, end: usize, n: u32) -> Name
     ensures { rule_name result ≡ name_of (consecutive first (end - first)) n }
 {
     let i = n as usize;
-    if i < first {
-        return Name::StoreNumber(n);
+    if (first..end).contains(&i) {
+        Name::WalkNumber((i - first) as u32)
+    } else {
+        Name::StoreNumber(n)
     }
-    if i >= end {
-        return Name::StoreNumber(n);
-    }
-    Name::WalkNumber((i - first) as u32)
 }

@@ -12,12 +12,12 @@ ghost use Rattle.numbering.specs.Numbered.{Numbers, DefinitionsFit};
 
 use fragments::rows::{block_row, op_row};
 use layout::columns::{VALUE_OWNER, number};
-use std::num::wrapping_sub_u32;
 
 // How many words there are, all 0 at the start. First come those of owners, by the owner's code in the column of owners: an operation's at
 // even places, a block's at odd ones. The odd places from BLOCK_NUMBERS on are for the blocks' own numbers.
 pub const NUMBERS_LENGTH: usize = 1026;
 
+// A word is 0 where nothing is numbered, and no Option: this is fixed memory that is cleared for each walk, two bytes for each owner.
 pub type WalkNumbers = [u16; NUMBERS_LENGTH];
 
 const BLOCK_NUMBERS: usize = 513;
@@ -28,7 +28,7 @@ const VALUES_NUMBERED: usize = 1024;
 const BLOCKS_NUMBERED: usize = 1025;
 
 // How a use is named: by the walk number of what is used, or, of what is defined elsewhere, by its number in the store.
-#[derive(Clone, Copy)]
+#[derive(Clone, Copy, PartialEq, Eq, Debug)]
 pub enum Name {
     WalkNumber(u32),
     StoreNumber(u32),
@@ -89,7 +89,7 @@ fn name_by(word: u16, n: u32) -> Name
     if word == 0 {
         return Name::StoreNumber(n);
     }
-    Name::WalkNumber(wrapping_sub_u32(word as u32 + n, 2048))
+    Name::WalkNumber((word as u32 + n).wrapping_sub(2048))
 }
 
 // How a use of value v is named.

@@ -22,11 +22,18 @@ use Rattle.fragments.specs.Rows.{row_shell, row_types, RowOf, HeadOf}
 use Rattle.fragments.specs.declared.types.Head.{Head}
 use Rattle.fragments.specs.declared.types.Row.{Row}
 use Rattle.fragments.proofs.ByRows.{row_count}
+use Rattle.mapping.proofs.Chained.{and_true}
 use Rattle.pairing.specs.Slots.{same_kept}
 use Rattle.pairing.specs.Rows.{same_heads, same_bare_rows, same_plainly, same_closely, same_rows}
 use Rattle.pairing.proofs.Kept.{ended_both}
 
 -- ---- rows
+
+-- heads that are compared field by field
+pub heads_same : (h g : Head) → eqb h.kind g.kind && (eqb h.regions g.regions && (eqb h.successors g.successors && eqb h.operands g.operands)) ≡ same_heads h g
+unfolding same_heads every
+heads_same h g =
+    ap (λ (t : Bool). eqb h.kind g.kind && (eqb h.regions g.regions && (eqb h.successors g.successors && t))) (sym (and_true (eqb h.operands g.operands)))
 
 -- the last count stands with the row
 regrouped : (a b c d e f : Bool) → (a && (b && (c && (d && (e && true))))) && f ≡ (a && (b && (c && (d && true)))) && (e && f)
@@ -109,7 +116,7 @@ attributes_last true true true false = refl
 attributes_last true true true true = refl
 
 module _ (C : Cols) (o : Options) (l r : Row) where
-  parts : same_rows C o l r ≡ same_bare_rows o.ignore l r && same_closely C o l r
+  pub parts : same_rows C o l r ≡ same_bare_rows o.ignore l r && same_closely C o l r
   unfolding same_rows same_bare_rows same_closely same_kept row_shell
   parts =
       attributes_last (eqb l.values r.values) (same_location (row_shell C o l).location (row_shell C o r).location)

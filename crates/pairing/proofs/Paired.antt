@@ -1,5 +1,6 @@
 -- Two operations or two blocks that are alike have as many values, which are entered from the first on; so what the code enters is
 -- what the rules enter. Assumes nothing.
+use Rattle.std.specs.Prelude.{Ok, Err}
 use Prim.Native.Nat.{ℕ, ◌+◌, ◌<◌, ◌≤◌}
 use native.Mathlib.Omega.{arith}
 use mathlib.Core.Bool.{true, false}
@@ -21,7 +22,7 @@ use Rattle.fragments.specs.declared.types.Row.{Row}
 use Rattle.fragments.proofs.ByRows.{head_of_op, head_whole}
 use Rattle.pairing.specs.Rows.{same_heads, same_rows}
 use Rattle.pairing.specs.Told.{answer_of, state_of, outcome, Told}
-use Rattle.pairing.specs.declared.types.EqResult.TheVariants.{Eq, FirstNEQOps, FirstNEQBlocks}
+use Rattle.pairing.specs.declared.types.Unequal.TheVariants.{FirstNEQOps, FirstNEQBlocks}
 use Rattle.pairing.proofs.Alike.{op_shells_lem, block_shells_lem, as_many}
 
 -- ---- the values of two rows
@@ -56,21 +57,21 @@ module _ (b : List ℕ) (o : Options) (x y : ℕ) {l r : Row} where
 -- ---- what is told
 
 module _ (s : Store) (o : Options) (l r : ℕ) (b : List ℕ) (n : ℕ) where
-  pub ops_unlike : same_shells (under o s) o.ignore (of_op l) (of_op r) ≡ false → Told (pair_ops (under o s) o.ignore l r (state_of b n)) (FirstNEQOps l r n) b
+  pub ops_unlike : same_shells (under o s) o.ignore (of_op l) (of_op r) ≡ false → Told (pair_ops (under o s) o.ignore l r (state_of b n)) (Err (FirstNEQOps l r n)) b
   unfolding Told outcome pair_ops expect comparison_of standing answer_of state_of
   ops_unlike e = rw e refl
 
-  pub blocks_unlike : same_shells (under o s) o.ignore (of_block l) (of_block r) ≡ false → Told (pair_blocks (under o s) o.ignore l r (state_of b n)) (FirstNEQBlocks l r n) b
+  pub blocks_unlike : same_shells (under o s) o.ignore (of_block l) (of_block r) ≡ false → Told (pair_blocks (under o s) o.ignore l r (state_of b n)) (Err (FirstNEQBlocks l r n)) b
   unfolding Told outcome pair_blocks expect comparison_of standing answer_of state_of
   blocks_unlike e = rw e refl
 
   module _ (c : List ℕ) (ls rs : List ℕ) where
     pub ops_alike : same_shells (under o s) o.ignore (of_op l) (of_op r) ≡ true → values_of s (of_op l) ≡ ls → values_of s (of_op r) ≡ rs
-        → mapping_of c ≡ values_mapped (op_mapped (mapping_of b) l r) ls rs → Told (pair_ops (under o s) o.ignore l r (state_of b n)) (Eq (n + 1)) c
+        → mapping_of c ≡ values_mapped (op_mapped (mapping_of b) l r) ls rs → Told (pair_ops (under o s) o.ignore l r (state_of b n)) (Ok (n + 1)) c
     unfolding Told outcome pair_ops expect comparison_of standing answer_of state_of enter_ops values_mapped op_mapped
     ops_alike e el er m = rw (e, values_renamed o.types s (of_op l) ∙ el, values_renamed o.types s (of_op r) ∙ er, m) refl
 
     pub blocks_alike : same_shells (under o s) o.ignore (of_block l) (of_block r) ≡ true → values_of s (of_block l) ≡ ls → values_of s (of_block r) ≡ rs
-        → mapping_of c ≡ values_mapped (block_mapped (mapping_of b) l r) ls rs → Told (pair_blocks (under o s) o.ignore l r (state_of b n)) (Eq (n + 1)) c
+        → mapping_of c ≡ values_mapped (block_mapped (mapping_of b) l r) ls rs → Told (pair_blocks (under o s) o.ignore l r (state_of b n)) (Ok (n + 1)) c
     unfolding Told outcome pair_blocks expect comparison_of standing answer_of state_of enter_blocks values_mapped block_mapped
     blocks_alike e el er m = rw (e, values_renamed o.types s (of_block l) ∙ el, values_renamed o.types s (of_block r) ∙ er, m) refl

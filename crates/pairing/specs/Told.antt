@@ -1,21 +1,25 @@
 -- What the code tells of a walk: its answer and the words of the mapping stand for the rules' answer and mapping.
-use Rattle.std.specs.Prelude.{ℕ, ◌≤◌, List, ◌≡◌, length}
+use Rattle.std.specs.Prelude.{ℕ, ◌≤◌, List, Result, Ok, Err, ◌≡◌}
 use Rattle.rules.specs.Fragments.{op, block, region}
 use Rattle.rules.specs.Comparison.{State, Walk, standing, pair_of}
 use Rattle.rules.specs.Answers.{Compared, Comparison, eq, neq, refused, comparison_of}
-use Rattle.layout.specs.Soundness.{IsSound}
-use Rattle.renaming.specs.Index.{IsIndex}
-use Rattle.mapping.specs.MappingWords.{mapping_length, mapping_of}
-use Rattle.pairing.specs.declared.types.EqResult.{EqResult}
-use Rattle.pairing.specs.declared.types.EqResult.TheVariants.{Eq, FirstNEQOps, FirstNEQRegions, FirstNEQBlocks, Refused}
+use Rattle.layout.specs.Causes.{number_of}
+use Rattle.layout.specs.declared.causes.Cause.{Cause}
+use Rattle.mapping.specs.MappingWords.{mapping_of}
+use Rattle.pairing.specs.declared.types.Unequal.{Unequal}
+use Rattle.pairing.specs.declared.types.Unequal.TheVariants.{FirstNEQOps, FirstNEQRegions, FirstNEQBlocks}
 
 -- 01's answer and numbers for each case
-unfoldable pub answer_of : EqResult → Compared
-answer_of (Eq n) = eq n
-answer_of (FirstNEQOps l r n) = neq (pair_of op l r) n
-answer_of (FirstNEQRegions l r n) = neq (pair_of region l r) n
-answer_of (FirstNEQBlocks l r n) = neq (pair_of block l r) n
-answer_of (Refused cause) = refused cause
+unfoldable pub answer_of : Result ℕ Unequal → Compared
+answer_of (Ok n) = eq n
+answer_of (Err (FirstNEQOps l r n)) = neq (pair_of op l r) n
+answer_of (Err (FirstNEQRegions l r n)) = neq (pair_of region l r) n
+answer_of (Err (FirstNEQBlocks l r n)) = neq (pair_of block l r) n
+
+-- the answer of a call, which may be refused
+unfoldable pub compared_of : Result (Result ℕ Unequal) Cause → Compared
+compared_of (Ok answer) = answer_of answer
+compared_of (Err cause) = refused (number_of cause)
 
 -- the state of a walk: the words of the mapping, and so many pairs entered
 unfoldable pub state_of : List ℕ → ℕ → State
@@ -26,14 +30,8 @@ unfoldable pub outcome : Walk → Comparison
 outcome w = comparison_of w (standing w).mapping
 
 -- the answer and the words tell where the walk has come to
-unfoldable pub Told : Walk → EqResult → List ℕ → Type 0
+unfoldable pub Told : Walk → Result ℕ Unequal → List ℕ → Type 0
 Told w q b = outcome w ≡ record { answer = answer_of q; mapping = mapping_of b }
-
--- a sound store, an index of renamed types, and a mapping of the right length: what every step of a walk asks for
-pub record ReadyToCompare (store types mapping : List ℕ) : Type 0 where
-  pub sound : IsSound store
-  pub indexed : IsIndex types
-  pub long : length mapping ≡ mapping_length
 
 -- a walk enters no more than there are operations and blocks
 abbrev pub max_paired : ℕ

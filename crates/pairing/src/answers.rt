@@ -3,17 +3,17 @@ ghost use Rattle.std.specs.Prelude.{◌≡◌};
 ghost use Rattle.rules.specs.Entered.{paired_in};
 ghost use Rattle.pairing.specs.Told.{answer_of};
 
-use crate::types::EqResult;
+use crate::types::{EqResult, Unequal};
 
-// How many pairs an answer counts; a refusal has entered none.
+// How many pairs an answer counts.
+#[tactic(auto, unfolding(rules::specs::Entered::paired_in, crate::specs::Told::answer_of))]
 pub fn paired_of(res: EqResult) -> u32
     ensures { result ≡ paired_in (answer_of res) }
 {
     match res {
-        EqResult::Eq(paired) => paired,
-        EqResult::FirstNEQOps(_, _, paired) => paired,
-        EqResult::FirstNEQRegions(_, _, paired) => paired,
-        EqResult::FirstNEQBlocks(_, _, paired) => paired,
-        EqResult::Refused(_) => 0,
+        Ok(paired) => paired,
+        Err(Unequal::FirstNEQOps(_, _, paired)) => paired,
+        Err(Unequal::FirstNEQRegions(_, _, paired)) => paired,
+        Err(Unequal::FirstNEQBlocks(_, _, paired)) => paired,
     }
 }

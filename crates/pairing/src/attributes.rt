@@ -6,7 +6,8 @@ ghost use Rattle.layout.specs.Reading.{attribute_at};
 ghost use Rattle.fragments.specs.Ignoring.{ignore_of};
 ghost use Rattle.pairing.specs.Slots.{same_kept};
 
-use fragments::ignoring::{Ignore, next_kept};
+use fragments::ignoring::Ignore;
+use fragments::kept_slots::KeptSlots;
 use layout::columns::{SLOT_CONTENT, SLOT_KEY, SLOT_KIND, at};
 
 // The attributes at two slots are equal. Kinds and flags are compared at once: they share a word.
@@ -16,16 +17,13 @@ fn attribute_eq(store: &[u32], l: usize, r: usize) -> bool
     requires r_lt_slot_count { r < slot_count }
     ensures { result ≡ same_attribute (attribute_at (columns store.now) l) (attribute_at (columns store.now) r) }
 {
-    if at(store, SLOT_KEY, l) != at(store, SLOT_KEY, r) {
-        return false;
-    }
-    if at(store, SLOT_KIND, l) != at(store, SLOT_KIND, r) {
-        return false;
-    }
-    at(store, SLOT_CONTENT, l) == at(store, SLOT_CONTENT, r)
+    at(store, SLOT_KEY, l) == at(store, SLOT_KEY, r)
+        && at(store, SLOT_KIND, l) == at(store, SLOT_KIND, r)
+        && at(store, SLOT_CONTENT, l) == at(store, SLOT_CONTENT, r)
 }
 
 // Compare the attributes of two runs of slots, without the ignored ones: those from `l` up to `lend`, and those from `r` up to `rend`.
+// (No `zip`: which of the two ends first decides the answer.)
 pub fn attributes_eq(
     store: &[u32],
     ignore: Ignore,
@@ -41,17 +39,17 @@ pub fn attributes_eq(
     requires r_le_rend { r ≤ rend }
     ensures { result ≡ same_kept (columns store.now) (ignore_of ignore) l lend r rend }
 {
-    let mut i = next_kept(store, ignore, l, lend);
-    let mut j = next_kept(store, ignore, r, rend);
-    while i < lend {
-        if j >= rend {
-            return false;
+    let mut ls = KeptSlots::new(store, ignore, l, lend);
+    let mut rs = KeptSlots::new(store, ignore, r, rend);
+    loop {
+        match (ls.next(), rs.next()) {
+            (Some(i), Some(j)) => {
+                if !attribute_eq(store, i, j) {
+                    return false;
+                }
+            }
+            (None, None) => return true,
+            (Some(_), None) | (None, Some(_)) => return false,
         }
-        if !attribute_eq(store, i, j) {
-            return false;
-        }
-        i = next_kept(store, ignore, i + 1, lend);
-        j = next_kept(store, ignore, j + 1, rend);
     }
-    j >= rend
 }

@@ -9,24 +9,23 @@ ghost use Rattle.rules.specs.Comparison.{operands_agree, successors_agree};
 ghost use Rattle.layout.specs.Reading.{op_count, value_count, store_in};
 ghost use Rattle.layout.specs.Soundness.{Arranged, IsSound};
 ghost use Rattle.renaming.specs.Index.{list_in, IsIndex};
+ghost use Rattle.fragments.specs.Terms.{store_read};
 ghost use Rattle.mapping.specs.MappingWords.{mapping_length, mapping_of, same_operand, same_successor, names_agree};
-ghost use Rattle.pairing.specs.Told.{ReadyToCompare};
 
+use fragments::terms::Terms;
 use layout::columns::{VALUE_TYPE, at};
 use layout::slices::{operands_of, successors_of};
 use mapping::mapping::{BLOCK_ENTRIES, NO_IMAGE};
 use renaming::lookup::same_type;
 
 // The image of number n, whose entry is at i, or n itself if it is not mapped.
+#[tactic(auto, unfolding(rules::specs::Mapping::or_self))]
 pub fn image_at(mapping: &[u32], i: usize, n: u32) -> u32
     requires { i < length mapping.now }
     ensures { result ≡ or_self (get_or mapping.now i 0) n }
 {
     let image = mapping[i];
-    if image == NO_IMAGE {
-        return n;
-    }
-    image
+    if image == NO_IMAGE { n } else { image }
 }
 
 // If an operand is mapped, its image must match. Otherwise, it must be identical (e.g. a free/external value shared by both sides). The
@@ -39,17 +38,16 @@ fn value_agrees(store: &[u32], types: &[u32], mapping: &[u32], l: u32, r: u32) -
     requires r_bound { r < value_count (columns store.now) }
     ensures { result ≡ same_operand (renamed (list_in types.now) (store_in store.now)) (mapping_of mapping.now) l r }
 {
-    if image_at(mapping, l as usize, l) != r {
-        return false;
-    }
-    same_type(
-        types,
-        at(store, VALUE_TYPE, l as usize),
-        at(store, VALUE_TYPE, r as usize),
-    )
+    image_at(mapping, l as usize, l) == r
+        && same_type(
+            types,
+            at(store, VALUE_TYPE, l as usize),
+            at(store, VALUE_TYPE, r as usize),
+        )
 }
 
 // If a successor is mapped, its image must match. Otherwise, it must be identical (e.g. a free/external block shared by both sides).
+#[tactic(auto, using(crate::proofs::Pairs::block_image), unfolding(mapping::specs::MappingWords::same_successor))]
 fn block_agrees(mapping: &[u32], l: u32, r: u32) -> bool
     requires mapping_len { length mapping.now ≡ mapping_length }
     requires l_bound { l < 256 }
@@ -58,17 +56,7 @@ fn block_agrees(mapping: &[u32], l: u32, r: u32) -> bool
     image_at(mapping, BLOCK_ENTRIES + l as usize, l) == r
 }
 
-// The shorter length.
-fn shorter(l: &[u32], r: &[u32]) -> usize
-    ensures { result ≡ Prim.Native.Nat.min (length l.now) (length r.now) }
-{
-    if l.len() < r.len() {
-        return l.len();
-    }
-    r.len()
-}
-
-// Each pair of two lists of operands agrees.
+// Each pair of two lists of operands agrees, up to the shorter end.
 pub fn operands_agree(store: &[u32], types: &[u32], mapping: &[u32], l: &[u32], r: &[u32]) -> bool
     requires arranged { Arranged store.now }
     requires index { IsIndex types.now }
@@ -77,74 +65,33 @@ pub fn operands_agree(store: &[u32], types: &[u32], mapping: &[u32], l: &[u32], 
     requires r_value { all (λ v. ltb v (value_count (columns store.now))) r.now ≡ true }
     ensures { result ≡ all_pairs (same_operand (renamed (list_in types.now) (store_in store.now)) (mapping_of mapping.now)) l.now r.now }
 {
-    let n = shorter(l, r);
-    let mut i = 0;
-    while i < n {
-        if !value_agrees(store, types, mapping, l[i], r[i]) {
-            return false;
-        }
-        i += 1;
-    }
-    true
+    l.iter()
+        .zip(r)
+        .all(|(l, r)| value_agrees(store, types, mapping, *l, *r))
 }
 
-// Each pair of two lists of successors agrees.
+// Each pair of two lists of successors agrees, up to the shorter end.
 pub fn successors_agree(mapping: &[u32], l: &[u32], r: &[u32]) -> bool
     requires mapping_len { length mapping.now ≡ mapping_length }
     requires l_value { all (λ b. ltb b 256) l.now ≡ true }
     ensures { result ≡ all_pairs (same_successor (mapping_of mapping.now)) l.now r.now }
 {
-    let n = shorter(l, r);
-    let mut i = 0;
-    while i < n {
-        if !block_agrees(mapping, l[i], r[i]) {
-            return false;
-        }
-        i += 1;
-    }
-    true
-}
-
-// Each operand of two operations agrees.
-fn op_operands_agree(store: &[u32], types: &[u32], mapping: &[u32], lhs: usize, rhs: usize) -> bool
-    requires ready_to_compare { ReadyToCompare store.now types.now mapping.now }
-    requires lhs_bound { lhs < op_count (columns store.now) }
-    requires rhs_bound { rhs < op_count (columns store.now) }
-    ensures { result ≡ operands_agree (renamed (list_in types.now) (store_in store.now)) (mapping_of mapping.now) lhs rhs }
-{
-    operands_agree(
-        store,
-        types,
-        mapping,
-        operands_of(store, lhs),
-        operands_of(store, rhs),
-    )
-}
-
-// Each successor of two operations agrees.
-fn op_successors_agree(store: &[u32], mapping: &[u32], lhs: usize, rhs: usize) -> bool
-    requires sound { IsSound store.now }
-    requires mapping_len { length mapping.now ≡ mapping_length }
-    requires lhs_bound { lhs < op_count (columns store.now) }
-    requires rhs_bound { rhs < op_count (columns store.now) }
-    ensures { result ≡ successors_agree (store_in store.now) (mapping_of mapping.now) lhs rhs }
-{
-    successors_agree(
-        mapping,
-        successors_of(store, lhs),
-        successors_of(store, rhs),
-    )
+    l.iter().zip(r).all(|(l, r)| block_agrees(mapping, *l, *r))
 }
 
 // The operands and the successors of two operations agree.
-pub fn names_agree(store: &[u32], types: &[u32], mapping: &[u32], lhs: usize, rhs: usize) -> bool
-    requires ready_to_compare { ReadyToCompare store.now types.now mapping.now }
-    requires lhs_bound { lhs < op_count (columns store.now) }
-    requires rhs_bound { rhs < op_count (columns store.now) }
-    ensures { result ≡ names_agree (renamed (list_in types.now) (store_in store.now)) (mapping_of mapping.now) lhs rhs }
+pub fn names_agree(terms: &Terms, mapping: &[u32], lhs: usize, rhs: usize) -> bool
+    requires mapping_len { length mapping.now ≡ mapping_length }
+    requires lhs_bound { lhs < op_count (columns terms.now.store.now) }
+    requires rhs_bound { rhs < op_count (columns terms.now.store.now) }
+    ensures { result ≡ names_agree (renamed (list_in terms.now.types.now) (store_read terms.now)) (mapping_of mapping.now) lhs rhs }
 {
-    if !op_operands_agree(store, types, mapping, lhs, rhs) {
-        return false;
-    }
-    op_successors_agree(store, mapping, lhs, rhs)
+    let l = operands_of(terms.store, lhs);
+    let r = operands_of(terms.store, rhs);
+    operands_agree(terms.store, terms.types, mapping, l, r)
+        && successors_agree(
+            mapping,
+            successors_of(terms.store, lhs),
+            successors_of(terms.store, rhs),
+        )
 }

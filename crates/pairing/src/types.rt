@@ -1,15 +1,15 @@
 // What is paired, and what is answered.
 
-// The result of a comparison: equal, or the first pair found to be unequal, left and right, each with how many pairs of operations and
-// blocks were mapped (the last number). Or the cause for which it is refused.
-#[derive(Clone, Copy)]
-pub enum EqResult {
-    Eq(u32),
+// The first pair found to be unequal, left and right, and how many pairs of operations and blocks were mapped before.
+#[derive(Clone, Copy, PartialEq, Eq, Debug)]
+pub enum Unequal {
     FirstNEQOps(u32, u32, u32),
     FirstNEQRegions(u32, u32, u32),
     FirstNEQBlocks(u32, u32, u32),
-    Refused(u32),
 }
+
+// The result of a comparison: equal, with how many pairs of operations and blocks were mapped, or the first pair found to be unequal.
+pub type EqResult = Result<u32, Unequal>;
 
 // Two operations, blocks or regions, by their numbers.
 #[derive(Clone, Copy)]

@@ -1,7 +1,6 @@
 // Writes crates/windows/src/powers.rt: the table of powers that a window's hashes are multiplied by, computed here entry by entry.
 #![tactic(auto)]
 
-use hashing::product::wrapping_mul;
 use std::io;
 
 // How many entries there are: one for each place in the longest window.
@@ -17,12 +16,10 @@ fn entry(rt: &impl Print, power: u64) -> io::Result<()> {
 
 // The lines of all entries. The first is 1.
 fn entries(rt: &impl Print) -> io::Result<()> {
-    let mut power = 1;
-    let mut i = 0;
-    while i < ENTRIES {
+    let mut power: u64 = 1;
+    for _ in 0..ENTRIES {
         entry(rt, power)?;
-        power = wrapping_mul(power, PRIME);
-        i += 1;
+        power = power.wrapping_mul(PRIME);
     }
     Ok(())
 }

@@ -5,7 +5,7 @@ ghost use Rattle.lines.specs.Wrote.{Wrote};
 ghost use Rattle.listing.specs.Progress.{program_of};
 
 use listing::calls::{MAPPING, STORE, sums, twins};
-use listing::types::{Listed, Program};
+use listing::types::Program;
 
 fn twins_printed(listing: &[u8], out: &mut [u8]) -> usize
     requires { max_output ≤ length out.old }
@@ -13,11 +13,7 @@ fn twins_printed(listing: &[u8], out: &mut [u8]) -> usize
 {
     let mut store = [0; STORE];
     let mut mapping = [0; MAPPING];
-    match twins(listing, &mut store, &mut mapping, out) {
-        Listed::Printed(n) => n,
-        Listed::Refused(_) => 0,
-        Listed::NoRoom => 0,
-    }
+    twins(listing, &mut store, &mut mapping, out).unwrap_or(0)
 }
 
 fn sums_printed(listing: &[u8], out: &mut [u8]) -> usize
@@ -25,11 +21,7 @@ fn sums_printed(listing: &[u8], out: &mut [u8]) -> usize
     ensures { Wrote max_output out.old out.new 0 (listed sums_program listing.now) result }
 {
     let mut store = [0; STORE];
-    match sums(listing, &mut store, out) {
-        Listed::Printed(n) => n,
-        Listed::Refused(_) => 0,
-        Listed::NoRoom => 0,
-    }
+    sums(listing, &mut store, out).unwrap_or(0)
 }
 
 // How many bytes of `out` are what the program prints.

@@ -19,13 +19,14 @@ fn read_more<R: Read>(from: &mut R, to: &mut [u8], at: usize) -> io::Result<usiz
 }
 
 // Reads until the input ends or the buffer is full: how many bytes stand in it then. A read that brings no byte is the last, and so this
-// ends.
+// ends. (No index is counted: each read tells how far it came.)
 pub fn read_to_end<R: Read>(from: &mut R, to: &mut [u8]) -> io::Result<usize>
     ensures fits { IfOk result (λ n. n ≤ length to.new) }
     ensures taken { IfOk result (λ n. Consumes (R.remaining from.old) (R.remaining from.new) (take n to.new)) }
     ensures whole { IfOk result (λ n. n < length to.new → IsAtEnd (R.remaining from.new)) }
 {
     let mut at = 0;
+    // How far a read goes is known from the read alone, so this counts nothing that a `for` could.
     while at < to.len() {
         let next = read_more(from, to, at)?;
         if next <= at {

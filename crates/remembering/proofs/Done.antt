@@ -9,15 +9,13 @@ use mathlib.Core.Path.{◌≡◌, refl, sym, ap, subst, ◌∙◌}
 use lib.Dec.{ltb}
 use lib.ListN.{length}
 use Rattle.rules.specs.Store.{Store}
-use Rattle.rules.specs.Building.{Call, refused, tests, first_failed, applied, acceptance}
+use Rattle.rules.specs.Building.{Call, Built, refused, tests, first_failed, applied, acceptance}
 use Rattle.rules.specs.Marks.{build, replaces, max_remembered, can_remember, marked_tests, marked_acceptance}
 use Rattle.rules.proofs.Basics.Tests.{impossible}
 use Rattle.rules.proofs.Soundness.Accepted.{first_failed_none}
 use Rattle.layout.specs.Columns.{Cols, columns}
 use Rattle.layout.specs.Reading.{tabulate_from, tabulate, store_of, store_in}
 use Rattle.layout.specs.Soundness.{IsSound}
-use Rattle.calling.specs.declared.types.Built.{Built}
-use Rattle.calling.specs.Types.{built_of}
 use Rattle.journal.specs.Journal.{Entry, entries_for, replaced_in, MarkRow, Journaled, marked_of, remembered_in, journaled_call, journal_sound}
 use Rattle.journal.specs.Words.{mark_count, max_entries, journal_of, rows_of, journaled_of, marked_in}
 use Rattle.journal.specs.Statements.{CallRead, TestsRead, CallSound, JournalShort}
@@ -96,10 +94,10 @@ module _ (b : List ℕ) (h : IsLent b) (c : Call) where
   -- ---- refused
 
   module _ (r : Built) where
-    pub marked_refuse : (cause : ℕ) → first_failed (tests s c) ≡ some cause → built_of r ≡ refused cause → DidMarked b b (build c) r
+    pub marked_refuse : (cause : ℕ) → first_failed (tests s c) ≡ some cause → r ≡ refused cause → DidMarked b b (build c) r
     marked_refuse cause e q = doing.marked_refuse b (build c) r h cause (fails cause e) q
 
-    pub marked_full : first_failed (tests s c) ≡ none → can_remember (marked_in b) c ≡ false → built_of r ≡ refused 17 → DidMarked b b (build c) r
+    pub marked_full : first_failed (tests s c) ≡ none → can_remember (marked_in b) c ≡ false → r ≡ refused 17 → DidMarked b b (build c) r
     marked_full clear full q = doing.marked_refuse b (build c) r h 17 (passes_by clear false full) q
 
   -- ---- accepted
@@ -141,7 +139,7 @@ module _ (b : List ℕ) (h : IsLent b) (c : Call) where
                   row_holds_lem C D k c lent.tables.ruled clear reads longer (facts j lent.journal).rising i e ∙ was.rows i e;
             }
 
-        pub marked_work : (r : Built) → built_of r ≡ acceptance s c → DidMarked b exit (build c) r
+        pub marked_work : (r : Built) → r ≡ acceptance s c → DidMarked b exit (build c) r
         unfolding marked_acceptance marked_of journaled_of CallRead
         marked_work r q =
             doing.marked_work b (build c) r exit (journaled_call j c) (passes_by clear true can) called (call_read j c lent.journal clear) next_sound

@@ -1,23 +1,22 @@
 -- A building call of which one entry is remembered: it goes to the journal's end, and is counted; the tables stay. Assumes nothing.
-use Prim.Native.Nat.{ℕ, zero, suc, ◌+◌, ◌<◌, ◌≤◌}
+use Prim.Native.Nat.{ℕ, ◌+◌, ◌<◌, ◌≤◌}
 use native.Mathlib.Numerals.{add-one}
 use native.Mathlib.Omega.{arith}
-use mathlib.Core.Bool.{Bool, true, false, cond}
+use mathlib.Core.Bool.{true, false}
 use mathlib.Core.List.{List, [], ◌∷◌, ◌++◌}
 use mathlib.Core.Option.{Option, none}
 use mathlib.Core.Path.{◌≡◌, refl, sym, ap, ap₂, subst, ◌∙◌}
-use borrow.Author.Tests.{le-ltb, ltb-true, ne_eqb, leb-false}
+use borrow.Author.Tests.{ltb-true, ne_eqb, leb-false}
 use lib.Dec.{eqb, leb, ltb}
 use lib.ListN.{length, set, length-set, length-append}
 use lib.Seq.{get_or-set_same, get_or-set_other}
 use Rattle.rules.specs.Lists.{filter}
-use Rattle.rules.specs.Building.{Call, tests, first_failed, answer_by, store_by, answer, built}
+use Rattle.rules.specs.Building.{Call, Built, tests, first_failed, answer_by, store_by, answer, built}
 use Rattle.rules.specs.Marks.{build, max_remembered, can_remember}
 use Rattle.layout.specs.Columns.{Cols, columns, at, write, counts, block_next, mark_number, journal_counts, journal_sort, journal_owner, journal_key, journal_kind, journal_content}
 use Rattle.layout.specs.Reading.{tabulate, store_of}
 use Rattle.layout.proofs.Laid.{Shaped}
 use Rattle.layout.proofs.Tabulate.{tabulate_cong, tabulate_suc}
-use Rattle.calling.specs.declared.types.Built.{Built}
 use Rattle.calling.specs.Doing.{Did}
 use Rattle.calling.proofs.Facts.{shaped}
 use Rattle.journal.specs.Journal as rules
@@ -30,21 +29,19 @@ use Rattle.marks.proofs.Tables.{TablesKept, store_kept, sound_kept}
 use Rattle.marks.proofs.Lent.{lent_facts}
 use Rattle.marks.proofs.Holding.{journal_set}
 use Rattle.remembering.specs.declared.entries.Entry.{Entry}
-use Rattle.remembering.specs.Raw.{entry_of, counts_as, replaced_count, entry_put, with_entry}
+use Rattle.remembering.specs.declared.entries.Entry.TheVariants as Entries
+use Rattle.remembering.specs.Raw.{words_of, entry_of, counts_as, replaced_count, entry_put, with_entry}
 use Rattle.remembering.proofs.Lent.{held_counted, journal_length}
 use Rattle.remembering.proofs.Kept.{Kept}
 use Rattle.remembering.proofs.Done.{remembered_behind, journal_room, marked_work}
 use Rattle.remembering.proofs.Unremembered.{behind_kept, behind_journal, behind_entries, behind_replaced}
 
 -- an entry is counted as the replacements that it is
-entry_counted : (e : Entry) → counts_as e.sort ≡ replaced_in (entry_of e ∷ [])
-unfolding counts_as entry_of entry_from replaced_in filter is_replaced
-entry_counted e = go e.sort
-  where
-    go : (sort : ℕ) → counts_as sort ≡ replaced_in (entry_from sort e.owner e.key e.kind e.content ∷ [])
-    go zero = refl
-    go (suc zero) = refl
-    go (suc (suc n)) = ap (λ (t : Bool). cond {A = ℕ} t 1 0) (le-ltb (suc (suc n)) 2 (omega arith))
+entry_counted : (e : Entry) → counts_as e ≡ replaced_in (entry_of e ∷ [])
+unfolding counts_as entry_of words_of entry_from replaced_in filter is_replaced
+entry_counted (Entries.OperandWas operation index value) = refl
+entry_counted (Entries.AttributeWas owner key kind content) = refl
+entry_counted (Entries.KeyWasNone owner key) = refl
 
 -- ---- the columns with an entry more
 
@@ -87,7 +84,7 @@ module _ (C : Cols) (e : Entry) where
     entries_grown =
         get_or-set_other (set (C journal_counts) 0 _) 1 0 _ 0 (λ z. omega arith) ∙ get_or-set_same (C journal_counts) 0 _ 0 (omega (arith, sh journal_counts))
 
-    pub replaced_grown : replaced_count X ≡ replaced_count C + counts_as e.sort
+    pub replaced_grown : replaced_count X ≡ replaced_count C + counts_as e
     unfolding replaced_count with_entry entry_put write at
     replaced_grown = get_or-set_same (set (C journal_counts) 0 _) 1 _ 0 (omega (arith, length-set (C journal_counts) 0 (entry_count C + 1), sh journal_counts))
 
@@ -95,21 +92,21 @@ module _ (C : Cols) (e : Entry) where
     unfolding entry_at with_entry entry_put write at
     old_entry i m =
         λ z. entry_from
-        (get_or-set_other (C journal_sort) n i e.sort 0 (λ q. omega arith) z)
-        (get_or-set_other (C journal_owner) n i e.owner 0 (λ q. omega arith) z)
-        (get_or-set_other (C journal_key) n i e.key 0 (λ q. omega arith) z)
-        (get_or-set_other (C journal_kind) n i e.kind 0 (λ q. omega arith) z)
-        (get_or-set_other (C journal_content) n i e.content 0 (λ q. omega arith) z)
+        (get_or-set_other (C journal_sort) n i (words_of e).sort 0 (λ q. omega arith) z)
+        (get_or-set_other (C journal_owner) n i (words_of e).owner 0 (λ q. omega arith) z)
+        (get_or-set_other (C journal_key) n i (words_of e).key 0 (λ q. omega arith) z)
+        (get_or-set_other (C journal_kind) n i (words_of e).kind 0 (λ q. omega arith) z)
+        (get_or-set_other (C journal_content) n i (words_of e).content 0 (λ q. omega arith) z)
 
     new_entry : entry_at X n ≡ entry_of e
     unfolding entry_at entry_of with_entry entry_put write at
     new_entry =
         λ z. entry_from
-        (get_or-set_same (C journal_sort) n e.sort 0 (omega (arith, sh journal_sort)) z)
-        (get_or-set_same (C journal_owner) n e.owner 0 (omega (arith, sh journal_owner)) z)
-        (get_or-set_same (C journal_key) n e.key 0 (omega (arith, sh journal_key)) z)
-        (get_or-set_same (C journal_kind) n e.kind 0 (omega (arith, sh journal_kind)) z)
-        (get_or-set_same (C journal_content) n e.content 0 (omega (arith, sh journal_content)) z)
+        (get_or-set_same (C journal_sort) n (words_of e).sort 0 (omega (arith, sh journal_sort)) z)
+        (get_or-set_same (C journal_owner) n (words_of e).owner 0 (omega (arith, sh journal_owner)) z)
+        (get_or-set_same (C journal_key) n (words_of e).key 0 (omega (arith, sh journal_key)) z)
+        (get_or-set_same (C journal_kind) n (words_of e).kind 0 (omega (arith, sh journal_kind)) z)
+        (get_or-set_same (C journal_content) n (words_of e).content 0 (omega (arith, sh journal_content)) z)
 
     pub journal_grown : 0 < mark_count C → journal_of X ≡ journal_of C ++ (entry_of e ∷ [])
     unfolding with_entry entry_put write mark_count at

@@ -9,13 +9,11 @@ use lib.Dec.{eqb, ltb}
 use lib.ListN.{get_or}
 use Rattle.rules.specs.Lists.{filter}
 use Rattle.rules.specs.Store.{Store}
-use Rattle.rules.specs.Building.{Call, refused, tests, first_failed, answer_by, store_by, answer, built}
+use Rattle.rules.specs.Building.{Call, Built, refused, tests, first_failed, answer_by, store_by, answer, built}
 use Rattle.rules.specs.Marks.{build, replaces, max_remembered, can_remember}
 use Rattle.rules.proofs.Basics.Tests.{or_left, or_right}
 use Rattle.layout.specs.Columns.{Cols, columns, at, mark_number, mark_place, mark_counts, journal_counts, journal_sort, journal_owner, journal_key, journal_kind, journal_content}
 use Rattle.layout.specs.Reading.{tabulate_from, tabulate, store_of}
-use Rattle.calling.specs.declared.types.Built.{Built}
-use Rattle.calling.specs.Types.{built_of}
 use Rattle.calling.specs.Doing.{Behind, Did}
 use Rattle.journal.specs.Journal.{Entry, entries_for, replaced_in, remembered_in}
 use Rattle.journal.specs.Words.{entry_from, entry_at, mark_count, entry_count, journal_of, row_at, rows_of, marked_in}
@@ -82,7 +80,7 @@ module _ (b : List ℕ) (h : IsLent b) (exit : List ℕ) (c : Call) (r : Built) 
     where
       go : (o : Option ℕ) → first_failed (tests s c) ≡ o → DidMarked b exit (build c) r
       go (some cause) e =
-          let q : built_of r ≡ refused cause = did.answered ∙ ap (λ (o : Option ℕ). answer_by o s c) e in
+          let q : r ≡ refused cause = did.answered ∙ ap (λ (o : Option ℕ). answer_by o s c) e in
           subst (λ (x : List ℕ). DidMarked b x (build c) r) (sym (did.unchanged cause q)) (marked_refuse b h c r cause e q)
       go none e =
           let journal = behind_journal C D did.behind in

@@ -4,12 +4,12 @@ use native.Mathlib.Nat.{not-suc-le-zero, le_of_suc-le-suc}
 use native.Mathlib.Omega.{arith}
 use mathlib.Core.Bool.{Bool, true, false, cond}
 use mathlib.Core.List.{List, [], ◌∷◌}
-use mathlib.Core.Option.{Option, none, some}
+use mathlib.Core.Option.{none}
 use mathlib.Core.Path.{◌≡◌, refl, sym, ap, ◌∙◌}
 use borrow.Author.Tests.{eq-eqb, ne_eqb}
 use lib.ListN.{length, get_or}
 use Rattle.rules.specs.Store.{Attribute, Owner, of_op, of_block, owner_exists}
-use Rattle.rules.specs.Building.{set_attribute, attributes_of, has_key, tests, first_failed}
+use Rattle.rules.specs.Building.{set_attribute, attributes_of, has_key, tests, first_failed, accepted}
 use Rattle.rules.specs.Marks.{build, replaces, max_remembered, can_remember}
 use Rattle.rules.proofs.Basics.Tests.{impossible}
 use Rattle.layout.specs.Columns.{Cols, buffer_length, column_size, columns}
@@ -18,7 +18,6 @@ use Rattle.layout.specs.Soundness.{IsSound}
 use Rattle.layout.specs.Owners.{count_column, owner_number, key_count}
 use Rattle.layout.proofs.Ranges.{owner_read_lem}
 use Rattle.layout.proofs.Tabulate.{length_tabulate, get_d_tabulate}
-use Rattle.calling.specs.declared.types.Built.TheVariants as Builts
 use Rattle.calling.specs.Doing.{Did}
 use Rattle.setting.specs.Raw.{slot_for, key_there, place_for, with_attribute}
 use Rattle.setting.specs.declared.attributes.AttributePlace.TheVariants as Places
@@ -30,7 +29,7 @@ use Rattle.journal.specs.Words.{entry_from, mark_count, entry_count, max_entries
 use Rattle.marks.specs.Doing.{IsLent, DidMarked}
 use Rattle.marks.proofs.Lent.{lent_facts}
 use Rattle.remembering.specs.declared.entries.Entry as words
-use Rattle.remembering.specs.Raw.{entry_of, replaced_count, with_entry, attribute_entry, key_entry}
+use Rattle.remembering.specs.Raw.{words_of, entry_of, replaced_count, with_entry, attribute_entry, key_entry}
 use Rattle.remembering.proofs.Remembered.{entry_room, remembered_call}
 
 -- ---- where an attribute goes
@@ -42,19 +41,17 @@ module _ (C : Cols) (w : Owner) (a : Attribute) where
   abbrev s : ℕ
   s = slot_for C w a.key
 
-  pub replaces_there : (slot : ℕ) (o : Option ℕ) → Places.Replaces slot ≡ place_for C w a o → (there ≡ true) × (slot ≡ s)
+  pub replaces_there : (slot : ℕ) → Places.Replaces slot ≡ place_for C w a.key → (there ≡ true) × (slot ≡ s)
   unfolding place_for
-  replaces_there slot (some cause) e = impossible cc
-  replaces_there slot none e = go there refl e
+  replaces_there slot e = go there refl e
     where
       go : (t : Bool) → there ≡ t → Places.Replaces slot ≡ cond t (Places.Replaces s) (Places.Adds s) → (there ≡ true) × (slot ≡ s)
       go true q p = (q, cc)
       go false q p = impossible cc
 
-  pub adds_new : (slot : ℕ) (o : Option ℕ) → Places.Adds slot ≡ place_for C w a o → there ≡ false
+  pub adds_new : (slot : ℕ) → Places.Adds slot ≡ place_for C w a.key → there ≡ false
   unfolding place_for
-  adds_new slot (some cause) e = impossible cc
-  adds_new slot none e = go there refl e
+  adds_new slot e = go there refl e
     where
       go : (t : Bool) → there ≡ t → Places.Adds slot ≡ cond t (Places.Replaces s) (Places.Adds s) → there ≡ false
       go true q p = impossible cc
@@ -111,7 +108,7 @@ module _ (b : List ℕ) (h : IsSound b) (w : Owner) (e : owner_exists (store_in 
 
     pub attribute_entry_lem : (slot : ℕ) → key_there (columns b) w a.key ≡ true → slot ≡ slot_for (columns b) w a.key
         → entry_of (attribute_entry (columns b) w slot) ∷ [] ≡ entries_for (store_in b) (set_attribute w a)
-    unfolding entry_of entry_from attribute_entry entries_for attribute_at
+    unfolding entry_of words_of entry_from attribute_entry entries_for attribute_at
     attribute_entry_lem slot k q =
         let C = columns b in
         ap (λ (u : Owner). attribute_was u (attribute_at C slot) ∷ []) (owner_read_lem w)
@@ -120,7 +117,7 @@ module _ (b : List ℕ) (h : IsSound b) (w : Owner) (e : owner_exists (store_in 
         ∙ ap (λ (t : Bool). remembered t (attribute_or a a.key (attributes_of (store_in b) w))) (sym (key_is true k))
 
     pub key_entry_lem : key_there (columns b) w a.key ≡ false → entry_of (key_entry w a.key) ∷ [] ≡ entries_for (store_in b) (set_attribute w a)
-    unfolding entry_of entry_from key_entry entries_for
+    unfolding entry_of words_of entry_from key_entry entries_for
     key_entry_lem k =
         ap (λ (u : Owner). key_was_none u a.key ∷ []) (owner_read_lem w)
         ∙ ap (λ (t : Bool). remembered t (attribute_or a a.key (attributes_of (store_in b) w))) (sym (key_is false k))
@@ -129,11 +126,11 @@ module _ (b : List ℕ) (h : IsSound b) (w : Owner) (e : owner_exists (store_in 
 
 module _ (b : List ℕ) (h : IsLent b) (w : Owner) (a : Attribute) (l : 0 < mark_count (columns b)) (clear : first_failed (tests (store_in b) (set_attribute w a)) ≡ none) (can : can_remember (marked_in b) (set_attribute w a) ≡ true)
     (e : words.Entry) (is : entry_of e ∷ [] ≡ entries_for (store_in b) (set_attribute w a)) (mid : List ℕ) (len : length mid ≡ length b) (q : columns mid ≡ with_attribute (columns b) w a) where
-  did : Did b mid (set_attribute w a) Builts.Accepted
-  did = attribute_done b (lent_facts b h).tables w a mid clear len q
+  did : Did b mid (set_attribute w a) accepted
+  did = attribute_done b (lent_facts b h).tables w a clear mid len q
 
   pub attribute_room_lem : (length mid ≡ buffer_length) × ((entry_count (columns mid) < max_entries) × (replaced_count (columns mid) ≤ max_remembered))
   attribute_room_lem = (len ∙ (lent_facts b h).tables.sized, entry_room b h (set_attribute w a) l clear can e is mid _ did)
 
-  pub attribute_remembered : (exit : List ℕ) → length exit ≡ length mid → columns exit ≡ with_entry (columns mid) e → DidMarked b exit (build (set_attribute w a)) Builts.Accepted
+  pub attribute_remembered : (exit : List ℕ) → length exit ≡ length mid → columns exit ≡ with_entry (columns mid) e → DidMarked b exit (build (set_attribute w a)) accepted
   attribute_remembered exit more written = remembered_call b h (set_attribute w a) l clear can e is mid _ did exit more written

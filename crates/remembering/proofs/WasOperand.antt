@@ -7,14 +7,13 @@ use mathlib.Core.Path.{◌≡◌, sym, ap, ◌∙◌}
 use lib.Dec.{leb}
 use lib.ListN.{length, get_or}
 use Rattle.rules.specs.Store.{Op}
-use Rattle.rules.specs.Building.{Call, set_operand, tests, first_failed}
+use Rattle.rules.specs.Building.{Call, set_operand, tests, first_failed, accepted}
 use Rattle.rules.specs.Marks.{build, max_remembered}
 use Rattle.layout.specs.Columns.{buffer_length, columns, at, op_operand_first, op_operand_end, operand_words}
 use Rattle.layout.specs.Reading.{op_of, store_in}
 use Rattle.layout.specs.Soundness.{IsSound}
 use Rattle.layout.proofs.Scans.{slice_at}
 use Rattle.layout.proofs.Tabulate.{op_read}
-use Rattle.calling.specs.declared.types.Built.TheVariants as Builts
 use Rattle.calling.specs.Doing.{Did}
 use Rattle.setting.specs.Raw.{with_operand}
 use Rattle.setting.proofs.OperandCauses.{there_operand}
@@ -23,13 +22,13 @@ use Rattle.journal.specs.Journal.{operand_was, entries_for}
 use Rattle.journal.specs.Words.{entry_from, mark_count, entry_count, max_entries}
 use Rattle.marks.specs.Doing.{IsLent, DidMarked}
 use Rattle.marks.proofs.Lent.{lent_facts}
-use Rattle.remembering.specs.Raw.{entry_of, replaced_count, with_entry, operand_entry}
+use Rattle.remembering.specs.Raw.{words_of, entry_of, replaced_count, with_entry, operand_entry}
 use Rattle.remembering.proofs.Room.{one_fits}
 use Rattle.remembering.proofs.Remembered.{entry_room, remembered_call}
 
 module _ (b : List ℕ) (h : IsSound b) (n i v : ℕ) (clear : first_failed (tests (store_in b) (set_operand (record { operation = n; index = i; value = v }))) ≡ none) where
   pub operand_entry_lem : entry_of (operand_entry (columns b) n i) ∷ [] ≡ entries_for (store_in b) (set_operand (record { operation = n; index = i; value = v }))
-  unfolding entry_of entry_from operand_entry entries_for op_of at
+  unfolding entry_of words_of entry_from operand_entry entries_for op_of at
   operand_entry_lem =
       let C = columns b in
       let t = there_operand b h n i v clear in
@@ -46,13 +45,13 @@ module _ (b : List ℕ) (h : IsLent b) (n i v : ℕ) (l : 0 < mark_count (column
   tables : IsSound b
   tables = (lent_facts b h).tables
 
-  did : Did b mid c Builts.Accepted
+  did : Did b mid c accepted
   did = operand_done b tables n i v clear mid len q
 
   pub operand_room_lem : (length mid ≡ buffer_length) × ((entry_count (columns mid) < max_entries) × (replaced_count (columns mid) ≤ max_remembered))
   operand_room_lem =
       (len ∙ tables.sized, entry_room b h c l clear (one_fits b h l c room) (operand_entry (columns b) n i) (operand_entry_lem b tables n i v clear) mid _ did)
 
-  pub operand_remembered : (exit : List ℕ) → length exit ≡ length mid → columns exit ≡ with_entry (columns mid) (operand_entry (columns b) n i) → DidMarked b exit (build c) Builts.Accepted
+  pub operand_remembered : (exit : List ℕ) → length exit ≡ length mid → columns exit ≡ with_entry (columns mid) (operand_entry (columns b) n i) → DidMarked b exit (build c) accepted
   operand_remembered exit more written =
       remembered_call b h c l clear (one_fits b h l c room) (operand_entry (columns b) n i) (operand_entry_lem b tables n i v clear) mid _ did exit more written

@@ -1,32 +1,41 @@
 // The calls that add an operation or a block, on a lent buffer: of these nothing is remembered, since going back cuts the tables.
 ghost use Rattle.rules.specs.Building.{new_operation, new_block};
 ghost use Rattle.rules.specs.Marks.{build};
-ghost use Rattle.calling.specs.Types.{operation_of};
+ghost use Rattle.calling.specs.Types.{operation_of, made_of};
 ghost use Rattle.marks.specs.Doing.{IsLent, DidMarked};
 
-use calling::types::{Built, OpFields};
+use calling::types::OpFields;
+use layout::causes::Cause;
 
+#[tactic(auto, using(marks::proofs::Lent::lent_facts))]
 pub fn new_operation(
     store: &mut [u32],
     fields: OpFields,
     types: &[u32],
     operands: &[u32],
     successors: &[u32],
-) -> Built
+) -> Result<u32, Cause>
     requires { IsLent store.old }
-    ensures { DidMarked store.old store.new (build (new_operation (operation_of fields types.now operands.now successors.now))) result }
+    ensures { DidMarked store.old store.new (build (new_operation (operation_of fields types.now operands.now successors.now))) (made_of result) }
 {
     adding::operations::new_operation(store, fields, types, operands, successors)
 }
 
-pub fn new_block(store: &mut [u32], region: u32, label: u32, location: u32, types: &[u32]) -> Built
+#[tactic(auto, using(marks::proofs::Lent::lent_facts))]
+pub fn new_block(
+    store: &mut [u32],
+    region: u32,
+    label: u32,
+    location: u32,
+    types: &[u32],
+) -> Result<u32, Cause>
     requires { IsLent store.old }
     ensures { DidMarked store.old store.new (build (new_block (record {
       region = region;
       label = label;
       location = location;
       types = types.now;
-    }))) result }
+    }))) (made_of result) }
 {
     adding::blocks::new_block(store, region, label, location, types)
 }

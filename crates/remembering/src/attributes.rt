@@ -1,23 +1,26 @@
 // The call that sets an attribute: what it was, or that its key is new, is remembered while a mark is set.
 ghost use Rattle.std.specs.Prelude.{◌≡◌, ◌<◌, length};
-ghost use Rattle.rules.specs.Building.{tests, first_failed, set_attribute};
+ghost use Rattle.std.proofs.Math.Option.{none};
+ghost use Rattle.rules.specs.Building.{tests, first_failed, set_attribute, accepted};
 ghost use Rattle.rules.specs.Marks.{build};
 ghost use Rattle.layout.specs.Columns.{buffer_length, columns, slot_count};
 ghost use Rattle.layout.specs.Reading.{store_in, owner_code};
 ghost use Rattle.layout.specs.Owners.{owner_of, owner_number};
-ghost use Rattle.calling.specs.Types.{attribute_of};
+ghost use Rattle.calling.specs.Types.{attribute_of, done_of};
 ghost use Rattle.setting.specs.Raw.{place_for};
 ghost use Rattle.setting.specs.declared.attributes.AttributePlace.TheVariants as Places;
 ghost use Rattle.journal.specs.Words.{mark_count};
 ghost use Rattle.marks.specs.Doing.{IsLent, DidMarked};
 ghost use Rattle.remembering.specs.Raw.{attribute_entry, key_entry};
 
-use crate::entries::{ATTRIBUTE_WAS, Entry, KEY_WAS_NONE, is_full, remember};
-use calling::types::{Attribute, Built, Owner};
+use crate::entries::{Entry, is_full, remember};
+use calling::types::{Attribute, Owner};
+use layout::causes::Cause;
 use layout::columns::{COUNTS, MARKS, SLOT_CONTENT, SLOT_KEY, SLOT_KIND, at};
 use setting::attributes::{AttributePlace, place_for, put_added, put_replaced};
 
 // The owner as a word: twice its number, and one more for a block.
+#[tactic(auto, unfolding(layout::specs::Owners::owner_number, layout::specs::Owners::owner_of, layout::specs::Reading::owner_code))]
 fn owner_code(owner: Owner) -> u32
     requires { owner_number (owner_of owner) < 512 }
     ensures { result ≡ owner_code (owner_of owner) }
@@ -29,19 +32,19 @@ fn owner_code(owner: Owner) -> u32
 }
 
 // The owner's attribute at a slot as it is.
+#[tactic(auto, unfolding(crate::specs::Raw::attribute_entry))]
 fn attribute_was(store: &[u32], owner: Owner, slot: usize) -> Entry
     requires store_len { length store.now ≡ buffer_length }
     requires owner_bound { owner_number (owner_of owner) < 512 }
     requires slot_lt_slot_count { slot < slot_count }
     ensures { result ≡ attribute_entry (columns store.now) (owner_of owner) slot }
 {
-    let code = owner_code(owner);
+    let owner = owner_code(owner);
     let key = at(store, SLOT_KEY, slot);
     let kind = at(store, SLOT_KIND, slot);
     let content = at(store, SLOT_CONTENT, slot);
-    Entry {
-        sort: ATTRIBUTE_WAS,
-        owner: code,
+    Entry::AttributeWas {
+        owner,
         key,
         kind,
         content,
@@ -49,60 +52,66 @@ fn attribute_was(store: &[u32], owner: Owner, slot: usize) -> Entry
 }
 
 // That the owner does not have this key.
+#[tactic(auto, unfolding(crate::specs::Raw::key_entry))]
 fn key_was_none(owner: Owner, key: u32) -> Entry
     requires { owner_number (owner_of owner) < 512 }
     ensures { result ≡ key_entry (owner_of owner) key }
 {
-    let code = owner_code(owner);
-    Entry {
-        sort: KEY_WAS_NONE,
-        owner: code,
-        key,
-        kind: 0,
-        content: 0,
-    }
+    let owner = owner_code(owner);
+    Entry::KeyWasNone { owner, key }
 }
 
 // Replaces the attribute at a slot, and remembers what it was, if that can be.
-fn replace_attribute(store: &mut [u32], owner: Owner, slot: usize, attribute: Attribute) -> Built
+#[tactic(auto, using(marks::proofs::Lent::lent_facts))]
+fn replace_attribute(
+    store: &mut [u32],
+    owner: Owner,
+    slot: usize,
+    attribute: Attribute,
+) -> Result<(), Cause>
     requires lent { IsLent store.old }
     requires nonzero { 0 < mark_count (columns store.old) }
-    requires slot_value { Places.Replaces slot ≡ place_for (columns store.old) (owner_of owner) (attribute_of attribute) (first_failed (tests (store_in store.old) (set_attribute (owner_of owner) (attribute_of attribute)))) }
-    ensures { DidMarked store.old store.new (build (set_attribute (owner_of owner) (attribute_of attribute))) result }
+    requires clear { first_failed (tests (store_in store.old) (set_attribute (owner_of owner) (attribute_of attribute))) ≡ none }
+    requires slot_value { Places.Replaces slot ≡ place_for (columns store.old) (owner_of owner) attribute.key }
+    ensures { DidMarked store.old store.new (build (set_attribute (owner_of owner) (attribute_of attribute))) (done_of result) }
 {
     if is_full(store) {
-        return Built::Refused(17);
+        return Err(Cause::JournalFull);
     }
     let was = attribute_was(store, owner, slot);
     put_replaced(store, slot, attribute);
     remember(store, was);
-    Built::Accepted
+    Ok(())
 }
 
 // Inserts an attribute at a slot, and remembers that its key is new.
-fn add_attribute(store: &mut [u32], owner: Owner, slot: usize, attribute: Attribute) -> Built
+#[tactic(auto, using(marks::proofs::Lent::lent_facts))]
+fn add_attribute(store: &mut [u32], owner: Owner, slot: usize, attribute: Attribute)
     requires lent { IsLent store.old }
     requires nonzero { 0 < mark_count (columns store.old) }
-    requires slot_value { Places.Adds slot ≡ place_for (columns store.old) (owner_of owner) (attribute_of attribute) (first_failed (tests (store_in store.old) (set_attribute (owner_of owner) (attribute_of attribute)))) }
-    ensures { DidMarked store.old store.new (build (set_attribute (owner_of owner) (attribute_of attribute))) result }
+    requires clear { first_failed (tests (store_in store.old) (set_attribute (owner_of owner) (attribute_of attribute))) ≡ none }
+    requires slot_value { Places.Adds slot ≡ place_for (columns store.old) (owner_of owner) attribute.key }
+    ensures { DidMarked store.old store.new (build (set_attribute (owner_of owner) (attribute_of attribute))) accepted }
 {
     let was = key_was_none(owner, attribute.key);
     put_added(store, owner, slot, attribute);
     remember(store, was);
-    Built::Accepted
 }
 
 // The call, on a lent buffer.
-pub fn set_attribute(store: &mut [u32], owner: Owner, attribute: Attribute) -> Built
+#[tactic(auto, using(marks::proofs::Lent::lent_facts), unfolding(journal::specs::Words::mark_count))]
+pub fn set_attribute(store: &mut [u32], owner: Owner, attribute: Attribute) -> Result<(), Cause>
     requires { IsLent store.old }
-    ensures { DidMarked store.old store.new (build (set_attribute (owner_of owner) (attribute_of attribute))) result }
+    ensures { DidMarked store.old store.new (build (set_attribute (owner_of owner) (attribute_of attribute))) (done_of result) }
 {
     if at(store, COUNTS, MARKS) == 0 {
         return setting::attributes::set_attribute(store, owner, attribute);
     }
-    match place_for(store, owner, attribute) {
-        AttributePlace::Refused(cause) => Built::Refused(cause),
+    match place_for(store, owner, attribute)? {
         AttributePlace::Replaces(slot) => replace_attribute(store, owner, slot, attribute),
-        AttributePlace::Adds(slot) => add_attribute(store, owner, slot, attribute),
+        AttributePlace::Adds(slot) => {
+            add_attribute(store, owner, slot, attribute);
+            Ok(())
+        }
     }
 }

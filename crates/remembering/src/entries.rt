@@ -3,35 +3,72 @@ ghost use Rattle.std.specs.Prelude.{◌≡◌, ◌<◌, ◌≤◌, leb, length};
 ghost use Rattle.rules.specs.Marks.{max_remembered};
 ghost use Rattle.layout.specs.Columns.{buffer_length, columns};
 ghost use Rattle.journal.specs.Words.{entry_count, max_entries};
-ghost use Rattle.remembering.specs.Raw.{counts_as, replaced_count, entry_put, with_entry};
+ghost use Rattle.remembering.specs.Raw.{words_of, listed, counts_as, replaced_count, entry_put, with_entry};
 
-use layout::columns::{
-    ENTRIES, JOURNAL_CONTENT, JOURNAL_COUNTS, JOURNAL_KEY, JOURNAL_KIND, JOURNAL_OWNER,
-    JOURNAL_SORT, REPLACED, at, number, put,
-};
+use adding::writes::put_row;
+use layout::columns::{ENTRIES, JOURNAL_COUNTS, JOURNAL_SORT, REPLACED, at, number, put};
 
-// The sorts of entries: an operand as it was, an attribute as it was, and a key that was not there.
+// The words for the sorts of entries.
 pub const OPERAND_WAS: u32 = 0;
 
 pub const ATTRIBUTE_WAS: u32 = 1;
 
 pub const KEY_WAS_NONE: u32 = 2;
 
-// An entry of the journal, word by word.
-#[derive(Clone, Copy)]
-pub struct Entry {
-    pub sort: u32,
-    pub owner: u32,
-    pub key: u32,
-    pub kind: u32,
-    pub content: u32,
+// An entry of the journal: an operand as it was, an attribute as it was, or a key that was not there. An owner is told by its word: twice its
+// number, and one more for a block; the kind is the word of an attribute's slot, with the flag.
+#[derive(Clone, Copy, PartialEq, Eq, Debug)]
+pub enum Entry {
+    OperandWas {
+        operation: u32,
+        index: u32,
+        value: u32,
+    },
+    AttributeWas {
+        owner: u32,
+        key: u32,
+        kind: u32,
+        content: u32,
+    },
+    KeyWasNone {
+        owner: u32,
+        key: u32,
+    },
 }
 
-// How many replacements an entry of a sort is: one, or none where a key came new.
-fn counts_as(sort: u32) -> usize
-    ensures { result ≡ counts_as sort }
-{
-    if sort < KEY_WAS_NONE { 1 } else { 0 }
+impl Entry {
+    // Its words in the journal: the sort, whom it tells of, and how that was.
+    #[tactic(auto, unfolding(crate::specs::Raw::words_of, crate::specs::Raw::listed))]
+    fn words(self) -> [u32; 5]
+        ensures { result ≡ listed (words_of self) }
+    {
+        match self {
+            Entry::OperandWas {
+                operation,
+                index,
+                value,
+            } => [OPERAND_WAS, operation, index, value, 0],
+            Entry::AttributeWas {
+                owner,
+                key,
+                kind,
+                content,
+            } => [ATTRIBUTE_WAS, owner, key, kind, content],
+            Entry::KeyWasNone { owner, key } => [KEY_WAS_NONE, owner, key, 0, 0],
+        }
+    }
+
+    // How many replacements it is: one, or none where a key came new.
+    fn replacements(self) -> usize
+        ensures value { result ≡ counts_as self }
+        ensures few { result ≤ 1 }
+    {
+        match self {
+            Entry::OperandWas { .. } => 1,
+            Entry::AttributeWas { .. } => 1,
+            Entry::KeyWasNone { .. } => 0,
+        }
+    }
 }
 
 // No replacement more can be remembered.
@@ -48,14 +85,11 @@ fn put_entry(store: &mut [u32], n: usize, entry: Entry)
     requires n_lt_max_entries { n < max_entries }
     ensures { columns store.new ≡ entry_put (columns store.old) n entry }
 {
-    put(store, JOURNAL_SORT, n, entry.sort);
-    put(store, JOURNAL_OWNER, n, entry.owner);
-    put(store, JOURNAL_KEY, n, entry.key);
-    put(store, JOURNAL_KIND, n, entry.kind);
-    put(store, JOURNAL_CONTENT, n, entry.content);
+    put_row(store, JOURNAL_SORT, n, &entry.words());
 }
 
 // Writes an entry at the journal's end, and counts it.
+#[tactic(auto, unfolding(crate::specs::Raw::with_entry, crate::specs::Raw::replaced_count, journal::specs::Words::entry_count))]
 pub fn remember(store: &mut [u32], entry: Entry)
     requires store_len { length store.old ≡ buffer_length }
     requires store_bound { entry_count (columns store.old) < max_entries }
@@ -64,7 +98,7 @@ pub fn remember(store: &mut [u32], entry: Entry)
 {
     let n = number(store, JOURNAL_COUNTS, ENTRIES);
     let replaced = number(store, JOURNAL_COUNTS, REPLACED);
-    let more = counts_as(entry.sort);
+    let more = entry.replacements();
     put_entry(store, n, entry);
     put(store, JOURNAL_COUNTS, ENTRIES, (n + 1) as u32);
     put(store, JOURNAL_COUNTS, REPLACED, (replaced + more) as u32);

@@ -2,11 +2,14 @@
 use Prim.Native.Nat.{ℕ, ◌+◌, ◌-◌, ◌*◌, ◌<◌, ◌≤◌}
 use native.Mathlib.Decide.{ℕ_discrete, dec_lt}
 use native.Mathlib.Omega.{arith}
+use mathlib.Core.Bool.{true, false, true≢false}
 use mathlib.Core.List.{List}
 use mathlib.Core.Logic.{◌≢◌}
 use mathlib.Core.Path.{◌≡◌, sym, ap, subst, ◌∙◌}
 use lib.ListN.{length, get_or}
-use Rattle.renaming.specs.Index.{bucket_of, old_at, link_at, head_at, Link, Entered, Found}
+use Rattle.std.specs.Option.{is_some}
+use Rattle.std.specs.Prelude.{Option, Some, None}
+use Rattle.renaming.specs.Index.{bucket_of, old_at, link_at, Link, Entered, FoundAt, Found}
 
 pub bucket_low : (t : ℕ) → bucket_of t < 64
 unfolding bucket_of
@@ -19,11 +22,6 @@ pub record Looking (w : List ℕ) (n t i : ℕ) : Type 0 where
   pub bucket : 0 < i → bucket_of (old_at w (i - 1)) ≡ bucket_of t
 
 module _ {w : List ℕ} {n : ℕ} (e : Entered w n) (t : ℕ) where
-  pub look_starts : Looking w n t (head_at w (bucket_of t))
-  look_starts =
-      let h = e.heads (bucket_of t) (bucket_low t) in
-      record { low = h.low; passed = λ j l m q. h.none j l m (ap bucket_of q); bucket = h.last }
-
   pub look_on : {i : ℕ} → Looking w n t i → 0 < i → old_at w (i - 1) ≢ t → Looking w n t (link_at w (i - 1))
   look_on {i} g pos ne =
       record {
@@ -40,35 +38,30 @@ module _ {w : List ℕ} {n : ℕ} (e : Entered w n) (t : ℕ) where
       by j from below (no ge) (yes here) q = ne (subst (λ (k : ℕ). old_at w k ≡ t) here q)
       by j from below (no ge) (no ne') q = g.passed j (omega arith) below q
 
--- row i, counted from 1, begins at this place
-pub row_place : (i : ℕ) → 0 < i → 61 + 3 * i ≡ 64 + 3 * (i - 1)
-row_place i pos = omega arith
-
-pub link_place : (i : ℕ) → 0 < i → 61 + 3 * i + 2 ≡ 66 + 3 * (i - 1)
-link_place i pos = omega arith
+pub link_place : (i : ℕ) → 64 + 3 * i + 2 ≡ 66 + 3 * i
+link_place i = omega arith
 
 -- at row i, as the code has it
 module _ {w : List ℕ} {n t i : ℕ} (e : Entered w n) (g : Looking w n t i) (pos : 0 < i) where
-  pub row_in : 61 + 3 * i + 2 < length w
-  row_in = omega (arith, e.room, g.low)
+  pub row_found : old_at w (i - 1) ≡ t → FoundAt w n t (i - 1)
+  row_found q = record { low = omega (arith, g.low); there = q }
 
-  pub row_found : get_or w (61 + 3 * i) 0 ≡ t → Found w n t i
-  row_found q =
-      record {
-        low = g.low;
-        there = λ _. ap (λ (k : ℕ). get_or w k 0) (sym (row_place i pos)) ∙ q;
-        none = λ z. absurd (let x : ⊥ = omega arith in x);
-      }
+  pub row_passed : old_at w (i - 1) ≢ t → Looking w n t (get_or w (64 + 3 * (i - 1) + 2) 0)
+  row_passed ne = subst (λ (k : ℕ). Looking w n t (get_or w k 0)) (sym (link_place (i - 1))) (look_on e t g pos ne)
 
-  pub row_passed : get_or w (61 + 3 * i) 0 ≢ t → Looking w n t (get_or w (61 + 3 * i + 2) 0)
-  row_passed ne =
-      subst (λ (k : ℕ). Looking w n t (get_or w k 0)) (sym (link_place i pos))
-      (look_on e t g pos (λ q. ne (ap (λ (k : ℕ). get_or w k 0) (row_place i pos) ∙ q)))
-
-  pub link_less : get_or w (61 + 3 * i + 2) 0 < i
+  pub link_less : get_or w (64 + 3 * (i - 1) + 2) 0 < i
   link_less =
       let l : link_at w (i - 1) ≤ i - 1 = (e.links (i - 1) (omega (arith, g.low))).low in
-      omega (arith, ap (λ (k : ℕ). get_or w k 0) (link_place i pos))
+      omega (arith, ap (λ (k : ℕ). get_or w k 0) (link_place (i - 1)))
 
-pub none_left : {w : List ℕ} {n t i : ℕ} → Looking w n t i → i ≡ 0 → Found w n t 0
-none_left g z = record { low = omega arith; there = λ p. absurd (let x : ⊥ = omega arith in x); none = λ _ j l. g.passed j (omega arith) l }
+pub none_left : {w : List ℕ} {n t i : ℕ} → Looking w n t i → i ≡ 0 → (j : ℕ) → j < n → old_at w j ≢ t
+none_left g z j l = g.passed j (omega arith) l
+
+-- whether a lookup has found a row
+pub found_none : (w : List ℕ) (n t : ℕ) (r : Option ℕ) → Found w n t r → is_some r ≡ false → (j : ℕ) → j < n → old_at w j ≢ t
+found_none w n t None f e = f
+found_none w n t (Some i) f e = absurd (true≢false e)
+
+pub found_row : (w : List ℕ) (n t : ℕ) (r : Option ℕ) → Found w n t r → is_some r ≡ true → (i : ℕ) × FoundAt w n t i
+found_row w n t None f e = absurd (true≢false (sym e))
+found_row w n t (Some i) f e = (i, f)

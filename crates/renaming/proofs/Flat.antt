@@ -135,15 +135,19 @@ rows_same f g f' g' i (suc k) p q =
 nothing_left_lem : (xs : List ℕ) (n : ℕ) → length xs ≡ n → drop n xs ≡ []
 nothing_left_lem xs n e = ap (λ (m : ℕ). drop m xs) (sym e) ∙ drop-length xs
 
--- the words of a list of renamed types
-pub list_rows : (xs : List ℕ) (i k : ℕ) → length xs ≡ 2 * (i + k) → drop (2 * i) xs ≡ rows_by (λ j. get_or xs (2 * j) 0) (λ j. get_or xs (2 * j + 1) 0) i k
-list_rows xs i zero e = nothing_left_lem xs (2 * i) (omega arith)
-list_rows xs i (suc k) e =
+-- row i of a list of renamed types
+pub two_words : (xs : List ℕ) (i : ℕ) → 2 * i + 1 < length xs → drop (2 * i) xs ≡ get_or xs (2 * i) 0 ∷ get_or xs (2 * i + 1) 0 ∷ drop (2 * suc i) xs
+two_words xs i l =
     drop-cons xs (2 * i) 0 (omega arith)
     ∙ ap (λ (l : List ℕ). get_or xs (2 * i) 0 ∷ l)
     (drop-cons xs (suc (2 * i)) 0 (omega arith)
-    ∙ ap₂ (λ (a b : ℕ). get_or xs a 0 ∷ drop b xs) (let q : suc (2 * i) ≡ 2 * i + 1 = omega arith in q) (let q : suc (suc (2 * i)) ≡ 2 * suc i = omega arith in q)
-    ∙ ap (λ (l : List ℕ). get_or xs (2 * i + 1) 0 ∷ l) (list_rows xs (suc i) k (omega arith)))
+    ∙ ap₂ (λ (a b : ℕ). get_or xs a 0 ∷ drop b xs) (let q : suc (2 * i) ≡ 2 * i + 1 = omega arith in q) (let q : suc (suc (2 * i)) ≡ 2 * suc i = omega arith in q))
+
+-- all its words
+pub list_rows : (xs : List ℕ) (i k : ℕ) → length xs ≡ 2 * (i + k) → drop (2 * i) xs ≡ rows_by (λ j. get_or xs (2 * j) 0) (λ j. get_or xs (2 * j + 1) 0) i k
+list_rows xs i zero e = nothing_left_lem xs (2 * i) (omega arith)
+list_rows xs i (suc k) e =
+    two_words xs i (omega arith) ∙ ap (λ (l : List ℕ). get_or xs (2 * i) 0 ∷ get_or xs (2 * i + 1) 0 ∷ l) (list_rows xs (suc i) k (omega arith))
 
 -- the words of an index, behind its buckets
 pub index_rows : (w : List ℕ) (i k : ℕ) → length w ≡ 64 + 3 * (i + k) → rows_in (drop (64 + 3 * i) w) ≡ rows_by (old_at w) (now_at w) i k

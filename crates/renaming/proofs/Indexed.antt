@@ -1,13 +1,16 @@
 -- What an index gives: present types as the rules have them, and a list that holds. Assumes nothing.
-use Prim.Native.Nat.{ℕ, ◌+◌, ◌-◌, ◌*◌, ◌<◌}
+use Prim.Native.Nat.{ℕ, ◌+◌, ◌*◌, ◌<◌}
 use native.Mathlib.Omega.{arith}
-use mathlib.Core.Bool.{true}
+use mathlib.Core.Bool.{Bool, true, false, true≢false}
 use mathlib.Core.List.{List, [], ◌∷◌}
+use mathlib.Core.Logic.{◌≢◌}
 use mathlib.Core.Path.{◌≡◌, refl, sym, ap, subst, ◌∙◌}
+use borrow.Author.Tests.{eq-eqb}
+use lib.Dec.{eqb}
 use lib.ListN.{length, get_or}
 use Rattle.rules.specs.Lists.{every, all}
 use Rattle.rules.specs.Types.{whole_rows, old_types, present_types, each_once, types_hold, present}
-use Rattle.renaming.specs.Index.{rows_in, list_in, old_at, now_at, Found, Table, IsIndex, nothing, table}
+use Rattle.renaming.specs.Index.{rows_in, list_in, old_at, now_at, FoundAt, Table, IsIndex, nothing, table}
 use Rattle.renaming.proofs.Flat.{rows_by, present_none, present_at, index_rows}
 
 pub no_list : list_in [] ≡ []
@@ -25,10 +28,10 @@ pub index_holds : (w : List ℕ) → IsIndex w → types_hold (list_in w) ≡ tr
 index_holds w (nothing e) = subst (λ (x : List ℕ). types_hold (list_in x) ≡ true) (sym e) none_holds
 index_holds w (table t) = t.holds
 
--- an index with words is a table
-pub table_of : (w : List ℕ) → IsIndex w → (length w ≡ 0 → ⊥) → Table w
-table_of w (nothing e) ne = absurd (ne (ap length e))
-table_of w (table t) ne = t
+-- an index with words, as the code tests that, is a table
+pub table_of : (w : List ℕ) → IsIndex w → {none : Bool} → none ≡ eqb (length w) 0 → none ≡ false → Table w
+table_of w (nothing e) told some = absurd (true≢false (sym (told ∙ eq-eqb _ _ (ap length e)) ∙ some))
+table_of w (table t) told some = t
 
 empty : (w : List ℕ) → length w ≡ 0 → w ≡ []
 empty [] e = refl
@@ -44,19 +47,15 @@ module _ (w : List ℕ) (b : Table w) where
   unfolding list_in
   table_list = index_rows w 0 b.rows (omega (arith, b.long))
 
-  module _ (t r : ℕ) (f : Found w b.rows t r) where
-    pub present_itself : r ≡ 0 → present (list_in w) t ≡ t
-    present_itself z =
-        ap (λ (x : List ℕ). present x t) table_list
-        ∙ present_none (old_at w) (now_at w) t 0 b.rows (λ j l m. f.none z j (omega arith))
+  pub present_itself : (t : ℕ) → ((j : ℕ) → j < b.rows → old_at w j ≢ t) → present (list_in w) t ≡ t
+  present_itself t f =
+      ap (λ (x : List ℕ). present x t) table_list
+      ∙ present_none (old_at w) (now_at w) t 0 b.rows (λ j l m. f j (omega arith))
 
-    pub row_within : (r ≡ 0 → ⊥) → 62 + 3 * r < length w
-    row_within ne = omega (arith, f.low, b.long)
-
-    pub present_row : (r ≡ 0 → ⊥) → present (list_in w) t ≡ get_or w (62 + 3 * r) 0
-    present_row ne =
-        let here : old_at w (r - 1) ≡ t = f.there (omega arith) in
+  module _ {t r : ℕ} (f : FoundAt w b.rows t r) where
+    pub present_row : present (list_in w) t ≡ get_or w (64 + 3 * r + 1) 0
+    present_row =
         ap (λ (x : List ℕ). present x t) table_list
-        ∙ present_at (old_at w) (now_at w) t 0 b.rows (r - 1) (omega arith) (omega (arith, f.low)) here
-        (λ a l q. b.entered.apart a (r - 1) l (omega (arith, f.low)) (q ∙ sym here))
-        ∙ ap (λ (k : ℕ). get_or w k 0) (let p : 65 + 3 * (r - 1) ≡ 62 + 3 * r = omega arith in p)
+        ∙ present_at (old_at w) (now_at w) t 0 b.rows r (omega arith) (omega (arith, f.low)) f.there
+        (λ a l q. b.entered.apart a r l (omega (arith, f.low)) (q ∙ sym f.there))
+        ∙ ap (λ (k : ℕ). get_or w k 0) (let p : 65 + 3 * r ≡ 64 + 3 * r + 1 = omega arith in p)

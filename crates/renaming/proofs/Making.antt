@@ -2,25 +2,24 @@
 use Prim.Native.Nat.{ℕ, ◌+◌, ◌-◌, ◌*◌, ◌<◌, ◌≤◌}
 use native.Mathlib.Decide.{ℕ_discrete}
 use native.Mathlib.Omega.{arith}
-use mathlib.Core.List.{List}
+use mathlib.Core.List.{List, ◌++◌}
 use mathlib.Core.Logic.{◌≢◌}
 use mathlib.Core.Path.{◌≡◌, sym, ap, subst, ◌∙◌}
-use lib.ListN.{length, get_or, set, drop, replicate, length-set, get_or-replicate, get_or-append}
+use lib.ListN.{length, get_or, set, replicate, length-set, length-append, length-replicate, get_or-replicate, get_or-append}
 use lib.Seq.{get_or-set_same, get_or-set_other}
-use Rattle.layout.specs.Columns.{pasted}
 use Rattle.renaming.specs.Index.{bucket_of, old_at, now_at, link_at, head_at, Link, Entered, Adds, Rows}
 use Rattle.renaming.proofs.Chains.{bucket_low}
 
 -- ---- empty buckets
 
-module _ (w : List ℕ) {w' : List ℕ} (e : w' ≡ pasted w 0 (replicate 64 0)) (long : length w' ≡ 256) where
-  head_none : (b : ℕ) → b < 64 → head_at w' b ≡ 0
-  head_none b l = ap (λ (x : List ℕ). get_or x b 0) e ∙ get_or-append (replicate 64 0) (drop 64 w) 0 b l ∙ get_or-replicate 64 b 0 0 l
+module _ (buckets rows : List ℕ) (empty : buckets ≡ replicate 64 0) where
+  head_none : (b : ℕ) → b < 64 → head_at (buckets ++ rows) b ≡ 0
+  head_none b l = ap (λ (x : List ℕ). get_or (x ++ rows) b 0) empty ∙ get_or-append (replicate 64 0) rows 0 b l ∙ get_or-replicate 64 b 0 0 l
 
-  pub none_entered : Entered w' 0
+  pub none_entered : Entered (buckets ++ rows) 0
   none_entered =
       record {
-        room = omega arith;
+        room = omega (arith, length-append buckets rows, ap length empty, length-replicate {A = ℕ} 64 0);
         heads =
             λ b l.
             record {
@@ -174,9 +173,9 @@ module _ {w w' : List ℕ} {k t p : ℕ} (e : Entered w k) (a : Adds w k t p w')
   pub entered_next : 64 + 3 * (k + 1) ≤ length w' → ((j : ℕ) → j < k → old_at w j ≢ t) → Entered w' (k + 1)
   entered_next room new = record { room = room; heads = heads_next; links = links_next; apart = apart_next new }
 
-pub rows_next : {types w w' : List ℕ} {k : ℕ} → Rows types w k → Adds w k (get_or types (2 * k) 0) (get_or types (2 * k + 1) 0) w'
-    → 64 + 3 * (k + 1) ≤ length w' → ((j : ℕ) → j < k → old_at w j ≢ get_or types (2 * k) 0) → Rows types w' (k + 1)
-rows_next {types} {w} {w'} {k} g a room new =
+pub rows_next : {types w w' : List ℕ} {k t p : ℕ} → Rows types w k → Adds w k t p w' → t ≡ get_or types (2 * k) 0 → p ≡ get_or types (2 * k + 1) 0
+    → 64 + 3 * (k + 1) ≤ length w' → ((j : ℕ) → j < k → old_at w j ≢ t) → Rows types w' (k + 1)
+rows_next {types} {w} {w'} {k} {t} {p} g a old now room new =
     record {
       entered = entered_next g.entered a room new;
       olds = λ i l. by_old i l (ℕ_discrete i k);
@@ -184,12 +183,9 @@ rows_next {types} {w} {w'} {k} g a room new =
     }
   where
     by_old : (i : ℕ) → i < k + 1 → Dec (i ≡ k) → old_at w' i ≡ get_or types (2 * i) 0
-    by_old i l (yes q) = subst (λ (x : ℕ). old_at w' x ≡ get_or types (2 * x) 0) (sym q) a.old
+    by_old i l (yes q) = subst (λ (x : ℕ). old_at w' x ≡ get_or types (2 * x) 0) (sym q) (a.old ∙ old)
     by_old i l (no ne) = kept_old g.entered a i (omega arith) ∙ g.olds i (omega arith)
 
     by_now : (i : ℕ) → i < k + 1 → Dec (i ≡ k) → now_at w' i ≡ get_or types (2 * i + 1) 0
-    by_now i l (yes q) = subst (λ (x : ℕ). now_at w' x ≡ get_or types (2 * x + 1) 0) (sym q) a.now
+    by_now i l (yes q) = subst (λ (x : ℕ). now_at w' x ≡ get_or types (2 * x + 1) 0) (sym q) (a.now ∙ now)
     by_now i l (no ne) = kept_now g.entered a i (omega arith) ∙ g.nows i (omega arith)
-
-pub no_rows : {types w : List ℕ} → Entered w 0 → Rows types w 0
-no_rows e = record { entered = e; olds = λ i l. absurd (let x : ⊥ = omega arith in x); nows = λ i l. absurd (let x : ⊥ = omega arith in x) }

@@ -1,21 +1,25 @@
 -- The tests of a list of renamed types, by its rows: what the index tells of them, and the index that is made. Assumes nothing.
-use Prim.Native.Nat.{ℕ, ◌+◌, ◌-◌, ◌*◌, ◌/◌, ◌%◌, ◌<◌, ◌≤◌}
+use Prim.Native.Nat.{ℕ, zero, suc, ◌+◌, ◌*◌, ◌/◌, ◌%◌, ◌<◌, ◌≤◌}
 use native.Mathlib.Omega.{arith}
-use mathlib.Core.Bool.{Bool, true, false, not}
+use mathlib.Core.Bool.{Bool, true, false, not, ◌&&◌}
 use mathlib.Core.List.{List, [], ◌∷◌}
-use mathlib.Core.Path.{◌≡◌, sym, ap, subst, ◌∙◌}
+use mathlib.Core.Path.{◌≡◌, refl, sym, ap, subst, ◌∙◌}
 use borrow.Author.Tests.{le-leb, lt-leb}
 use lib.Dec.{leb}
-use lib.ListN.{length, get_or, take}
-use lib.Seq.{get_or-take, length-take-le}
+use lib.ListN.{length, get_or, take, drop, length-drop}
+use lib.Seq.{get_or-drop, get_or-take, length-take-le}
+use Rattle.std.specs.List.{list_all}
+use Rattle.std.specs.Option.{is_some}
+use Rattle.std.specs.Prelude.{Option, Some, None}
+use Rattle.std.specs.Simd.{first_chunks}
 use Rattle.rules.specs.Lists.{all}
 use Rattle.rules.specs.Types.{whole_rows, old_types, present_types, stands_in, each_once, types_hold, max_rows}
 use Rattle.rules.proofs.Basics.Tests.{every_of}
-use Rattle.layout.proofs.Scans.{Before, fails}
-use Rattle.renaming.specs.Index.{bucket_of, list_in, old_at, now_at, link_at, Link, Entered, Found, table, Rows, none_renamed, Indexes}
+use Rattle.layout.proofs.Scans.{fails}
+use Rattle.renaming.specs.Index.{bucket_of, list_in, old_at, now_at, link_at, Link, Entered, FoundAt, table, Rows, none_renamed, IsIndexed, Found}
 use Rattle.renaming.proofs.Making.{link_kept}
-use Rattle.renaming.proofs.Flat.{rows_by, run, run_length, run_all, run_fails, stands_none, stands_one, once, twice}
-use Rattle.renaming.proofs.Flat.{rows_whole, rows_old, rows_present, rows_same, list_rows, index_rows, half_row_lem}
+use Rattle.renaming.proofs.Flat.{rows_by, run, run_length, stands_none, stands_one, once, twice}
+use Rattle.renaming.proofs.Flat.{rows_whole, rows_old, rows_present, rows_same, two_words, list_rows, index_rows, half_row_lem}
 
 -- the rules' tests, in their order
 abbrev tests : List ℕ → List Bool
@@ -40,6 +44,24 @@ pub present_fails : (types : List ℕ) → none_renamed types ≡ false → type
 present_fails types h = test_fails types 3 h
 
 -- ---- whole rows
+
+-- as a slice of rows has it
+chunk_words : (k i : ℕ) (xs : List ℕ) (j : ℕ) → i < k → 2 * k ≤ length xs → j < 2 → get_or (get_or (first_chunks 2 k xs) i []) j 0 ≡ get_or xs (2 * i + j) 0
+chunk_words zero i xs j l m n = absurd (let x : ⊥ = omega arith in x)
+chunk_words (suc k) zero xs j l m n = get_or-take 2 xs j 0 n ∙ ap (λ (x : ℕ). get_or xs x 0) (let q : j ≡ 0 + j = omega arith in q)
+chunk_words (suc k) (suc i) xs j l m n =
+    chunk_words k i (drop 2 xs) j (omega arith) (omega (arith, length-drop 2 xs)) n
+    ∙ get_or-drop 2 xs (2 * i + j) 0
+    ∙ ap (λ (x : ℕ). get_or xs x 0) (let q : 2 + (2 * i + j) ≡ 2 * suc i + j = omega arith in q)
+
+module _ (types : List ℕ) (rows : List (List ℕ)) (k : ℕ) (e : rows ≡ first_chunks 2 (length types / 2) types) (l : k < length types / 2) where
+  pub row_old : get_or (get_or rows k []) 0 0 ≡ get_or types (2 * k) 0
+  row_old =
+      ap (λ (r : List (List ℕ)). get_or (get_or r k []) 0 0) e ∙ chunk_words (length types / 2) k types 0 l (omega arith) (omega arith)
+      ∙ ap (λ (x : ℕ). get_or types x 0) (let q : 2 * k + 0 ≡ 2 * k = omega arith in q)
+
+  pub row_now : get_or (get_or rows k []) 1 0 ≡ get_or types (2 * k + 1) 0
+  row_now = ap (λ (r : List (List ℕ)). get_or (get_or r k []) 1 0) e ∙ chunk_words (length types / 2) k types 1 l (omega arith) (omega arith)
 
 module _ (types : List ℕ) (whole : length types % 2 ≡ 0) where
   abbrev old : ℕ → ℕ
@@ -70,11 +92,10 @@ module _ (types : List ℕ) (whole : length types % 2 ≡ 0) where
       (ap whole_rows in_rows ∙ rows_whole old now 0 (length types / 2), (le-leb (length (old_types types)) 64 (omega (arith, rows_counted)), (each, (none, tt))))
 
   -- an old type that has a row already
-  pub given_twice : (w : List ℕ) (k r : ℕ) → Rows types w k → 2 * k < length types → Found w k (old k) r → (r ≡ 0 → ⊥) → each_once (old_types types) ≡ false
-  given_twice w k r g l f ne =
+  pub given_twice : (w : List ℕ) (k r : ℕ) → Rows types w k → 2 * k < length types → FoundAt w k (old k) r → each_once (old_types types) ≡ false
+  given_twice w k r g l f =
       ap each_once old_types_lem
-      ∙ twice old 0 (length types / 2) (r - 1) k (omega arith) (omega (arith, f.low)) (omega arith)
-      (sym (g.olds (r - 1) (omega (arith, f.low))) ∙ f.there (omega arith))
+      ∙ twice old 0 (length types / 2) r k (omega arith) f.low (omega arith) (sym (g.olds r f.low) ∙ f.there)
 
   module _ (w : List ℕ) (g : Rows types w (length types / 2)) where
     pub given_once : each_once (old_types types) ≡ true
@@ -84,25 +105,31 @@ module _ (types : List ℕ) (whole : length types % 2 ≡ 0) where
         (λ a b from l below q. g.entered.apart a b l (omega arith) (g.olds a (omega arith) ∙ q ∙ sym (g.olds b (omega arith))))
 
     -- a lookup tells whether a type has a row
-    module _ (t r : ℕ) (f : Found w (length types / 2) t r) where
-      pub has_none : r ≡ 0 → not (stands_in (old_types types) t) ≡ true
-      has_none z =
-          ap (λ (l : List ℕ). not (stands_in l t)) old_types_lem
-          ∙ ap not (stands_none old t 0 (length types / 2) (λ j from below q. f.none z j (omega arith) (g.olds j (omega arith) ∙ q)))
+    pub found_told : (t : ℕ) (r : Option ℕ) → Found w (length types / 2) t r → not (is_some r) ≡ not (stands_in (old_types types) t)
+    found_told t None f =
+        sym
+        (ap (λ (l : List ℕ). not (stands_in l t)) old_types_lem
+        ∙ ap not (stands_none old t 0 (length types / 2) (λ j from below q. f j (omega arith) (g.olds j (omega arith) ∙ q))))
+    found_told t (Some r) f =
+        sym
+        (ap (λ (l : List ℕ). not (stands_in l t)) old_types_lem
+        ∙ ap not (stands_one old t 0 (length types / 2) r (omega arith) (omega (arith, f.low)) (sym (g.olds r f.low) ∙ f.there)))
 
-      pub has_row : (r ≡ 0 → ⊥) → not (stands_in (old_types types) t) ≡ false
-      has_row ne =
-          ap (λ (l : List ℕ). not (stands_in l t)) old_types_lem
-          ∙ ap not
-          (stands_one old t 0 (length types / 2) (r - 1) (omega arith) (omega (arith, f.low)) (sym (g.olds (r - 1) (omega (arith, f.low))) ∙ f.there (omega arith)))
-
-  -- a scan of the present types
+  -- the present types, row by row
   module _ (p : ℕ → Bool) where
-    pub all_present : (k : ℕ) → length types ≤ 2 * k → Before (λ j. p (now j)) k → all p (present_types types) ≡ true
-    all_present k l b = ap (all p) present_types_lem ∙ run_all p now 0 (length types / 2) (λ j from below. b j (omega arith))
+    rows_all : (k i : ℕ) → length types ≡ 2 * (i + k)
+        → list_all (λ (row : List ℕ). p (get_or row 1 0)) (first_chunks 2 k (drop (2 * i) types)) ≡ all p (run now i k)
+    unfolding all
+    rows_all zero i e = refl
+    rows_all (suc k) i e =
+        ap (λ (l : List ℕ). list_all (λ (row : List ℕ). p (get_or row 1 0)) (first_chunks 2 (suc k) l)) two
+        ∙ ap (λ (b : Bool). p (now i) && b) (rows_all k (suc i) (omega arith))
+      where
+        two : drop (2 * i) types ≡ old i ∷ now i ∷ drop (2 * suc i) types
+        two = two_words types i (omega arith)
 
-    pub some_present : (k : ℕ) → 2 * k < length types → p (now k) ≡ false → all p (present_types types) ≡ false
-    some_present k l h = ap (all p) present_types_lem ∙ run_fails p now 0 (length types / 2) k (omega arith) (omega arith) h
+    pub all_present : list_all (λ (row : List ℕ). p (get_or row 1 0)) (first_chunks 2 (length types / 2) types) ≡ all p (present_types types)
+    all_present = rows_all (length types / 2) 0 (omega arith) ∙ ap (all p) (sym present_types_lem)
 
 -- ---- the words that are used
 
@@ -143,14 +170,13 @@ module _ (types : List ℕ) (whole : length types % 2 ≡ 0) (w : List ℕ) (lon
       (λ j from below. cut_same (65 + 3 * j) (omega arith) ∙ g.nows j (omega arith))
       ∙ sym (in_rows types whole)
 
-  pub indexes : types_hold types ≡ true → Indexes types w n
+  pub indexes : types_hold types ≡ true → IsIndexed types w n
   indexes ok =
       record {
-        refused = λ z. absurd (let x : ⊥ = omega arith in x);
-        holds = λ _. ok;
+        holds = ok;
+        some = omega arith;
         low = n_low;
         is_index =
-            λ _.
             table
             (record {
               rows = length types / 2;
@@ -159,15 +185,5 @@ module _ (types : List ℕ) (whole : length types % 2 ≡ 0) (w : List ℕ) (lon
               entered = entered_same w (take n w) (length types / 2) (omega (arith, cut_length)) cut_same g.entered;
               holds = ap types_hold cut_list ∙ ok;
             });
-        list = λ _. cut_list;
+        list = cut_list;
       }
-
-pub refuses : {types w : List ℕ} → types_hold types ≡ false → Indexes types w 0
-refuses {types} {w} h =
-    record {
-      refused = λ _. h;
-      holds = λ p. absurd (let x : ⊥ = omega arith in x);
-      low = omega arith;
-      is_index = λ p. absurd (let x : ⊥ = omega arith in x);
-      list = λ p. absurd (let x : ⊥ = omega arith in x);
-    }

@@ -1,6 +1,6 @@
 -- A list of renamed types, as a walk reads it: its rows, each with its old and its present type, and for each of 64 buckets a chain of the
 -- rows whose old types fall into it. No words at all are the index of the empty list.
-use Rattle.std.specs.Prelude.{ℕ, ◌+◌, ◌-◌, ◌*◌, ◌/◌, ◌%◌, ◌<◌, ◌≤◌, Bool, true, false, not, List, [], ◌∷◌, ◌≢◌, ◌≡◌, length, get_or, take, drop}
+use Rattle.std.specs.Prelude.{ℕ, ◌+◌, ◌-◌, ◌*◌, ◌/◌, ◌%◌, ◌<◌, ◌≤◌, Bool, true, false, not, List, [], ◌∷◌, ◌≢◌, ◌≡◌, length, get_or, take, drop, Option, Some, None}
 use Rattle.rules.specs.Lists.{all}
 use Rattle.rules.specs.Types.{old_types, present_types, stands_in, each_once, types_hold}
 
@@ -60,14 +60,18 @@ pub record Chained (w : List ℕ) : Type 0 where
   pub rows : ℕ
   pub entered : Entered w rows
 
--- r, counted from 1, is the row below n whose old type is t; it is 0 where there is none
-pub record Found (w : List ℕ) (n t r : ℕ) : Type 0 where
-  pub low : r ≤ n
-  pub there : 0 < r → old_at w (r - 1) ≡ t
-  pub none : r ≡ 0 → (j : ℕ) → j < n → old_at w j ≢ t
+-- r is the row below n whose old type is t
+pub record FoundAt (w : List ℕ) (n t r : ℕ) : Type 0 where
+  pub low : r < n
+  pub there : old_at w r ≡ t
+
+-- the row below n whose old type is t, if there is one
+abbrev pub Found : List ℕ → ℕ → ℕ → Option ℕ → Type 0
+Found w n t (Some r) = FoundAt w n t r
+Found w n t None = (j : ℕ) → j < n → old_at w j ≢ t
 
 -- however many rows are entered, r is the one among them
-abbrev pub Finds : List ℕ → ℕ → ℕ → Type 0
+abbrev pub Finds : List ℕ → ℕ → Option ℕ → Type 0
 Finds w t r = (n : ℕ) → Entered w n → Found w n t r
 
 -- ---- an index
@@ -83,13 +87,18 @@ pub data IsIndex (w : List ℕ) : Type 0 where
   nothing : w ≡ [] → IsIndex w
   table : Table w → IsIndex w
 
--- n words are the index of the list; or the list doesn't hold, and n is 0
-pub record Indexes (types index : List ℕ) (n : ℕ) : Type 0 where
-  pub refused : n ≡ 0 → types_hold types ≡ false
-  pub holds : 0 < n → types_hold types ≡ true
+-- the list holds, and the first n words, at least one, are its index
+pub record IsIndexed (types index : List ℕ) (n : ℕ) : Type 0 where
+  pub holds : types_hold types ≡ true
+  pub some : 0 < n
   pub low : n ≤ length index
-  pub is_index : 0 < n → IsIndex (take n index)
-  pub list : 0 < n → list_in (take n index) ≡ types
+  pub is_index : IsIndex (take n index)
+  pub list : list_in (take n index) ≡ types
+
+-- so many words are the index of the list; None where the list doesn't hold
+abbrev pub Indexes : List ℕ → List ℕ → Option ℕ → Type 0
+Indexes types index (Some n) = IsIndexed types index n
+Indexes types index None = types_hold types ≡ false
 
 -- ---- how one is made
 

@@ -2,18 +2,16 @@
 ghost use Rattle.std.specs.Prelude.{◌≡◌, ◌<◌, ◌/◌, length};
 ghost use Rattle.renaming.specs.Index.{index_length, Entered, Adds, Rows, EntersRows, WholeAndFew, none_renamed, Indexes};
 
-use crate::lookup::{bucket, row_of};
-use layout::lists::fill_at;
+use crate::lookup::{BUCKETS, bucket, row_of};
 
 // How many words an index of the longest list has.
 pub const INDEX_LENGTH: usize = 256;
-
-const BUCKETS: usize = 64;
 
 // The words of the longest list: 64 rows.
 const MOST_WORDS: usize = 128;
 
 // Row k comes into its place, and before the other rows of its bucket.
+#[tactic(auto, using(crate::proofs::Chains::bucket_low))]
 fn enter(index: &mut [u32], k: usize, old: u32, present: u32)
     requires index_len { length index.old ≡ index_length }
     requires k_bound { k < 64 }
@@ -34,14 +32,11 @@ fn enter_rows(types: &[u32], index: &mut [u32]) -> bool
     requires entered { Entered index.old 0 }
     ensures { EntersRows types.now index.new result }
 {
-    let mut k = 0;
-    while 2 * k < types.len() {
-        let old = types[2 * k];
-        if row_of(index, old) != 0 {
+    for (k, [old, present]) in types.as_chunks::<2>().0.iter().enumerate() {
+        if row_of(index, *old).is_some() {
             return false;
         }
-        enter(index, k, old, types[2 * k + 1]);
-        k += 1;
+        enter(index, k, *old, *present);
     }
     true
 }
@@ -52,34 +47,27 @@ fn none_renamed(types: &[u32], index: &[u32]) -> bool
     requires rows { Rows types.now index.now (length types.now / 2) }
     ensures { result ≡ none_renamed types.now }
 {
-    let mut row = 0;
-    while 2 * row < types.len() {
-        if row_of(index, types[2 * row + 1]) != 0 {
+    let (rows, _) = types.as_chunks::<2>();
+    for [_, present] in rows {
+        if row_of(index, *present).is_some() {
             return false;
         }
-        row += 1;
     }
     true
 }
 
-// Makes the index of a list, whatever the words held before, and tells how many words it has: 0 where the list doesn't hold, and then the
-// words are of no use.
-pub fn index_types(types: &[u32], index: &mut [u32]) -> usize
+// Makes the index of a list, whatever the words held before, and tells how many words it has: None where the list doesn't hold, and then
+// the words are of no use.
+pub fn index_types(types: &[u32], index: &mut [u32]) -> Option<usize>
     requires { length index.old ≡ index_length }
     ensures { Indexes types.now index.new result }
 {
-    if types.len() % 2 != 0 {
-        return 0;
+    if types.len() % 2 != 0 || types.len() > MOST_WORDS {
+        return None;
     }
-    if types.len() > MOST_WORDS {
-        return 0;
+    index[0..BUCKETS].fill(0);
+    if !enter_rows(types, index) || !none_renamed(types, index) {
+        return None;
     }
-    fill_at(index, 0, BUCKETS, 0);
-    if !enter_rows(types, index) {
-        return 0;
-    }
-    if !none_renamed(types, index) {
-        return 0;
-    }
-    BUCKETS + types.len() / 2 * 3
+    Some(BUCKETS + 3 * (types.len() / 2))
 }

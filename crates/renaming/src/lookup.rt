@@ -1,31 +1,38 @@
 // A type's present type, by the index of a list of renamed types.
-ghost use Rattle.std.specs.Prelude.{map, ◌≡◌, eqb};
+ghost use Rattle.std.specs.Prelude.{map, ◌≡◌, ◌+◌, ◌*◌, ◌<◌, eqb, length, IfSome};
 ghost use Rattle.rules.specs.Lists.{same_list};
 ghost use Rattle.rules.specs.Types as types;
 ghost use Rattle.renaming.specs.Index.{bucket_of, list_in, Chained, IsIndex, Finds};
 
+// How many buckets an index has, in front of its rows.
+pub const BUCKETS: usize = 64;
+
 // The bucket of an old type: the upper six of the 32 bits of its product with the golden ratio's, which spreads numbers that stand side by
 // side.
+#[tactic(auto, unfolding(crate::specs::Index::bucket_of))]
 pub fn bucket(t: u32) -> usize
     ensures { result ≡ bucket_of t }
 {
-    (t as u64 * 2654435769 % 4294967296 / 67108864) as usize
+    (t.wrapping_mul(2654435769) >> 26) as usize
 }
 
-// The row whose old type is t, counted from 1, or 0 where there is none.
-pub fn row_of(index: &[u32], t: u32) -> u32
+// The row whose old type is t. A bucket names its last row, and a row the one before it, counted from 1, or 0 for none.
+#[tactic(auto, using(crate::proofs::Chains::bucket_low))]
+pub fn row_of(index: &[u32], t: u32) -> Option<usize>
     requires { Chained index.now }
-    ensures { Finds index.now t result }
+    ensures finds { Finds index.now t result }
+    ensures within { IfSome result (λ row. 66 + 3 * row < length index.now) }
 {
-    let mut i = index[bucket(t)];
+    // A loop, since each row leads to the next: an iterator over a chain would have this loop in it, and be no plainer.
+    let mut i = index[bucket(t)] as usize;
     while i > 0 {
-        let row = 61 + 3 * i as usize;
+        let row = BUCKETS + 3 * (i - 1);
         if index[row] == t {
-            return i;
+            return Some(i - 1);
         }
-        i = index[row + 2];
+        i = index[row + 2] as usize;
     }
-    0
+    None
 }
 
 // The present type of t: t itself where it has no row.
@@ -33,14 +40,13 @@ pub fn present(index: &[u32], t: u32) -> u32
     requires { IsIndex index.now }
     ensures { result ≡ types.present (list_in index.now) t }
 {
-    if index.len() == 0 {
+    if index.is_empty() {
         return t;
     }
-    let i = row_of(index, t);
-    if i == 0 {
-        return t;
+    match row_of(index, t) {
+        Some(row) => index[BUCKETS + 3 * row + 1],
+        None => t,
     }
-    index[62 + 3 * i as usize]
 }
 
 // Two types have one present type.
@@ -48,13 +54,7 @@ pub fn same_type(index: &[u32], a: u32, b: u32) -> bool
     requires { IsIndex index.now }
     ensures { result ≡ eqb (types.present (list_in index.now) a) (types.present (list_in index.now) b) }
 {
-    if a == b {
-        return true;
-    }
-    if index.len() == 0 {
-        return false;
-    }
-    present(index, a) == present(index, b)
+    a == b || (!index.is_empty() && present(index, a) == present(index, b))
 }
 
 // Two lists of types have the same present types.
@@ -62,15 +62,5 @@ pub fn types_eq(index: &[u32], l: &[u32], r: &[u32]) -> bool
     requires { IsIndex index.now }
     ensures { result ≡ same_list eqb (map (types.present (list_in index.now)) l.now) (map (types.present (list_in index.now)) r.now) }
 {
-    if l.len() != r.len() {
-        return false;
-    }
-    let mut i = 0;
-    while i < l.len() {
-        if !same_type(index, l[i], r[i]) {
-            return false;
-        }
-        i += 1;
-    }
-    true
+    l.len() == r.len() && l.iter().zip(r).all(|(x, y)| same_type(index, *x, *y))
 }

@@ -1,23 +1,22 @@
 -- Going back to a mark that is not set is refused, and else the buffer is read as the journal's step. Assumes nothing.
-use Prim.Native.Nat.{ℕ, ◌<◌, ◌≤◌}
+use Prim.Native.Nat.{ℕ, ◌<◌}
 use native.Mathlib.Omega.{arith}
 use mathlib.Core.Bool.{true}
 use mathlib.Core.List.{List, []}
 use mathlib.Core.Option.{none, some}
 use mathlib.Core.Path.{◌≡◌, refl, sym, ap, ◌∙◌}
-use borrow.Author.Tests.{lt-ltb, le-ltb}
+use borrow.Author.Tests.{lt-ltb}
 use lib.Dec.{ltb}
 use lib.ListN.{length, take}
+use Rattle.std.specs.Prelude.{None}
 use Rattle.rules.specs.Lists.{any}
-use Rattle.rules.specs.Building.{first_failed}
+use Rattle.rules.specs.Building.{accepted, first_failed}
 use Rattle.rules.specs.Marks.{go_back, is_mark, is_set, marked_tests, marked_acceptance}
 use Rattle.rules.proofs.Basics.Tests.{and_both}
 use Rattle.layout.specs.Columns.{Cols, columns}
 use Rattle.layout.specs.Reading.{store_of}
 use Rattle.layout.proofs.Scans.{and_false}
 use Rattle.layout.proofs.Tabulate.{length_tabulate}
-use Rattle.calling.specs.declared.types.Built.TheVariants as Builts
-use Rattle.calling.specs.Types.{built_of}
 use Rattle.calling.proofs.Causes.{none_fail, fails, passes}
 use Rattle.journal.specs.Journal.{MarkRow, Journaled, marked_of, row_has_number, rows_up_to, row_or, snapshot_of, journaled_back}
 use Rattle.journal.specs.Words.{mark_count, journal_of, row_at, rows_of, journaled_of, marked_in}
@@ -26,8 +25,9 @@ use Rattle.journal.proofs.Rows.{facts, found}
 use Rattle.journal.proofs.ReadTests.{tests_read}
 use Rattle.journal.proofs.ReadBack.{back_read}
 use Rattle.journal.proofs.KeptBack.{back_sound_lem}
-use Rattle.marks.specs.Raw.{row_of}
+use Rattle.marks.specs.Raw.{row_of, row_found}
 use Rattle.marks.specs.Doing.{DidMarked}
+use Rattle.marks.proofs.Chosen.{no_row}
 use Rattle.marks.proofs.Lent.{Lent}
 use Rattle.marks.proofs.Doing.{marked_work}
 use Rattle.marks.proofs.Sought.{place_set, place_row, place_up_to}
@@ -50,9 +50,9 @@ module _ (b : List ℕ) (h : Lent b) (k : ℕ) where
   unfolding rows_of
   count = length_tabulate (mark_count C) (row_at C)
 
-  pub not_set : mark_count C ≤ row_of C k → first_failed (marked_tests (marked_in b) (go_back k)) ≡ some 16
+  pub not_set : row_found C k ≡ None → first_failed (marked_tests (marked_in b) (go_back k)) ≡ some 16
   unfolding marked_tests
-  not_set l = fails _ 16 [] (and_false (is_mark k) _ (is_set_lem ∙ le-ltb (row_of C k) (length (rows_of C)) (omega (arith, count))))
+  not_set e = fails _ 16 [] (and_false (is_mark k) _ (is_set_lem ∙ ap (ltb (row_of C k)) count ∙ no_row C k e))
 
   module _ (l : row_of C k < mark_count C) where
     abbrev row : ℕ
@@ -91,8 +91,8 @@ module _ (b : List ℕ) (h : Lent b) (k : ℕ) where
           let rows = w.rows ∙ sym (place_up_to k (rows_of C)) ∙ ap (λ (m : ℕ). rows_up_to m (rows_of C)) (sym numbered) in
           λ t. record { store = stores t; journal = journals t; rows = rows t }
 
-      pub back_done : DidMarked b exit (go_back k) Builts.Accepted
-      unfolding BackRead BackSound marked_acceptance built_of journaled_of
+      pub back_done : DidMarked b exit (go_back k) accepted
+      unfolding BackRead BackSound marked_acceptance journaled_of
       back_done =
-          marked_work b (go_back k) Builts.Accepted exit after clear step (back_read j k h.journal there (row_at C 0)) (back_sound_lem j k h.journal there (row_at C 0))
+          marked_work b (go_back k) accepted exit after clear step (back_read j k h.journal there (row_at C 0)) (back_sound_lem j k h.journal there (row_at C 0))
           (omega (arith, w.marks, h.few)) w.holds w.tables refl

@@ -10,11 +10,11 @@ use lib.ListN.{length, get_or, drop}
 use Rattle.rules.specs.Store.{Store, sound, operand_total, successor_total, attribute_total}
 use Rattle.rules.proofs.Basics.Tests.{every_of}
 use Rattle.rules.proofs.Basics.Appended.{mem_get_d}
-use Rattle.layout.specs.Columns.{Cols, columns, at, mark_place, mark_number, mark_counts}
+use Rattle.layout.specs.Columns.{Cols, columns, at, mark_place, mark_number, mark_counts, journal_counts}
 use Rattle.layout.specs.Reading.{tabulate, store_of}
 use Rattle.layout.proofs.Tabulate.{length_tabulate, get_d_tabulate}
 use Rattle.journal.specs.Journal.{Entry, counts_of, counts_within, no_counts, cut_to, undone_all, undoable_all, MarkRow, snapshot_of}
-use Rattle.journal.specs.Words.{mark_count, entry_count, entry_at, journal_of, row_counts, row_at, rows_of, journaled_of, totals_kept, ranges_end}
+use Rattle.journal.specs.Words.{max_entries, mark_count, entry_count, entry_at, journal_of, row_counts, row_at, rows_of, journaled_of, totals_kept, ranges_end}
 use Rattle.journal.proofs.Counted.{counts_undone}
 use Rattle.journal.proofs.Rows.{Between, Facts, facts, row_at_lem}
 use Rattle.journal.proofs.KeptBack.{sound_at}
@@ -66,6 +66,11 @@ module _ (b : List ℕ) (h : Lent b) (row : ℕ) (set : row < mark_count (column
   pub place_fits : place ≤ entry_count C
   unfolding row_at
   place_fits = omega (arith, between.to, ap length journal_is, length_tabulate (entry_count C) (entry_at C))
+
+  -- in words, as the code reads them
+  pub place_low : (at (columns b) mark_place row ≤ at (columns b) journal_counts 0) × (at (columns b) journal_counts 0 ≤ max_entries)
+  unfolding entry_count
+  place_low = (place_fits, words.short)
 
   -- ---- what is undone
 

@@ -2,18 +2,20 @@
 ghost use Rattle.std.specs.Prelude.{◌≡◌, ◌<◌, ◌≤◌, length};
 ghost use Rattle.rules.specs.Marks.{go_back};
 ghost use Rattle.layout.specs.Columns.{buffer_length, columns};
+ghost use Rattle.calling.specs.Types.{done_of};
 ghost use Rattle.journal.specs.Words.{mark_count, max_entries};
 ghost use Rattle.marks.specs.Doing.{IsLent, DidMarked};
 ghost use Rattle.returning.specs.Returning.{forgotten, PutBack};
 
-use calling::types::Built;
 use cutting::tables::cut_tables;
+use layout::causes::Cause;
 use layout::columns::{COUNTS, ENTRIES, JOURNAL_COUNTS, MARK_PLACE, MARKS, REPLACED, number, put};
 use marks::freeing::replaced_before;
 use marks::rows::row_of;
 use undoing::entries::undo_between;
 
 // The journal ends at entry n: those behind it are forgotten, and the replacements among them.
+#[tactic(auto, unfolding(crate::specs::Returning::forgotten))]
 fn forget_from(store: &mut [u32], n: usize)
     requires store_len { length store.old ≡ buffer_length }
     requires n_le_max_entries { n ≤ max_entries }
@@ -25,6 +27,7 @@ fn forget_from(store: &mut [u32], n: usize)
 }
 
 // What the accepted call does.
+#[tactic(auto, using(marks::proofs::Lent::lent_facts, crate::proofs::Undone::place_low))]
 fn put_back(store: &mut [u32], row: usize)
     requires lent { IsLent store.old }
     requires row_bound { row < mark_count (columns store.old) }
@@ -39,14 +42,14 @@ fn put_back(store: &mut [u32], row: usize)
 }
 
 // The call, on a lent buffer.
-pub fn go_back(store: &mut [u32], mark: u32) -> Built
+#[tactic(auto, using(marks::proofs::Lent::lent_facts, marks::proofs::Chosen::row_there))]
+pub fn go_back(store: &mut [u32], mark: u32) -> Result<(), Cause>
     requires { IsLent store.old }
-    ensures { DidMarked store.old store.new (go_back mark) result }
+    ensures { DidMarked store.old store.new (go_back mark) (done_of result) }
 {
-    let row = row_of(store, mark);
-    if row >= number(store, COUNTS, MARKS) {
-        return Built::Refused(16);
-    }
+    let Some(row) = row_of(store, mark) else {
+        return Err(Cause::NoMark);
+    };
     put_back(store, row);
-    Built::Accepted
+    Ok(())
 }

@@ -5,6 +5,7 @@ use mathlib.Core.List.{List}
 use mathlib.Core.Path.{◌≡◌, refl, sym, ap, ap₂, subst, ◌∙◌}
 use borrow.Author.Tests.{le-leb, lt-leb}
 use lib.Dec.{leb}
+use Rattle.std.specs.Prelude as std
 use Rattle.rules.specs.Fragments.{block, exists}
 use Rattle.rules.specs.Building.{first_failed}
 use Rattle.rules.specs.Shells.{Ignore}
@@ -12,43 +13,44 @@ use Rattle.rules.specs.Types.{types_hold, renamed}
 use Rattle.rules.specs.Runs.{max_run, repeated, repeated_of, repeated_by, repeated_run, run_tests}
 use Rattle.rules.specs.Statements.{RepeatedIs}
 use Rattle.rules.proofs.Runs.Answered.{repeated_is}
+use Rattle.layout.specs.declared.causes.Cause.{Cause}
+use Rattle.layout.specs.declared.causes.Cause.TheVariants as causes
 use Rattle.layout.specs.Reading.{store_in}
 use Rattle.layout.specs.Soundness.{IsSound}
 use Rattle.runs.specs.Calls.{found_of, Answered}
-use Rattle.runs.specs.declared.types.Repeated.{Repeated}
-use Rattle.runs.specs.declared.types.Repeated.TheVariants.{Refused}
+use Rattle.runs.specs.declared.types.Starts.{Starts}
 
 module _ (store types : List ℕ) (ig : Ignore) (b n : ℕ) where
-  pub unsound : (ok : Bool) → ok ≡ false → Answered ok store types ig b n (Refused 1)
+  pub unsound : (ok : Bool) → ok ≡ false → Answered ok store types ig b n (std.Err causes.NotSound)
   unfolding repeated_run repeated_by run_tests first_failed found_of
   unsound ok e = record { told = rw e refl }
 
   -- found to be sound, as if known to be
-  pub as_found : (ok : Bool) → ok ≡ true → {q : Repeated} → Answered true store types ig b n q → Answered ok store types ig b n q
+  pub as_found : (ok : Bool) → ok ≡ true → {q : std.Result (std.Option Starts) Cause} → Answered true store types ig b n q → Answered ok store types ig b n q
   as_found ok e {q} h = subst (λ (t : Bool). Answered t store types ig b n q) (sym e) h
 
   module _ (h : IsSound store) where
-    pub untyped : types_hold types ≡ false → Answered true store types ig b n (Refused 14)
+    pub untyped : types_hold types ≡ false → Answered true store types ig b n (std.Err causes.BadTypes)
     unfolding repeated_run repeated_by run_tests first_failed found_of
     untyped t = record { told = rw t refl }
 
     module _ (t : types_hold types ≡ true) where
-      pub missing : exists (store_in store) block b ≡ false → Answered true store types ig b n (Refused 2)
+      pub missing : exists (store_in store) block b ≡ false → Answered true store types ig b n (std.Err causes.NotThere)
       unfolding repeated_run repeated_by run_tests first_failed found_of
       missing e = record { told = rw (t, e) refl }
 
       module _ (e : exists (store_in store) block b ≡ true) where
-        outside : leb 1 n && leb n max_run ≡ false → Answered true store types ig b n (Refused 15)
+        outside : leb 1 n && leb n max_run ≡ false → Answered true store types ig b n (std.Err causes.BadRunLength)
         unfolding repeated_run repeated_by run_tests first_failed found_of
         outside l = record { told = rw (t, e, l) refl }
 
-        pub no_length : n ≡ 0 → Answered true store types ig b n (Refused 15)
+        pub no_length : n ≡ 0 → Answered true store types ig b n (std.Err causes.BadRunLength)
         no_length z = outside (ap (λ (k : ℕ). leb 1 k && leb k max_run) z)
 
-        pub too_long_lem : 1 ≤ n → max_run < n → Answered true store types ig b n (Refused 15)
+        pub too_long_lem : 1 ≤ n → max_run < n → Answered true store types ig b n (std.Err causes.BadRunLength)
         too_long_lem low high = outside (ap₂ (λ (x y : Bool). x && y) (le-leb 1 n low) (lt-leb n max_run high))
 
-        pub answered : 1 ≤ n → n ≤ max_run → (q : Repeated) → found_of q ≡ repeated_of (repeated (renamed types (store_in store)) ig b n) → Answered true store types ig b n q
+        pub answered : 1 ≤ n → n ≤ max_run → (q : std.Option Starts) → found_of (std.Ok q) ≡ repeated_of (repeated (renamed types (store_in store)) ig b n) → Answered true store types ig b n (std.Ok q)
         unfolding RepeatedIs
         answered low high q f =
             record { told = repeated_is (store_in store) h.ruled types t ig b n e low high ∙ sym f }

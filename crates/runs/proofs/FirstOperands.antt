@@ -30,7 +30,7 @@ use Rattle.layout.proofs.Seeking.{Rising, ops_rise}
 use Rattle.numbering.proofs.Reading.{owner_code_lem}
 use Rattle.runs.specs.Walked.{RunsIn, left_run, left_results}
 use Rattle.runs.specs.declared.types.TwoRuns.{TwoRuns}
-use Rattle.runs.proofs.Stepping.{run_first}
+use Rattle.runs.proofs.Listed.{run_first}
 
 -- ---- a run of numbers that rise
 
@@ -73,15 +73,15 @@ module _ {store ops : List ℕ} {x : TwoRuns} (h : RunsIn store ops x) where
     pub owner : ℕ
     pub code : w ≡ 2 * owner
     pub from : get_or ops x.left 0 ≤ owner
-    pub to : owner ≤ get_or ops (x.left + x.n - 1) 0
+    pub to : owner ≤ get_or ops (x.left + x.runs.n - 1) 0
 
   pub result_owner : (v : ℕ) → v < value_count (columns store) → Memᴰ v (left_results (store_in store) ops x) → OwnedWithin (at (columns store) value_owner v)
   unfolding results_of owner_code
   result_owner v l m =
       let p = mem_concat_map (results_of (store_in store)) (left_run ops x) m in
       let own : (value_at (store_in store) v).owner ≡ of_op p.0 = (values_in_lem (store_in store) (of_op p.0) p.2).1 in
-      let rising : Rising ops = subst Rising (sym h.listed.all) (ops_rise (store_in store) x.block) in
-      let between = run_between ops rising x.n x.left h.left p.1 in
+      let rising : Rising ops = subst Rising (sym h.listed.all) (ops_rise (store_in store) x.runs.block) in
+      let between = run_between ops rising x.runs.n x.left h.left p.1 in
       record { owner = p.0; code = sym (owner_code_lem (columns store) v l) ∙ ap owner_code own; from = between.0; to = between.1 }
 
   -- ---- runs whose first operands differ
@@ -96,23 +96,23 @@ module _ {store ops : List ℕ} {x : TwoRuns} (h : RunsIn store ops x) where
     abbrev rights : List ℕ
     rights = (op_at (store_in store) (get_or ops x.right 0)).operands
 
-    begins : (i : ℕ) → i + x.n ≤ length ops → run_of (ops_of s x.block) x.n i ≡ get_or ops i 0 ∷ run_of ops (x.n - 1) (i + 1)
+    begins : (i : ℕ) → i + x.runs.n ≤ length ops → run_of (ops_of s x.runs.block) x.runs.n i ≡ get_or ops i 0 ∷ run_of ops (x.runs.n - 1) (i + 1)
     unfolding renamed ops_of
-    begins i l = ap (λ (os : List ℕ). run_of os x.n i) (sym h.listed.all) ∙ run_first ops x.n i h.some l
+    begins i l = ap (λ (os : List ℕ). run_of os x.runs.n i) (sym h.listed.all) ∙ run_first ops x.runs.n i h.some l
 
-    own_results_lem : concat_map (results_of s) (get_or ops x.left 0 ∷ run_of ops (x.n - 1) (x.left + 1)) ≡ left_results (store_in store) ops x
+    own_results_lem : concat_map (results_of s) (get_or ops x.left 0 ∷ run_of ops (x.runs.n - 1) (x.left + 1)) ≡ left_results (store_in store) ops x
     unfolding results_of
-    own_results_lem = λ i. concat_map (λ (p : ℕ). values_renamed types (store_in store) (of_op p) i) (sym (run_first ops x.n x.left h.some h.left) i)
+    own_results_lem = λ i. concat_map (λ (p : ℕ). values_renamed types (store_in store) (of_op p) i) (sym (run_first ops x.runs.n x.left h.some h.left) i)
 
     pub uses_differ : (i : ℕ) → i < length lefts → (get_or lefts i 0 ≡ get_or rights i 0 → ⊥) → (Memᴰ (get_or lefts i 0) (left_results (store_in store) ops x) → ⊥)
-        → same_runs s ig x.block x.n x.left x.right ≡ false
+        → same_runs s ig x.runs.block x.runs.n x.left x.right ≡ false
     unfolding same_runs renamed op_at
-    uses_differ i l other outside = go (decided (same_runs s ig x.block x.n x.left x.right))
+    uses_differ i l other outside = go (decided (same_runs s ig x.runs.block x.runs.n x.left x.right))
       where
-        go : (same_runs s ig x.block x.n x.left x.right ≡ true) ⊎ (same_runs s ig x.block x.n x.left x.right ≡ false)
-            → same_runs s ig x.block x.n x.left x.right ≡ false
+        go : (same_runs s ig x.runs.block x.runs.n x.left x.right ≡ true) ⊎ (same_runs s ig x.runs.block x.runs.n x.left x.right ≡ false)
+            → same_runs s ig x.runs.block x.runs.n x.left x.right ≡ false
         go (inl e) =
-            let same = ap₂ (λ (ls rs : List ℕ). succeeds (compare_runs s ig x.block ls rs)) (sym (begins x.left h.left)) (sym (begins x.right h.right)) ∙ e in
+            let same = ap₂ (λ (ls rs : List ℕ). succeeds (compare_runs s ig x.runs.block ls rs)) (sym (begins x.left h.left)) (sym (begins x.right h.right)) ∙ e in
             ⊎_elim (λ k. absurd (other k)) (λ m. absurd (outside (subst (Memᴰ (get_or lefts i 0)) own_results_lem m)))
-            (first_uses s ig x.block _ _ _ _ same i l)
+            (first_uses s ig x.runs.block _ _ _ _ same i l)
         go (inr e) = e

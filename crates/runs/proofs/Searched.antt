@@ -7,8 +7,9 @@ use mathlib.Core.Bool.{Bool, true, false}
 use mathlib.Core.List.{List}
 use mathlib.Core.Logic.{◌⊎◌, inl, inr}
 use mathlib.Core.Option.{Option, none, some}
-use mathlib.Core.Path.{◌≡◌, refl, sym, ap, ap₂, ◌∙◌}
+use mathlib.Core.Path.{◌≡◌, refl, sym, ap, ap₂, subst, ◌∙◌}
 use lib.ListN.{length, get_or}
+use Rattle.std.specs.Prelude as std
 use Rattle.rules.specs.Store.{Store, ops_of}
 use Rattle.rules.specs.Shells.{Ignore}
 use Rattle.rules.specs.Runs.{Run, run_of, same_runs, first_of, left_start, or_later, first_run, repeated, window_sum}
@@ -19,9 +20,8 @@ use Rattle.rules.proofs.Runs.Windows.{same_window}
 use Rattle.layout.specs.Reading.{store_in}
 use Rattle.fragments.specs.Options.{Options, under}
 use Rattle.windows.specs.Windows.{SumsOf}
-use Rattle.windows.specs.Chains.{bucket_of, Follows}
-use Rattle.runs.specs.Walked.{OpsOf, left_from}
-use Rattle.runs.specs.declared.types.TwoRuns.{TwoRuns}
+use Rattle.windows.specs.Chains.{bucket_of, Without, FirstFrom, Follows}
+use Rattle.runs.specs.Walked.{OpsOf}
 
 -- ---- runs whose sums differ
 
@@ -44,22 +44,6 @@ module _ {store ops : List ℕ} (sums : List ℕ) (o : Options) {b : ℕ} (n : �
           ∙ same_window s o.ignore b _ _ e
           ∙ sym (ap (window_sum s o.ignore) (listed j)) ∙ sym (sum j c)))
       go (inr e) = e
-
--- the first start of a bucket is not behind one of its starts
-pub first_low : {sums : List ℕ} {starts first : ℕ} (j : ℕ) → Follows sums starts (bucket_of (get_or sums j 0)) 0 first → j < starts → first ≤ j
-first_low {sums} {starts} {first} j begins l = go (dec_lt j first)
-  where
-    go : Dec (j < first) → first ≤ j
-    go (yes m) = absurd (begins.none j (omega arith) m l refl)
-    go (no m) = omega arith
-
--- the starts before it have other sums, and so other runs
-pub earlier_differ : {store ops : List ℕ} (sums : List ℕ) (o : Options) {b : ℕ} (n : ℕ) → OpsOf store ops b → SumsOf (store_in store) o ops sums n
-    → (j : ℕ) {first : ℕ} → Follows sums (suc (length ops) - n) (bucket_of (get_or sums j 0)) 0 first → j + n ≤ length ops
-    → (k : ℕ) → k < first → k + n ≤ j → same_runs (under o (store_in store)) o.ignore b n k j ≡ false
-earlier_differ sums o n h sum j begins fits k l m =
-    let low = first_low j begins (omega (arith, fits)) in
-    sums_differ sums o n h sum k j (omega (arith, fits)) fits (λ e. begins.none k (omega arith) l (omega (arith, low, fits)) (ap bucket_of e))
 
 -- ---- the first that passes
 
@@ -166,12 +150,82 @@ module _ (s : Store) (ig : Ignore) (b n : ℕ) where
     unfolding first_run
     right_over l = let k : suc count - n - j ≡ 0 = omega arith in ap (λ (m : ℕ). first_run m j lefts) k
 
--- from the first left start on, and from a later one where those before it are not equal
-pub left_whole : (S : Store) (o : Options) (x : TwoRuns)
-    → ((k : ℕ) → k < x.left → k + x.n ≤ x.right → same_runs (under o S) o.ignore x.block x.n k x.right ≡ false)
-    → left_from S o x ≡ left_start (under o S) o.ignore x.block x.n x.right
-unfolding left_from left_start
-left_whole S o x h =
-    let p : ℕ → Bool = λ (i : ℕ). same_runs (under o S) o.ignore x.block x.n i x.right in
-    let k : suc x.right - x.n - 0 ≡ suc x.right - x.n = omega arith in
-    sym (left_on_lem p x.n x.right 0 x.left (omega arith) (λ i a l m. h i l m)) ∙ ap (λ (m : ℕ). first_of m 0 p) k
+-- ---- left starts by their buckets
+
+-- how many starts are left to try, from the next one on
+unfoldable pub to_go : ℕ → std.Option ℕ → ℕ
+to_go many (std.Some i) = suc (many - i)
+to_go many std.None = 0
+
+pub fewer_to_go : (sums : List ℕ) (b i : ℕ) (next : std.Option ℕ) → i < length sums → Follows sums b (suc i) next → to_go (length sums) next < to_go (length sums) (std.Some i)
+unfolding to_go Follows
+fewer_to_go sums b i (std.Some e) l f = omega (arith, f.from, f.bound)
+fewer_to_go sums b i std.None l f = omega arith
+
+-- whether the run from a start on is the right one
+abbrev pub equals : Store → Options → ℕ → ℕ → ℕ → ℕ → Bool
+equals S o b n right i = same_runs (under o S) o.ignore b n i right
+
+-- all starts before a are tried, and from a on the next one to try is this
+pub record Tried (S : Store) (sums : List ℕ) (o : Options) (b n right a : ℕ) (next : std.Option ℕ) : Type 0 where
+  pub left : left_start (under o S) o.ignore b n right ≡ left_on (equals S o b n right) n right a
+  pub follows : Follows sums (bucket_of (get_or sums right 0)) a next
+
+pub tried_none : (S : Store) (sums : List ℕ) (o : Options) (b n right : ℕ) (next : std.Option ℕ) → Follows sums (bucket_of (get_or sums right 0)) 0 next
+    → Tried S sums o b n right 0 next
+unfolding left_start
+tried_none S sums o b n right next f =
+    let all : suc right - n ≡ suc right - n - 0 = omega arith in
+    record { left = ap (λ (k : ℕ). first_of k 0 (equals S o b n right)) all; follows = f }
+
+module _ {store ops : List ℕ} (sums : List ℕ) (o : Options) {b : ℕ} (n : ℕ) (h : OpsOf store ops b) (sum : SumsOf (store_in store) o ops sums n)
+    (long : length sums ≡ suc (length ops) - n) (few : 1 ≤ n) (right : ℕ) (fits : right + n ≤ length ops) (a : ℕ)
+  where
+    abbrev test : ℕ → Bool
+    test = equals (store_in store) o b n right
+
+    abbrev whole : Option ℕ
+    whole = left_start (under o (store_in store)) o.ignore b n right
+
+    -- a start of another bucket has another run
+    apart : (e : ℕ) → Without sums (bucket_of (get_or sums right 0)) a e → (k : ℕ) → a ≤ k → k < e → k + n ≤ right → test k ≡ false
+    apart e w k m l r = sums_differ sums o n h sum k right (omega (arith, fits)) fits (λ q. w k m l (ap bucket_of q))
+
+    -- no start is left
+    pub tried_all : Tried (store_in store) sums o b n right a std.None → whole ≡ none
+    unfolding Follows
+    tried_all t =
+        t.left
+        ∙ left_on_lem test n right a (a + suc right) (omega arith) (λ k m l r. apart (length sums) t.follows k m (omega (arith, long, few, fits)) r)
+        ∙ left_over test n right (a + suc right) (omega arith)
+
+    module _ (i : ℕ) (t : Tried (store_in store) sums o b n right a (std.Some i)) where
+      next_is : FirstFrom sums (bucket_of (get_or sums right 0)) a i
+      unfolding Follows
+      next_is = t.follows
+
+      up_to : whole ≡ left_on test n right i
+      up_to = t.left ∙ left_on_lem test n right a i next_is.from (apart i next_is.none)
+
+      pub tried_here : i < length sums
+      tried_here = next_is.bound
+
+      -- its run doesn't end before the right one begins
+      pub tried_over : right < i + n → whole ≡ none
+      tried_over l = up_to ∙ left_over test n right i l
+
+      pub tried_found : i + n ≤ right → test i ≡ true → whole ≡ some i
+      tried_found l e = up_to ∙ left_here_lem test n right i l e
+
+      pub tried_next : i + n ≤ right → test i ≡ false → (next : std.Option ℕ) → Follows sums (bucket_of (get_or sums i 0)) (suc i) next
+          → Tried (store_in store) sums o b n right (i + 1) next
+      tried_next l e next f =
+          let one : suc i ≡ i + 1 = omega arith in
+          record {
+            left = up_to ∙ left_later test n right i l e;
+            follows = subst (λ (x : ℕ). Follows sums x (i + 1) next) next_is.own (subst (λ (x : ℕ). Follows sums (bucket_of (get_or sums i 0)) x next) one f);
+          }
+
+      -- a start whose sum is another has another run
+      pub tried_unlike : i + n ≤ right → (get_or sums i 0 ≡ get_or sums right 0 → ⊥) → test i ≡ false
+      tried_unlike l ne = sums_differ sums o n h sum i right (omega (arith, fits)) fits ne

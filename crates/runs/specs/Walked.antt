@@ -1,19 +1,19 @@
 -- Two runs of a block's operations, as they are walked through, and what is searched for.
-use Rattle.std.specs.Prelude.{ℕ, suc, ◌+◌, ◌-◌, ◌<◌, ◌≤◌, List, ◌≡◌, length, get_or}
+use Rattle.std.specs.Prelude.{ℕ, suc, ◌+◌, ◌-◌, ◌<◌, ◌≤◌, List, ◌≡◌, length}
+use Rattle.std.specs.Prelude as std
 use Rattle.std.proofs.Math.Option.{Option, none, some}
 use Rattle.rules.specs.Lists.{concat_map}
 use Rattle.rules.specs.Store.{Store, ops_of, results_of}
 use Rattle.rules.specs.Fragments.{block}
 use Rattle.rules.specs.Comparison.{State, Walk, ◌>>=◌, pairwise, each_pair, pair_of, pair_ops}
-use Rattle.rules.specs.Runs.{run_of, same_runs, first_of}
+use Rattle.rules.specs.Runs.{run_of}
 use Rattle.layout.specs.Columns.{columns}
 use Rattle.layout.specs.Reading.{block_count, store_in}
 use Rattle.fragments.specs.Options.{Options, under}
 use Rattle.equivalence.specs.Walked.{op_walk}
-use Rattle.windows.specs.Chains.{table_length, bucket_of, Chained}
+use Rattle.windows.specs.Chains.{Chained}
+use Rattle.windows.specs.declared.chains.Chains.{Chains}
 use Rattle.runs.specs.declared.types.TwoRuns.{TwoRuns}
-use Rattle.runs.specs.declared.types.LeftStart.{LeftStart}
-use Rattle.runs.specs.declared.types.LeftStart.TheVariants.{At, None}
 
 -- ops are all operations of the block
 pub record OpsOf (store ops : List ℕ) (b : ℕ) : Type 0 where
@@ -22,16 +22,16 @@ pub record OpsOf (store ops : List ℕ) (b : ℕ) : Type 0 where
 
 -- two runs that lie in them
 pub record RunsIn (store ops : List ℕ) (w : TwoRuns) : Type 0 where
-  pub listed : OpsOf store ops w.block
-  pub some : 1 ≤ w.n
-  pub left : w.left + w.n ≤ length ops
-  pub right : w.right + w.n ≤ length ops
+  pub listed : OpsOf store ops w.runs.block
+  pub some : 1 ≤ w.runs.n
+  pub left : w.left + w.runs.n ≤ length ops
+  pub right : w.right + w.runs.n ≤ length ops
 
 abbrev pub left_run : List ℕ → TwoRuns → List ℕ
-left_run ops w = run_of ops w.n w.left
+left_run ops w = run_of ops w.runs.n w.left
 
 abbrev pub right_run : List ℕ → TwoRuns → List ℕ
-right_run ops w = run_of ops w.n w.right
+right_run ops w = run_of ops w.runs.n w.right
 
 -- what the left run defines
 abbrev pub left_results : Store → List ℕ → TwoRuns → List ℕ
@@ -39,7 +39,7 @@ left_results s ops w = concat_map (results_of s) (left_run ops w)
 
 -- pass 2, pass 3, and one after the other
 abbrev pub pair_walk : Store → Options → List ℕ → TwoRuns → State → Walk
-pair_walk s o ops w st = pairwise (pair_ops (under o s) o.ignore) (pair_of block w.block w.block) (left_run ops w) (right_run ops w) st
+pair_walk s o ops w st = pairwise (pair_ops (under o s) o.ignore) (pair_of block w.runs.block w.runs.block) (left_run ops w) (right_run ops w) st
 
 abbrev pub check_walk : Store → Options → List ℕ → TwoRuns → State → Walk
 check_walk s o ops w st = each_pair (op_walk s o) (left_run ops w) (right_run ops w) st
@@ -47,23 +47,14 @@ check_walk s o ops w st = each_pair (op_walk s o) (left_run ops w) (right_run op
 unfoldable pub runs_walk : Store → Options → List ℕ → TwoRuns → State → Walk
 runs_walk s o ops w st = pair_walk s o ops w st >>= check_walk s o ops w
 
--- ---- left starts
+-- ---- starts
 
-unfoldable pub start_of : LeftStart → Option ℕ
-start_of (At i) = some i
-start_of None = none
+-- a start, or none
+unfoldable pub start_of : std.Option ℕ → Option ℕ
+start_of (std.Some i) = some i
+start_of std.None = none
 
--- the first left start from the given one on
-unfoldable pub left_from : Store → Options → TwoRuns → Option ℕ
-left_from s o w = first_of (suc w.right - w.n - w.left) w.left (λ (i : ℕ). same_runs (under o s) o.ignore w.block w.n i w.right)
-
--- ---- starts by buckets of sums
-
--- the starts of runs of n operations are chained behind their sums
-pub record ChainedStarts (sums ops : List ℕ) (n : ℕ) : Type 0 where
-  pub long : length sums ≡ table_length
-  pub chained : Chained sums (suc (length ops) - n)
-
--- the left start is of the right one's bucket
-abbrev pub BucketOf : List ℕ → TwoRuns → Type 0
-BucketOf sums w = bucket_of (get_or sums w.left 0) ≡ bucket_of (get_or sums w.right 0)
+-- the sums are those of all starts of runs of n operations, which are chained by their buckets
+pub record ChainedStarts (sums : List ℕ) (chains : Chains) (ops : List ℕ) (n : ℕ) : Type 0 where
+  pub long : length sums ≡ suc (length ops) - n
+  pub chained : Chained sums chains

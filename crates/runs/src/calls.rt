@@ -7,22 +7,32 @@ ghost use Rattle.fragments.specs.Ignoring.{ignore_of};
 ghost use Rattle.runs.specs.Calls.{Answered};
 
 use crate::finding::block_runs;
-use crate::types::Repeated;
+use crate::types::Starts;
 use fragments::ignoring::Ignore;
+use fragments::terms::Terms;
+use layout::causes::Cause;
 use lending::lent::is_sound;
 use renaming::indexing::{INDEX_LENGTH, index_types};
 
 // Search a block of a sound store, with the list of types tested and indexed first.
-fn indexed_runs(store: &[u32], types: &[u32], block: u32, length: u32, ignore: Ignore) -> Repeated
+fn indexed_runs(
+    store: &[u32],
+    types: &[u32],
+    block: u32,
+    length: u32,
+    ignore: Ignore,
+) -> Result<Option<Starts>, Cause>
     requires { IsSound store.now }
     ensures { Answered true store.now types.now (ignore_of ignore) block length result }
 {
     let mut index = [0; INDEX_LENGTH];
-    let words = index_types(types, &mut index);
-    if words == 0 {
-        return Repeated::Refused(14);
-    }
-    block_runs(store, &index[..words], block, length, ignore)
+    let words = index_types(types, &mut index).ok_or(Cause::BadTypes)?;
+    let terms = Terms {
+        store,
+        types: &index[..words],
+        ignore,
+    };
+    block_runs(&terms, block, length)
 }
 
 // The first two equal runs of `length` operations of a block that do not overlap, in a buffer that may hold any words. No words are the index
@@ -33,14 +43,19 @@ pub fn repeated_run(
     block: u32,
     length: u32,
     ignore: Ignore,
-) -> Repeated
+) -> Result<Option<Starts>, Cause>
     ensures { Answered (sound_lent store.now) store.now types.now (ignore_of ignore) block length result }
 {
     if !is_sound(store) {
-        return Repeated::Refused(1);
+        return Err(Cause::NotSound);
     }
-    if types.len() == 0 {
-        return block_runs(store, types, block, length, ignore);
+    if types.is_empty() {
+        let terms = Terms {
+            store,
+            types,
+            ignore,
+        };
+        return block_runs(&terms, block, length);
     }
     indexed_runs(store, types, block, length, ignore)
 }

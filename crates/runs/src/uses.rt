@@ -3,11 +3,11 @@
 ghost use Rattle.std.specs.Prelude.{◌≡◌, false, ℕ, ◌<◌};
 ghost use mathlib.Core.List.{List, Memᴰ};
 ghost use Rattle.rules.specs.Runs.{same_runs};
+ghost use Rattle.rules.specs.Shells.{Ignore};
 ghost use Rattle.rules.specs.Types.{renamed};
 ghost use Rattle.layout.specs.Columns.{columns};
 ghost use Rattle.layout.specs.Reading.{value_count, store_in};
 ghost use Rattle.layout.specs.Soundness.{IsSound};
-ghost use Rattle.fragments.specs.Ignoring.{ignore_of};
 ghost use Rattle.runs.specs.Walked.{RunsIn, left_results};
 
 use crate::types::TwoRuns;
@@ -22,40 +22,28 @@ fn may_define(store: &[u32], ops: &[u32], two: TwoRuns, value: u32) -> bool
     requires value_bound { value < value_count (columns store.now) }
     ensures { result ≡ false → Memᴰ value (left_results (store_in store.now) ops.now two) → ⊥ }
 {
-    let left = two.left;
     let owner = at(store, VALUE_OWNER, value as usize);
-    if owner < 2 * ops[left] {
-        return false;
-    }
-    if owner > 2 * ops[left + two.n - 1] {
-        return false;
-    }
-    owner % 2 == 0
+    let first = ops[two.left];
+    let last = ops[two.left + two.runs.n - 1];
+    owner % 2 == 0 && first <= owner / 2 && owner / 2 <= last
 }
 
 // The first operations' operands may agree: each left one is the right one, or may be a result of the left run. If not, the runs are not equal,
-// whatever types are renamed. Operands that are not as many are left to the comparison.
+// whatever types are renamed and whatever is ignored. Operands that are not as many are left to the comparison.
 pub fn first_uses_may_agree(store: &[u32], ops: &[u32], two: TwoRuns) -> bool
     requires sound { IsSound store.now }
     requires runs_in { RunsIn store.now ops.now two }
-    ensures { (types : List ℕ) → result ≡ false → same_runs (renamed types (store_in store.now)) (ignore_of two.ignore) two.block two.n two.left two.right ≡ false }
+    ensures { (types : List ℕ) (ig : Ignore) → result ≡ false → same_runs (renamed types (store_in store.now)) ig two.runs.block two.runs.n two.left two.right ≡ false }
 {
-    let left = two.left;
-    let right = two.right;
-    let l = operands_of(store, ops[left] as usize);
-    let r = operands_of(store, ops[right] as usize);
+    let l = operands_of(store, ops[two.left] as usize);
+    let r = operands_of(store, ops[two.right] as usize);
     if l.len() != r.len() {
         return true;
     }
-    let mut i = 0;
-    while i < l.len() {
-        let value = l[i];
-        if value != r[i] {
-            if !may_define(store, ops, two, value) {
-                return false;
-            }
+    for (value, other) in l.iter().zip(r) {
+        if value != other && !may_define(store, ops, two, *value) {
+            return false;
         }
-        i += 1;
     }
     true
 }

@@ -4,7 +4,7 @@ use native.Mathlib.Omega.{arith}
 use mathlib.Core.Bool.{Bool, true, false, cond, ◌||◌}
 use mathlib.Core.List.{List}
 use mathlib.Core.Option.{Option, none, some}
-use mathlib.Core.Path.{◌≡◌, sym, ap, subst, ◌∙◌}
+use mathlib.Core.Path.{◌≡◌, subst, ◌∙◌}
 use borrow.Author.Tests.{leb-true, lt-leb, le-leb}
 use lib.Dec.{leb}
 use lib.ListN.{length}
@@ -15,9 +15,7 @@ use Rattle.layout.specs.Columns.{columns}
 use Rattle.layout.specs.Reading.{attribute_count, store_in}
 use Rattle.layout.specs.Soundness.{IsSound}
 use Rattle.layout.specs.Owners.{key_count}
-use Rattle.setting.specs.declared.attributes.AttributePlace.{AttributePlace}
-use Rattle.setting.specs.declared.attributes.AttributePlace.TheVariants as Places
-use Rattle.setting.specs.Raw.{slot_for, key_there, place_for}
+use Rattle.setting.specs.Raw.{key_there}
 use Rattle.calling.proofs.Facts.{attributes_counted}
 use Rattle.setting.proofs.Owners.{key_test, keys_counted}
 use Rattle.setting.proofs.SetAttribute.{KeyRoom}
@@ -29,28 +27,13 @@ module _ (b : List ℕ) (h : IsSound b) (w : Owner) (a : Attribute) where
   abbrev there : Bool
   there = key_there (columns b) w a.key
 
-  abbrev slot : ℕ
-  slot = slot_for (columns b) w a.key
-
-  abbrev goes : AttributePlace
-  goes = place_for (columns b) w a failing
-
-  pub kind_over : max_attribute_kind < a.kind → Places.Refused 6 ≡ goes
-  unfolding tests first_failed place_for
+  pub kind_over : max_attribute_kind < a.kind → failing ≡ some 6
+  unfolding tests first_failed
   kind_over l = simp (lt-leb _ _ l)
 
-  pub no_owner : a.kind ≤ max_attribute_kind → owner_exists (store_in b) w ≡ false → Places.Refused 2 ≡ goes
-  unfolding tests first_failed place_for
+  pub no_owner : a.kind ≤ max_attribute_kind → owner_exists (store_in b) w ≡ false → failing ≡ some 2
+  unfolding tests first_failed
   no_owner l e = simp (le-leb _ _ l, e)
-
-  -- one fails, or none
-  goes_not : (cause : ℕ) → failing ≡ some cause → Places.Refused cause ≡ goes
-  unfolding place_for
-  goes_not cause e = ap (place_for (columns b) w a) (sym e)
-
-  goes_on : failing ≡ none → cond there (Places.Replaces slot) (Places.Adds slot) ≡ goes
-  unfolding place_for
-  goes_on e = ap (place_for (columns b) w a) (sym e)
 
   module _ (l : a.kind ≤ max_attribute_kind) (e : owner_exists (store_in b) w ≡ true) where
     -- the tests of room, over the columns
@@ -58,22 +41,22 @@ module _ (b : List ℕ) (h : IsSound b) (w : Owner) (a : Attribute) where
     unfolding tests first_failed
     room_tests t q = simp (le-leb _ _ l, e, key_test b h w e a.key, q, keys_counted b h w e, attributes_counted b h)
 
-    pub key_set : there ≡ true → Places.Replaces slot ≡ goes
-    key_set t = sym (ap (λ (x : Bool). cond x (Places.Replaces slot) (Places.Adds slot)) t) ∙ goes_on (room_tests true t)
+    pub key_set : there ≡ true → failing ≡ none
+    key_set = room_tests true
 
     module _ (t : there ≡ false) where
-      pub many_keys : max_own_keys ≤ key_count (columns b) w → Places.Refused 4 ≡ goes
-      many_keys m = goes_not 4 (room_tests false t ∙ simp (lt-leb (key_count (columns b) w + 1) max_own_keys (omega arith)))
+      pub many_keys : max_own_keys ≤ key_count (columns b) w → failing ≡ some 4
+      many_keys m = room_tests false t ∙ simp (lt-leb (key_count (columns b) w + 1) max_own_keys (omega arith))
 
       module _ (m : key_count (columns b) w < max_own_keys) where
         total_test : failing ≡ cond (leb (attribute_count (columns b) + 1) max_attributes) none (some 3)
         total_test = room_tests false t ∙ simp (le-leb (key_count (columns b) w + 1) max_own_keys (omega arith))
 
-        pub many_attributes : max_attributes ≤ attribute_count (columns b) → Places.Refused 3 ≡ goes
-        many_attributes n = goes_not 3 (total_test ∙ simp (lt-leb (attribute_count (columns b) + 1) max_attributes (omega arith)))
+        pub many_attributes : max_attributes ≤ attribute_count (columns b) → failing ≡ some 3
+        many_attributes n = total_test ∙ simp (lt-leb (attribute_count (columns b) + 1) max_attributes (omega arith))
 
-        pub room_left : attribute_count (columns b) < max_attributes → Places.Adds slot ≡ goes
-        room_left n = sym (ap (λ (x : Bool). cond x (Places.Replaces slot) (Places.Adds slot)) t) ∙ goes_on (total_test ∙ simp (le-leb (attribute_count (columns b) + 1) max_attributes (omega arith)))
+        pub room_left : attribute_count (columns b) < max_attributes → failing ≡ none
+        room_left n = total_test ∙ simp (le-leb (attribute_count (columns b) + 1) max_attributes (omega arith))
 
   -- ---- and where all pass
 

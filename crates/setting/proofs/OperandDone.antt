@@ -5,13 +5,11 @@ use mathlib.Core.List.{List}
 use mathlib.Core.Option.{none}
 use mathlib.Core.Path.{◌≡◌, refl, sym, ap, subst, ◌∙◌}
 use lib.ListN.{length}
-use Rattle.rules.specs.Building.{set_operand, tests, first_failed, acceptance}
+use Rattle.rules.specs.Building.{set_operand, accepted, tests, first_failed, acceptance}
 use Rattle.layout.specs.Columns.{Cols, column_size, columns, at, op_operand_first, operand_words}
 use Rattle.layout.specs.Reading.{store_of, store_in}
 use Rattle.layout.specs.Soundness.{IsSound}
 use Rattle.layout.proofs.Laid.{Laid}
-use Rattle.calling.specs.declared.types.Built.TheVariants as Builts
-use Rattle.calling.specs.Types.{built_of}
 use Rattle.calling.specs.Doing.{Behind, Did}
 use Rattle.calling.proofs.Facts.{shaped, laid}
 use Rattle.calling.proofs.Doing.{did_work}
@@ -32,8 +30,8 @@ module _ (b : List ℕ) (h : IsSound b) (n i v : ℕ) (clear : first_failed (tes
       let k = ((laid b h).op n l).operands.range.fits in
       (omega (arith, (laid b h).counts.ops), omega (arith, there.operand, (laid b h).counts.operands))
 
-  pub operand_done : (exit : List ℕ) → length exit ≡ length b → columns exit ≡ with_operand C n i v → Did b exit (set_operand (record { operation = n; index = i; value = v })) Builts.Accepted
-  unfolding acceptance built_of
+  pub operand_done : (exit : List ℕ) → length exit ≡ length b → columns exit ≡ with_operand C n i v → Did b exit (set_operand (record { operation = n; index = i; value = v })) accepted
+  unfolding acceptance
   operand_done exit len q =
       did_work b h (set_operand (record { operation = n; index = i; value = v })) _ exit clear len
       (ap store_of q ∙ operand_reads C n i v (laid b h) there.op there.operand)

@@ -4,11 +4,11 @@ use Prim.Native.Nat.{ℕ, ◌+◌, ◌<◌, ◌≤◌}
 use native.Mathlib.Omega.{arith}
 use mathlib.Core.Bool.{Bool, true, false, cond}
 use mathlib.Core.List.{List}
-use mathlib.Core.Option.{Option, none, some}
+use mathlib.Core.Option.{Option, none}
 use mathlib.Core.Path.{◌≡◌, refl, sym, ap, subst, ◌∙◌}
 use lib.ListN.{length}
 use Rattle.rules.specs.Store.{Attribute, Owner, owner_exists, max_own_keys, max_attribute_kind}
-use Rattle.rules.specs.Building.{set_attribute, tests, first_failed, acceptance}
+use Rattle.rules.specs.Building.{set_attribute, accepted, tests, first_failed, acceptance}
 use Rattle.layout.specs.Columns.{Cols, columns, slot_count}
 use Rattle.layout.specs.Reading.{slots_of, store_of, store_in}
 use Rattle.layout.specs.Soundness.{IsSound}
@@ -16,8 +16,6 @@ use Rattle.layout.specs.Owners.{key_count}
 use Rattle.layout.proofs.Laid.{Laid}
 use Rattle.setting.specs.declared.attributes.AttributePlace.{AttributePlace}
 use Rattle.setting.specs.declared.attributes.AttributePlace.TheVariants as Places
-use Rattle.calling.specs.declared.types.Built.TheVariants as Builts
-use Rattle.calling.specs.Types.{built_of}
 use Rattle.setting.specs.Raw.{slot_for, key_there, place_for, replaced, added, with_attribute}
 use Rattle.calling.specs.Doing.{Behind, Did}
 use Rattle.calling.proofs.Facts.{shaped, laid}
@@ -45,20 +43,19 @@ pub record Adding (b : List ℕ) (w : Owner) (a : Attribute) (slot : ℕ) : Type
   pub written : added (columns b) w slot a ≡ with_attribute (columns b) w a
 
 unfoldable pub PlaceMeans : List ℕ → Owner → Attribute → AttributePlace → Type 0
-PlaceMeans b w a (Places.Refused cause) = failing b w a ≡ some cause
 PlaceMeans b w a (Places.Replaces slot) = Replacing b w a slot
 PlaceMeans b w a (Places.Adds slot) = Adding b w a slot
 
-module _ (b : List ℕ) (h : IsSound b) (w : Owner) (a : Attribute) where
+module _ (b : List ℕ) (h : IsSound b) (w : Owner) (a : Attribute) (e : failing b w a ≡ none) where
   abbrev C : Cols
   C = columns b
 
   abbrev s : ℕ
   s = slot_for C w a.key
 
-  told_clear : failing b w a ≡ none → (t : Bool) → key_there C w a.key ≡ t → PlaceMeans b w a (cond t (Places.Replaces s) (Places.Adds s))
+  told_by : (t : Bool) → key_there C w a.key ≡ t → PlaceMeans b w a (cond t (Places.Replaces s) (Places.Adds s))
   unfolding PlaceMeans with_attribute
-  told_clear e true k =
+  told_by true k =
       let r = reachable b h w (owner_there b h w a e) in
       record {
         clear = e;
@@ -66,7 +63,7 @@ module _ (b : List ℕ) (h : IsSound b) (w : Owner) (a : Attribute) where
         reached = omega (arith, slot_among C w a.key k);
         written = sym (ap (λ (t : Bool). cond t (replaced C s a) (added C w s a)) k);
       }
-  told_clear e false k =
+  told_by false k =
       record {
         clear = e;
         fits = kind_fits b h w a e;
@@ -76,18 +73,14 @@ module _ (b : List ℕ) (h : IsSound b) (w : Owner) (a : Attribute) where
         written = sym (ap (λ (t : Bool). cond t (replaced C s a) (added C w s a)) k);
       }
 
-  told_by : (o : Option ℕ) → failing b w a ≡ o → PlaceMeans b w a (place_for C w a o)
-  unfolding PlaceMeans place_for
-  told_by (some cause) e = e
-  told_by none e = told_clear e (key_there C w a.key) refl
-
-  pub told : (p : AttributePlace) → p ≡ place_for C w a (failing b w a) → PlaceMeans b w a p
-  told p e = subst (PlaceMeans b w a) (sym e) (told_by (failing b w a) refl)
+  pub told : (p : AttributePlace) → p ≡ place_for C w a.key → PlaceMeans b w a p
+  unfolding place_for
+  told p q = subst (PlaceMeans b w a) (sym q) (told_by (key_there C w a.key) refl)
 
   -- and where it is written, the call is done
-  pub attribute_done : (exit : List ℕ) → failing b w a ≡ none → length exit ≡ length b → columns exit ≡ with_attribute C w a → Did b exit (set_attribute w a) Builts.Accepted
-  unfolding acceptance built_of
-  attribute_done exit e len q =
+  pub attribute_done : (exit : List ℕ) → length exit ≡ length b → columns exit ≡ with_attribute C w a → Did b exit (set_attribute w a) accepted
+  unfolding acceptance
+  attribute_done exit len q =
       let l = (reachable b h w (owner_there b h w a e)).within in
       let fits = kind_fits b h w a e in
       let room = room_there b h w a e in

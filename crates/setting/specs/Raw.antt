@@ -1,6 +1,5 @@
 -- What an accepted call that sets writes, column by column.
 use Rattle.std.specs.Prelude.{ℕ, zero, suc, ◌+◌, Bool, cond, ◌&&◌, ◌∷◌, eqb, ltb}
-use Rattle.std.proofs.Math.Option.{Option, none, some}
 use Rattle.rules.specs.Store.{Attribute, Owner}
 use Rattle.layout.specs.Columns.{Cols, at, write, write_range, counts, op_operand_first, operand_words, slot_key, slot_kind, slot_content}
 use Rattle.layout.specs.Reading.{attribute_count, slots_of, kind_code, slice}
@@ -22,10 +21,9 @@ slot_for C w key = seek C key (slots_of w) (key_count C w)
 unfoldable pub key_there : Cols → Owner → ℕ → Bool
 key_there C w key = ltb (slot_for C w key) (slots_of w + key_count C w) && eqb (at C slot_key (slot_for C w key)) key
 
--- what becomes of the attribute, once the call's tests are made: refused for the cause of the first that failed, or put at the key's slot
-unfoldable pub place_for : Cols → Owner → Attribute → Option ℕ → AttributePlace
-place_for C w a (some cause) = Places.Refused cause
-place_for C w a none = cond (key_there C w a.key) (Places.Replaces (slot_for C w a.key)) (Places.Adds (slot_for C w a.key))
+-- where the attribute goes, if no test fails: it replaces the one at the key's slot, or is inserted there
+unfoldable pub place_for : Cols → Owner → ℕ → AttributePlace
+place_for C w key = cond (key_there C w key) (Places.Replaces (slot_for C w key)) (Places.Adds (slot_for C w key))
 
 -- a word inserted at slot i of a column: the words from there up to slot e move one slot on
 unfoldable pub inserted : Cols → ℕ → ℕ → ℕ → ℕ → Cols

@@ -1,26 +1,27 @@
 // The call that sets an attribute: where a key belongs among its owner's slots, what is tested and what is written.
-ghost use Rattle.std.specs.Prelude.{◌≡◌, true, ◌+◌, ◌<◌, ◌≤◌, length};
+ghost use Rattle.std.specs.Prelude.{◌≡◌, true, ◌+◌, ◌<◌, ◌≤◌, length, IfOk};
 ghost use Rattle.rules.specs.Store.{owner_exists, max_attribute_kind};
 ghost use Rattle.rules.specs.Building.{set_attribute, tests, first_failed};
 ghost use Rattle.layout.specs.Columns.{buffer_length, columns, slot_count};
 ghost use Rattle.layout.specs.Reading.{slots_of, store_in};
 ghost use Rattle.layout.specs.Soundness.{IsSound, Arranged};
 ghost use Rattle.layout.specs.Owners.{owner_of, key_count};
-ghost use Rattle.calling.specs.Types.{attribute_of};
+ghost use Rattle.layout.specs.Causes.{cause_of};
+ghost use Rattle.calling.specs.Types.{attribute_of, done_of};
 ghost use Rattle.setting.specs.Raw.{seek, slot_for, key_there, place_for, replaced, added};
 ghost use Rattle.calling.specs.Doing.{Did};
 
-use calling::types::{Attribute, Built, Owner};
+use calling::types::{Attribute, Owner};
+use layout::causes::Cause;
 use layout::columns::{
-    ATTRIBUTES, COUNTS, SLOT_CONTENT, SLOT_KEY, SLOT_KIND, at, insert, number, put,
+    ATTRIBUTES, COUNTS, SLOT_CONTENT, SLOT_KEY, SLOT_KIND, at, insert, number, put, words,
 };
 use layout::kinds::kind_code;
 use layout::owners::{count_column, first_slot, key_count, owner_exists, owner_number};
 
-// What becomes of an attribute that is to be set: it is refused for a cause, it replaces the one at a slot, or it is inserted at a slot.
-#[derive(Clone, Copy)]
+// Where an attribute that is to be set goes: it replaces the one at a slot, or it is inserted at a slot.
+#[derive(Clone, Copy, PartialEq, Eq, Debug)]
 pub enum AttributePlace {
-    Refused(u32),
     Replaces(usize),
     Adds(usize),
 }
@@ -32,17 +33,13 @@ fn slot_from(store: &[u32], first: usize, count: usize, key: u32) -> usize
     requires first_bound { first + 8 ≤ slot_count }
     ensures { result ≡ seek (columns store.now) key first count }
 {
-    let mut i = 0;
-    while i < count {
-        if at(store, SLOT_KEY, first + i) >= key {
-            return first + i;
-        }
-        i += 1;
-    }
-    first + count
+    // No binary search: it asks for keys that rise, and the words of any buffer are searched here.
+    let keys = words(store, SLOT_KEY, first, first + count);
+    first + keys.iter().take_while(|k| **k < key).count()
 }
 
 // The owner's slot where the key belongs.
+#[tactic(auto, using(crate::proofs::Owners::reachable), unfolding(crate::specs::Raw::slot_for))]
 pub fn slot_for(store: &[u32], owner: Owner, key: u32) -> usize
     requires sound { IsSound store.now }
     requires owner_value { owner_exists (store_in store.now) (owner_of owner) ≡ true }
@@ -52,40 +49,39 @@ pub fn slot_for(store: &[u32], owner: Owner, key: u32) -> usize
 }
 
 // The owner has the key already: it stands at `slot`, where it belongs.
+#[tactic(auto, using(crate::proofs::Owners::reachable), unfolding(crate::specs::Raw::key_there))]
 pub fn key_there(store: &[u32], owner: Owner, slot: usize, key: u32) -> bool
     requires sound { IsSound store.now }
     requires owner_value { owner_exists (store_in store.now) (owner_of owner) ≡ true }
     requires slot_value { slot ≡ slot_for (columns store.now) (owner_of owner) key }
     ensures { result ≡ key_there (columns store.now) (owner_of owner) key }
 {
-    if slot >= first_slot(owner) + key_count(store, owner) {
-        return false;
-    }
-    at(store, SLOT_KEY, slot) == key
+    slot < first_slot(owner) + key_count(store, owner) && at(store, SLOT_KEY, slot) == key
 }
 
-// What becomes of the attribute, by the tests of document 01 in their order.
-pub fn place_for(store: &[u32], owner: Owner, attribute: Attribute) -> AttributePlace
+// Where the attribute goes, or the cause for which the call is refused, by the tests of document 01 in their order.
+pub fn place_for(store: &[u32], owner: Owner, attribute: Attribute) -> Result<AttributePlace, Cause>
     requires { IsSound store.now }
-    ensures { result ≡ place_for (columns store.now) (owner_of owner) (attribute_of attribute) (first_failed (tests (store_in store.now) (set_attribute (owner_of owner) (attribute_of attribute)))) }
+    ensures refused { cause_of result ≡ first_failed (tests (store_in store.now) (set_attribute (owner_of owner) (attribute_of attribute))) }
+    ensures placed { IfOk result (λ place. place ≡ place_for (columns store.now) (owner_of owner) attribute.key) }
 {
     if attribute.kind > 63 {
-        return AttributePlace::Refused(6);
+        return Err(Cause::UnknownKind);
     }
     if !owner_exists(store, owner) {
-        return AttributePlace::Refused(2);
+        return Err(Cause::NotThere);
     }
     let slot = slot_for(store, owner, attribute.key);
     if key_there(store, owner, slot, attribute.key) {
-        return AttributePlace::Replaces(slot);
+        return Ok(AttributePlace::Replaces(slot));
     }
     if key_count(store, owner) >= 8 {
-        return AttributePlace::Refused(4);
+        return Err(Cause::OwnerFull);
     }
     if at(store, COUNTS, ATTRIBUTES) >= 1024 {
-        return AttributePlace::Refused(3);
+        return Err(Cause::StoreFull);
     }
-    AttributePlace::Adds(slot)
+    Ok(AttributePlace::Adds(slot))
 }
 
 // Replaces the attribute at a slot, where its key stands already.
@@ -126,19 +122,13 @@ pub fn put_added(store: &mut [u32], owner: Owner, slot: usize, attribute: Attrib
 }
 
 // The call, on a sound buffer.
-pub fn set_attribute(store: &mut [u32], owner: Owner, attribute: Attribute) -> Built
+pub fn set_attribute(store: &mut [u32], owner: Owner, attribute: Attribute) -> Result<(), Cause>
     requires { IsSound store.old }
-    ensures { Did store.old store.new (set_attribute (owner_of owner) (attribute_of attribute)) result }
+    ensures { Did store.old store.new (set_attribute (owner_of owner) (attribute_of attribute)) (done_of result) }
 {
-    match place_for(store, owner, attribute) {
-        AttributePlace::Refused(cause) => Built::Refused(cause),
-        AttributePlace::Replaces(slot) => {
-            put_replaced(store, slot, attribute);
-            Built::Accepted
-        }
-        AttributePlace::Adds(slot) => {
-            put_added(store, owner, slot, attribute);
-            Built::Accepted
-        }
+    match place_for(store, owner, attribute)? {
+        AttributePlace::Replaces(slot) => put_replaced(store, slot, attribute),
+        AttributePlace::Adds(slot) => put_added(store, owner, slot, attribute),
     }
+    Ok(())
 }

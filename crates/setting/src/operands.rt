@@ -6,29 +6,26 @@ ghost use Rattle.layout.specs.Columns.{buffer_length, columns, op_operand_first}
 ghost use Rattle.layout.specs.Soundness.{IsSound};
 ghost use Rattle.layout.specs.Causes.{cause_of};
 ghost use Rattle.setting.specs.Raw.{with_operand};
+ghost use Rattle.calling.specs.Types.{done_of};
 ghost use Rattle.calling.specs.Doing.{Did};
 
-use calling::types::Built;
 use layout::causes::Cause;
 use layout::columns::{OP_OPERAND_END, OP_OPERAND_FIRST, OPERAND_WORDS, at, number, put};
 use layout::existing::{op_exists, value_exists};
 
 // The cause for which the call is refused, if there is one.
-pub fn operand_cause(store: &[u32], n: u32, i: u32, v: u32) -> Cause
+pub fn operand_cause(store: &[u32], n: u32, i: u32, v: u32) -> Result<(), Cause>
     requires { IsSound store.now }
     ensures { cause_of result ≡ first_failed (tests (store_in store.now) (set_operand (record { operation = n; index = i; value = v }))) }
 {
-    if !op_exists(store, n) {
-        return Cause::Is(2);
-    }
-    if !value_exists(store, v) {
-        return Cause::Is(2);
+    if !op_exists(store, n) || !value_exists(store, v) {
+        return Err(Cause::NotThere);
     }
     let first = at(store, OP_OPERAND_FIRST, n as usize);
     if i >= at(store, OP_OPERAND_END, n as usize) - first {
-        return Cause::Is(7);
+        return Err(Cause::NoOperand);
     }
-    Cause::None
+    Ok(())
 }
 
 // Operand i of operation n becomes value v.
@@ -43,15 +40,11 @@ pub fn put_operand(store: &mut [u32], n: u32, i: u32, v: u32)
 }
 
 // The call, on a sound buffer.
-pub fn set_operand(store: &mut [u32], n: u32, i: u32, v: u32) -> Built
+pub fn set_operand(store: &mut [u32], n: u32, i: u32, v: u32) -> Result<(), Cause>
     requires { IsSound store.old }
-    ensures { Did store.old store.new (set_operand (record { operation = n; index = i; value = v })) result }
+    ensures { Did store.old store.new (set_operand (record { operation = n; index = i; value = v })) (done_of result) }
 {
-    match operand_cause(store, n, i, v) {
-        Cause::Is(k) => Built::Refused(k),
-        Cause::None => {
-            put_operand(store, n, i, v);
-            Built::Accepted
-        }
-    }
+    operand_cause(store, n, i, v)?;
+    put_operand(store, n, i, v);
+    Ok(())
 }

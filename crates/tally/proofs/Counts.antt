@@ -1,70 +1,63 @@
--- A number that passes a test counts one more, and one that does not none; and an operation inside an equal fragment is inside a fragment.
--- Assumes nothing.
+-- The numbers below a length that pass a test of the entry there are as many as the entries that pass it; and an operation inside an equal
+-- fragment is inside a fragment. Assumes nothing.
 use Prim.Native.Nat.{ℕ, zero, suc, ◌+◌, ◌≤◌}
 use native.Mathlib.Numerals.{add-one}
 use native.Mathlib.Omega.{arith}
 use mathlib.Core.Bool.{Bool, true, false, cond}
 use mathlib.Core.List.{List}
-use mathlib.Core.Path.{◌≡◌, ap, subst, ◌∙◌}
-use borrow.Author.Tests.{eqb-true, eq-eqb, ne_eqb, lt-ltb, le-ltb}
-use lib.ListN.{get_or}
+use mathlib.Core.Path.{◌≡◌, refl, sym, ap, ◌∙◌}
+use lib.ListN.{length, get_or, take}
+use Rattle.std.proofs.Math.Seq.{take-length}
+use Rattle.std.proofs.lemmas.List.Sums.{sum_by_more}
+use Rattle.std.specs.List.{count_by}
 use Rattle.rules.specs.Lists.{count_below}
 use Rattle.rules.specs.Store.{max_ops}
 use Rattle.rules.proofs.Basics.Counts.{count_le}
-use Rattle.tally.specs.Tally.{tally_of, Counted}
+use Rattle.tally.specs.Tally.{is_equal, is_inside, tally_of, IsTally, Counted}
+use Rattle.tally.specs.declared.types.Place.{Place}
+use Rattle.tally.specs.declared.types.Place.TheVariants.{Outside, Inside, InsideEqual}
 
-module _ (p : ℕ → Bool) where
-  module _ (i n : ℕ) (so_far : n ≡ count_below i p) where
-    pub count_passed : p i ≡ true → n + 1 ≡ count_below (i + 1) p
-    unfolding count_below
-    count_passed t = rw (add-one i, t) (add-one n ∙ ap suc so_far)
+count_most : (p : ℕ → Bool) (n : ℕ) → count_below n p ≤ n
+unfolding count_below
+count_most p zero = omega arith
+count_most p (suc n) = go (p n) (count_most p n)
+  where
+    go : (b : Bool) → count_below n p ≤ n → cond b (suc (count_below n p)) (count_below n p) ≤ suc n
+    go true l = omega arith
+    go false l = omega arith
 
-    pub count_failed : p i ≡ false → n ≡ count_below (i + 1) p
-    unfolding count_below
-    count_failed t = rw (add-one i, t) so_far
-
-  pub count_most : (n : ℕ) → count_below n p ≤ n
+module _ {A : Type 0} (test : A → Bool) (d : A) (xs : List A) where
+  count_taken : (i : ℕ) → i ≤ length xs → count_below i (λ (m : ℕ). test (get_or xs m d)) ≡ count_by test (take i xs)
   unfolding count_below
-  count_most zero = omega arith
-  count_most (suc n) = go (p n) (count_most n)
+  count_taken zero l = refl
+  count_taken (suc i) l =
+      one_more (test (get_or xs i d)) (count_taken i (omega arith))
+      ∙ sym (sum_by_more (λ (x : A). cond (test x) 1 0) xs i d (omega arith)) ∙ ap (λ (n : ℕ). count_by test (take n xs)) (add-one i)
     where
-      go : (b : Bool) → count_below n p ≤ n → cond b (suc (count_below n p)) (count_below n p) ≤ suc n
-      go true l = omega arith
-      go false l = omega arith
+      one_more : (b : Bool) {n k : ℕ} → n ≡ k → cond b (suc n) n ≡ k + cond b 1 0
+      one_more true e = omega arith
+      one_more false e = omega arith
 
--- ---- the two tests of a word
+  pub count_all : count_by test xs ≡ count_below (length xs) (λ (m : ℕ). test (get_or xs m d))
+  count_all = sym (count_taken (length xs) (omega arith) ∙ ap (count_by test) (take-length xs))
 
-module _ (words : List ℕ) (i : ℕ) where
-  pub is_equal : get_or words i 0 ≡ 2 → (tally_of words).equal i ≡ true
-  unfolding tally_of
-  is_equal e = eq-eqb _ 2 e
-
-  pub not_equal : (get_or words i 0 ≡ 2 → ⊥) → (tally_of words).equal i ≡ false
-  unfolding tally_of
-  not_equal ne = ne_eqb _ 2 ne
-
-  pub is_inside : (get_or words i 0 ≡ 0 → ⊥) → (tally_of words).all i ≡ true
-  unfolding tally_of
-  is_inside ne = lt-ltb 0 (get_or words i 0) (omega arith)
-
-  pub not_inside : get_or words i 0 ≡ 0 → (tally_of words).all i ≡ false
-  unfolding tally_of
-  not_inside e = le-ltb 0 (get_or words i 0) (omega arith)
-
-  equal_inside : (tally_of words).equal i ≡ true → (tally_of words).all i ≡ true
-  unfolding tally_of
-  equal_inside t = lt-ltb 0 (get_or words i 0) (omega (arith, eqb-true (get_or words i 0) 2 t))
+equal_inside : (place : Place) → is_equal place ≡ true → is_inside place ≡ true
+unfolding is_equal is_inside
+equal_inside Outside e = e
+equal_inside Inside e = refl
+equal_inside InsideEqual e = refl
 
 -- ---- the counts at the end
 
-pub all_counted : (words : List ℕ) (e a i : ℕ) → e ≡ count_below i (tally_of words).equal → a ≡ count_below i (tally_of words).all → i ≡ max_ops
-    → Counted words (record { equal = e; all = a })
-all_counted words e a i p q end =
-    let pe : e ≡ count_below max_ops (tally_of words).equal = subst (λ (k : ℕ). e ≡ count_below k (tally_of words).equal) end p in
-    let pa : a ≡ count_below max_ops (tally_of words).all = subst (λ (k : ℕ). a ≡ count_below k (tally_of words).all) end q in
+pub all_counted : (places : List Place) (e a : ℕ) → IsTally places → e ≡ count_by is_equal places → a ≡ count_by is_inside places
+    → Counted places (record { equal = e; all = a })
+unfolding tally_of
+all_counted places e a t p q =
+    let equal : e ≡ count_below max_ops (tally_of places).equal = p ∙ count_all is_equal Outside places ∙ ap (λ (n : ℕ). count_below n (tally_of places).equal) t.long in
+    let inside : a ≡ count_below max_ops (tally_of places).all = q ∙ count_all is_inside Outside places ∙ ap (λ (n : ℕ). count_below n (tally_of places).all) t.long in
     record {
-      equal = pe;
-      all = pa;
-      part = omega (arith, count_le (tally_of words).equal (tally_of words).all max_ops (λ k l. equal_inside words k));
-      few = omega (arith, count_most (tally_of words).all max_ops);
+      equal = equal;
+      all = inside;
+      part = omega (arith, equal, inside, count_le (tally_of places).equal (tally_of places).all max_ops (λ k l. equal_inside (get_or places k Outside)));
+      few = omega (arith, inside, count_most (tally_of places).all max_ops);
     }

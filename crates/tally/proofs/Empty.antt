@@ -1,16 +1,16 @@
--- Words that are all 0 are a tally in which no operation counts. Assumes nothing.
-use Prim.Native.Nat.{ℕ}
-use native.Mathlib.Omega.{arith}
-use mathlib.Core.Path.{◌≡◌}
-use lib.Dec.{eqb, ltb}
-use lib.ListN.{replicate, length-replicate}
+-- A tally in which each operation is outside has none that counts. Assumes nothing.
+use Prim.Native.Nat.{ℕ, zero, suc}
+use mathlib.Core.Path.{◌≡◌, refl}
+use lib.ListN.{replicate, get_or}
 use Rattle.rules.specs.Listings.{no_tally}
-use Rattle.layout.proofs.Empty.{zeros}
-use Rattle.tally.specs.Tally.{tally_length, tally_of, IsTally}
+use Rattle.tally.specs.Tally.{is_equal, is_inside, tally_length, tally_of}
+use Rattle.tally.specs.declared.types.Place.TheVariants.{Outside}
 
-pub zeros_tally : IsTally (replicate tally_length 0)
-zeros_tally = record { long = length-replicate {A = ℕ} tally_length 0; states = λ m. omega (arith, zeros tally_length m) }
+all_outside : (n m : ℕ) → get_or (replicate n Outside) m Outside ≡ Outside
+all_outside zero m = refl
+all_outside (suc n) zero = refl
+all_outside (suc n) (suc m) = all_outside n m
 
-pub zeros_none : tally_of (replicate tally_length 0) ≡ no_tally
-unfolding tally_of no_tally
-zeros_none = λ i. record { equal = λ (m : ℕ). eqb (zeros tally_length m i) 2; all = λ (m : ℕ). ltb 0 (zeros tally_length m i) }
+pub outside_none : tally_of (replicate tally_length Outside) ≡ no_tally
+unfolding tally_of no_tally is_equal is_inside
+outside_none = λ i. record { equal = λ (m : ℕ). is_equal (all_outside tally_length m i); all = λ (m : ℕ). is_inside (all_outside tally_length m i) }

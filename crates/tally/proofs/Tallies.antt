@@ -19,6 +19,7 @@ use Rattle.rules.proofs.Soundness.Sound.{facts}
 use Rattle.rules.proofs.Form.Once.{owners_here}
 use Rattle.rules.proofs.Form.Counted.{ops_here}
 use Rattle.tally.specs.Tally.{tally_length, tally_of, IsTally, included_all, Tallied}
+use Rattle.tally.specs.declared.types.Place.{Place}
 use Rattle.tally.proofs.Including.{reads_included, included_holds}
 use Rattle.tally.proofs.Alike.{ops_included, same_ops}
 
@@ -47,11 +48,11 @@ module _ (s : Store) (sd : sound s ≡ true) (f : Sort) (n : ℕ) (e : exists s 
       let k : length s.ops ≤ max_ops = so.totals.ops in
       omega arith
 
-  pub makes_tally : (found : Bool) (words : List ℕ) → IsTally words → Tallied s f n found words (included_all found (ops_included s f n) words)
-  makes_tally found words t =
+  pub makes_tally : (found : Bool) (places : List Place) → IsTally places → Tallied s f n found places (included_all found (ops_included s f n) places)
+  makes_tally found places t =
       record {
         reads =
-            reads_included found (ops_included s f n) words (λ m i. subst (λ (j : ℕ). m < j) (sym t.long) (below m i))
-            ∙ tallied_same found (ops_included s f n) (fragment_ops s f n) (tally_of words) (λ m. same_ops (eqb m) s f n);
-        holds = included_holds found (ops_included s f n) words below t;
+            reads_included found (ops_included s f n) places (λ m i. subst (λ (j : ℕ). m < j) (sym t.long) (below m i))
+            ∙ tallied_same found (ops_included s f n) (fragment_ops s f n) (tally_of places) (λ m. same_ops (eqb m) s f n);
+        holds = included_holds found (ops_included s f n) places t;
       }

@@ -1,35 +1,48 @@
--- The words of a tally: what they are read as, and what including a fragment's operations leaves.
-use Rattle.std.specs.Prelude.{ℕ, zero, suc, ◌≤◌, Bool, cond, List, [], ◌∷◌, ◌≡◌, eqb, ltb, length, get_or, set}
+-- A tally: what it is read as, and what including a fragment's operations leaves.
+use Rattle.std.specs.Prelude.{ℕ, zero, suc, ◌≤◌, Bool, true, false, cond, List, [], ◌∷◌, ◌≡◌, length, get_or, set}
 use Rattle.rules.specs.Lists.{concat_map, count_below}
 use Rattle.rules.specs.Store.{Store, ops_of, blocks_of, regions_of, max_ops}
 use Rattle.rules.specs.Fragments.{Sort, fragment_ops}
 use Rattle.rules.specs.Listings as rules
 use Rattle.rules.specs.Listings.{tallied}
 use Rattle.tally.specs.declared.types.Counts.{Counts}
+use Rattle.tally.specs.declared.types.Place.{Place}
+use Rattle.tally.specs.declared.types.Place.TheVariants.{Outside, Inside, InsideEqual}
 
 abbrev pub tally_length : ℕ
 tally_length = 512
 
--- 0 is inside no right fragment, 1 inside one, 2 inside one that was found equal
-unfoldable pub tally_of : List ℕ → rules.Tally
-tally_of words = record { equal = λ (m : ℕ). eqb (get_or words m 0) 2; all = λ (m : ℕ). ltb 0 (get_or words m 0) }
+-- inside a right fragment that was found equal, and inside any
+unfoldable pub is_equal : Place → Bool
+is_equal Outside = false
+is_equal Inside = false
+is_equal InsideEqual = true
 
-pub record IsTally (words : List ℕ) : Type 0 where
-  pub long : length words ≡ tally_length
-  pub states : (m : ℕ) → get_or words m 0 ≤ 2
+unfoldable pub is_inside : Place → Bool
+is_inside Outside = false
+is_inside Inside = true
+is_inside InsideEqual = true
+
+unfoldable pub tally_of : List Place → rules.Tally
+tally_of places = record { equal = λ (m : ℕ). is_equal (get_or places m Outside); all = λ (m : ℕ). is_inside (get_or places m Outside) }
+
+pub record IsTally (places : List Place) : Type 0 where
+  pub long : length places ≡ tally_length
 
 -- ---- including
 
-unfoldable pub state_after : Bool → ℕ → ℕ
-state_after found state = cond found 2 (cond (eqb state 0) 1 state)
+unfoldable pub place_after : Bool → Place → Place
+place_after found Outside = cond found InsideEqual Inside
+place_after found Inside = cond found InsideEqual Inside
+place_after found InsideEqual = InsideEqual
 
-unfoldable pub included : Bool → ℕ → List ℕ → List ℕ
-included found n words = set words n (state_after found (get_or words n 0))
+unfoldable pub included : Bool → ℕ → List Place → List Place
+included found n places = set places n (place_after found (get_or places n Outside))
 
 -- one after the other
-unfoldable pub included_all : Bool → List ℕ → List ℕ → List ℕ
-included_all found [] words = words
-included_all found (n ∷ ns) words = included_all found ns (included found n words)
+unfoldable pub included_all : Bool → List ℕ → List Place → List Place
+included_all found [] places = places
+included_all found (n ∷ ns) places = included_all found ns (included found n places)
 
 -- ---- the operations inside, in the order in which they are included: each one ahead of those in its regions
 
@@ -52,14 +65,14 @@ op_ops k s n = op_ops_by (region_ops k s) s n
 
 -- ---- what a right fragment, found equal or not, makes of a tally
 
-pub record Tallied (s : Store) (f : Sort) (n : ℕ) (found : Bool) (before after : List ℕ) : Type 0 where
+pub record Tallied (s : Store) (f : Sort) (n : ℕ) (found : Bool) (before after : List Place) : Type 0 where
   pub reads : tally_of after ≡ tallied found (fragment_ops s f n) (tally_of before)
   pub holds : IsTally after
 
 -- ---- and the counts at the end
 
-pub record Counted (words : List ℕ) (r : Counts) : Type 0 where
-  pub equal : r.equal ≡ count_below max_ops (tally_of words).equal
-  pub all : r.all ≡ count_below max_ops (tally_of words).all
+pub record Counted (places : List Place) (r : Counts) : Type 0 where
+  pub equal : r.equal ≡ count_below max_ops (tally_of places).equal
+  pub all : r.all ≡ count_below max_ops (tally_of places).all
   pub part : r.equal ≤ r.all
   pub few : r.all ≤ max_ops

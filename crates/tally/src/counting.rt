@@ -1,47 +1,55 @@
-// The words of a tally, one for each operation number: 0 for one that is inside no right fragment, 1 for one that is, 2 for one that is inside
-// one that was found equal.
-ghost use Rattle.std.specs.Prelude.{◌≡◌, ◌<◌, ◌≤◌, length};
-ghost use Rattle.tally.specs.Tally.{tally_length, IsTally, included, Counted};
+// Counting by a tally: where each operation is.
+ghost use Rattle.std.specs.Prelude.{◌≡◌, ◌<◌};
+ghost use Rattle.tally.specs.Tally.{tally_length, is_equal, is_inside, place_after, included, Counted};
 
-use crate::types::Counts;
+use crate::types::{Counts, Place, Tally};
 
-pub const TALLY_LENGTH: usize = 512;
-
-const INSIDE: u8 = 1;
-
-const INSIDE_EQUAL: u8 = 2;
-
-// Operation n is inside a right fragment, found equal or not. One that was inside an equal one before still counts as such.
-pub fn include(tally: &mut [u8], n: usize, found: bool)
-    requires tally_len { length tally.old ≡ tally_length }
-    requires n_lt_tally_length { n < tally_length }
-    ensures { tally.new ≡ included found n tally.old }
-{
-    if found {
-        tally[n] = INSIDE_EQUAL;
-        return;
+impl Place {
+    // Inside a right fragment that was found equal.
+    #[tactic(auto, unfolding(crate::specs::Tally::is_equal))]
+    fn is_equal(&self) -> bool
+        ensures { result ≡ is_equal self.now }
+    {
+        matches!(self, Place::InsideEqual)
     }
-    if tally[n] == 0 {
-        tally[n] = INSIDE;
+
+    // Inside a right fragment.
+    #[tactic(auto, unfolding(crate::specs::Tally::is_inside))]
+    fn is_inside(&self) -> bool
+        ensures { result ≡ is_inside self.now }
+    {
+        !matches!(self, Place::Outside)
+    }
+
+    // Where an operation is once it was found inside a right fragment, found equal or not. One that was inside an equal one before still counts
+    // as such.
+    fn after(self, found: bool) -> Place
+        ensures { result ≡ place_after found self }
+    {
+        match self {
+            Place::InsideEqual => Place::InsideEqual,
+            _ if found => Place::InsideEqual,
+            _ => Place::Inside,
+        }
     }
 }
 
-// The two counts, in one pass.
-pub fn counts(tally: &[u8]) -> Counts
-    requires { IsTally tally.now }
+// Operation n is inside a right fragment, found equal or not.
+pub fn include(tally: &mut Tally, n: usize, found: bool)
+    requires { n < tally_length }
+    ensures { tally.new ≡ included found n tally.old }
+{
+    tally[n] = tally[n].after(found);
+}
+
+// The two counts.
+pub fn counts(tally: &Tally) -> Counts
     ensures { Counted tally.now result }
 {
-    let mut equal = 0;
-    let mut all = 0;
-    let mut i = 0;
-    while i < TALLY_LENGTH {
-        if tally[i] != 0 {
-            all += 1;
-        }
-        if tally[i] == INSIDE_EQUAL {
-            equal += 1;
-        }
-        i += 1;
+    let equal = tally.iter().filter(|place| place.is_equal()).count();
+    let all = tally.iter().filter(|place| place.is_inside()).count();
+    Counts {
+        equal: equal as u32,
+        all: all as u32,
     }
-    Counts { equal, all }
 }

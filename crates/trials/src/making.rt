@@ -1,8 +1,8 @@
 // The lines that make a listing and what must be printed for it.
 use crate::text::{byte_at, next, put_byte_if_room, put_decimal_if_room};
-use lines::reader::number_at;
-use lines::reading::Read;
+use lines::reading::Fields;
 use std::io;
+use std::ops::Range;
 
 // The case that is being made: how many bytes its name, the start that its group has in common, its listing and what must be printed have.
 #[derive(Clone, Copy)]
@@ -11,14 +11,6 @@ pub struct CaseLengths {
     pub kept: usize,
     pub listing: usize,
     pub wanted: usize,
-}
-
-// A line that is repeated: the numbers of its turns, from `from` up to `until`, and where the line to repeat begins.
-#[derive(Clone, Copy)]
-struct Turns {
-    from: u32,
-    until: u32,
-    behind: usize,
 }
 
 // A line that no case file may have is shown, so that no case is passed over unseen.
@@ -40,10 +32,8 @@ fn put_made(to: &mut [u8], at: usize, byte: u8, turn: u32) -> usize {
 
 fn put_turn(to: &mut [u8], at: usize, text: &[u8], turn: u32) -> usize {
     let mut behind = at;
-    let mut i = 0;
-    while i < text.len() {
-        behind = put_made(to, behind, text[i], turn);
-        i += 1;
+    for byte in text {
+        behind = put_made(to, behind, *byte, turn);
     }
     behind
 }
@@ -58,12 +48,10 @@ fn put_line(to: &mut [u8], at: usize, text: &[u8], turn: u32, whole: bool) -> us
 }
 
 // A line in all its turns.
-fn put_turns(to: &mut [u8], at: usize, text: &[u8], turns: Turns, whole: bool) -> usize {
+fn put_turns(to: &mut [u8], at: usize, text: &[u8], turns: Range<u32>, whole: bool) -> usize {
     let mut behind = at;
-    let mut turn = turns.from;
-    while turn < turns.until {
+    for turn in turns {
         behind = put_line(to, behind, text, turn, whole);
-        turn += 1;
     }
     behind
 }
@@ -72,18 +60,18 @@ fn put_turns(to: &mut [u8], at: usize, text: &[u8], turns: Turns, whole: bool) -
 fn with_line(
     case: CaseLengths,
     line: &[u8],
-    turns: Turns,
+    turns: Range<u32>,
     listing: &mut [u8],
     wanted: &mut [u8],
 ) -> CaseLengths {
-    let mark = byte_at(line, turns.behind);
-    let at = next(line, turns.behind);
+    let mark = byte_at(line, 0);
+    let text = &line[next(line, 0)..];
     let mut made = case;
     if mark == b'>' {
-        made.wanted = put_turns(wanted, case.wanted, &line[at..], turns, true);
+        made.wanted = put_turns(wanted, case.wanted, text, turns, true);
         return made;
     }
-    made.listing = put_turns(listing, case.listing, &line[at..], turns, mark == b'<');
+    made.listing = put_turns(listing, case.listing, text, turns, mark == b'<');
     made
 }
 
@@ -94,12 +82,15 @@ pub fn with_text(
     listing: &mut [u8],
     wanted: &mut [u8],
 ) -> CaseLengths {
-    let once = Turns {
-        from: 0,
-        until: 1,
-        behind: 0,
-    };
-    with_line(case, line, once, listing, wanted)
+    with_line(case, line, 0..1, listing, wanted)
+}
+
+// The numbers of a line's turns, from the first up to the last, and the line to repeat.
+fn turns_of(line: &[u8]) -> Option<(Range<u32>, &[u8])> {
+    let mut fields = Fields::new(&line[next(line, 0)..]);
+    let from = fields.number()?;
+    let until = fields.number()?;
+    Some((from..until, fields.rest()))
 }
 
 // The same in turns.
@@ -110,18 +101,10 @@ pub fn with_turns(
     listing: &mut [u8],
     wanted: &mut [u8],
 ) -> io::Result<CaseLengths> {
-    let Read::At(from, p) = number_at(line, 1) else {
+    let Some((turns, behind)) = turns_of(line) else {
         return unknown(rt, case, line);
     };
-    let Read::At(until, behind) = number_at(line, p) else {
-        return unknown(rt, case, line);
-    };
-    let turns = Turns {
-        from,
-        until,
-        behind,
-    };
-    Ok(with_line(case, line, turns, listing, wanted))
+    Ok(with_line(case, behind, turns, listing, wanted))
 }
 
 // One byte more of the listing.
@@ -131,7 +114,7 @@ pub fn with_byte(
     line: &[u8],
     listing: &mut [u8],
 ) -> io::Result<CaseLengths> {
-    let Read::At(n, _) = number_at(line, 1) else {
+    let Some(n) = Fields::new(&line[next(line, 0)..]).number() else {
         return unknown(rt, case, line);
     };
     let mut made = case;

@@ -2,7 +2,6 @@
 use crate::judging::judged;
 use crate::making::{CaseLengths, unknown, with_byte, with_text, with_turns};
 use crate::text::{byte_at, next};
-use lines::pieces::piece_end;
 use lines::writing::put_text;
 use listing::calls::ROOM;
 use programs::failing::Failure;
@@ -81,11 +80,8 @@ fn run_lines(
     wanted: &mut [u8],
 ) -> io::Result<()> {
     let mut case = new_group();
-    let mut at = 0;
-    while at < text.len() {
-        let end = piece_end(text, at, b'\n');
-        case = with_any(rt, case, &text[at..end], name, listing, wanted)?;
-        at = next(text, end);
+    for line in text.split(|byte| *byte == b'\n') {
+        case = with_any(rt, case, line, name, listing, wanted)?;
     }
     Ok(())
 }

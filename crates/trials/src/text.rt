@@ -13,10 +13,8 @@ pub fn put_byte_if_room(to: &mut [u8], at: usize, byte: u8) -> usize {
 }
 
 pub fn put_decimal_if_room(to: &mut [u8], at: usize, n: u32) -> usize {
-    if at < to.len() {
-        if to.len() - at >= DIGITS {
-            return lines::writing::put_decimal(to, at, n);
-        }
+    if at < to.len() && to.len() - at >= DIGITS {
+        return lines::writing::put_decimal(to, at, n);
     }
     at
 }
@@ -26,10 +24,7 @@ pub fn clamp(bytes: &[u8], n: usize) -> usize
     ensures fits { result ≤ length bytes.now }
     ensures counted { result ≡ length (take result bytes.now) }
 {
-    if n < bytes.len() {
-        return n;
-    }
-    bytes.len()
+    n.min(bytes.len())
 }
 
 // The place behind `at`, or the end of the bytes.
@@ -45,8 +40,5 @@ pub fn next(bytes: &[u8], at: usize) -> usize
 
 // The byte at `at`, or 0 behind the end.
 pub fn byte_at(bytes: &[u8], at: usize) -> u8 {
-    if at < bytes.len() {
-        return bytes[at];
-    }
-    0
+    bytes.get(at).copied().unwrap_or(0)
 }

@@ -1,5 +1,4 @@
 -- Undoing, column by column.
-pub mod Moved
 pub mod Counted
 pub mod WithoutKey
 pub mod KeySound

@@ -1,10 +1,12 @@
 -- An entry that can't be undone leaves the buffer as it was; one that can is undone by what the rules do with it. Assumes nothing.
-use Prim.Native.Nat.{ℕ, ◌<◌, ◌≤◌}
+use Prim.Native.Nat.{ℕ}
 use mathlib.Core.Bool.{Bool, true, false, cond, ◌&&◌}
 use mathlib.Core.List.{List, [], ◌∷◌, map}
 use mathlib.Core.Option.{Option, none, some}
 use mathlib.Core.Path.{◌≡◌, refl, sym, ap, ◌∙◌}
-use borrow.Author.Tests.{lt-leb, le-leb}
+use lib.Dec.{leb}
+use Rattle.std.specs.Prelude as std
+use Rattle.std.specs.Result.{is_ok}
 use Rattle.rules.specs.Lists.{every}
 use Rattle.rules.specs.Store.{Store, Attribute, Owner, max_attribute_kind}
 use Rattle.rules.specs.Building.{Call, set_attribute, set_operand, accepted, refused, tests, first_failed, acceptance, answer_by, store_by, answer, built}
@@ -12,12 +14,16 @@ use Rattle.rules.proofs.Basics.Tests.{passed, clash, impossible}
 use Rattle.layout.specs.Columns.{columns}
 use Rattle.layout.specs.Reading.{store_in}
 use Rattle.layout.specs.Soundness.{IsSound}
-use Rattle.calling.specs.declared.types.Built.{Built}
-use Rattle.calling.specs.declared.types.Built.TheVariants as Builts
-use Rattle.calling.specs.Types.{built_of}
+use Rattle.layout.proofs.Scans.{and_false}
+use Rattle.layout.specs.declared.causes.Cause.{Cause}
+use Rattle.calling.specs.Types.{done_of}
 use Rattle.calling.specs.Doing.{Behind, Did}
 use Rattle.journal.specs.Journal.{Entry, operand_was, attribute_was, key_was_none, undone, undoable}
 use Rattle.undoing.specs.Undoing.{Undid}
+
+and_true : (t : Bool) → (t && true) ≡ t
+and_true true = refl
+and_true false = refl
 
 pub undid_not : (b : List ℕ) → IsSound b → (e : Entry) → undoable e (store_in b) ≡ false → Undid b b e false
 undid_not b h e q =
@@ -37,22 +43,15 @@ undid_done b exit e can reads sound behind =
 -- ---- operands
 
 -- the call was accepted
-abbrev pub is_accepted : Built → Bool
-is_accepted Builts.Accepted = true
-is_accepted (Builts.Refused cause) = false
-is_accepted (Builts.Made n) = false
+accepted_is : (r : std.Result (Unit {0}) Cause) → done_of r ≡ accepted → is_ok r ≡ true
+unfolding done_of
+accepted_is (std.Ok u) e = refl
+accepted_is (std.Err k) e = impossible cc
 
-accepted_is : (r : Built) → built_of r ≡ accepted → is_accepted r ≡ true
-unfolding built_of
-accepted_is Builts.Accepted e = refl
-accepted_is (Builts.Refused cause) e = impossible cc
-accepted_is (Builts.Made n) e = impossible cc
-
-refused_is : (r : Built) (cause : ℕ) → built_of r ≡ refused cause → is_accepted r ≡ false
-unfolding built_of
-refused_is Builts.Accepted k e = impossible cc
-refused_is (Builts.Refused cause) k e = refl
-refused_is (Builts.Made n) k e = refl
+refused_is : (r : std.Result (Unit {0}) Cause) (cause : ℕ) → done_of r ≡ refused cause → is_ok r ≡ false
+unfolding done_of
+refused_is (std.Ok u) k e = impossible cc
+refused_is (std.Err k') k e = refl
 
 abbrev all_pass : List (Bool × ℕ) → Bool
 all_pass ts = every (map (λ (t : Bool × ℕ). t.0) ts)
@@ -75,20 +74,20 @@ one_fails (t ∷ ts) k e = go t.0 e (one_fails ts k)
     go true q rest = rest q
     go false q rest = refl
 
-module _ (b exit : List ℕ) (n i v : ℕ) (r : Built) where
+module _ (b exit : List ℕ) (n i v : ℕ) (r : std.Result (Unit {0}) Cause) where
   abbrev call : Call
   call = set_operand (record { operation = n; index = i; value = v })
 
-  pub operand_undid : Did b exit call r → Undid b exit (operand_was n i v) (is_accepted r)
+  pub operand_undid : Did b exit call (done_of r) → Undid b exit (operand_was n i v) (is_ok r)
   unfolding undoable undone answer built answer_by store_by acceptance
   operand_undid d = go (first_failed (tests (store_in b) call)) refl
     where
       ts : List (Bool × ℕ)
       ts = tests (store_in b) call
 
-      go : (o : Option ℕ) → first_failed ts ≡ o → Undid b exit (operand_was n i v) (is_accepted r)
+      go : (o : Option ℕ) → first_failed ts ≡ o → Undid b exit (operand_was n i v) (is_ok r)
       go none e =
-          let yes : is_accepted r ≡ true = accepted_is r (d.answered ∙ ap (λ (o : Option ℕ). answer_by o (store_in b) call) e) in
+          let yes : is_ok r ≡ true = accepted_is r (d.answered ∙ ap (λ (o : Option ℕ). answer_by o (store_in b) call) e) in
           record {
             told = yes ∙ sym (none_fails ts e);
             reads = λ t. d.reads ∙ ap (λ (o : Option ℕ). store_by o (store_in b) call) e;
@@ -97,7 +96,7 @@ module _ (b exit : List ℕ) (n i v : ℕ) (r : Built) where
             behind = d.behind;
           }
       go (some cause) e =
-          let why : built_of r ≡ refused cause = d.answered ∙ ap (λ (o : Option ℕ). answer_by o (store_in b) call) e in
+          let why : done_of r ≡ refused cause = d.answered ∙ ap (λ (o : Option ℕ). answer_by o (store_in b) call) e in
           record {
             told = refused_is r cause why ∙ sym (one_fails ts cause e);
             reads = λ t. clash t (refused_is r cause why);
@@ -112,20 +111,43 @@ module _ (b : List ℕ) (w : Owner) (a : Attribute) where
   abbrev s : Store
   s = store_in b
 
-  pub kind_over : max_attribute_kind < a.kind → undoable (attribute_was w a) s ≡ false
+  -- without the key it can't be undone
+  pub key_lacks : undoable (key_was_none w a.key) s ≡ false → undoable (attribute_was w a) s ≡ false
   unfolding undoable every
-  kind_over l = rw (lt-leb a.kind max_attribute_kind l) refl
+  key_lacks e = and_false (leb a.kind max_attribute_kind) _ e
 
-  module _ (l : a.kind ≤ max_attribute_kind) where
-    pub kind_fits : undoable (attribute_was w a) s ≡ undoable (key_was_none w a.key) s
+  module _ (can : undoable (key_was_none w a.key) s ≡ true) where
+    -- with it, whether it can is told by its kind alone
+    by_kind : undoable (attribute_was w a) s ≡ leb a.kind max_attribute_kind
     unfolding undoable every
-    kind_fits = rw (le-leb a.kind max_attribute_kind l) refl
+    by_kind = ap (λ (t : Bool). leb a.kind max_attribute_kind && t) can ∙ and_true (leb a.kind max_attribute_kind)
 
-    tests_clear : undoable (key_was_none w a.key) s ≡ true → first_failed (tests s (set_attribute w a)) ≡ none
+    tests_told : first_failed (tests s (set_attribute w a)) ≡ cond (leb a.kind max_attribute_kind) none (some 6)
     unfolding undoable tests first_failed
-    tests_clear can = let p = passed _ can in simp (le-leb _ _ l, p.0, p.1.0)
+    tests_told = let p = passed _ can in simp (p.0, p.1.0)
 
-    pub attribute_undid : (exit : List ℕ) (r : Built) → undoable (key_was_none w a.key) s ≡ true → Did b exit (set_attribute w a) r → Undid b exit (attribute_was w a) true
-    unfolding undone built store_by
-    attribute_undid exit r can d =
-        undid_done b exit (attribute_was w a) (kind_fits ∙ can) (d.reads ∙ ap (λ (o : Option ℕ). store_by o s (set_attribute w a)) (tests_clear can)) d.sound d.behind
+    pub attribute_undid : (exit : List ℕ) (r : std.Result (Unit {0}) Cause) → Did b exit (set_attribute w a) (done_of r) → Undid b exit (attribute_was w a) (is_ok r)
+    unfolding undone answer built answer_by store_by acceptance
+    attribute_undid exit r d = go (leb a.kind max_attribute_kind) refl
+      where
+        go : (t : Bool) → leb a.kind max_attribute_kind ≡ t → Undid b exit (attribute_was w a) (is_ok r)
+        go true e =
+            let clear : first_failed (tests s (set_attribute w a)) ≡ none = tests_told ∙ ap (λ (t : Bool). cond t none (some 6)) e in
+            let yes : is_ok r ≡ true = accepted_is r (d.answered ∙ ap (λ (o : Option ℕ). answer_by o s (set_attribute w a)) clear) in
+            record {
+              told = yes ∙ sym (by_kind ∙ e);
+              reads = λ t. d.reads ∙ ap (λ (o : Option ℕ). store_by o s (set_attribute w a)) clear;
+              unchanged = λ t. clash yes t;
+              sound = d.sound;
+              behind = d.behind;
+            }
+        go false e =
+            let fails : first_failed (tests s (set_attribute w a)) ≡ some 6 = tests_told ∙ ap (λ (t : Bool). cond t none (some 6)) e in
+            let why : done_of r ≡ refused 6 = d.answered ∙ ap (λ (o : Option ℕ). answer_by o s (set_attribute w a)) fails in
+            record {
+              told = refused_is r 6 why ∙ sym (by_kind ∙ e);
+              reads = λ t. clash t (refused_is r 6 why);
+              unchanged = λ t. d.unchanged 6 why;
+              sound = d.sound;
+              behind = d.behind;
+            }

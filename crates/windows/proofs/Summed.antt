@@ -42,26 +42,6 @@ module _ (f : ℕ → ℕ) where
     pub room : length xs ≤ length words
     pub first : take k words ≡ map f (take k xs)
 
-  module _ (xs words : List ℕ) where
-    pub hashed_none : length xs ≤ length words → Hashed xs words 0
-    hashed_none r = record { low = omega arith; room = r; first = refl }
-
-    pub hashed_next : (k : ℕ) {w : ℕ} → Hashed xs words k → k < length xs → w ≡ f (get_or xs k 0) → Hashed xs (set words k w) (k + 1)
-    hashed_next k {w} h l e =
-        let r = h.room in
-        let long = length-set words k w in
-        let written : take (suc k) (set words k w) ≡ take k words ++ (w ∷ []) = take-suc-set words k w (omega arith) in
-        let wanted : take (suc k) xs ≡ take k xs ++ (get_or xs k 0 ∷ []) = take-suc xs k 0 l in
-        let whole : take (suc k) (set words k w) ≡ map f (take (suc k) xs) =
-        written ∙ ap₂ (λ (ys : List ℕ) (y : ℕ). ys ++ (y ∷ [])) h.first e ∙ sym (map_snoc (take k xs) (get_or xs k 0)) ∙ ap (map f) (sym wanted) in
-        record { low = omega arith; room = omega arith; first = rw add-one whole }
-
-    pub hashed_all : (k : ℕ) → Hashed xs words k → length xs ≤ k → take (length xs) words ≡ map f xs
-    hashed_all k h l =
-        let low = h.low in
-        let same : k ≡ length xs = omega arith in
-        ap (λ (n : ℕ). take n words) (sym same) ∙ h.first ∙ ap (λ (n : ℕ). map f (take n xs)) same ∙ ap (map f) (take-length xs)
-
 -- ---- all windows
 
 -- the first k starts have their sums
@@ -84,9 +64,6 @@ module _ (hashes sums : List ℕ) (n : ℕ) where
           ∙ e
           ∙ ap (λ (i : ℕ). weighted (run_of hashes n i)) (sym same)
       go j m (no other) = get_or-set_other sums k j w 0 other ∙ h.first j (omega arith)
-
-  pub summed_all : (k last : ℕ) → last ≡ length hashes - n → Summed hashes sums n k → last < k → WeightsOf hashes sums n
-  summed_all k last e h l i m = h.first i (omega arith)
 
 -- of hashes that are those of operations
 module _ (s : Store) (o : Options) (ops hashes : List ℕ) (e : HashesOf s o ops hashes) where

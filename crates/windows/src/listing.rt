@@ -6,7 +6,7 @@ ghost use Rattle.layout.specs.Reading.{block_count, store_in};
 ghost use Rattle.layout.specs.Soundness.{IsSound};
 ghost use Rattle.windows.specs.Windows.{Lists, block_ops};
 
-use layout::children::{Found, next_op};
+use layout::ops_in::OpsIn;
 
 // Room for the operations of any block: as many as a store has.
 pub const BLOCK_OPS: usize = 512;
@@ -20,13 +20,9 @@ pub fn ops_in(store: &[u32], b: usize, ops: &mut [u32]) -> usize
     ensures ops_len_2 { length ops.new ≡ block_ops }
 {
     let mut passed = 0;
-    let mut from = 0;
-    loop {
-        let Found::At(n) = next_op(store, b, from) else {
-            return passed;
-        };
+    for n in OpsIn::new(store, b) {
         ops[passed] = n as u32;
         passed += 1;
-        from = n + 1;
     }
+    passed
 }

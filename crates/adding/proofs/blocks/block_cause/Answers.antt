@@ -1,47 +1,46 @@
 -- `block_cause` meets its contract: it makes the tests in their order. Assumes nothing.
+use Prim.Native.Nat.{◌≤◌}
 use native.Mathlib.Omega.{arith}
-use mathlib.Core.Path.{sym, ◌∙◌}
+use Rattle.std.proofs.lemmas.Bool.Decides.{nat_tests}
+use Rattle.rules.specs.Lists.{every}
+use Rattle.rules.specs.Store.{max_blocks}
+use Rattle.rules.specs.Building.{tests, first_failed, block_room}
+use Rattle.layout.specs.Columns.{columns}
 use Rattle.layout.specs.Reading.{block_count, value_count}
 use Rattle.layout.specs.Causes.{cause_of}
+use Rattle.layout.proofs.Tabulate.{blocks_length, values_length}
 use Rattle.calling.proofs.Facts.{laid}
-use Rattle.adding.proofs.BlockCauses.{no_region, many_arguments, many_blocks, many_values, block_fits_lem}
 use Rattle.adding.proofs.blocks.block_cause.Goals as goal
+use Rattle.adding.proofs.blocks.block_cause.Goals.{then-number-ge256-via-then-number-ge256, then-number-ge256-via-else-number-ge256+then-number-types-gt2048}
 
 pub returns-then-not-region_exists : goal.returns-then-not-region_exists
-unfolding cause_of
-returns-then-not-region_exists c =
-    let a = c.args in
-    λ label location. sym (no_region a.store.now c.requires _ (sym c.region_exists.ensures ∙ c.if-not-region_exists.true))
+unfolding cause_of tests first_failed
+returns-then-not-region_exists c = λ label location. grind (arith, nat_tests)
 
 pub returns-then-types-gt16 : goal.returns-then-types-gt16
-unfolding cause_of
-returns-then-types-gt16 c =
-    let a = c.args in
-    λ label location. sym (many_arguments a.store.now c.requires _ (sym c.region_exists.ensures ∙ c.if-not-region_exists.false)
-    (omega arith))
+unfolding cause_of tests first_failed
+returns-then-types-gt16 c = λ label location. grind (arith, nat_tests)
 
 pub returns-then-number-ge256 : goal.returns-then-number-ge256
-unfolding cause_of block_count
+unfolding cause_of tests first_failed block_room every block_count value_count
 returns-then-number-ge256 c =
-    let a = c.args in
-    λ label location. sym (many_blocks a.store.now c.requires _ (sym c.region_exists.ensures ∙ c.if-not-region_exists.false) (omega arith)
-    (omega arith))
+    λ label location.
+    let C = columns c.args.store.now in
+    let blocks = blocks_length C in
+    let values = values_length C in
+    elim c.then-number-ge256.branch [
+      | then-number-ge256-via-then-number-ge256 w ↦ let full : max_blocks ≤ block_count C = omega arith in grind (arith, nat_tests, blocks)
+      | then-number-ge256-via-else-number-ge256+then-number-types-gt2048 w ↦ grind (arith, nat_tests, blocks, values)
+    ]
+
+pub returns : goal.returns
+unfolding cause_of tests first_failed block_room every block_count value_count
+returns c =
+    λ label location.
+    let blocks = blocks_length (columns c.args.store.now) in
+    let values = values_length (columns c.args.store.now) in
+    grind (arith, nat_tests, blocks, values)
 
 pub overflow_add-number : goal.overflow_add-number
 unfolding value_count
-overflow_add-number c =
-    omega (arith, (laid c.args.store.now c.requires).counts.values)
-
-pub returns-then-number-types-gt2048 : goal.returns-then-number-types-gt2048
-unfolding cause_of block_count value_count
-returns-then-number-types-gt2048 c =
-    let a = c.args in
-    λ label location. sym (many_values a.store.now c.requires _ (sym c.region_exists.ensures ∙ c.if-not-region_exists.false) (omega arith)
-    (omega arith) (omega arith))
-
-pub returns : goal.returns
-unfolding cause_of block_count value_count
-returns c =
-    let a = c.args in
-    λ label location. sym (block_fits_lem a.store.now c.requires _ (sym c.region_exists.ensures ∙ c.if-not-region_exists.false) (omega arith)
-    (record { blocks = omega arith; values = omega arith }))
+overflow_add-number c = omega (arith, (laid c.args.store.now c.requires).counts.values)

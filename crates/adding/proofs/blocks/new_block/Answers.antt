@@ -1,16 +1,26 @@
 -- `new_block` meets its contract: it refuses by the first test that fails, and else writes the block. Assumes nothing.
 use native.Mathlib.Omega.{arith}
-use mathlib.Core.Option.{none}
-use mathlib.Core.Path.{◌≡◌, refl, sym, ap, ◌∙◌}
-use Rattle.rules.specs.Building.{NewBlock, new_block, made, tests, first_failed}
-use Rattle.layout.specs.Reading.{block_count, store_in}
-use Rattle.calling.specs.Types.{built_of}
-use Rattle.layout.specs.Causes.{cause_of}
+use mathlib.Core.Path.{◌≡◌, sym, ap}
+use Rattle.std.proofs.Common.{rules}
+use Rattle.std.specs.Prelude as std
+use Rattle.rules.specs.Building.{NewBlock, new_block, made}
+use Rattle.layout.specs.Reading.{block_count}
+use Rattle.layout.specs.Causes.{cause_of, number_of}
+use Rattle.calling.specs.Types.{made_of}
 use Rattle.calling.proofs.Facts.{laid}
-use Rattle.adding.proofs.BlockCauses.{fits_block}
 use Rattle.calling.proofs.Doing.{did_refuse}
+use Rattle.adding.proofs.BlockCauses.{fits_block}
 use Rattle.adding.proofs.Done.{block_done}
 use Rattle.adding.proofs.blocks.new_block.Goals as goal
+
+pub returns-in_err-block_cause : goal.returns-in_err-block_cause
+unfolding cause_of made_of
+returns-in_err-block_cause c =
+    let a = c.args in
+    let e = c.in_err-block_cause.field-0.0 in
+    let told : c.from_residual.result ≡ std.Err e = search rules in
+    let new : NewBlock = record { region = a.region; label = a.label; location = a.location; types = a.types.now } in
+    did_refuse a.store.now c.requires (new_block new) _ (number_of e) (sym (c.in_err-block_cause.ensures a.label a.location)) (ap made_of told)
 
 pub put_block-requires : goal.put_block-requires
 unfolding cause_of
@@ -18,9 +28,7 @@ put_block-requires c =
     let a = c.args in
     let b = a.store.now in
     let new : NewBlock = record { region = a.region; label = a.label; location = a.location; types = a.types.now } in
-    let clear : first_failed (tests (store_in b) (new_block new)) ≡ none
-    = sym (c.block_cause.ensures a.label a.location) ∙ ap cause_of c.in-None.is in
-    let f = fits_block b c.requires new clear in
+    let f = fits_block b c.requires new (sym (c.in_ok-block_cause.ensures a.label a.location)) in
     record {
       store_len = c.requires.sized;
       region_bound = omega (arith, f.named, (laid b c.requires).counts.regions);
@@ -28,21 +36,10 @@ put_block-requires c =
       types_bound = f.room.values;
     }
 
-pub returns-in-Is : goal.returns-in-Is
-unfolding cause_of built_of
-returns-in-Is c =
+pub returns : goal.returns
+unfolding cause_of made_of block_count
+returns c =
     let a = c.args in
-    let b = a.store.now in
     let new : NewBlock = record { region = a.region; label = a.label; location = a.location; types = a.types.now } in
-    did_refuse b c.requires (new_block new) _ _ (sym (c.block_cause.ensures a.label a.location) ∙ ap cause_of c.in-Is.is) refl
-
-pub returns-in-None : goal.returns-in-None
-unfolding cause_of built_of block_count
-returns-in-None c =
-    let a = c.args in
-    let b = a.store.now in
-    let new : NewBlock = record { region = a.region; label = a.label; location = a.location; types = a.types.now } in
-    let clear : first_failed (tests (store_in b) (new_block new)) ≡ none
-    = sym (c.block_cause.ensures a.label a.location) ∙ ap cause_of c.in-None.is in
-    block_done b c.requires c.put_block.new.store c.put_block.auto.store _ new
-    clear c.put_block.ensures (ap made c.at-m.ensures)
+    block_done a.store.now c.requires c.put_block.new.store c.put_block.auto.store _ new
+    (sym (c.in_ok-block_cause.ensures a.label a.location)) c.put_block.ensures (ap made c.at-m.ensures)

@@ -1,12 +1,12 @@
 -- `put_block` meets its contract: the new number is read before anything is written, and the row and the place in the region leave the counts as they were. Assumes nothing.
-use Prim.Native.Nat.{ℕ, ◌+◌, ◌*◌}
+use Prim.Native.Nat.{ℕ}
 use native.Mathlib.Omega.{arith}
 use mathlib.Core.List.{List}
 use mathlib.Core.Path.{◌≡◌, ap, ap₂, ◌∙◌}
 use lib.ListN.{length}
-use Rattle.layout.specs.Columns.{Cols, columns, write, counts}
+use Rattle.layout.specs.Columns.{Cols, columns}
 use Rattle.layout.specs.Reading.{block_count, value_count, owner_code}
-use Rattle.adding.specs.Raw.{with_values, with_values_by, block_written, block_placed, with_block}
+use Rattle.adding.specs.Raw.{with_values, block_written, block_placed, with_block}
 use Rattle.adding.proofs.NewBlock.{counts_placed}
 use Rattle.adding.proofs.blocks.put_block.Goals as goal
 
@@ -19,28 +19,6 @@ placed C X Y m region label location types row place e =
     ∙ ap₂ (λ (Z : Cols) (k : ℕ). block_placed Z region k)
     (row ∙ ap (λ (k : ℕ). block_written C k region label location (length types)) e) e
 
-pub put_block_row-requires : goal.put_block_row-requires
-unfolding block_count
-put_block_row-requires c =
-    record { store_len = omega arith; m_bound = omega arith; arguments_bound = omega arith }
-
-pub place_block-requires : goal.place_block-requires
-unfolding block_count
-place_block-requires c =
-    record { store_len = omega arith; region_bound = omega arith; m_bound = omega arith }
-
-pub overflow_mul-m : goal.overflow_mul-m
-unfolding block_count
-overflow_mul-m c = omega arith
-
-pub overflow_add-m : goal.overflow_add-m
-unfolding block_count
-overflow_add-m c = omega arith
-
-pub overflow_cast-m : goal.overflow_cast-m
-unfolding block_count
-overflow_cast-m c = omega arith
-
 pub put_values-requires : goal.put_values-requires
 unfolding block_count value_count
 put_values-requires c =
@@ -52,22 +30,6 @@ put_values-requires c =
     (record { region = a.region; label = a.label; location = a.location; types = a.types.now }) 3 in
     record { store_len = omega arith; types_bound = omega arith }
 
-pub overflow_add-m-2 : goal.overflow_add-m-2
-unfolding block_count
-overflow_add-m-2 c = omega arith
-
-pub overflow_cast-m-2 : goal.overflow_cast-m-2
-unfolding block_count
-overflow_cast-m-2 c = omega arith
-
 pub returns : goal.returns
 unfolding with_block with_values owner_code block_count
-returns c =
-    let a = c.args in
-    let there = placed (columns a.store.now) _ _ _ a.region a.label a.location a.types.now c.put_block_row.ensures c.place_block.ensures
-    c.number-m.ensures in
-    c.put.ensures
-    ∙ ap₂ (λ (X : Cols) (k : ℕ). write X counts 1 (k + 1))
-    (c.put_values.ensures
-    ∙ ap₂ (λ (X : Cols) (k : ℕ). with_values_by X (2 * k + 1) a.types.now) there c.number-m.ensures)
-    c.number-m.ensures
+returns c = cc

@@ -26,18 +26,6 @@ put_regions-requires c =
     let made₀ : columns c.put_op.new.store ≡ layer₀ = c.put_op.ensures in
     record { store_len = long₀; n_bound = few; regions_bound = subst (λ (X : Cols). region_count X + new.regions ≤ 256) (sym made₀) (r₁ cols new (columns_shaped c.args.store.now c.requires.arranged.sized) c.requires.op_room) }
 
-pub overflow_mul-n : goal.overflow_mul-n
-unfolding op_count
-overflow_mul-n c =
-    let few : c.number-n.result < 512 = omega (arith, c.requires.op_room.ops, c.number-n.ensures) in
-    omega (arith, few)
-
-pub overflow_cast-n : goal.overflow_cast-n
-unfolding op_count
-overflow_cast-n c =
-    let few : c.number-n.result < 512 = omega (arith, c.requires.op_room.ops, c.number-n.ensures) in
-    omega (arith, few)
-
 pub put_values-requires : goal.put_values-requires
 unfolding op_written op_count
 put_values-requires c =
@@ -87,27 +75,6 @@ put_slice-requires-2 c =
     let made₃ : columns c.put_slice.new.store ≡ layer₃ = c.put_slice.ensures ∙ ap (λ (X : Cols). with_slice X 27 4 new.operands) made₂ in
     let room = subst (λ (X : Cols). at X 0 5 + length new.successors ≤ 512) (sym made₃) (r₄ cols new (columns_shaped c.args.store.now c.requires.arranged.sized) c.requires.op_room) in
     record { store_len = long₃; column_lt_column_count = omega arith; word_bound = omega arith; list_bound = room; column_bound = omega arith }
-
-pub overflow_add-n : goal.overflow_add-n
-unfolding op_count
-overflow_add-n c =
-    let few : c.number-n.result < 512 = omega (arith, c.requires.op_room.ops, c.number-n.ensures) in
-    omega (arith, few)
-
-pub overflow_cast-n-2 : goal.overflow_cast-n-2
-unfolding op_count
-overflow_cast-n-2 c =
-    let few : c.number-n.result < 512 = omega (arith, c.requires.op_room.ops, c.number-n.ensures) in
-    omega (arith, few)
-
-pub put-requires : goal.put-requires
-put-requires c =
-    let long₀ : length c.put_op.new.store ≡ buffer_length = omega (arith, c.requires.arranged.sized, c.put_op.auto.store) in
-    let long₁ : length c.put_regions.new.store ≡ buffer_length = omega (arith, long₀, c.put_regions.auto.store) in
-    let long₂ : length c.put_values.new.store ≡ buffer_length = omega (arith, long₁, c.put_values.auto.store) in
-    let long₃ : length c.put_slice.new.store ≡ buffer_length = omega (arith, long₂, c.put_slice.auto.store) in
-    let long₄ : length c.put_slice-2.new.store ≡ buffer_length = omega (arith, long₃, c.put_slice-2.auto.store) in
-    record { store_len = long₄; column_lt_column_count = omega arith; n_bound = omega arith }
 
 pub returns : goal.returns
 unfolding with_operation op_count with_values owner_code

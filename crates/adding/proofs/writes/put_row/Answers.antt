@@ -1,23 +1,8 @@
 -- `put_row` meets its contract: after each turn one word more of the row is in its column. Assumes nothing.
-use native.Mathlib.Omega.{arith}
-use mathlib.Core.Path.{refl, ◌∙◌}
+use mathlib.Core.Path.{◌∙◌}
 use Rattle.layout.specs.Columns.{columns}
-use Rattle.adding.proofs.RowWritten.{row_starts, row_turn, row_done}
+use Rattle.adding.proofs.RowWritten.{row_turn, row_done}
 use Rattle.adding.proofs.writes.put_row.Goals as goal
-
-pub loop-j-init : goal.loop-j-init
-loop-j-init c =
-    let a = c.args in
-    (refl, row_starts (columns a.store.now) a.first a.n a.row.now)
-
-pub put-requires : goal.put-requires
-put-requires c =
-    let l = c.loop-j in
-    record {
-      store_len = l.invariant.0 ∙ c.requires.store_len;
-      column_lt_column_count = omega arith;
-      n_bound = c.requires.by_index l.j c.loop-j-test.true;
-    }
 
 pub loop-j-preserved : goal.loop-j-preserved
 loop-j-preserved c =

@@ -3,12 +3,12 @@ use mathlib.Core.Path.{refl, sym, ◌∙◌}
 use Rattle.rules.specs.Building.{set_attribute}
 use Rattle.rules.specs.Marks.{build}
 use Rattle.layout.specs.Owners.{owner_of}
-use Rattle.calling.specs.Types.{built_of, attribute_of}
+use Rattle.calling.specs.Types.{done_of, attribute_of}
 use Rattle.marks.proofs.Answering.{turned_down, taken_up}
 use Rattle.building.proofs.calls.set_attribute.Goals as goal
 
 pub returns-then-not-is_sound : goal.returns-then-not-is_sound
-unfolding built_of
+unfolding done_of
 returns-then-not-is_sound c =
     let a = c.args in
     turned_down a.store.now (build (set_attribute (owner_of a.owner) (attribute_of a.attribute))) _

@@ -1,11 +1,11 @@
 -- `set_operand` meets its contract: by the soundness check, and by the call on a lent buffer. Assumes nothing.
 use mathlib.Core.Path.{refl, sym, ◌∙◌}
-use Rattle.calling.specs.Types.{built_of}
+use Rattle.calling.specs.Types.{done_of}
 use Rattle.marks.proofs.Answering.{turned_down, taken_up}
 use Rattle.building.proofs.calls.set_operand.Goals as goal
 
 pub returns-then-not-is_sound : goal.returns-then-not-is_sound
-unfolding built_of
+unfolding done_of
 returns-then-not-is_sound c =
     let a = c.args in
     turned_down a.store.now _ _ (sym c.is_sound.ensures ∙ c.if-not-is_sound.true) refl

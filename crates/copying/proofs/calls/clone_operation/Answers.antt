@@ -1,12 +1,13 @@
 -- `clone_operation` meets its contract: by the soundness check, then by the check of the mapping, and by the call on a lent buffer. Assumes
 -- nothing.
 use mathlib.Core.Path.{sym, ◌∙◌}
-use Rattle.calling.specs.Types.{parent_of}
+use Rattle.calling.specs.Types.{parent_of, made_of}
 use Rattle.marks.proofs.Lent.{lent_facts}
 use Rattle.copying.proofs.Offered.{unsound, not_allowed_lem, done}
 use Rattle.copying.proofs.calls.clone_operation.Goals as goal
 
 pub returns-then-not-is_sound : goal.returns-then-not-is_sound
+unfolding made_of
 returns-then-not-is_sound c =
     let a = c.args in
     unsound a.store.now a.mapping.now a.op (parent_of a.parent) (sym c.is_sound.ensures ∙ c.if-not-is_sound.true)
@@ -17,6 +18,7 @@ is_allowed-requires c =
     record { sized = h.sized; laid = h.laid }
 
 pub returns-then-not-is_allowed : goal.returns-then-not-is_allowed
+unfolding made_of
 returns-then-not-is_allowed c =
     let a = c.args in
     not_allowed_lem a.store.now (sym c.is_sound.ensures ∙ c.if-not-is_sound.false) a.mapping.now a.op (parent_of a.parent)

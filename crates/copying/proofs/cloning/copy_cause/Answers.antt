@@ -11,7 +11,7 @@ unfolding cause_of
 returns-then-not-placed_outside c =
     let a = c.args in
     let r = c.requires in
-    sym (inside (store_in a.store.now) a.n (parent_of a.parent) (exists_op a.store.now a.n r.n_bound) r.parent_value
+    sym (inside (store_in c.args.original.now.store.now) c.args.original.now.n (parent_of a.parent) (exists_op c.args.original.now.store.now c.args.original.now.n c.args.original.now.exists) r
     (sym c.placed_outside.ensures ∙ c.if-not-placed_outside.true))
 
 pub returns-then-not-in_time : goal.returns-then-not-in_time
@@ -19,7 +19,7 @@ unfolding cause_of
 returns-then-not-in_time c =
     let a = c.args in
     let r = c.requires in
-    sym (early (store_in a.store.now) a.n (parent_of a.parent) (exists_op a.store.now a.n r.n_bound) r.parent_value
+    sym (early (store_in c.args.original.now.store.now) c.args.original.now.n (parent_of a.parent) (exists_op c.args.original.now.store.now c.args.original.now.n c.args.original.now.exists) r
     (sym c.placed_outside.ensures ∙ c.if-not-placed_outside.false)
     (sym c.in_time.ensures ∙ c.if-not-in_time.true))
 
@@ -28,7 +28,7 @@ unfolding cause_of
 returns-then-not-copy_nests c =
     let a = c.args in
     let r = c.requires in
-    sym (deep (store_in a.store.now) a.n (parent_of a.parent) (exists_op a.store.now a.n r.n_bound) r.parent_value
+    sym (deep (store_in c.args.original.now.store.now) c.args.original.now.n (parent_of a.parent) (exists_op c.args.original.now.store.now c.args.original.now.n c.args.original.now.exists) r
     (sym c.placed_outside.ensures ∙ c.if-not-placed_outside.false)
     (sym c.in_time.ensures ∙ c.if-not-in_time.false)
     (sym c.copy_nests.ensures ∙ c.if-not-copy_nests.true))
@@ -38,7 +38,7 @@ unfolding cause_of
 returns-then-not-copy_totals_hold c =
     let a = c.args in
     let r = c.requires in
-    sym (full (store_in a.store.now) a.n (parent_of a.parent) (exists_op a.store.now a.n r.n_bound) r.parent_value
+    sym (full (store_in c.args.original.now.store.now) c.args.original.now.n (parent_of a.parent) (exists_op c.args.original.now.store.now c.args.original.now.n c.args.original.now.exists) r
     (sym c.placed_outside.ensures ∙ c.if-not-placed_outside.false)
     (sym c.in_time.ensures ∙ c.if-not-in_time.false)
     (sym c.copy_nests.ensures ∙ c.if-not-copy_nests.false)
@@ -49,7 +49,7 @@ unfolding cause_of
 returns c =
     let a = c.args in
     let r = c.requires in
-    sym (clear (store_in a.store.now) a.n (parent_of a.parent) (exists_op a.store.now a.n r.n_bound) r.parent_value
+    sym (clear (store_in c.args.original.now.store.now) c.args.original.now.n (parent_of a.parent) (exists_op c.args.original.now.store.now c.args.original.now.n c.args.original.now.exists) r
     (sym c.placed_outside.ensures ∙ c.if-not-placed_outside.false)
     (sym c.in_time.ensures ∙ c.if-not-in_time.false)
     (sym c.copy_nests.ensures ∙ c.if-not-copy_nests.false)

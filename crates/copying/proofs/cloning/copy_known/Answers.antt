@@ -1,11 +1,15 @@
 -- `copy_known` meets its contract: a refusal comes before anything is written, and what is written is the copier's. Assumes nothing.
 use mathlib.Core.Path.{◌≡◌, sym, ap, ◌∙◌}
+use Rattle.std.proofs.Common.{ℕ, true, subst, rules}
+use Rattle.std.specs.Prelude as std
 use mathlib.Core.Option.{none}
 use Rattle.rules.specs.Building.{first_failed}
 use Rattle.rules.specs.Copying.{copy_tests}
-use Rattle.layout.specs.Causes.{cause_of}
+use Rattle.layout.specs.Causes.{cause_of, number_of}
+use Rattle.layout.specs.declared.causes.Cause.{Cause}
+use Rattle.copying.specs.Cloned.{Cloned}
 use Rattle.layout.specs.Reading.{op_count, store_in}
-use Rattle.calling.specs.Types.{parent_of}
+use Rattle.calling.specs.Types.{parent_of, made_of}
 use Rattle.mapping.proofs.Entries.{allowed_long}
 use Rattle.marks.proofs.Lent.{lent_facts}
 use Rattle.copying.specs.Steps.{AreSteps}
@@ -13,32 +17,23 @@ use Rattle.copying.proofs.Refusing.{clear_totals, totals_anywhere}
 use Rattle.copying.proofs.Deciding.{refused_by, cloned}
 use Rattle.copying.proofs.cloning.copy_known.Goals as goal
 
-pub list_steps-end-requires-clause-sound : goal.list_steps-end-requires-clause-sound
-list_steps-end-requires-clause-sound c = (lent_facts _ c.requires.lent).tables
+pub list_steps-walk-requires-clause-sound : goal.list_steps-walk-requires-clause-sound
+list_steps-walk-requires-clause-sound c = (lent_facts _ c.requires.lent).tables
 
-pub copy_cause-requires-clause-sound : goal.copy_cause-requires-clause-sound
-copy_cause-requires-clause-sound c = (lent_facts _ c.requires.lent).tables
-
-pub copy_cause-requires-clause-are_steps : goal.copy_cause-requires-clause-are_steps
+pub invariant_of-original : goal.invariant_of-original
 unfolding AreSteps
-copy_cause-requires-clause-are_steps c = c.list_steps-end.ensures.words
+invariant_of-original c =
+    record { sound = (lent_facts _ c.requires.lent).tables; exists = c.requires.n_bound; are_steps = c.as_slice-steps.ensures ∙ c.list_steps-walk.ensures }
 
 pub at-copy-requires-clause-store_len : goal.at-copy-requires-clause-store_len
 at-copy-requires-clause-store_len c = (lent_facts _ c.requires.lent).tables.sized
-
-pub enter_copies-requires-clause-sound : goal.enter_copies-requires-clause-sound
-enter_copies-requires-clause-sound c = (lent_facts _ c.requires.lent).tables
-
-pub enter_copies-requires-clause-are_steps : goal.enter_copies-requires-clause-are_steps
-unfolding AreSteps
-enter_copies-requires-clause-are_steps c = c.list_steps-end.ensures.words
 
 pub enter_copies-requires-clause-totals_hold : goal.enter_copies-requires-clause-totals_hold
 unfolding cause_of
 enter_copies-requires-clause-totals_hold c =
     let a = c.args in
     let b = a.store.now in
-    let clear : first_failed (copy_tests (store_in b) a.n (parent_of a.parent)) ≡ none = sym c.copy_cause.ensures ∙ ap cause_of c.in-None.is in
+    let clear : first_failed (copy_tests (store_in b) a.n (parent_of a.parent)) ≡ none = sym c.copy_cause.ensures ∙ ap cause_of c.in_ok-copy_cause.was in
     totals_anywhere b (lent_facts _ c.requires.lent).tables a.n c.requires.n_bound none (parent_of a.parent)
     ∙ clear_totals (store_in b) a.n (parent_of a.parent) clear
 
@@ -50,27 +45,25 @@ write_copies-requires-clause-sound c = (lent_facts _ c.requires.lent).tables
 
 pub write_copies-requires-clause-passed : goal.write_copies-requires-clause-passed
 unfolding cause_of
-write_copies-requires-clause-passed c = sym c.copy_cause.ensures ∙ ap cause_of c.in-None.is
-
-pub write_copies-requires-clause-are_steps : goal.write_copies-requires-clause-are_steps
-unfolding AreSteps
-write_copies-requires-clause-are_steps c = c.list_steps-end.ensures.words
+write_copies-requires-clause-passed c = sym c.copy_cause.ensures ∙ ap cause_of c.in_ok-copy_cause.was
 
 pub write_copies-requires-clause-mapping_len : goal.write_copies-requires-clause-mapping_len
 write_copies-requires-clause-mapping_len c =
     let a = c.args in
     c.enter_copies.auto.mapping ∙ allowed_long (store_in a.store.now) a.mapping.now c.requires.mapping_value
 
-pub returns-in-Is : goal.returns-in-Is
-unfolding cause_of
-returns-in-Is c =
+pub returns-in_err-copy_cause : goal.returns-in_err-copy_cause
+unfolding cause_of made_of
+returns-in_err-copy_cause c =
     let a = c.args in
-    refused_by a.store.now c.requires.lent a.mapping.now a.n (parent_of a.parent) c.in-Is.cause
-    (sym c.copy_cause.ensures ∙ ap cause_of c.in-Is.is)
+    let e = c.in_err-copy_cause.field-0.0 in
+    let told : c.from_residual.result ≡ std.Err e = search rules in
+    subst (λ (r : std.Result ℕ Cause). Cloned true a.store.now a.store.now a.mapping.now a.mapping.now a.n (parent_of a.parent) (made_of r)) (sym told)
+    (refused_by a.store.now c.requires.lent a.mapping.now a.n (parent_of a.parent) (number_of e) (sym c.in_err-copy_cause.ensures))
 
-pub returns-in-None : goal.returns-in-None
-unfolding cause_of op_count
-returns-in-None c =
+pub returns : goal.returns
+unfolding cause_of made_of op_count
+returns c =
     let a = c.args in
-    cloned a.store.now c.requires.lent a.mapping.now a.n (parent_of a.parent) (sym c.copy_cause.ensures ∙ ap cause_of c.in-None.is)
+    cloned a.store.now c.requires.lent a.mapping.now a.n (parent_of a.parent) (sym c.copy_cause.ensures ∙ ap cause_of c.in_ok-copy_cause.was)
     c.write_copies.new.store c.enter_copies.new.mapping c.write_copies.ensures c.at-copy.result c.at-copy.ensures

@@ -9,8 +9,8 @@ use Rattle.copying.proofs.inside.op_inside.Given as goal
 abbrev pub invariant-loop-at : goal.invariant-loop-at
 invariant-loop-at l =
     record {
-      bound : l.at < op_count (columns l.store);
-      same : has_place (fragment_ops (store_in l.store) op l.n) l.at ≡ has_place (fragment_ops (store_in l.store) op l.n) l.m;
+      bound : l.at < op_count (columns l.original.store.now);
+      same : has_place (fragment_ops (store_in l.original.store.now) op l.original.n) l.at ≡ has_place (fragment_ops (store_in l.original.store.now) op l.original.n) l.m;
     }
 
 abbrev pub decreases-loop-at : goal.decreases-loop-at

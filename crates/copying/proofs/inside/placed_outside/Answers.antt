@@ -9,17 +9,17 @@ use Rattle.layout.proofs.Tabulate.{block_in_lem}
 use Rattle.calling.specs.Types.{parent_of}
 use Rattle.copying.proofs.inside.placed_outside.Goals as goal
 
-pub block_inside-requires-clause-b_bound : goal.block_inside-requires-clause-b_bound
+pub block_inside-requires : goal.block_inside-requires
 unfolding parent_exists parent_of
-block_inside-requires-clause-b_bound c =
-    block_in_lem (columns c.args.store.now) c.in-Block.b
-    (subst (λ p. parent_exists (store_in c.args.store.now) (parent_of p) ≡ true) c.in-Block.is c.requires.parent_value)
+block_inside-requires c =
+    block_in_lem (columns c.args.original.now.store.now) c.in-Some.b
+    (subst (λ p. parent_exists (store_in c.args.original.now.store.now) (parent_of p) ≡ true) c.in-Some.is c.requires)
 
 pub returns-in-None : goal.returns-in-None
 unfolding placed_outside parent_of
-returns-in-None c = sym (ap (λ p. placed_outside (store_in c.args.store.now) c.args.n (parent_of p)) c.in-None.is)
+returns-in-None c = sym (ap (λ p. placed_outside (store_in c.args.original.now.store.now) c.args.original.now.n (parent_of p)) c.in-None.is)
 
-pub returns-in-Block : goal.returns-in-Block
+pub returns-in-Some : goal.returns-in-Some
 unfolding placed_outside parent_of
-returns-in-Block c =
-    ap not c.block_inside.ensures ∙ sym (ap (λ p. placed_outside (store_in c.args.store.now) c.args.n (parent_of p)) c.in-Block.is)
+returns-in-Some c =
+    ap not c.block_inside.ensures ∙ sym (ap (λ p. placed_outside (store_in c.args.original.now.store.now) c.args.original.now.n (parent_of p)) c.in-Some.is)

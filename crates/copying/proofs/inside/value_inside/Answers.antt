@@ -7,29 +7,29 @@ use Rattle.copying.proofs.Upward.{result_op, result_in, argument_block, argument
 use Rattle.copying.proofs.inside.value_inside.Goals as goal
 
 pub number-owner-requires-clause-n_bound : goal.number-owner-requires-clause-n_bound
-number-owner-requires-clause-n_bound c = omega (arith, (laid_facts (columns c.args.store.now) c.requires.sound.laid).counts.values)
+number-owner-requires-clause-n_bound c = omega (arith, (laid_facts (columns c.args.original.now.store.now) c.args.original.now.sound.laid).counts.values)
 
-pub op_inside-requires-clause-m_bound : goal.op_inside-requires-clause-m_bound
-op_inside-requires-clause-m_bound c =
-    result_op c.args.store.now c.requires.sound c.args.n c.requires.n_bound c.args.v c.requires.v_bound c.number-owner.result c.number-owner.ensures
+pub op_inside-requires : goal.op_inside-requires
+op_inside-requires c =
+    result_op c.args.original.now.store.now c.args.original.now.sound c.args.original.now.n c.args.original.now.exists c.args.v c.requires c.number-owner.result c.number-owner.ensures
     c.if-owner-eq0.true
 
 pub returns-then-owner-eq0 : goal.returns-then-owner-eq0
 returns-then-owner-eq0 c =
     c.op_inside.ensures
-    ∙ sym (result_in c.args.store.now c.requires.sound c.args.n c.requires.n_bound
-    c.args.v c.requires.v_bound c.number-owner.result c.number-owner.ensures
+    ∙ sym (result_in c.args.original.now.store.now c.args.original.now.sound c.args.original.now.n c.args.original.now.exists
+    c.args.v c.requires c.number-owner.result c.number-owner.ensures
     c.if-owner-eq0.true)
 
-pub block_inside-requires-clause-b_bound : goal.block_inside-requires-clause-b_bound
-block_inside-requires-clause-b_bound c =
-    argument_block c.args.store.now c.requires.sound c.args.n c.requires.n_bound
-    c.args.v c.requires.v_bound c.number-owner.result c.number-owner.ensures
+pub block_inside-requires : goal.block_inside-requires
+block_inside-requires c =
+    argument_block c.args.original.now.store.now c.args.original.now.sound c.args.original.now.n c.args.original.now.exists
+    c.args.v c.requires c.number-owner.result c.number-owner.ensures
     c.if-owner-eq0.false
 
 pub returns : goal.returns
 returns c =
     c.block_inside.ensures
-    ∙ sym (argument_in c.args.store.now c.requires.sound c.args.n c.requires.n_bound
-    c.args.v c.requires.v_bound c.number-owner.result c.number-owner.ensures
+    ∙ sym (argument_in c.args.original.now.store.now c.args.original.now.sound c.args.original.now.n c.args.original.now.exists
+    c.args.v c.requires c.number-owner.result c.number-owner.ensures
     c.if-owner-eq0.false)

@@ -1,27 +1,26 @@
--- `copy_nests` meets its contract: a shell's word of an operation tests its copy's nesting, by the column of depths, and other words test nothing.
--- Assumes nothing.
-use Rattle.std.proofs.Common.{arith}
+-- `copy_nests` meets its contract: an operation's shell tests its copy's nesting, by the column of depths, and other steps test nothing. Assumes nothing.
+use Rattle.std.proofs.Common.{refl, arith}
 use Rattle.layout.specs.Columns.{columns}
 use Rattle.layout.proofs.Laid.{laid_facts}
 use Rattle.calling.specs.Types.{parent_of}
-use Rattle.copying.proofs.Words.{op_there}
+use Rattle.copying.proofs.Told.{op_there}
 use Rattle.copying.proofs.Nested.{under_most, depth_fits, own_below, left_first, left_last, too_deep_lem, not_too_deep, passed_over}
 use Rattle.copying.proofs.nesting.copy_nests.Goals as goal
-use Rattle.copying.proofs.nesting.copy_nests.Goals.{else-word-eq0-via-then-word-eq0+else-under-number-gt32, else-word-eq0-via-else-word-eq0}
+use Rattle.copying.proofs.nesting.copy_nests.Goals.{in-OpShell+else-under-number-gt32, in_default}
 
 pub number-own-requires-clause-n_bound : goal.number-own-requires-clause-n_bound
-number-own-requires-clause-n_bound c = omega (arith, (laid_facts (columns c.args.store.now) c.requires.sound.laid).counts.ops)
+number-own-requires-clause-n_bound c = omega (arith, (laid_facts (columns c.args.original.now.store.now) c.args.original.now.sound.laid).counts.ops)
 
-pub loop-i-init : goal.loop-i-init
-loop-i-init c = left_first c.args.store.now c.requires.sound c.args.n c.requires.n_bound (parent_of c.args.parent) c.requires.parent_value
+pub loop-step-init : goal.loop-step-init
+loop-step-init c = left_first c.args.original.now.store.now c.args.original.now.sound c.args.original.now.n c.args.original.now.exists (parent_of c.args.parent) c.requires
 
 pub number-requires-clause-n_bound : goal.number-requires-clause-n_bound
 number-requires-clause-n_bound c =
     let r = c.requires in
     omega (
       arith,
-      (laid_facts (columns c.args.store.now) r.sound.laid).counts.ops,
-      op_there c.args.store.now r.sound c.args.n r.n_bound c.args.steps.now r.are_steps c.loop-i.i c.loop-i-test.true c.if-word-eq0.true,
+      (laid_facts (columns c.args.original.now.store.now) c.args.original.now.sound.laid).counts.ops,
+      op_there c.args.original.now.store.now c.args.original.now.sound c.args.original.now.n c.args.original.now.exists c.args.original.now.steps.now c.args.original.now.are_steps c.loop-step.step-index c.loop-step-test.true c.in-OpShell.m c.in-OpShell.is,
     )
 
 pub overflow_sub-number : goal.overflow_sub-number
@@ -31,9 +30,9 @@ overflow_sub-number c =
       arith,
       c.number-own.ensures,
       c.number.ensures,
-      own_below c.args.store.now r.sound c.args.n r.n_bound (parent_of c.args.parent) r.parent_value
-          c.args.steps.now r.are_steps c.loop-i.i c.loop-i.invariant
-          c.loop-i-test.true c.if-word-eq0.true,
+      own_below c.args.original.now.store.now c.args.original.now.sound c.args.original.now.n c.args.original.now.exists (parent_of c.args.parent) r
+          c.args.original.now.steps.now c.args.original.now.are_steps c.loop-step.step-index c.loop-step.invariant
+          c.loop-step-test.true c.in-OpShell.m c.in-OpShell.is,
     )
 
 pub overflow_add-under : goal.overflow_add-under
@@ -43,34 +42,34 @@ overflow_add-under c =
       arith,
       c.depth_under-under.ensures,
       c.number.ensures,
-      under_most c.args.store.now r.sound (parent_of c.args.parent) r.parent_value,
-      depth_fits c.args.store.now r.sound _
-          (op_there c.args.store.now r.sound c.args.n r.n_bound c.args.steps.now r.are_steps c.loop-i.i c.loop-i-test.true c.if-word-eq0.true),
+      under_most c.args.original.now.store.now c.args.original.now.sound (parent_of c.args.parent) r,
+      depth_fits c.args.original.now.store.now c.args.original.now.sound _
+          (op_there c.args.original.now.store.now c.args.original.now.sound c.args.original.now.n c.args.original.now.exists c.args.original.now.steps.now c.args.original.now.are_steps c.loop-step.step-index c.loop-step-test.true c.in-OpShell.m c.in-OpShell.is),
     )
 
 pub returns-then-under-number-gt32 : goal.returns-then-under-number-gt32
 returns-then-under-number-gt32 c =
     let r = c.requires in
-    too_deep_lem c.args.store.now r.sound c.args.n r.n_bound (parent_of c.args.parent) r.parent_value
-    c.args.steps.now r.are_steps c.loop-i.i c.loop-i.invariant
-    c.loop-i-test.true c.if-word-eq0.true (omega (arith, c.depth_under-under.ensures, c.number.ensures, c.number-own.ensures, c.if-under-number-gt32.true))
+    too_deep_lem c.args.original.now.store.now c.args.original.now.sound c.args.original.now.n c.args.original.now.exists (parent_of c.args.parent) r
+    c.args.original.now.steps.now c.args.original.now.are_steps c.loop-step.step-index c.loop-step.invariant
+    c.loop-step-test.true c.in-OpShell.m c.in-OpShell.is (omega (arith, c.depth_under-under.ensures, c.number.ensures, c.number-own.ensures, c.if-under-number-gt32.true))
 
-pub loop-i-preserved : goal.loop-i-preserved
-loop-i-preserved c =
+pub loop-step-preserved : goal.loop-step-preserved
+loop-step-preserved c =
     let r = c.requires in
-    elim c.else-word-eq0.branch [
-      | else-word-eq0-via-then-word-eq0+else-under-number-gt32 w ↦
-          not_too_deep c.args.store.now r.sound c.args.n r.n_bound (parent_of c.args.parent) r.parent_value c.args.steps.now r.are_steps c.loop-i.i
-          c.loop-i.invariant c.loop-i-test.true w.if-word-eq0.true
+    elim c.match-step.branch [
+      | in-OpShell+else-under-number-gt32 w ↦
+          not_too_deep c.args.original.now.store.now c.args.original.now.sound c.args.original.now.n c.args.original.now.exists (parent_of c.args.parent) r c.args.original.now.steps.now c.args.original.now.are_steps c.loop-step.step-index
+          c.loop-step.invariant c.loop-step-test.true w.in-OpShell.m w.in-OpShell.is
           (omega (arith, c.depth_under-under.ensures, w.number.ensures, c.number-own.ensures, w.if-under-number-gt32.false))
-      | else-word-eq0-via-else-word-eq0 w ↦
-          passed_over c.args.store.now r.sound c.args.n r.n_bound (parent_of c.args.parent) r.parent_value c.args.steps.now r.are_steps c.loop-i.i
-          c.loop-i.invariant c.loop-i-test.true w.if-word-eq0.false
+      | in_default w ↦
+          passed_over c.args.original.now.store.now c.args.original.now.sound c.args.original.now.n c.args.original.now.exists (parent_of c.args.parent) r c.args.original.now.steps.now c.args.original.now.are_steps c.loop-step.step-index
+          c.loop-step.invariant c.loop-step-test.true _ refl w.in_default.not-OpShell
     ]
 
 pub returns : goal.returns
 returns c =
     let r = c.requires in
-    left_last c.args.store.now r.sound c.args.n r.n_bound (parent_of c.args.parent) r.parent_value
-    c.args.steps.now r.are_steps c.loop-i.i c.loop-i.invariant
-    c.loop-i-test.false
+    left_last c.args.original.now.store.now c.args.original.now.sound c.args.original.now.n c.args.original.now.exists (parent_of c.args.parent) r
+    c.args.original.now.steps.now c.args.original.now.are_steps c.loop-step.step-index c.loop-step.invariant
+    c.loop-step-test.false

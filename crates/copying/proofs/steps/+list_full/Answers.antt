@@ -1,276 +1,167 @@
 -- The three calls that go round meet their contracts together: the number of operations below falls from round to round, a pass goes through
--- its list child by child, and what each loop has fed and what is left make the whole. Assumes nothing.
-use Rattle.std.proofs.Common.{◌≡◌, ℕ, ◌+◌, ◌*◌, ◌<◌, List, [], ◌∷◌, sym, refl, ◌∙◌, subst, ap₂, arith}
+-- its list child by child, and once all came, all is listed. Assumes nothing.
+use Rattle.std.proofs.Common.{◌≡◌, ℕ, ◌+◌, ◌*◌, ◌<◌, ◌∷◌, ◌++◌, [], List, sym, refl, ap, ap₂, ◌∙◌, subst, arith}
 use mathlib.Core.List.{Memᴰ}
 use Rattle.rules.specs.Lists.{concat_map}
 use Rattle.rules.specs.Store.{Store, ops_of, regions_of}
-use Rattle.rules.specs.Fragments.{Step, names, full_op}
+use Rattle.rules.specs.Fragments.{names, full_op}
+use Rattle.rules.specs.Fragments as rules
 use Rattle.layout.specs.Columns.{Cols, columns}
-use Rattle.layout.specs.Reading.{op_count, block_count, region_count, store_in}
+use Rattle.layout.specs.OpsLeft.{ops_left}
+use Rattle.layout.specs.Reading.{block_count, region_count, store_in}
 use Rattle.layout.proofs.Laid.{Laid, laid_facts}
-use Rattle.layout.proofs.Ranges.{range, regions_range, in_range}
-use Rattle.layout.proofs.Seeking.{NextChild, none_next, next_op}
+use Rattle.layout.proofs.Ranges.{range, range_empty, regions_range}
+use Rattle.fragments.specs.BlocksLeft.{blocks_left}
 use Rattle.fragments.specs.Order.{block_list, BlocksExist}
 use Rattle.fragments.specs.declared.types.Blocks.TheVariants.{InRegion, Alone}
-use Rattle.fragments.proofs.Ordered.{next_in_list, block_in_lem, op_in_lem}
+use Rattle.fragments.proofs.Ordered.{block_in_lem, op_in_lem}
 use Rattle.fragments.proofs.Below.{below, around_list, around_block, op_falls, around_region}
+use Rattle.fragments.proofs.Yielded.{item_comes, all_came, comes_mem, number_comes, number_came}
 use Rattle.numbering.specs.Parts.{full_steps, ops_in_full}
-use Rattle.copying.specs.Steps.{StepsFit, Listed}
-use Rattle.numbering.proofs.Passing.{StepRelation, none_done, all_done, part_room, part_done, pass_begun, pass_over, pass_room, pass_again}
-use Rattle.numbering.proofs.Rounds.{in_region, region_list, regions_room, full_done, range_left, range_over, each, first_room, second_room, third_room, passes_done}
-use Rattle.copying.proofs.Listing.{list_walk, fits_one, fit_first, listed_one, names_word}
+use Rattle.numbering.proofs.Passing.{none_came, came_over, came_room, came_again}
+use Rattle.numbering.proofs.Rounds.{in_region, region_list, regions_room, full_done, each, first_room, second_room, third_room, passes_done}
+use Rattle.copying.specs.declared.steps.Step.TheVariants.{Names}
+use Rattle.copying.specs.Steps.{StepsFit, Listed, step_of}
+use Rattle.copying.proofs.Listing.{list_walk, fits_one, fit_first, listed_one}
 use Rattle.copying.proofs.steps.+list_full.Goals as goal
+use Rattle.copying.proofs.steps.+list_full.Goals.{list_blocks_full-In-Some, list_op_full-In-loop-r, list_ops_full-In-Some}
 
 -- ---- a list of blocks
 
-pub list_blocks_full-list_block_shells-shells-requires : goal.list_blocks_full-list_block_shells-shells-requires
-list_blocks_full-list_block_shells-shells-requires t c =
-    let store : Store = store_in c.args.store.now in
-    let walk : StepRelation (List ℕ × ℕ) = list_walk in
-    let list : List ℕ = block_list store c.args.blocks in
-    record { sound = c.requires.sound; blocks_exist = c.requires.blocks_exist; steps_fit = first_room walk store list {a = (c.args.list.now, c.args.at)} c.requires.steps_fit }
+block_comes : (t : ℕ) (c : list_blocks_full-In-Some t) → c.loop-b.yielded ++ c.in-Some.b ∷ blocks_left c.next.new.self ≡ block_list (store_in c.args.store.now) c.args.blocks
+block_comes t c =
+    item_comes blocks_left _ _ _ _ (ap blocks_left c.into_iter-b-iterator.ensures.into_iter_gives ∙ c.new-b-items.ensures) c.loop-b.yielded_by c.next.new.self _ _ c.in-Some.is c.next.ensures.steps
 
-pub list_blocks_full-list_op_shells-listed-requires : goal.list_blocks_full-list_op_shells-listed-requires
-list_blocks_full-list_op_shells-listed-requires t c =
-    let store : Store = store_in c.args.store.now in
-    let walk : StepRelation (List ℕ × ℕ) = list_walk in
-    let list : List ℕ = block_list store c.args.blocks in
-    record { sound = c.requires.sound; blocks_exist = c.requires.blocks_exist; steps_fit = second_room walk store list c.list_block_shells-shells.ensures c.requires.steps_fit }
+pub list_blocks_full-list_block_shells-requires : goal.list_blocks_full-list_block_shells-requires
+list_blocks_full-list_block_shells-requires t c =
+    let steps = first_room list_walk (store_in c.args.store.now) (block_list (store_in c.args.store.now) c.args.blocks) {a = c.args.walk.now} c.requires.steps_fit in
+    record { sound = c.requires.sound; blocks_exist = c.requires.blocks_exist; steps_fit = steps }
+
+pub list_blocks_full-list_op_shells-requires : goal.list_blocks_full-list_op_shells-requires
+list_blocks_full-list_op_shells-requires t c =
+    let steps = second_room list_walk (store_in c.args.store.now) (block_list (store_in c.args.store.now) c.args.blocks) c.list_block_shells.ensures c.requires.steps_fit in
+    record { sound = c.requires.sound; blocks_exist = c.requires.blocks_exist; steps_fit = steps }
 
 pub list_blocks_full-loop-b-init : goal.list_blocks_full-loop-b-init
-list_blocks_full-loop-b-init t c =
-    let store : Store = store_in c.args.store.now in
-    let walk : StepRelation (List ℕ × ℕ) = list_walk in
-    let list : List ℕ = block_list store c.args.blocks in
-    pass_begun walk (each (ops_in_full store)) list
+list_blocks_full-loop-b-init t c = (_, _, none_came list_walk (each (ops_in_full (store_in c.args.store.now))))
 
-pub list_blocks_full-next_in-requires : goal.list_blocks_full-next_in-requires
-list_blocks_full-next_in-requires t c =
-    record { sound = c.requires.sound; blocks_exist = c.requires.blocks_exist }
-
-pub list_blocks_full-returns-in_default : goal.list_blocks_full-returns-in_default
-list_blocks_full-returns-in_default t c =
-    let store : Store = store_in c.args.store.now in
-    let walk : StepRelation (List ℕ × ℕ) = list_walk in
-    let list : List ℕ = block_list store c.args.blocks in
-    let m = c.loop-b in
-    passes_done walk store list c.list_block_shells-shells.ensures c.list_op_shells-listed.ensures
-    (pass_over walk (each (ops_in_full store)) list m.from m.invariant (none_next m.from list _ c.next_in.ensures c.in_default.is))
-
-pub list_blocks_full-list_ops_full-listed-requires : goal.list_blocks_full-list_ops_full-listed-requires
-list_blocks_full-list_ops_full-listed-requires t c =
-    let store : Store = store_in c.args.store.now in
-    let walk : StepRelation (List ℕ × ℕ) = list_walk in
-    let list : List ℕ = block_list store c.args.blocks in
-    let b : ℕ = c.in-At.b in
-    let block_found : NextChild list c.loop-b.from b = next_in_list store c.args.blocks c.loop-b.from b _ c.next_in.ensures c.in-At.is in
-    let block_here : b < block_count (columns c.args.store.now) = block_in_lem (columns c.args.store.now) c.args.blocks b c.requires.blocks_exist block_found.child in
-    let S = store in
-    let m = c.loop-b in
-    let same : around_list S (Alone b) ≡ around_list S c.args.blocks = around_block S c.args.blocks b block_found.child in
+pub list_blocks_full-list_ops_full-requires : goal.list_blocks_full-list_ops_full-requires
+list_blocks_full-list_ops_full-requires t c =
+    let S : Store = store_in c.args.store.now in
+    let b : ℕ = c.in-Some.b in
+    let turn = block_comes t ((goal.at.list_blocks_full-list_ops_full-requires t c).In-Some) in
+    let inside : Memᴰ b (block_list S c.args.blocks) = comes_mem _ _ _ _ turn in
+    let here : b < block_count (columns c.args.store.now) = block_in_lem _ c.args.blocks _ c.requires.blocks_exist inside in
+    let same : around_list S (Alone b) ≡ around_list S c.args.blocks = around_block S c.args.blocks b inside in
     let falls : 3 * below S (around_list S (Alone b)) < 3 * below S (around_list S c.args.blocks) + 1 = omega arith in
-    let third = third_room walk S list c.list_block_shells-shells.ensures c.list_op_shells-listed.ensures c.requires.steps_fit in (
+    let third = third_room list_walk S (block_list S c.args.blocks) c.list_block_shells.ensures c.list_op_shells.ensures c.requires.steps_fit in (
       subst (λ (j : ℕ). 3 * below S (around_list S (Alone b)) < j) c.decreases falls,
-      (c.requires.sound, (block_here, pass_room walk (each (ops_in_full S)) list m.from m.invariant block_found third)),
+      (c.requires.sound, (here, came_room list_walk (each (ops_in_full S)) _ c.loop-b.invariant.2 _ _ _ turn third)),
     )
-
-pub list_blocks_full-overflow_add-from : goal.list_blocks_full-overflow_add-from
-list_blocks_full-overflow_add-from t c =
-    let store : Store = store_in c.args.store.now in
-    let list : List ℕ = block_list store c.args.blocks in
-    let b : ℕ = c.in-At.b in
-    let block_found : NextChild list c.loop-b.from b = next_in_list store c.args.blocks c.loop-b.from b _ c.next_in.ensures c.in-At.is in
-    let block_here : b < block_count (columns c.args.store.now) = block_in_lem (columns c.args.store.now) c.args.blocks b c.requires.blocks_exist block_found.child in
-    let block_few : b < 256 = omega (arith, block_here, (laid_facts (columns c.args.store.now) c.requires.sound.laid).counts.blocks) in
-    record { fits = omega (arith, block_few) }
-
-pub list_blocks_full-loop-b-smaller : goal.list_blocks_full-loop-b-smaller
-list_blocks_full-loop-b-smaller t c =
-    let store : Store = store_in c.args.store.now in
-    let list : List ℕ = block_list store c.args.blocks in
-    let b : ℕ = c.in-At.b in
-    let block_found : NextChild list c.loop-b.from b = next_in_list store c.args.blocks c.loop-b.from b _ c.next_in.ensures c.in-At.is in
-    let block_here : b < block_count (columns c.args.store.now) = block_in_lem (columns c.args.store.now) c.args.blocks b c.requires.blocks_exist block_found.child in
-    let block_few : b < 256 = omega (arith, block_here, (laid_facts (columns c.args.store.now) c.requires.sound.laid).counts.blocks) in
-    omega (arith, block_few, block_found.later)
 
 pub list_blocks_full-loop-b-preserved : goal.list_blocks_full-loop-b-preserved
 list_blocks_full-loop-b-preserved t c =
-    let store : Store = store_in c.args.store.now in
-    let walk : StepRelation (List ℕ × ℕ) = list_walk in
-    let list : List ℕ = block_list store c.args.blocks in
-    let b : ℕ = c.in-At.b in
-    let block_found : NextChild list c.loop-b.from b = next_in_list store c.args.blocks c.loop-b.from b _ c.next_in.ensures c.in-At.is in
-    let m = c.loop-b in
-    pass_again walk (each (ops_in_full store)) list m.from m.invariant block_found c.list_ops_full-listed.ensures
+    (_, _, came_again list_walk (each (ops_in_full (store_in c.args.store.now))) _ c.loop-b.invariant.2 c.in-Some.b c.list_ops_full.ensures)
+
+pub list_blocks_full-returns : goal.list_blocks_full-returns
+list_blocks_full-returns t c =
+    let S : Store = store_in c.args.store.now in
+    passes_done list_walk S (block_list S c.args.blocks) c.list_block_shells.ensures c.list_op_shells.ensures
+    (came_over list_walk (each (ops_in_full S)) _ c.loop-b.invariant.2 _
+    (all_came blocks_left _ _ _ _ (ap blocks_left c.into_iter-b-iterator.ensures.into_iter_gives ∙ c.new-b-items.ensures) c.loop-b.yielded_by c.next.new.self _ c.in-None.is c.next.ensures.steps))
 
 -- ---- an operation
 
-pub list_op_full-add_step-listed-requires : goal.list_op_full-add_step-listed-requires
-unfolding full_steps full_op
-list_op_full-add_step-listed-requires t c =
-    let n = c.args.n in
-    fits_one (names n) _ (names_word n) c.args.list.now c.args.at (fit_first (names n ∷ []) _ c.requires.steps_fit)
-
-pub list_op_full-number-end-requires : goal.list_op_full-number-end-requires
-list_op_full-number-end-requires t c =
-    let cols : Cols = columns c.args.store.now in
-    let laid : Laid cols = laid_facts cols c.requires.sound.laid in
-    let small : c.args.n < 512 = omega (arith, laid.counts.ops, c.requires.n_bound) in
-    record { store_len = c.requires.sound.sized; column_lt_column_count = omega arith; n_bound = small }
-
-pub list_op_full-number-r-requires : goal.list_op_full-number-r-requires
-list_op_full-number-r-requires t c =
-    let cols : Cols = columns c.args.store.now in
-    let laid : Laid cols = laid_facts cols c.requires.sound.laid in
-    let small : c.args.n < 512 = omega (arith, laid.counts.ops, c.requires.n_bound) in
-    record { store_len = c.requires.sound.sized; column_lt_column_count = omega arith; n_bound = small }
-
-pub list_op_full-loop-r-init : goal.list_op_full-loop-r-init
-list_op_full-loop-r-init t c =
-    let op_walk_lem : StepRelation (List ℕ × ℕ) = list_walk in
-    (omega arith, none_done op_walk_lem _ _)
-
-pub list_op_full-list_blocks_full-listed-requires : goal.list_op_full-list_blocks_full-listed-requires
-unfolding BlocksExist full_steps full_op
-list_op_full-list_blocks_full-listed-requires t c =
-    let cols : Cols = columns c.args.store.now in
-    let op_walk_lem : StepRelation (List ℕ × ℕ) = list_walk in
-    let laid : Laid cols = laid_facts cols c.requires.sound.laid in
-    let regions : regions_of (store_in c.args.store.now) c.args.n ≡ range c.number-r.result c.number-end.result = regions_range cols laid c.args.n c.requires.n_bound ∙ ap₂ range (sym c.number-r.ensures) (sym c.number-end.ensures) in
-    let region_here : c.loop-r.r < region_count cols = omega (arith, c.loop-r-test.true, c.number-end.ensures, (laid.op c.args.n c.requires.n_bound).regions.range.fits) in
-    let room = fits_one (names c.args.n) _ (names_word c.args.n) c.args.list.now c.args.at (fit_first (names c.args.n ∷ []) _ c.requires.steps_fit) in
-    let named = listed_one (names c.args.n) _ (names_word c.args.n) c.args.list.now c.add_step-listed.new.list c.args.at c.add_step-listed.result room c.add_step-listed.ensures.list c.add_step-listed.ensures.end in
-    let S = store_in c.args.store.now in
-    let n = c.args.n in
-    let m = c.loop-r in
-    let first = c.number-r.result in
-    let end = c.number-end.result in
-    let known = regions in
-    let inside = subst (Memᴰ m.r) (sym known) (in_range first end m.r m.invariant.0 c.loop-r-test.true) in
-    let around : around_list S (InRegion m.r) ≡ n = around_region S n m.r inside in
-    let falls : 3 * below S (around_list S (InRegion m.r)) + 1 < 3 * below S n + 2 = omega arith in
-    let all = regions_room op_walk_lem S n named (range first end) known c.requires.steps_fit in
-    let room = part_room op_walk_lem m.invariant.1 (in_region S m.r) (concat_map (in_region S) (range (m.r + 1) end)) (range_left (in_region S) m.r end c.loop-r-test.true) all in (
-      subst (λ (j : ℕ). 3 * below S (around_list S (InRegion m.r)) + 1 < j) c.decreases falls,
-      (c.requires.sound, (region_here, subst (λ (xs : List Step). StepsFit xs m.list m.listed) (region_list S c.requires.sound.ruled m.r) room)),
-    )
-
-pub list_op_full-overflow_add-r : goal.list_op_full-overflow_add-r
-list_op_full-overflow_add-r t c =
-    let cols : Cols = columns c.args.store.now in
-    let laid : Laid cols = laid_facts cols c.requires.sound.laid in
-    let region_here : c.loop-r.r < region_count cols = omega (arith, c.loop-r-test.true, c.number-end.ensures, (laid.op c.args.n c.requires.n_bound).regions.range.fits) in
-    record { fits = omega (arith, region_here, laid.counts.regions) }
-
-pub list_op_full-loop-r-smaller : goal.list_op_full-loop-r-smaller
-list_op_full-loop-r-smaller t c = omega (arith, c.loop-r-test.true)
-
-pub list_op_full-loop-r-preserved : goal.list_op_full-loop-r-preserved
-list_op_full-loop-r-preserved t c =
-    let op_walk_lem : StepRelation (List ℕ × ℕ) = list_walk in
-    let S = store_in c.args.store.now in
-    let m = c.loop-r in
-    let end = c.number-end.result in
-    let blocks = c.list_blocks_full-listed in
-    let one = subst (λ (xs : List Step). Listed xs m.list blocks.new.list m.listed blocks.result) (sym (region_list S c.requires.sound.ruled m.r)) blocks.ensures in
-    (omega (arith, m.invariant.0), part_done op_walk_lem m.invariant.1 (in_region S m.r) (concat_map (in_region S) (range (m.r + 1) end)) (range_left (in_region S) m.r end c.loop-r-test.true) one)
-
-pub list_op_full-returns : goal.list_op_full-returns
-unfolding full_steps full_op
-list_op_full-returns t c =
-    let cols : Cols = columns c.args.store.now in
-    let op_walk_lem : StepRelation (List ℕ × ℕ) = list_walk in
-    let laid : Laid cols = laid_facts cols c.requires.sound.laid in
-    let regions : regions_of (store_in c.args.store.now) c.args.n ≡ range c.number-r.result c.number-end.result = regions_range cols laid c.args.n c.requires.n_bound ∙ ap₂ range (sym c.number-r.ensures) (sym c.number-end.ensures) in
-    let room = fits_one (names c.args.n) _ (names_word c.args.n) c.args.list.now c.args.at (fit_first (names c.args.n ∷ []) _ c.requires.steps_fit) in
-    let named = listed_one (names c.args.n) _ (names_word c.args.n) c.args.list.now c.add_step-listed.new.list c.args.at c.add_step-listed.result room c.add_step-listed.ensures.list c.add_step-listed.ensures.end in
-    let S = store_in c.args.store.now in
-    let end = c.number-end.result in
-    let m = c.loop-r in
-    full_done op_walk_lem S c.args.n named (range c.number-r.result end) regions
-    (all_done op_walk_lem m.invariant.1 (range_over (in_region S) m.r end c.loop-r-test.false))
-
--- ---- the operations of a block
-
-pub list_ops_full-loop-n-init : goal.list_ops_full-loop-n-init
-list_ops_full-loop-n-init t c =
-    let ops_store : Store = store_in c.args.store.now in
-    let ops_walk_lem : StepRelation (List ℕ × ℕ) = list_walk in
-    let ops_list : List ℕ = ops_of ops_store c.args.b in
-    pass_begun ops_walk_lem (each (full_steps ops_store)) ops_list
-
-pub list_ops_full-next_op-requires : goal.list_ops_full-next_op-requires
-list_ops_full-next_op-requires t c =
-    record { arranged = record { sized = c.requires.sound.sized; laid = c.requires.sound.laid }; block_bound = c.requires.b_bound }
-
-pub list_ops_full-returns-in_default : goal.list_ops_full-returns-in_default
-unfolding ops_in_full
-list_ops_full-returns-in_default t c =
-    let ops_store : Store = store_in c.args.store.now in
-    let ops_walk_lem : StepRelation (List ℕ × ℕ) = list_walk in
-    let ops_list : List ℕ = ops_of ops_store c.args.b in
-    let m = c.loop-n in
-    pass_over ops_walk_lem (each (full_steps ops_store)) ops_list m.from m.invariant (none_next m.from ops_list _ c.next_op.ensures c.in_default.is)
-
-pub list_ops_full-list_op_full-listed-requires : goal.list_ops_full-list_op_full-listed-requires
-unfolding ops_in_full block_list
-list_ops_full-list_op_full-listed-requires t c =
-    let ops_store : Store = store_in c.args.store.now in
-    let ops_walk_lem : StepRelation (List ℕ × ℕ) = list_walk in
-    let ops_list : List ℕ = ops_of ops_store c.args.b in
-    let n : ℕ = c.in-At.n in
-    let op_found : NextChild ops_list c.loop-n.from n = next_op ops_store c.args.b c.loop-n.from n _ c.next_op.ensures c.in-At.is in
-    let op_here : n < op_count (columns c.args.store.now) = op_in_lem (columns c.args.store.now) c.args.b n op_found.child in
-    let S = ops_store in
-    let m = c.loop-n in
-    let fewer : below S n < below S (around_list S (Alone c.args.b)) = op_falls S c.requires.sound.ruled (Alone c.args.b) c.args.b n (Memᴰ.head refl) op_found.child in
-    let falls : 3 * below S n + 2 < 3 * below S (around_list S (Alone c.args.b)) = omega arith in (
-      subst (λ (j : ℕ). 3 * below S n + 2 < j) c.decreases falls,
-      (c.requires.sound, (op_here, pass_room ops_walk_lem (each (full_steps S)) ops_list m.from m.invariant op_found c.requires.steps_fit)),
-    )
-
-pub list_ops_full-overflow_add-from : goal.list_ops_full-overflow_add-from
-list_ops_full-overflow_add-from t c =
-    let ops_store : Store = store_in c.args.store.now in
-    let ops_list : List ℕ = ops_of ops_store c.args.b in
-    let n : ℕ = c.in-At.n in
-    let op_found : NextChild ops_list c.loop-n.from n = next_op ops_store c.args.b c.loop-n.from n _ c.next_op.ensures c.in-At.is in
-    let op_here : n < op_count (columns c.args.store.now) = op_in_lem (columns c.args.store.now) c.args.b n op_found.child in
-    let op_few : n < 512 = omega (arith, op_here, (laid_facts (columns c.args.store.now) c.requires.sound.laid).counts.ops) in
-    record { fits = omega (arith, op_few) }
-
-pub list_ops_full-loop-n-smaller : goal.list_ops_full-loop-n-smaller
-list_ops_full-loop-n-smaller t c =
-    let ops_store : Store = store_in c.args.store.now in
-    let ops_list : List ℕ = ops_of ops_store c.args.b in
-    let n : ℕ = c.in-At.n in
-    let op_found : NextChild ops_list c.loop-n.from n = next_op ops_store c.args.b c.loop-n.from n _ c.next_op.ensures c.in-At.is in
-    let op_here : n < op_count (columns c.args.store.now) = op_in_lem (columns c.args.store.now) c.args.b n op_found.child in
-    let op_few : n < 512 = omega (arith, op_here, (laid_facts (columns c.args.store.now) c.requires.sound.laid).counts.ops) in
-    omega (arith, op_few, op_found.later)
-
-pub list_ops_full-loop-n-preserved : goal.list_ops_full-loop-n-preserved
-list_ops_full-loop-n-preserved t c =
-    let ops_store : Store = store_in c.args.store.now in
-    let ops_walk_lem : StepRelation (List ℕ × ℕ) = list_walk in
-    let ops_list : List ℕ = ops_of ops_store c.args.b in
-    let n : ℕ = c.in-At.n in
-    let op_found : NextChild ops_list c.loop-n.from n = next_op ops_store c.args.b c.loop-n.from n _ c.next_op.ensures c.in-At.is in
-    let m = c.loop-n in
-    pass_again ops_walk_lem (each (full_steps ops_store)) ops_list m.from m.invariant op_found c.list_op_full-listed.ensures
-
-pub list_op_full-overflow_mul-n : goal.list_op_full-overflow_mul-n
-list_op_full-overflow_mul-n t c =
-    let few : c.args.n < 512 = omega (arith, (laid_facts (columns c.args.store.now) c.requires.sound.laid).counts.ops, c.requires.n_bound) in
-    record { fits = omega (arith, few) }
-
-pub list_op_full-overflow_add-n : goal.list_op_full-overflow_add-n
-list_op_full-overflow_add-n t c =
-    let few : c.args.n < 512 = omega (arith, (laid_facts (columns c.args.store.now) c.requires.sound.laid).counts.ops, c.requires.n_bound) in
-    record { fits = omega (arith, few) }
+region_comes : (t : ℕ) (c : list_op_full-In-loop-r t)
+    → range c.number-r.result c.loop-r.r ++ c.loop-r.r ∷ range (c.loop-r.r + 1) c.number-r-end.result ≡ regions_of (store_in c.args.store.now) c.args.n
+region_comes t c =
+    number_comes _ _ _ c.loop-r.auto.r c.loop-r-test.true
+    ∙ ap₂ range c.number-r.ensures c.number-r-end.ensures ∙ sym (regions_range _ (laid_facts _ c.requires.sound.laid) c.args.n c.requires.n_bound)
 
 pub list_op_full-overflow_cast-n : goal.list_op_full-overflow_cast-n
 list_op_full-overflow_cast-n t c =
-    let few : c.args.n < 512 = omega (arith, (laid_facts (columns c.args.store.now) c.requires.sound.laid).counts.ops, c.requires.n_bound) in
-    record { fits = omega (arith, few) }
+    record { fits = omega (arith, (laid_facts (columns c.args.store.now) c.requires.sound.laid).counts.ops, c.requires.n_bound) }
+
+pub list_op_full-push-requires : goal.list_op_full-push-requires
+unfolding full_steps full_op step_of
+list_op_full-push-requires t c = fits_one (Names c.args.n) (fit_first (names c.args.n ∷ []) _ c.requires.steps_fit)
+
+pub list_op_full-number-r-requires-clause-n_bound : goal.list_op_full-number-r-requires-clause-n_bound
+list_op_full-number-r-requires-clause-n_bound t c = omega (arith, (laid_facts _ c.requires.sound.laid).counts.ops, c.requires.n_bound)
+
+pub list_op_full-number-r-end-requires-clause-n_bound : goal.list_op_full-number-r-end-requires-clause-n_bound
+list_op_full-number-r-end-requires-clause-n_bound t c = omega (arith, (laid_facts _ c.requires.sound.laid).counts.ops, c.requires.n_bound)
+
+pub list_op_full-loop-r-init : goal.list_op_full-loop-r-init
+list_op_full-loop-r-init t c =
+    subst (λ (xs : List ℕ). Listed (concat_map (in_region (store_in c.args.store.now)) xs) c.push.new.self c.push.new.self) (sym (range_empty _ _ (omega arith)))
+    (none_came list_walk (each (in_region (store_in c.args.store.now))))
+
+pub list_op_full-list_blocks_full-requires : goal.list_op_full-list_blocks_full-requires
+unfolding BlocksExist step_of
+list_op_full-list_blocks_full-requires t c =
+    let S : Store = store_in c.args.store.now in
+    let n : ℕ = c.args.n in
+    let r : ℕ = c.loop-r.r in
+    let laid : Laid (columns c.args.store.now) = laid_facts _ c.requires.sound.laid in
+    let turn = region_comes t ((goal.at.list_op_full-list_blocks_full-requires t c).In-loop-r) in
+    let here : r < region_count (columns c.args.store.now) = omega (arith, c.loop-r-test.true, c.number-r-end.ensures, (laid.op n c.requires.n_bound).regions.range.fits) in
+    let around : around_list S (InRegion r) ≡ n = around_region S n r (comes_mem _ _ _ _ turn) in
+    let falls : 3 * below S (around_list S (InRegion r)) + 1 < 3 * below S n + 2 = omega arith in
+    let all = regions_room list_walk S n (listed_one (Names n) c.push.ensures) (regions_of S n) refl c.requires.steps_fit in
+    let room = came_room list_walk (each (in_region S)) _ c.loop-r.invariant _ _ _ turn all in (
+      subst (λ (j : ℕ). 3 * below S (around_list S (InRegion r)) + 1 < j) c.decreases falls,
+      (c.requires.sound, (here, subst (λ (xs : List rules.Step). StepsFit xs c.loop-r.walk) (region_list S c.requires.sound.ruled r) room)),
+    )
+
+pub list_op_full-loop-r-preserved : goal.list_op_full-loop-r-preserved
+list_op_full-loop-r-preserved t c =
+    let S : Store = store_in c.args.store.now in
+    let r : ℕ = c.loop-r.r in
+    let one = subst (λ (xs : List rules.Step). Listed xs c.loop-r.walk c.list_blocks_full.new.walk) (sym (region_list S c.requires.sound.ruled r)) c.list_blocks_full.ensures in
+    subst (λ (xs : List ℕ). Listed (concat_map (in_region S) xs) c.push.new.self c.list_blocks_full.new.walk) (sym (number_came _ _ c.loop-r.auto.r))
+    (came_again list_walk (each (in_region S)) _ c.loop-r.invariant r one)
+
+pub list_op_full-returns : goal.list_op_full-returns
+unfolding step_of
+list_op_full-returns t c =
+    let S : Store = store_in c.args.store.now in
+    let C : Cols = columns c.args.store.now in
+    let laid : Laid C = laid_facts C c.requires.sound.laid in
+    let rises = (laid.op c.args.n c.requires.n_bound).regions.range.rises in
+    let done : c.loop-r.r ≡ c.number-r-end.result = omega (arith, c.loop-r-test.false, c.loop-r.auto, c.number-r.ensures, c.number-r-end.ensures, rises) in
+    let all = ap₂ range c.number-r.ensures (done ∙ c.number-r-end.ensures) ∙ sym (regions_range C laid c.args.n c.requires.n_bound) in
+    full_done list_walk S c.args.n (listed_one (Names c.args.n) c.push.ensures) (regions_of S c.args.n) refl
+    (came_over list_walk (each (in_region S)) _ c.loop-r.invariant _ all)
+
+-- ---- the operations of a block
+
+op_comes : (t : ℕ) (c : list_ops_full-In-Some t) → c.loop-n.yielded ++ c.in-Some.n ∷ ops_left c.next.new.self ≡ ops_of (store_in c.args.store.now) c.args.b
+op_comes t c =
+    item_comes ops_left _ _ _ _ (ap ops_left c.into_iter-n-iterator.ensures.into_iter_gives ∙ c.new-n-items.ensures) c.loop-n.yielded_by c.next.new.self _ _ c.in-Some.is c.next.ensures.steps
+
+pub list_ops_full-loop-n-init : goal.list_ops_full-loop-n-init
+list_ops_full-loop-n-init t c = (_, _, none_came list_walk (each (full_steps (store_in c.args.store.now))))
+
+pub list_ops_full-list_op_full-requires : goal.list_ops_full-list_op_full-requires
+unfolding ops_in_full block_list
+list_ops_full-list_op_full-requires t c =
+    let S : Store = store_in c.args.store.now in
+    let n : ℕ = c.in-Some.n in
+    let turn = op_comes t ((goal.at.list_ops_full-list_op_full-requires t c).In-Some) in
+    let inside : Memᴰ n (ops_of S c.args.b) = comes_mem _ _ _ _ turn in
+    let fewer : below S n < below S (around_list S (Alone c.args.b)) = op_falls S c.requires.sound.ruled (Alone c.args.b) c.args.b n (Memᴰ.head refl) inside in
+    let falls : 3 * below S n + 2 < 3 * below S (around_list S (Alone c.args.b)) = omega arith in (
+      subst (λ (j : ℕ). 3 * below S n + 2 < j) c.decreases falls,
+      (c.requires.sound, (op_in_lem _ _ _ inside, came_room list_walk (each (full_steps S)) _ c.loop-n.invariant.2 _ _ _ turn c.requires.steps_fit)),
+    )
+
+pub list_ops_full-loop-n-preserved : goal.list_ops_full-loop-n-preserved
+list_ops_full-loop-n-preserved t c =
+    (_, _, came_again list_walk (each (full_steps (store_in c.args.store.now))) _ c.loop-n.invariant.2 c.in-Some.n c.list_op_full.ensures)
+
+pub list_ops_full-returns : goal.list_ops_full-returns
+unfolding ops_in_full
+list_ops_full-returns t c =
+    came_over list_walk (each (full_steps (store_in c.args.store.now))) _ c.loop-n.invariant.2 _
+    (all_came ops_left _ _ _ _ (ap ops_left c.into_iter-n-iterator.ensures.into_iter_gives ∙ c.new-n-items.ensures) c.loop-n.yielded_by c.next.new.self _ c.in-None.is c.next.ensures.steps)

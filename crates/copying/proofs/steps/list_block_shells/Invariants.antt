@@ -1,15 +1,11 @@
--- `list_block_shells` meets its contract: a pass through the list, whose step is a block's shell. Assumes nothing.
-use Rattle.std.proofs.Common.{◌-◌}
+-- `list_block_shells` meets its contract: the shells of the blocks that came so far are there. Assumes nothing.
 use Rattle.rules.specs.Store.{of_block}
-use Rattle.layout.specs.Reading.{store_in}
-use Rattle.fragments.specs.Order.{block_list}
-use Rattle.numbering.proofs.Passing.{Passing}
 use Rattle.numbering.proofs.Rounds.{each_shell}
-use Rattle.copying.proofs.Listing.{list_walk}
+use Rattle.copying.specs.Steps.{Listed}
 use Rattle.copying.proofs.steps.list_block_shells.Given as goal
 
 abbrev pub invariant-loop-b : goal.invariant-loop-b
-invariant-loop-b l = Passing (list_walk) (each_shell of_block) (block_list (store_in l.store) l.blocks) l.from (l.initial.list, l.at) (l.list, l.end)
-
-abbrev pub decreases-loop-b : goal.decreases-loop-b
-decreases-loop-b l = 256 - l.from
+invariant-loop-b l =
+    (goal.iterator-loop-b).can_next l.b-iterator
+    × (goal.iterator-loop-b).is_finite l.b-iterator
+    × Listed (each_shell of_block l.yielded) l.initial.walk l.walk

@@ -1,77 +1,34 @@
 -- `list_op_shells` meets its contract: a pass through the list, whose step is a block's operations. Assumes nothing.
-use Rattle.std.proofs.Common.{ℕ, ◌<◌, List, arith}
-use Rattle.rules.specs.Store.{Store}
-use Rattle.layout.specs.Columns.{Cols, columns}
-use Rattle.layout.specs.Reading.{block_count, store_in}
-use Rattle.layout.proofs.Laid.{laid_facts}
-use Rattle.layout.proofs.Seeking.{NextChild, none_next}
+use Rattle.std.proofs.Common.{◌≡◌, ◌∷◌, ◌++◌, ap, ◌∙◌}
+use Rattle.layout.specs.Columns.{columns}
+use Rattle.layout.specs.Reading.{store_in}
+use Rattle.fragments.specs.BlocksLeft.{blocks_left}
 use Rattle.fragments.specs.Order.{block_list}
-use Rattle.fragments.proofs.Ordered.{next_in_list, block_in_lem}
+use Rattle.fragments.proofs.Ordered.{block_in_lem}
+use Rattle.fragments.proofs.Yielded.{item_comes, comes_mem}
 use Rattle.numbering.specs.Parts.{op_shells}
-use Rattle.numbering.proofs.Passing.{StepRelation, pass_begun, pass_over, pass_room, pass_again}
+use Rattle.numbering.proofs.Passing.{none_came, came_room, came_again}
 use Rattle.numbering.proofs.Rounds.{each}
 use Rattle.copying.proofs.Listing.{list_walk}
 use Rattle.copying.proofs.steps.list_op_shells.Goals as goal
+use Rattle.copying.proofs.steps.list_op_shells.Goals.{In-Some}
+
+block_comes : (c : In-Some) → c.loop-b.yielded ++ c.in-Some.b ∷ blocks_left c.next.new.self ≡ block_list (store_in c.args.store.now) c.args.blocks
+block_comes c =
+    item_comes blocks_left _ _ _ _ (ap blocks_left c.into_iter-b-iterator.ensures.into_iter_gives ∙ c.new-b-items.ensures) c.loop-b.yielded_by c.next.new.self _ _ c.in-Some.is c.next.ensures.steps
 
 pub loop-b-init : goal.loop-b-init
-loop-b-init c =
-    let store : Store = store_in c.args.store.now in
-    let walk : StepRelation (List ℕ × ℕ) = list_walk in
-    let list : List ℕ = block_list store c.args.blocks in
-    pass_begun walk (each (op_shells store)) list
+loop-b-init c = (_, _, none_came list_walk (each (op_shells (store_in c.args.store.now))))
 
-pub next_in-requires : goal.next_in-requires
-next_in-requires c =
-    record { sound = c.requires.sound; blocks_exist = c.requires.blocks_exist }
-
-pub returns-in_default : goal.returns-in_default
-returns-in_default c =
-    let store : Store = store_in c.args.store.now in
-    let walk : StepRelation (List ℕ × ℕ) = list_walk in
-    let list : List ℕ = block_list store c.args.blocks in
-    let m = c.loop-b in
-    pass_over walk (each (op_shells store)) list m.from m.invariant (none_next m.from list _ c.next_in.ensures c.in_default.is)
-
-pub list_op_shells_in-end-requires : goal.list_op_shells_in-end-requires
-list_op_shells_in-end-requires c =
-    let store : Store = store_in c.args.store.now in
-    let walk : StepRelation (List ℕ × ℕ) = list_walk in
-    let list : List ℕ = block_list store c.args.blocks in
-    let cols : Cols = columns c.args.store.now in
-    let n : ℕ = c.in-At.b in
-    let found : NextChild list c.loop-b.from n = next_in_list store c.args.blocks c.loop-b.from n _ c.next_in.ensures c.in-At.is in
-    let here : n < block_count cols = block_in_lem cols c.args.blocks n c.requires.blocks_exist found.child in
-    let m = c.loop-b in
-    record { sound = c.requires.sound; b_bound = here; steps_fit = pass_room walk (each (op_shells store)) list m.from m.invariant found c.requires.steps_fit }
-
-pub overflow_add-from : goal.overflow_add-from
-overflow_add-from c =
-    let store : Store = store_in c.args.store.now in
-    let list : List ℕ = block_list store c.args.blocks in
-    let cols : Cols = columns c.args.store.now in
-    let n : ℕ = c.in-At.b in
-    let found : NextChild list c.loop-b.from n = next_in_list store c.args.blocks c.loop-b.from n _ c.next_in.ensures c.in-At.is in
-    let here : n < block_count cols = block_in_lem cols c.args.blocks n c.requires.blocks_exist found.child in
-    let few : n < 256 = omega (arith, here, (laid_facts cols c.requires.sound.laid).counts.blocks) in
-    record { fits = omega (arith, few) }
-
-pub loop-b-smaller : goal.loop-b-smaller
-loop-b-smaller c =
-    let store : Store = store_in c.args.store.now in
-    let list : List ℕ = block_list store c.args.blocks in
-    let cols : Cols = columns c.args.store.now in
-    let n : ℕ = c.in-At.b in
-    let found : NextChild list c.loop-b.from n = next_in_list store c.args.blocks c.loop-b.from n _ c.next_in.ensures c.in-At.is in
-    let here : n < block_count cols = block_in_lem cols c.args.blocks n c.requires.blocks_exist found.child in
-    let few : n < 256 = omega (arith, here, (laid_facts cols c.requires.sound.laid).counts.blocks) in
-    omega (arith, few, found.later)
+pub list_op_shells_in-requires : goal.list_op_shells_in-requires
+list_op_shells_in-requires c =
+    let turn = block_comes ((goal.at.list_op_shells_in-requires c).In-Some) in
+    record {
+      sound = c.requires.sound;
+      b_bound = block_in_lem (columns c.args.store.now) c.args.blocks _ c.requires.blocks_exist (comes_mem _ _ _ _ turn);
+      steps_fit = came_room list_walk (each (op_shells (store_in c.args.store.now))) _ c.loop-b.invariant.2 _ _ _ turn c.requires.steps_fit;
+    }
 
 pub loop-b-preserved : goal.loop-b-preserved
 loop-b-preserved c =
-    let store : Store = store_in c.args.store.now in
-    let walk : StepRelation (List ℕ × ℕ) = list_walk in
-    let list : List ℕ = block_list store c.args.blocks in
-    let n : ℕ = c.in-At.b in
-    let found : NextChild list c.loop-b.from n = next_in_list store c.args.blocks c.loop-b.from n _ c.next_in.ensures c.in-At.is in
-    let m = c.loop-b in
-    pass_again walk (each (op_shells store)) list m.from m.invariant found c.list_op_shells_in-end.ensures
+    (_, _, came_again list_walk (each (op_shells (store_in c.args.store.now))) _ c.loop-b.invariant.2 c.in-Some.b c.list_op_shells_in.ensures)

@@ -1,15 +1,12 @@
--- `list_op_shells` meets its contract: a pass through the list, whose step is a block's operations. Assumes nothing.
-use Rattle.std.proofs.Common.{◌-◌}
+-- `list_op_shells` meets its contract: the shells of the operations of the blocks that came so far are there. Assumes nothing.
 use Rattle.rules.specs.Lists.{concat_map}
 use Rattle.layout.specs.Reading.{store_in}
-use Rattle.fragments.specs.Order.{block_list}
 use Rattle.numbering.specs.Parts.{op_shells}
-use Rattle.numbering.proofs.Passing.{Passing}
-use Rattle.copying.proofs.Listing.{list_walk}
+use Rattle.copying.specs.Steps.{Listed}
 use Rattle.copying.proofs.steps.list_op_shells.Given as goal
 
 abbrev pub invariant-loop-b : goal.invariant-loop-b
-invariant-loop-b l = Passing (list_walk) (concat_map (op_shells (store_in l.store))) (block_list (store_in l.store) l.blocks) l.from (l.initial.list, l.at) (l.list, l.end)
-
-abbrev pub decreases-loop-b : goal.decreases-loop-b
-decreases-loop-b l = 256 - l.from
+invariant-loop-b l =
+    (goal.iterator-loop-b).can_next l.b-iterator
+    × (goal.iterator-loop-b).is_finite l.b-iterator
+    × Listed (concat_map (op_shells (store_in l.store)) l.yielded) l.initial.walk l.walk

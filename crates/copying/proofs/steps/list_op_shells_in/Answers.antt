@@ -1,105 +1,48 @@
 -- `list_op_shells_in` meets its contract: a pass through the block's operations, whose step is a shell. Assumes nothing.
-use Rattle.std.proofs.Common.{ℕ, ◌<◌, List, arith}
-use Rattle.rules.specs.Fragments.{shell}
-use Rattle.rules.specs.Store.{Store, of_op, ops_of}
-use Rattle.layout.specs.Columns.{Cols, columns}
+use Rattle.std.proofs.Common.{◌≡◌, ◌<◌, ◌∷◌, ◌++◌, ap, ◌∙◌, arith}
+use Rattle.rules.specs.Store.{of_op, ops_of}
+use Rattle.layout.specs.Columns.{columns}
+use Rattle.layout.specs.OpsLeft.{ops_left}
 use Rattle.layout.specs.Reading.{op_count, store_in}
 use Rattle.layout.proofs.Laid.{laid_facts}
-use Rattle.layout.proofs.Seeking.{NextChild, none_next, next_op}
 use Rattle.fragments.proofs.Ordered.{op_in_lem}
+use Rattle.fragments.proofs.Yielded.{item_comes, all_came, comes_mem}
 use Rattle.numbering.specs.Parts.{op_shells}
-use Rattle.numbering.proofs.Passing.{StepRelation, pass_begun, pass_over, pass_room, pass_again}
+use Rattle.numbering.proofs.Passing.{none_came, came_over, came_room, came_again}
 use Rattle.numbering.proofs.Rounds.{each_shell_lem}
-use Rattle.copying.proofs.Listing.{list_walk, shells_fit, shells_listed, fits_one, listed_one, op_word}
+use Rattle.copying.specs.declared.steps.Step.TheVariants.{OpShell}
+use Rattle.copying.specs.Steps.{step_of}
+use Rattle.copying.proofs.Listing.{list_walk, shells_fit, shells_listed, fits_one, listed_one}
 use Rattle.copying.proofs.steps.list_op_shells_in.Goals as goal
+use Rattle.copying.proofs.steps.list_op_shells_in.Goals.{In-Some}
+
+op_comes : (c : In-Some) → c.loop-n.yielded ++ c.in-Some.n ∷ ops_left c.next.new.self ≡ ops_of (store_in c.args.store.now) c.args.b
+op_comes c =
+    item_comes ops_left _ _ _ _ (ap ops_left c.into_iter-n-iterator.ensures.into_iter_gives ∙ c.new-n-items.ensures) c.loop-n.yielded_by c.next.new.self _ _ c.in-Some.is c.next.ensures.steps
 
 pub loop-n-init : goal.loop-n-init
-unfolding op_shells
-loop-n-init c =
-    let store : Store = store_in c.args.store.now in
-    let walk : StepRelation (List ℕ × ℕ) = list_walk in
-    let list : List ℕ = ops_of store c.args.b in
-    pass_begun walk (each_shell_lem of_op) list
-
-pub next_op-requires : goal.next_op-requires
-next_op-requires c =
-    record { arranged = record { sized = c.requires.sound.sized; laid = c.requires.sound.laid }; block_bound = c.requires.b_bound }
-
-pub returns-in_default : goal.returns-in_default
-unfolding op_shells
-returns-in_default c =
-    let store : Store = store_in c.args.store.now in
-    let walk : StepRelation (List ℕ × ℕ) = list_walk in
-    let list : List ℕ = ops_of store c.args.b in
-    let m = c.loop-n in
-    shells_listed of_op list
-    (pass_over walk (each_shell_lem of_op) list m.from m.invariant (none_next m.from list _ c.next_op.ensures c.in_default.is))
-
-pub add_step-end-requires : goal.add_step-end-requires
-unfolding op_shells
-add_step-end-requires c =
-    let store : Store = store_in c.args.store.now in
-    let walk : StepRelation (List ℕ × ℕ) = list_walk in
-    let list : List ℕ = ops_of store c.args.b in
-    let cols : Cols = columns c.args.store.now in
-    let n : ℕ = c.in-At.n in
-    let found : NextChild list c.loop-n.from n = next_op store c.args.b c.loop-n.from n _ c.next_op.ensures c.in-At.is in
-    let here : n < op_count cols = op_in_lem cols c.args.b n found.child in
-    let m = c.loop-n in
-    fits_one (shell (of_op n)) _ (op_word n) m.list m.end (pass_room walk (each_shell_lem of_op) list m.from m.invariant found (shells_fit of_op list c.requires.steps_fit))
-
-pub overflow_add-from : goal.overflow_add-from
-overflow_add-from c =
-    let store : Store = store_in c.args.store.now in
-    let list : List ℕ = ops_of store c.args.b in
-    let cols : Cols = columns c.args.store.now in
-    let n : ℕ = c.in-At.n in
-    let found : NextChild list c.loop-n.from n = next_op store c.args.b c.loop-n.from n _ c.next_op.ensures c.in-At.is in
-    let here : n < op_count cols = op_in_lem cols c.args.b n found.child in
-    let few : n < 512 = omega (arith, here, (laid_facts cols c.requires.sound.laid).counts.ops) in
-    record { fits = omega (arith, few) }
-
-pub loop-n-smaller : goal.loop-n-smaller
-loop-n-smaller c =
-    let store : Store = store_in c.args.store.now in
-    let list : List ℕ = ops_of store c.args.b in
-    let cols : Cols = columns c.args.store.now in
-    let n : ℕ = c.in-At.n in
-    let found : NextChild list c.loop-n.from n = next_op store c.args.b c.loop-n.from n _ c.next_op.ensures c.in-At.is in
-    let here : n < op_count cols = op_in_lem cols c.args.b n found.child in
-    let few : n < 512 = omega (arith, here, (laid_facts cols c.requires.sound.laid).counts.ops) in
-    omega (arith, few, found.later)
-
-pub loop-n-preserved : goal.loop-n-preserved
-unfolding op_shells
-loop-n-preserved c =
-    let store : Store = store_in c.args.store.now in
-    let walk : StepRelation (List ℕ × ℕ) = list_walk in
-    let list : List ℕ = ops_of store c.args.b in
-    let n : ℕ = c.in-At.n in
-    let found : NextChild list c.loop-n.from n = next_op store c.args.b c.loop-n.from n _ c.next_op.ensures c.in-At.is in
-    let m = c.loop-n in
-    let here = fits_one (shell (of_op n)) _ (op_word n) m.list m.end (pass_room walk (each_shell_lem of_op) list m.from m.invariant found (shells_fit of_op list c.requires.steps_fit)) in
-    pass_again walk (each_shell_lem of_op) list m.from m.invariant found (listed_one (shell (of_op n)) _ (op_word n) m.list c.add_step-end.new.list m.end c.add_step-end.result here c.add_step-end.ensures.list c.add_step-end.ensures.end)
-
-pub overflow_mul-n : goal.overflow_mul-n
-overflow_mul-n c =
-    let store : Store = store_in c.args.store.now in
-    let list : List ℕ = ops_of store c.args.b in
-    let cols : Cols = columns c.args.store.now in
-    let n : ℕ = c.in-At.n in
-    let found : NextChild list c.loop-n.from n = next_op store c.args.b c.loop-n.from n _ c.next_op.ensures c.in-At.is in
-    let here : n < op_count cols = op_in_lem cols c.args.b n found.child in
-    let few : n < 512 = omega (arith, here, (laid_facts cols c.requires.sound.laid).counts.ops) in
-    record { fits = omega (arith, few) }
+loop-n-init c = (_, _, none_came list_walk (each_shell_lem of_op))
 
 pub overflow_cast-n : goal.overflow_cast-n
 overflow_cast-n c =
-    let store : Store = store_in c.args.store.now in
-    let list : List ℕ = ops_of store c.args.b in
-    let cols : Cols = columns c.args.store.now in
-    let n : ℕ = c.in-At.n in
-    let found : NextChild list c.loop-n.from n = next_op store c.args.b c.loop-n.from n _ c.next_op.ensures c.in-At.is in
-    let here : n < op_count cols = op_in_lem cols c.args.b n found.child in
-    let few : n < 512 = omega (arith, here, (laid_facts cols c.requires.sound.laid).counts.ops) in
-    record { fits = omega (arith, few) }
+    let turn = op_comes ((goal.at.overflow_cast-n c).In-Some) in
+    let here : c.in-Some.n < op_count (columns c.args.store.now) = op_in_lem _ _ _ (comes_mem _ _ _ _ turn) in
+    record { fits = omega (arith, here, (laid_facts (columns c.args.store.now) c.requires.sound.laid).counts.ops) }
+
+pub push-requires : goal.push-requires
+unfolding op_shells step_of
+push-requires c =
+    let turn = op_comes ((goal.at.push-requires c).In-Some) in
+    fits_one (OpShell c.in-Some.n)
+    (came_room list_walk (each_shell_lem of_op) _ c.loop-n.invariant.2 _ _ _ turn (shells_fit of_op (ops_of (store_in c.args.store.now) c.args.b) c.requires.steps_fit))
+
+pub loop-n-preserved : goal.loop-n-preserved
+unfolding step_of
+loop-n-preserved c = (_, _, came_again list_walk (each_shell_lem of_op) _ c.loop-n.invariant.2 c.in-Some.n (listed_one (OpShell c.in-Some.n) c.push.ensures))
+
+pub returns : goal.returns
+unfolding op_shells
+returns c =
+    shells_listed of_op (ops_of (store_in c.args.store.now) c.args.b)
+    (came_over list_walk (each_shell_lem of_op) _ c.loop-n.invariant.2 _
+    (all_came ops_left _ _ _ _ (ap ops_left c.into_iter-n-iterator.ensures.into_iter_gives ∙ c.new-n-items.ensures) c.loop-n.yielded_by c.next.new.self _ c.in-None.is c.next.ensures.steps))

@@ -1,14 +1,11 @@
--- `list_op_shells_in` meets its contract: a pass through the block's operations, whose step is a shell. Assumes nothing.
-use Rattle.std.proofs.Common.{◌-◌}
-use Rattle.rules.specs.Store.{of_op, ops_of}
-use Rattle.layout.specs.Reading.{store_in}
-use Rattle.numbering.proofs.Passing.{Passing}
+-- `list_op_shells_in` meets its contract: the shells of the operations that came so far are there. Assumes nothing.
+use Rattle.rules.specs.Store.{of_op}
 use Rattle.numbering.proofs.Rounds.{each_shell}
-use Rattle.copying.proofs.Listing.{list_walk}
+use Rattle.copying.specs.Steps.{Listed}
 use Rattle.copying.proofs.steps.list_op_shells_in.Given as goal
 
 abbrev pub invariant-loop-n : goal.invariant-loop-n
-invariant-loop-n l = Passing (list_walk) (each_shell of_op) (ops_of (store_in l.store) l.b) l.from (l.initial.list, l.at) (l.list, l.end)
-
-abbrev pub decreases-loop-n : goal.decreases-loop-n
-decreases-loop-n l = 512 - l.from
+invariant-loop-n l =
+    (goal.iterator-loop-n).can_next l.n-iterator
+    × (goal.iterator-loop-n).is_finite l.n-iterator
+    × Listed (each_shell of_op l.yielded) l.initial.walk l.walk

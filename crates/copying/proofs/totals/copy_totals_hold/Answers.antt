@@ -1,97 +1,72 @@
 -- `copy_totals_hold` meets its contract: each of the store's counts with the operation's own is a total of the store with the copy, and is held to its
 -- limit. Assumes nothing.
-use Rattle.std.proofs.Common.{◌+◌, ap, ◌∙◌, arith}
+use Rattle.std.proofs.Common.{◌≡◌, ◌+◌, ◌∙◌, arith}
+use Rattle.std.proofs.lemmas.Bool.Decides.{nat_tests}
 use lib.Dec.{leb}
+use Rattle.rules.specs.Lists.{every}
+use Rattle.layout.specs.Columns.{Cols, columns}
 use Rattle.layout.specs.Reading.{op_count, block_count, region_count, value_count, operand_count, successor_count, attribute_count}
-use Rattle.copying.proofs.Totalled.{small, counted, refuse_ops, refuse_blocks, refuse_regions, refuse_values, refuse_operands, refuse_successors, test_attributes}
+use Rattle.copying.specs.declared.totals.Totals.{Totals}
+use Rattle.copying.specs.Totals.{TotalsFit}
+use Rattle.copying.proofs.Totalled.{holds, small, counted, totals_with}
 use Rattle.copying.proofs.totals.copy_totals_hold.Goals as goal
+use Rattle.copying.proofs.totals.copy_totals_hold.Goals.{After-totals_of-more}
+
+-- what the operation has is little
+little : (c : After-totals_of-more) → TotalsFit c.totals_of-more.result
+little c = small c.args.original.now.store.now c.args.original.now.sound c.args.original.now.n c.args.original.now.exists c.totals_of-more.result c.totals_of-more.ensures
 
 pub overflow_add-number : goal.overflow_add-number
 unfolding op_count
 overflow_add-number c =
-    let s = small c.args.store.now c.requires.sound c.args.n c.requires.n_bound c.totals_of-more.result c.totals_of-more.ensures in
-    omega (arith, s.ops, (counted c.args.store.now c.requires.sound).ops, c.number.ensures)
+    omega (arith, (little ((goal.at.overflow_add-number c).After-totals_of-more)).ops, (counted c.args.original.now.store.now c.args.original.now.sound).ops, c.number.ensures)
 
-pub returns-then-number-more-gt512 : goal.returns-then-number-more-gt512
-unfolding op_count
-returns-then-number-more-gt512 c =
-    λ place. refuse_ops c.args.store.now c.requires.sound c.args.n c.requires.n_bound place c.totals_of-more.result c.totals_of-more.ensures
-    (omega (arith, c.number.ensures, c.if-number-more-gt512.true))
-
-pub overflow_add-number-2 : goal.overflow_add-number-2
+pub overflow_add-number-then-number-more-le512 : goal.overflow_add-number-then-number-more-le512
 unfolding block_count
-overflow_add-number-2 c =
-    let s = small c.args.store.now c.requires.sound c.args.n c.requires.n_bound c.totals_of-more.result c.totals_of-more.ensures in
-    omega (arith, s.blocks, (counted c.args.store.now c.requires.sound).blocks, c.number-2.ensures)
+overflow_add-number-then-number-more-le512 c =
+    omega (arith, (little ((goal.at.overflow_add-number-then-number-more-le512 c).After-totals_of-more)).blocks, (counted c.args.original.now.store.now c.args.original.now.sound).blocks, c.number-then-number-more-le512.ensures)
 
-pub returns-then-number-more-gt256 : goal.returns-then-number-more-gt256
-unfolding block_count
-returns-then-number-more-gt256 c =
-    λ place. refuse_blocks c.args.store.now c.requires.sound c.args.n c.requires.n_bound place c.totals_of-more.result c.totals_of-more.ensures
-    (omega (arith, c.number-2.ensures, c.if-number-more-gt256.true))
-
-pub overflow_add-number-3 : goal.overflow_add-number-3
+pub overflow_add-number-then-number-more-le256 : goal.overflow_add-number-then-number-more-le256
 unfolding region_count
-overflow_add-number-3 c =
-    let s = small c.args.store.now c.requires.sound c.args.n c.requires.n_bound c.totals_of-more.result c.totals_of-more.ensures in
-    omega (arith, s.regions, (counted c.args.store.now c.requires.sound).regions, c.number-3.ensures)
+overflow_add-number-then-number-more-le256 c =
+    omega (arith, (little ((goal.at.overflow_add-number-then-number-more-le256 c).After-totals_of-more)).regions, (counted c.args.original.now.store.now c.args.original.now.sound).regions, c.number-then-number-more-le256.ensures)
 
-pub returns-then-number-more-gt256-2 : goal.returns-then-number-more-gt256-2
-unfolding region_count
-returns-then-number-more-gt256-2 c =
-    λ place. refuse_regions c.args.store.now c.requires.sound c.args.n c.requires.n_bound place c.totals_of-more.result c.totals_of-more.ensures
-    (omega (arith, c.number-3.ensures, c.if-number-more-gt256-2.true))
-
-pub overflow_add-number-4 : goal.overflow_add-number-4
+pub overflow_add-number-then-number-more-le256-2 : goal.overflow_add-number-then-number-more-le256-2
 unfolding value_count
-overflow_add-number-4 c =
-    let s = small c.args.store.now c.requires.sound c.args.n c.requires.n_bound c.totals_of-more.result c.totals_of-more.ensures in
-    omega (arith, s.values, (counted c.args.store.now c.requires.sound).values, c.number-4.ensures)
+overflow_add-number-then-number-more-le256-2 c =
+    omega (arith, (little ((goal.at.overflow_add-number-then-number-more-le256-2 c).After-totals_of-more)).values, (counted c.args.original.now.store.now c.args.original.now.sound).values, c.number-then-number-more-le256-2.ensures)
 
-pub returns-then-number-more-gt2048 : goal.returns-then-number-more-gt2048
-unfolding value_count
-returns-then-number-more-gt2048 c =
-    λ place. refuse_values c.args.store.now c.requires.sound c.args.n c.requires.n_bound place c.totals_of-more.result c.totals_of-more.ensures
-    (omega (arith, c.number-4.ensures, c.if-number-more-gt2048.true))
-
-pub overflow_add-number-5 : goal.overflow_add-number-5
+pub overflow_add-number-then-number-more-le2048 : goal.overflow_add-number-then-number-more-le2048
 unfolding operand_count
-overflow_add-number-5 c =
-    let s = small c.args.store.now c.requires.sound c.args.n c.requires.n_bound c.totals_of-more.result c.totals_of-more.ensures in
-    omega (arith, s.operands, (counted c.args.store.now c.requires.sound).operands, c.number-5.ensures)
+overflow_add-number-then-number-more-le2048 c =
+    omega (arith, (little ((goal.at.overflow_add-number-then-number-more-le2048 c).After-totals_of-more)).operands, (counted c.args.original.now.store.now c.args.original.now.sound).operands, c.number-then-number-more-le2048.ensures)
 
-pub returns-then-number-more-gt2048-2 : goal.returns-then-number-more-gt2048-2
-unfolding operand_count
-returns-then-number-more-gt2048-2 c =
-    λ place. refuse_operands c.args.store.now c.requires.sound c.args.n c.requires.n_bound place c.totals_of-more.result c.totals_of-more.ensures
-    (omega (arith, c.number-5.ensures, c.if-number-more-gt2048-2.true))
-
-pub overflow_add-number-6 : goal.overflow_add-number-6
+pub overflow_add-number-then-number-more-le2048-2 : goal.overflow_add-number-then-number-more-le2048-2
 unfolding successor_count
-overflow_add-number-6 c =
-    let s = small c.args.store.now c.requires.sound c.args.n c.requires.n_bound c.totals_of-more.result c.totals_of-more.ensures in
-    omega (arith, s.successors, (counted c.args.store.now c.requires.sound).successors, c.number-6.ensures)
-
-pub returns-then-number-more-gt512-2 : goal.returns-then-number-more-gt512-2
-unfolding successor_count
-returns-then-number-more-gt512-2 c =
-    λ place. refuse_successors c.args.store.now c.requires.sound c.args.n c.requires.n_bound place c.totals_of-more.result c.totals_of-more.ensures
-    (omega (arith, c.number-6.ensures, c.if-number-more-gt512-2.true))
+overflow_add-number-then-number-more-le2048-2 c =
+    omega (arith, (little ((goal.at.overflow_add-number-then-number-more-le2048-2 c).After-totals_of-more)).successors, (counted c.args.original.now.store.now c.args.original.now.sound).successors, c.number-then-number-more-le2048-2.ensures)
 
 pub overflow_add-result : goal.overflow_add-result
 unfolding attribute_count
 overflow_add-result c =
-    let s = small c.args.store.now c.requires.sound c.args.n c.requires.n_bound c.totals_of-more.result c.totals_of-more.ensures in
-    omega (arith, s.attributes, (counted c.args.store.now c.requires.sound).attributes, c.number-7.ensures)
+    omega (arith, (little ((goal.at.overflow_add-result c).After-totals_of-more)).attributes, (counted c.args.original.now.store.now c.args.original.now.sound).attributes, c.number-then-number-more-le512-2.ensures)
 
-pub returns : goal.returns
-unfolding op_count block_count region_count value_count operand_count successor_count attribute_count
-returns c =
-    λ place. ap (λ k. leb (k + c.totals_of-more.result.attributes) 1024) c.number-7.ensures
-    ∙ test_attributes c.args.store.now c.requires.sound c.args.n c.requires.n_bound place c.totals_of-more.result c.totals_of-more.ensures
-    (omega (arith, c.number.ensures, c.if-number-more-gt512.false))
-    (omega (arith, c.number-2.ensures, c.if-number-more-gt256.false))
-    (omega (arith, c.number-3.ensures, c.if-number-more-gt256-2.false))
-    (omega (arith, c.number-4.ensures, c.if-number-more-gt2048.false))
-    (omega (arith, c.number-5.ensures, c.if-number-more-gt2048-2.false))
-    (omega (arith, c.number-6.ensures, c.if-number-more-gt512-2.false))
+pub returns-then-number-more-le512-2 : goal.returns-then-number-more-le512-2
+unfolding holds every op_count block_count region_count value_count operand_count successor_count attribute_count
+returns-then-number-more-le512-2 c =
+    let C : Cols = columns c.args.original.now.store.now in
+    let t : Totals = c.totals_of-more.result in
+    let told : leb (c.number-then-number-more-le512-2.result + t.attributes) 1024
+    ≡ holds (op_count C + t.ops) (block_count C + t.blocks) (region_count C + t.regions) (value_count C + t.values) (operand_count C + t.operands) (successor_count C + t.successors) (attribute_count C + t.attributes) =
+    grind (arith, nat_tests) in
+    λ place. told ∙ totals_with c.args.original.now.store.now c.args.original.now.sound c.args.original.now.n c.args.original.now.exists place t c.totals_of-more.ensures
+
+pub returns-else-number-more-le512-2 : goal.returns-else-number-more-le512-2
+unfolding holds every op_count block_count region_count value_count operand_count successor_count attribute_count
+returns-else-number-more-le512-2 c =
+    let C : Cols = columns c.args.original.now.store.now in
+    let t : Totals = c.totals_of-more.result in
+    let told : c.if-number-more-le2048-2.value
+    ≡ holds (op_count C + t.ops) (block_count C + t.blocks) (region_count C + t.regions) (value_count C + t.values) (operand_count C + t.operands) (successor_count C + t.successors) (attribute_count C + t.attributes) =
+    grind (arith, nat_tests) in
+    λ place. told ∙ totals_with c.args.original.now.store.now c.args.original.now.sound c.args.original.now.n c.args.original.now.exists place t c.totals_of-more.ensures

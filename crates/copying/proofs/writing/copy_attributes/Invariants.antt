@@ -1,5 +1,5 @@
 -- `copy_attributes` meets its contract: the first of the attributes are the other owner's so far, and the total has grown by as many. Assumes nothing.
-use Rattle.std.proofs.Common.{◌≡◌, ◌-◌, ◌+◌, ◌≤◌, take}
+use Rattle.std.proofs.Common.{◌≡◌, ◌+◌, take}
 use Rattle.rules.specs.Building.{attributes_of}
 use Rattle.layout.specs.Columns.{columns}
 use Rattle.layout.specs.Reading.{store_in, attribute_count}
@@ -9,9 +9,5 @@ use Rattle.copying.proofs.writing.copy_attributes.Given as goal
 
 abbrev pub invariant-loop-i : goal.invariant-loop-i
 invariant-loop-i l =
-    (l.i ≤ l.count)
-    × Wrote l.initial.store l.store (attributed (store_in l.initial.store) (owner_of l.to) (take l.i (attributes_of (store_in l.initial.store) (owner_of l.from))))
+    Wrote l.initial.store l.store (attributed (store_in l.initial.store) (owner_of l.to) (take l.i (attributes_of (store_in l.initial.store) (owner_of l.from))))
     × (attribute_count (columns l.store) ≡ attribute_count (columns l.initial.store) + l.i)
-
-abbrev pub decreases-loop-i : goal.decreases-loop-i
-decreases-loop-i l = l.count - l.i

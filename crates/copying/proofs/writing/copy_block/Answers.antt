@@ -1,5 +1,5 @@
 -- `copy_block` meets its contract: its row is written as the rules say, and then its attributes, one after the other. Assumes nothing.
-use Rattle.std.proofs.Common.{◌≡◌, ℕ, ◌+◌, ◌<◌, ◌≤◌, List, length, get_or, take, sym, ap, subst, ◌∙◌, arith, length-take}
+use Rattle.std.proofs.Common.{◌≡◌, ℕ, ◌+◌, ◌<◌, ◌≤◌, List, length, get_or, sym, ap, subst, ◌∙◌, arith}
 use Rattle.rules.specs.Store.{Block, Attribute, block_at, regions_of, attributes_hold, attribute_total, max_attributes}
 use Rattle.rules.specs.Mapping.{image}
 use Rattle.layout.specs.Columns.{columns}
@@ -12,6 +12,26 @@ use Rattle.copying.specs.Written.{region_by}
 use Rattle.copying.proofs.Making.{block_low, arguments_rise, arguments_end, arguments_few, block_room_lem, block_set, block_done}
 use Rattle.copying.proofs.Asked.{BlockTaken, argument_types_asked, region_there, block_row_wrote}
 use Rattle.copying.proofs.writing.copy_block.Goals as goal
+use Rattle.copying.proofs.writing.copy_block.Goals.{After-at, After-at-location}
+
+-- the region that is read
+region_read : (c : After-at) → c.at.result ≡ (block_at (store_in c.args.store.now) c.args.b).region
+unfolding block_of
+region_read c = c.at.ensures ∙ sym (ap (λ (x : Block). x.region) (block_read (columns c.args.store.now) c.args.b c.requires.b_bound))
+
+-- what is read of the block, and what becomes of it
+taken : (c : After-at-location)
+    → BlockTaken c.args.store.now c.args.mapping.now c.args.b c.region_copy-region.result c.at-label.result c.at-location.result c.types_of-arguments.result.now
+unfolding block_of
+taken c =
+    let region : c.at.result ≡ (block_at (store_in c.args.store.now) c.args.b).region =
+    c.at.ensures ∙ sym (ap (λ (x : Block). x.region) (block_read (columns c.args.store.now) c.args.b c.requires.b_bound)) in
+    record {
+      label_read = c.at-label.ensures;
+      location_read = c.at-location.ensures;
+      types = c.types_of-arguments.ensures;
+      region_read = c.region_copy-region.ensures ∙ ap (region_by (store_in c.args.store.now) (mapping_of c.args.mapping.now)) region;
+    }
 
 pub types_of-arguments-requires-clause-i_bound : goal.types_of-arguments-requires-clause-i_bound
 types_of-arguments-requires-clause-i_bound c =
@@ -52,102 +72,48 @@ region_copy-region-requires-clause-r_bound c =
     omega (arith, ((laid_facts (columns a) r.arranged.laid).block c.args.b r.b_bound).region_in, c.at.ensures)
 
 pub region_copy-region-requires-clause-copy_bound : goal.region_copy-region-requires-clause-copy_bound
-unfolding block_of
 region_copy-region-requires-clause-copy_bound c =
     let a = c.args.store.now in
     let M = mapping_of c.args.mapping.now in
     let r = c.requires in
-    let row = block_read (columns a) c.args.b r.b_bound in
-    let region : c.at.result ≡ (block_at (store_in a) c.args.b).region = c.at.ensures ∙ sym (ap (λ (x : Block). x.region) row) in
+    let region = region_read ((goal.at.region_copy-region-requires-clause-copy_bound c).After-at) in
     omega (arith, ap (λ (x : ℕ). image M.ops (get_or (store_in a).regions x 0)) region, r.ready.around, ops_length (columns a))
 
 pub region_copy-region-requires-clause-some : goal.region_copy-region-requires-clause-some
-unfolding block_of
 region_copy-region-requires-clause-some c =
     let a = c.args.store.now in
     let M = mapping_of c.args.mapping.now in
     let r = c.requires in
-    let row = block_read (columns a) c.args.b r.b_bound in
-    let region : c.at.result ≡ (block_at (store_in a) c.args.b).region = c.at.ensures ∙ sym (ap (λ (x : Block). x.region) row) in
+    let region = region_read ((goal.at.region_copy-region-requires-clause-some c).After-at) in
     subst (λ (x : ℕ). 0 < length (regions_of (store_in a) (image M.ops (get_or (store_in a).regions x 0)))) (sym region) r.ready.some
 
-pub slice_bounds-types-end : goal.slice_bounds-types-end
-slice_bounds-types-end c =
-    let a = c.args.store.now in
-    let M = mapping_of c.args.mapping.now in
-    let r = c.requires in
-    let few = arguments_few a r.arranged M c.args.b r.b_bound r.ready in
-    let end : c.types_of-arguments.result ≤ length c.types_of-arguments.new.into = omega (arith, few, c.types_of-arguments.ensures.counted, c.types_of-arguments.auto.into) in
-    end
-
-pub slice_bounds-put_block-end : goal.slice_bounds-put_block-end
-slice_bounds-put_block-end c =
-    let a = c.args.store.now in
-    let M = mapping_of c.args.mapping.now in
-    let r = c.requires in
-    let few = arguments_few a r.arranged M c.args.b r.b_bound r.ready in
-    let end : c.types_of-arguments.result ≤ length c.types_of-arguments.new.into = omega (arith, few, c.types_of-arguments.ensures.counted, c.types_of-arguments.auto.into) in
-    sym (length-take c.types_of-arguments.result c.types_of-arguments.new.into ∙ omega (arith, end))
-
 pub put_block-requires-clause-region_bound : goal.put_block-requires-clause-region_bound
-unfolding block_of
 put_block-requires-clause-region_bound c =
     let a = c.args.store.now in
     let r = c.requires in
-    let row = block_read (columns a) c.args.b r.b_bound in
-    let region : c.at.result ≡ (block_at (store_in a) c.args.b).region = c.at.ensures ∙ sym (ap (λ (x : Block). x.region) row) in
-    let taken : BlockTaken a c.args.mapping.now c.args.b c.region_copy-region.result c.at-label.result c.at-location.result
-    (take c.types_of-arguments.result c.types_of-arguments.new.into) =
-    record {
-      label_read = c.at-label.ensures;
-      location_read = c.at-location.ensures;
-      types = c.types_of-arguments.ensures.read;
-      region_read = c.region_copy-region.ensures ∙ ap (region_by (store_in a) (mapping_of c.args.mapping.now)) region;
-    } in
-    omega (arith, region_there a r.arranged c.args.mapping.now c.args.b r.b_bound r.ready taken, (laid_facts (columns a) r.arranged.laid).counts.regions)
+    omega (arith, region_there a r.arranged c.args.mapping.now c.args.b r.b_bound r.ready (taken ((goal.at.put_block-requires-clause-region_bound c).After-at-location)), (laid_facts (columns a) r.arranged.laid).counts.regions)
 
 pub put_block-requires-clause-store_bound : goal.put_block-requires-clause-store_bound
 put_block-requires-clause-store_bound c =
     (block_room_lem c.args.store.now c.requires.arranged (mapping_of c.args.mapping.now) c.args.b c.requires.b_bound c.requires.ready).blocks
 
 pub put_block-requires-clause-types_bound : goal.put_block-requires-clause-types_bound
-unfolding block_of
 put_block-requires-clause-types_bound c =
     let a = c.args.store.now in
     let r = c.requires in
-    let row = block_read (columns a) c.args.b r.b_bound in
-    let region : c.at.result ≡ (block_at (store_in a) c.args.b).region = c.at.ensures ∙ sym (ap (λ (x : Block). x.region) row) in
-    let taken : BlockTaken a c.args.mapping.now c.args.b c.region_copy-region.result c.at-label.result c.at-location.result
-    (take c.types_of-arguments.result c.types_of-arguments.new.into) =
-    record {
-      label_read = c.at-label.ensures;
-      location_read = c.at-location.ensures;
-      types = c.types_of-arguments.ensures.read;
-      region_read = c.region_copy-region.ensures ∙ ap (region_by (store_in a) (mapping_of c.args.mapping.now)) region;
-    } in
-    omega (arith, ap length (argument_types_asked a r.arranged c.args.mapping.now c.args.b r.b_bound r.ready taken), (block_room_lem a r.arranged (mapping_of c.args.mapping.now) c.args.b r.b_bound r.ready).values)
+    omega (arith, ap length (argument_types_asked a r.arranged c.args.mapping.now c.args.b r.b_bound r.ready (taken ((goal.at.put_block-requires-clause-types_bound c).After-at-location))), (block_room_lem a r.arranged (mapping_of c.args.mapping.now) c.args.b r.b_bound r.ready).values)
 
 pub overflow_cast-b : goal.overflow_cast-b
 overflow_cast-b c =
     record { fits = omega (arith, block_low c.args.store.now c.requires.arranged (mapping_of c.args.mapping.now) c.args.b c.requires.b_bound c.requires.ready) }
 
 pub copy_attributes-requires : goal.copy_attributes-requires
-unfolding block_of block_count owner_of
+unfolding block_count owner_of
 copy_attributes-requires c =
     let a = c.args.store.now in
     let r = c.requires in
-    let row = block_read (columns a) c.args.b r.b_bound in
-    let region : c.at.result ≡ (block_at (store_in a) c.args.b).region = c.at.ensures ∙ sym (ap (λ (x : Block). x.region) row) in
-    let taken : BlockTaken a c.args.mapping.now c.args.b c.region_copy-region.result c.at-label.result c.at-location.result
-    (take c.types_of-arguments.result c.types_of-arguments.new.into) =
-    record {
-      label_read = c.at-label.ensures;
-      location_read = c.at-location.ensures;
-      types = c.types_of-arguments.ensures.read;
-      region_read = c.region_copy-region.ensures ∙ ap (region_by (store_in a) (mapping_of c.args.mapping.now)) region;
-    } in
     let b = c.put_block.new.store in
-    let w = block_row_wrote a r.arranged c.args.mapping.now c.args.b r.b_bound r.ready taken b c.put_block.auto.store c.put_block.ensures in
+    let w = block_row_wrote a r.arranged c.args.mapping.now c.args.b r.b_bound r.ready (taken ((goal.at.copy_attributes-requires c).After-at-location)) b c.put_block.auto.store c.put_block.ensures in
     let set = block_set a r.arranged (mapping_of c.args.mapping.now) c.args.b r.b_bound r.ready b w c.at-copy.result c.at-copy.ensures in
     record {
       arranged = w.arranged;
@@ -160,21 +126,11 @@ copy_attributes-requires c =
     }
 
 pub returns : goal.returns
-unfolding block_of block_count owner_of
+unfolding block_count owner_of
 returns c =
     let a = c.args.store.now in
     let r = c.requires in
-    let row = block_read (columns a) c.args.b r.b_bound in
-    let region : c.at.result ≡ (block_at (store_in a) c.args.b).region = c.at.ensures ∙ sym (ap (λ (x : Block). x.region) row) in
-    let taken : BlockTaken a c.args.mapping.now c.args.b c.region_copy-region.result c.at-label.result c.at-location.result
-    (take c.types_of-arguments.result c.types_of-arguments.new.into) =
-    record {
-      label_read = c.at-label.ensures;
-      location_read = c.at-location.ensures;
-      types = c.types_of-arguments.ensures.read;
-      region_read = c.region_copy-region.ensures ∙ ap (region_by (store_in a) (mapping_of c.args.mapping.now)) region;
-    } in
     let b = c.put_block.new.store in
-    let w = block_row_wrote a r.arranged c.args.mapping.now c.args.b r.b_bound r.ready taken b c.put_block.auto.store c.put_block.ensures in
+    let w = block_row_wrote a r.arranged c.args.mapping.now c.args.b r.b_bound r.ready (taken ((goal.at.returns c).After-at-location)) b c.put_block.auto.store c.put_block.ensures in
     block_done a r.arranged (mapping_of c.args.mapping.now) c.args.b r.b_bound r.ready b w c.at-copy.result c.at-copy.ensures
     c.copy_attributes.new.store c.copy_attributes.ensures

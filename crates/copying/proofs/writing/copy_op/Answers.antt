@@ -1,5 +1,5 @@
 -- `copy_op` meets its contract: its row is written as the rules say, and then its attributes, one after the other. Assumes nothing.
-use Rattle.std.proofs.Common.{ℕ, ◌+◌, ◌≤◌, List, length, get_or, map, take, sym, ap, subst, ◌∙◌, arith, length-take}
+use Rattle.std.proofs.Common.{ℕ, ◌+◌, ◌≤◌, List, length, get_or, map, sym, ap, subst, ◌∙◌, arith}
 use Rattle.rules.specs.Store.{Attribute, attributes_hold, attribute_total, max_attributes}
 use lib.Dec.{ltb}
 use Rattle.rules.specs.Lists.{all}
@@ -13,6 +13,22 @@ use Rattle.mapping.specs.MappingWords.{mapping_of}
 use Rattle.copying.proofs.Making.{named_low, op_low, results_rise, results_end, results_few, op_set, op_done}
 use Rattle.copying.proofs.Asked.{OpTaken, op_asked_room, op_row_wrote}
 use Rattle.copying.proofs.writing.copy_op.Goals as goal
+use Rattle.copying.proofs.writing.copy_op.Goals.{After-at-4}
+
+-- what is read of the operation, and what becomes of it
+taken : (c : After-at-4)
+    → OpTaken c.args.store.now c.args.mapping.now c.args.m c.at.result c.at-2.result c.at-3.result c.at-4.result
+    c.types_of-results.result.now c.images_of-uses.result.now c.images_of-targets.result.now
+taken c =
+    record {
+      kind_read = c.at.ensures;
+      location_read = c.at-2.ensures;
+      end_read = c.at-3.ensures;
+      first_read = c.at-4.ensures;
+      types = c.types_of-results.ensures;
+      operands = c.images_of-uses.ensures ∙ ap (map (λ (v : ℕ). or_self (get_or c.args.mapping.now (0 + v) 0) v)) c.operands_of.ensures;
+      successors = c.images_of-targets.ensures ∙ ap (map (λ (v : ℕ). or_self (get_or c.args.mapping.now (2048 + v) 0) v)) c.successors_of.ensures;
+    }
 
 pub types_of-results-requires-clause-i_bound : goal.types_of-results-requires-clause-i_bound
 types_of-results-requires-clause-i_bound c =
@@ -54,39 +70,11 @@ overflow_sub-fields c =
     let rises = ((laid_facts (columns a) r.arranged.laid).op c.args.m r.m_bound).regions.range.rises in
     omega (arith, rises, c.at-3.ensures, c.at-4.ensures)
 
-pub slice_bounds-types-end : goal.slice_bounds-types-end
-slice_bounds-types-end c =
-    let a = c.args.store.now in
-    let r = c.requires in
-    let few = results_few a r.arranged c.args.m r.m_bound r.ready in
-    let end : c.types_of-results.result ≤ length c.types_of-results.new.into = omega (arith, few, c.types_of-results.ensures.counted, c.types_of-results.auto.into) in
-    end
-
-pub slice_bounds-put_operation-end : goal.slice_bounds-put_operation-end
-slice_bounds-put_operation-end c =
-    let a = c.args.store.now in
-    let r = c.requires in
-    let few = results_few a r.arranged c.args.m r.m_bound r.ready in
-    let end : c.types_of-results.result ≤ length c.types_of-results.new.into = omega (arith, few, c.types_of-results.ensures.counted, c.types_of-results.auto.into) in
-    sym (length-take c.types_of-results.result c.types_of-results.new.into ∙ omega (arith, end))
-
 pub put_operation-requires-clause-op_room : goal.put_operation-requires-clause-op_room
 put_operation-requires-clause-op_room c =
     let a = c.args.store.now in
     let r = c.requires in
-    let taken : OpTaken a c.args.mapping.now c.args.m c.at.result c.at-2.result c.at-3.result c.at-4.result
-    (take c.types_of-results.result c.types_of-results.new.into) (take c.images_of-uses.result c.images_of-uses.new.into)
-    (take c.images_of-targets.result c.images_of-targets.new.into) =
-    record {
-      kind_read = c.at.ensures;
-      location_read = c.at-2.ensures;
-      end_read = c.at-3.ensures;
-      first_read = c.at-4.ensures;
-      types = c.types_of-results.ensures.read;
-      operands = c.images_of-uses.ensures.read ∙ ap (map (λ (v : ℕ). or_self (get_or c.args.mapping.now (0 + v) 0) v)) c.operands_of.ensures;
-      successors = c.images_of-targets.ensures.read ∙ ap (map (λ (v : ℕ). or_self (get_or c.args.mapping.now (2048 + v) 0) v)) c.successors_of.ensures;
-    } in
-    op_asked_room a r.arranged c.args.mapping.now r.mapping_len c.args.parent c.args.m r.m_bound r.ready taken
+    op_asked_room a r.arranged c.args.mapping.now r.mapping_len c.args.parent c.args.m r.m_bound r.ready (taken ((goal.at.put_operation-requires-clause-op_room c).After-at-4))
 
 pub overflow_cast-m : goal.overflow_cast-m
 overflow_cast-m c = record { fits = omega (arith, op_low c.args.store.now c.requires.arranged c.args.m c.requires.m_bound c.requires.ready) }
@@ -96,21 +84,9 @@ unfolding op_count owner_of
 copy_attributes-requires c =
     let a = c.args.store.now in
     let r = c.requires in
-    let taken : OpTaken a c.args.mapping.now c.args.m c.at.result c.at-2.result c.at-3.result c.at-4.result
-    (take c.types_of-results.result c.types_of-results.new.into) (take c.images_of-uses.result c.images_of-uses.new.into)
-    (take c.images_of-targets.result c.images_of-targets.new.into) =
-    record {
-      kind_read = c.at.ensures;
-      location_read = c.at-2.ensures;
-      end_read = c.at-3.ensures;
-      first_read = c.at-4.ensures;
-      types = c.types_of-results.ensures.read;
-      operands = c.images_of-uses.ensures.read ∙ ap (map (λ (v : ℕ). or_self (get_or c.args.mapping.now (0 + v) 0) v)) c.operands_of.ensures;
-      successors = c.images_of-targets.ensures.read ∙ ap (map (λ (v : ℕ). or_self (get_or c.args.mapping.now (2048 + v) 0) v)) c.successors_of.ensures;
-    } in
     let b = c.put_operation.new.store in
     let w =
-    op_row_wrote a r.arranged c.args.mapping.now r.mapping_len c.args.parent c.args.m r.m_bound r.ready taken b c.put_operation.auto.store
+    op_row_wrote a r.arranged c.args.mapping.now r.mapping_len c.args.parent c.args.m r.m_bound r.ready (taken ((goal.at.copy_attributes-requires c).After-at-4)) b c.put_operation.auto.store
     c.put_operation.ensures r.parent_value
     in
     let set = op_set a r.arranged c.args.m r.m_bound r.ready (mapping_of c.args.mapping.now) (parent_of c.args.parent) b w c.at-copy.result c.at-copy.ensures in
@@ -129,21 +105,9 @@ unfolding op_count owner_of
 returns c =
     let a = c.args.store.now in
     let r = c.requires in
-    let taken : OpTaken a c.args.mapping.now c.args.m c.at.result c.at-2.result c.at-3.result c.at-4.result
-    (take c.types_of-results.result c.types_of-results.new.into) (take c.images_of-uses.result c.images_of-uses.new.into)
-    (take c.images_of-targets.result c.images_of-targets.new.into) =
-    record {
-      kind_read = c.at.ensures;
-      location_read = c.at-2.ensures;
-      end_read = c.at-3.ensures;
-      first_read = c.at-4.ensures;
-      types = c.types_of-results.ensures.read;
-      operands = c.images_of-uses.ensures.read ∙ ap (map (λ (v : ℕ). or_self (get_or c.args.mapping.now (0 + v) 0) v)) c.operands_of.ensures;
-      successors = c.images_of-targets.ensures.read ∙ ap (map (λ (v : ℕ). or_self (get_or c.args.mapping.now (2048 + v) 0) v)) c.successors_of.ensures;
-    } in
     let b = c.put_operation.new.store in
     let w =
-    op_row_wrote a r.arranged c.args.mapping.now r.mapping_len c.args.parent c.args.m r.m_bound r.ready taken b c.put_operation.auto.store
+    op_row_wrote a r.arranged c.args.mapping.now r.mapping_len c.args.parent c.args.m r.m_bound r.ready (taken ((goal.at.returns c).After-at-4)) b c.put_operation.auto.store
     c.put_operation.ensures r.parent_value
     in
     op_done a r.arranged c.args.m r.m_bound r.ready (mapping_of c.args.mapping.now) (parent_of c.args.parent) b w c.at-copy.result c.at-copy.ensures

@@ -4,12 +4,12 @@ use Prim.Native.Nat.{ℕ}
 use native.Mathlib.Omega.{arith}
 use mathlib.Core.Bool.{false}
 use mathlib.Core.List.{List}
-use mathlib.Core.Path.{◌≡◌, ap, ap₂, ◌∙◌}
+use mathlib.Core.Path.{◌≡◌, ap, ◌∙◌}
 use lib.Dec.{eqb}
-use lib.ListN.{get_or, replicate}
+use lib.ListN.{get_or}
 use Rattle.layout.specs.Columns.{Cols, columns, at, write_range}
 use Rattle.layout.proofs.Buffer.{write_range_other}
-use Rattle.cutting.specs.Cutting.{links_cut, ends_made, children_cut}
+use Rattle.cutting.specs.Cutting.{links_cut}
 use Rattle.cutting.proofs.Written.{column_other}
 use Rattle.cutting.proofs.tables.cut_children.Goals as goal
 
@@ -19,26 +19,6 @@ unfolding links_cut at
 owners_kept C D E owners links ends count vs al ae d e i =
     ap (λ (X : Cols). get_or (X owners) i 0) e
     ∙ ap (λ (l : List ℕ). get_or l i 0) (write_range_other D ends 0 vs owners ae ∙ ap (λ (X : Cols). X owners) d ∙ column_other C links _ owners al)
-
-pub cut_links-requires : goal.cut_links-requires
-cut_links-requires c =
-    let f = c.requires.children_fit in
-    let n = c.number-count.ensures in
-    record {
-      store_len = c.requires.store_len;
-      links_lt_column_count = f.links_in;
-      count_bound = omega (arith, n, f.links_long);
-      count_bound_2 = omega (arith, n, f.few);
-    }
-
-pub put_same-requires : goal.put_same-requires
-put_same-requires c =
-    let f = c.requires.children_fit in
-    record {
-      store_len = c.cut_links.auto.store ∙ c.requires.store_len;
-      column_lt_column_count = f.ends_in;
-      count_bound = omega (arith, c.number-left.ensures, f.ends_long);
-    }
 
 pub end_children-requires : goal.end_children-requires
 end_children-requires c =
@@ -52,17 +32,5 @@ end_children-requires c =
       ends_value = f.ends_apart;
       count_bound = omega (arith, n, f.owners_long);
       count_bound_2 = omega (arith, n, f.few);
-      by_index = λ i l. omega (arith, owners_kept (columns a.store.now) _ _ a.owners a.links a.ends _ _ f.links_apart f.ends_apart c.cut_links.ensures c.put_same.ensures i, f.words i (omega (arith, n)));
+      by_index = λ i l. omega (arith, owners_kept (columns a.store.now) _ _ a.family.owners a.family.links a.family.ends _ _ f.links_apart f.ends_apart c.cut_links.ensures c.put_same.ensures i, f.words i (omega (arith, n)));
     }
-
-pub returns : goal.returns
-unfolding children_cut
-returns c =
-    let a = c.args in
-    c.end_children.ensures
-    ∙ ap₂ (λ (X : Cols) (n : ℕ). ends_made X a.owners a.ends a.shift n)
-    (c.put_same.ensures
-    ∙ ap₂ (λ (X : Cols) (n : ℕ). write_range X a.ends 0 (replicate n 0))
-    (c.cut_links.ensures ∙ ap (links_cut (columns a.store.now) a.links) c.number-count.ensures)
-    c.number-left.ensures)
-    c.number-count.ensures

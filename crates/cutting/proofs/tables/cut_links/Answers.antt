@@ -1,5 +1,4 @@
 -- `cut_links` meets its contract: after each turn one link more is that of the children that stay. Assumes nothing.
-use native.Mathlib.Omega.{arith}
 use mathlib.Core.Path.{refl, ap, ◌∙◌}
 use Rattle.layout.specs.Columns.{columns}
 use Rattle.cutting.specs.Cutting.{link_cut, links_cut}
@@ -8,22 +7,6 @@ use Rattle.cutting.proofs.tables.cut_links.Goals as goal
 
 pub loop-i-init : goal.loop-i-init
 loop-i-init c = let a = c.args in (refl, fill_starts (columns a.store.now) a.links _ a.count)
-
-pub at-requires : goal.at-requires
-at-requires c =
-    record {
-      store_len = c.loop-i.invariant.0 ∙ c.requires.store_len;
-      column_lt_column_count = c.requires.links_lt_column_count;
-      n_bound = omega (arith, c.loop-i-test.true, c.requires.count_bound);
-    }
-
-pub put-requires : goal.put-requires
-put-requires c =
-    record {
-      store_len = c.loop-i.invariant.0 ∙ c.requires.store_len;
-      column_lt_column_count = c.requires.links_lt_column_count;
-      n_bound = omega (arith, c.loop-i-test.true, c.requires.count_bound);
-    }
 
 pub loop-i-preserved : goal.loop-i-preserved
 loop-i-preserved c =

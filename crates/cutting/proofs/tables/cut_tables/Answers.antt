@@ -11,10 +11,6 @@ use Rattle.cutting.proofs.Cut.{cut_marks}
 use Rattle.cutting.proofs.Back.{tables_read, tables_sound}
 use Rattle.cutting.proofs.tables.cut_tables.Goals as goal
 
-pub take_counts-requires : goal.take_counts-requires
-take_counts-requires c =
-    record { store_len = c.requires.sound.sized; row_bound = c.requires.row_bound }
-
 pub cut_children-requires : goal.cut_children-requires
 cut_children-requires c =
     let C = columns c.args.store.now in

@@ -2,19 +2,11 @@
 use native.Mathlib.Omega.{arith}
 use mathlib.Core.Path.{refl, ◌∙◌}
 use Rattle.layout.specs.Columns.{columns}
-use Rattle.cutting.proofs.Written.{ending_starts, ending_word, ending_turn, ending_done}
+use Rattle.cutting.proofs.Written.{ending_starts, ending_word, ending_turn}
 use Rattle.cutting.proofs.tables.end_children.Goals as goal
 
 pub loop-i-init : goal.loop-i-init
-loop-i-init c = let a = c.args in (refl, ending_starts (columns a.store.now) a.owners a.ends a.shift a.count)
-
-pub number-word-requires : goal.number-word-requires
-number-word-requires c =
-    record {
-      store_len = c.loop-i.invariant.0 ∙ c.requires.store_len;
-      column_lt_column_count = c.requires.owners_lt_column_count;
-      n_bound = omega (arith, c.loop-i-test.true, c.requires.count_bound);
-    }
+loop-i-init c = let a = c.args in (refl, ending_starts (columns a.store.now) a.family.owners a.family.ends a.family.shift a.count)
 
 pub end_child-requires : goal.end_child-requires
 end_child-requires c =
@@ -33,6 +25,3 @@ loop-i-preserved c =
       c.end_child.auto.store ∙ l.invariant.0,
       ending_turn l.invariant.1 _ c.loop-i-test.true (c.number-word.ensures ∙ ending_word l.invariant.1 c.requires.ends_value) c.end_child.ensures,
     )
-
-pub returns : goal.returns
-returns c = ending_done c.loop-i.invariant.1 c.loop-i-test.false

@@ -1,5 +1,4 @@
 -- `end_children` meets its contract: after each turn one child more is seen. Assumes nothing.
-use Prim.Native.Nat.{◌-◌}
 use mathlib.Core.Path.{◌≡◌}
 use lib.ListN.{length}
 use Rattle.layout.specs.Columns.{columns}
@@ -8,7 +7,4 @@ use Rattle.cutting.proofs.tables.end_children.Given as goal
 
 abbrev pub invariant-loop-i : goal.invariant-loop-i
 invariant-loop-i l =
-    (length l.store ≡ length l.initial.store) × Ending (columns l.initial.store) l.owners l.ends l.shift l.count (columns l.store) l.i
-
-abbrev pub decreases-loop-i : goal.decreases-loop-i
-decreases-loop-i l = l.count - l.i
+    (length l.store ≡ length l.initial.store) × Ending (columns l.initial.store) l.family.owners l.family.ends l.family.shift l.count (columns l.store) l.i

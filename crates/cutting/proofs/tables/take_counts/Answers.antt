@@ -1,20 +1,24 @@
--- `take_counts` meets its contract: after each turn one count more is the row's. Assumes nothing.
-use mathlib.Core.Path.{refl, ◌∙◌}
-use Rattle.layout.specs.Columns.{columns, counts, mark_counts}
+-- `take_counts` meets its contract: the row's words come over the first ones of the counts. Assumes nothing.
+use Prim.Native.Nat.{ℕ, ◌+◌, ◌*◌, ◌-◌}
+use native.Mathlib.Omega.{arith}
+use mathlib.Core.Path.{◌≡◌, ◌∙◌}
+use lib.ListN.{length}
+use Rattle.layout.specs.Columns.{columns, at, counts, mark_counts}
+use Rattle.layout.specs.Reading.{slice}
+use Rattle.layout.proofs.Buffer.{columns_shaped}
+use Rattle.layout.proofs.Scans.{slice_length, slice_at}
 use Rattle.cutting.specs.Cutting.{counts_taken}
-use Rattle.cutting.proofs.Written.{fill_starts, fill_other, fill_turn, fill_done}
+use Rattle.cutting.proofs.Written.{column_first}
 use Rattle.cutting.proofs.tables.take_counts.Goals as goal
 
-pub loop-i-init : goal.loop-i-init
-loop-i-init c = let a = c.args in (refl, fill_starts (columns a.store.now) counts _ 7)
-
-pub loop-i-preserved : goal.loop-i-preserved
-loop-i-preserved c =
-    let l = c.loop-i in (
-      c.put.auto.store ∙ l.invariant.0,
-      fill_turn l.invariant.1 _ c.loop-i-test.true c.put.ensures (c.at-count.ensures ∙ fill_other l.invariant.1 mark_counts _ refl),
-    )
-
 pub returns : goal.returns
-unfolding counts_taken
-returns c = fill_done c.loop-i.invariant.1 c.loop-i-test.false
+unfolding counts_taken at
+returns c =
+    let C = columns c.args.store.now in
+    let row = c.args.row in
+    let shaped = columns_shaped c.args.store.now c.requires.store_len in
+    let many : length (slice (C mark_counts) (8 * row) (8 * row + 7)) ≡ 7 =
+    slice_length (C mark_counts) (8 * row) (8 * row + 7) (omega (arith, shaped mark_counts)) ∙ (let e : 8 * row + 7 - 8 * row ≡ 7 = omega arith in e) in
+    c.copy.ensures
+    ∙ column_first C counts 7 (λ (i : ℕ). at C mark_counts (8 * row + i)) (slice (C mark_counts) (8 * row) (8 * row + 7)) many (omega (arith, shaped counts))
+    (λ i l. slice_at (C mark_counts) (8 * row) (8 * row + 7) i (omega arith))

@@ -1,47 +1,48 @@
 -- `fragments_eq` meets its contract: what a test refuses is refused, and anything else is walked. Assumes nothing.
-use mathlib.Core.Path.{sym, ap, ◌∙◌}
+use mathlib.Core.Path.{◌≡◌, sym, subst}
+use Rattle.std.specs.Prelude.{Err, true}
+use Rattle.std.proofs.Common.{rules}
 use Rattle.layout.specs.Reading.{store_in}
-use Rattle.layout.specs.Causes.{cause_of}
 use Rattle.renaming.specs.Index.{list_in}
 use Rattle.renaming.proofs.Indexed.{index_holds}
 use Rattle.fragments.specs.Ignoring.{ignore_of}
 use Rattle.fragments.specs.Sorts.{sort_of}
-use Rattle.equivalence.proofs.Answering.{pair_exists, refused_pair, walked}
+use Rattle.pairing.specs.Told.{compared_of}
+use Rattle.equivalence.specs.Calls.{Answered}
+use Rattle.equivalence.proofs.Answering.{tests_passed, tests_failed, pair_exists, refused_pair, walked}
 use Rattle.mapping.proofs.Entries.{allowed_long}
 use Rattle.equivalence.proofs.comparison.fragments_eq.Goals as goal
 
-pub pair_cause-cause-requires : goal.pair_cause-cause-requires
-pair_cause-cause-requires c = c.requires.readable.sound
-
-pub returns-in-Is : goal.returns-in-Is
-unfolding cause_of
-returns-in-Is c =
+pub returns-in_err-both_exist : goal.returns-in_err-both_exist
+unfolding compared_of
+returns-in_err-both_exist c =
     let a = c.args in
-    let b = a.store.now in
-    refused_pair b (list_in a.types.now) a.mapping.now (ignore_of a.ignore) (sort_of a.of.sort) a.of.lhs a.of.rhs c.requires.mapping_value
-    (index_holds _ c.requires.readable.indexed) _ (sym c.pair_cause-cause.ensures ∙ ap cause_of c.in-Is.is)
+    let b = a.terms.now.store.now in
+    let f = sort_of a.of.sort in
+    let failed : c.from_residual.result ≡ Err c.in_err-both_exist.field-0.0 = search rules in
+    subst (λ q. Answered true b (list_in a.terms.now.types.now) a.mapping.now a.mapping.now (ignore_of a.terms.now.ignore) f a.of.lhs a.of.rhs (compared_of q)) (sym failed)
+    (refused_pair b (list_in a.terms.now.types.now) a.mapping.now (ignore_of a.terms.now.ignore) f a.of.lhs a.of.rhs c.requires (index_holds _ c.args.terms.now.readable.indexed) _
+    (tests_failed (store_in b) f a.of.lhs a.of.rhs _ c.both_exist.ensures c.in_err-both_exist.was))
 
-pub walk_eq-requires : goal.walk_eq-requires
-unfolding cause_of
-walk_eq-requires c =
+pub walk_eq-requires-clause-mapping_len : goal.walk_eq-requires-clause-mapping_len
+walk_eq-requires-clause-mapping_len c = allowed_long (store_in c.args.terms.now.store.now) c.args.mapping.now c.requires
+
+pub walk_eq-requires-clause-lhs_value : goal.walk_eq-requires-clause-lhs_value
+walk_eq-requires-clause-lhs_value c =
     let a = c.args in
-    let S = store_in a.store.now in
-    let ex = pair_exists S (sort_of a.of.sort) a.of.lhs a.of.rhs (sym c.pair_cause-cause.ensures ∙ ap cause_of c.in_default.is) in
-    record {
-      ready_to_compare = record { sound = c.requires.readable.sound; indexed = c.requires.readable.indexed; long = allowed_long S a.mapping.now c.requires.mapping_value };
-      lhs_value = ex.0;
-      rhs_value = ex.1;
-    }
+    (pair_exists _ _ _ _ (tests_passed (store_in a.terms.now.store.now) (sort_of a.of.sort) a.of.lhs a.of.rhs _ c.both_exist.ensures c.in_ok-both_exist.was)).0
 
-pub shape_of-mapping : goal.shape_of-mapping
-shape_of-mapping c = c.walk_eq.auto.mapping
+pub walk_eq-requires-clause-rhs_value : goal.walk_eq-requires-clause-rhs_value
+walk_eq-requires-clause-rhs_value c =
+    let a = c.args in
+    (pair_exists _ _ _ _ (tests_passed (store_in a.terms.now.store.now) (sort_of a.of.sort) a.of.lhs a.of.rhs _ c.both_exist.ensures c.in_ok-both_exist.was)).1
 
 pub returns : goal.returns
-unfolding cause_of
+unfolding compared_of
 returns c =
     let a = c.args in
-    let b = a.store.now in
-    let none = sym c.pair_cause-cause.ensures ∙ ap cause_of c.in_default.is in
-    let r = c.walk_eq in
-    walked b (list_in a.types.now) a.mapping.now (ignore_of a.ignore) (sort_of a.of.sort) a.of.lhs a.of.rhs c.requires.mapping_value
-    (index_holds _ c.requires.readable.indexed) c.requires.readable.sound r.result r.new.mapping none r.ensures
+    let b = a.terms.now.store.now in
+    let f = sort_of a.of.sort in
+    walked b (list_in a.terms.now.types.now) a.mapping.now (ignore_of a.terms.now.ignore) f a.of.lhs a.of.rhs c.requires (index_holds _ c.args.terms.now.readable.indexed)
+    c.args.terms.now.readable.sound c.walk_eq.result c.walk_eq.new.mapping
+    (tests_passed (store_in b) f a.of.lhs a.of.rhs _ c.both_exist.ensures c.in_ok-both_exist.was) c.walk_eq.ensures

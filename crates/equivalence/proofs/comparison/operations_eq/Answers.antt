@@ -1,124 +1,102 @@
 -- `operations_eq` meets its contract: what a test refuses is refused, two kinds are two shells, and anything else is walked. Assumes nothing.
-use Prim.Native.Nat.{◌<◌, ◌≤◌}
 use native.Mathlib.Omega.{arith}
 use mathlib.Core.Bool.{true}
-use mathlib.Core.Option.{none}
-use mathlib.Core.Path.{◌≡◌, sym, ap, subst, ◌∙◌}
-use Rattle.rules.specs.Building.{first_failed}
+use mathlib.Core.Path.{◌≡◌, refl, sym, subst, ◌∙◌}
+use Rattle.std.specs.Prelude.{Err}
+use Rattle.std.proofs.Common.{rules}
 use Rattle.rules.specs.Fragments.{op, exists}
 use Rattle.rules.specs.Comparison.{Walk, pair_ops}
-use Rattle.layout.specs.Columns.{Cols, columns}
-use Rattle.layout.specs.Reading.{op_count, store_in}
-use Rattle.layout.specs.Causes.{cause_of}
+use Rattle.layout.specs.Columns.{columns}
+use Rattle.layout.specs.Reading.{store_in}
 use Rattle.layout.proofs.Laid.{laid_facts}
 use Rattle.renaming.specs.Index.{list_in}
 use Rattle.renaming.proofs.Indexed.{index_holds}
 use Rattle.fragments.specs.Ignoring.{ignore_of}
-use Rattle.fragments.specs.Options.{options_of, under}
+use Rattle.fragments.specs.Options.{under}
 use Rattle.fragments.specs.Sorts.{sort_of}
+use Rattle.fragments.specs.Terms.{options_in}
 use Rattle.fragments.proofs.ByRows.{head_of_op, head_whole}
 use Rattle.fragments.proofs.There.{there}
-use Rattle.pairing.specs.Told.{state_of, Told}
-use Rattle.equivalence.specs.Walked.{op_walk}
-use Rattle.equivalence.specs.Calls.{pair_tests}
-use Rattle.pairing.specs.declared.types.EqResult.TheVariants.{FirstNEQOps}
+use Rattle.pairing.specs.Told.{state_of, Told, compared_of}
+use Rattle.pairing.specs.declared.types.Unequal.TheVariants.{FirstNEQOps}
 use Rattle.pairing.proofs.Alike.{kinds_unlike}
 use Rattle.pairing.proofs.Paired.{ops_unlike}
-use Rattle.equivalence.proofs.Telling.{ops_not_eq, told_ended}
-use Rattle.equivalence.proofs.Answering.{pair_exists, refused_pair, walked, few_walk, op_walk_lem}
+use Rattle.equivalence.specs.Calls.{Answered}
+use Rattle.equivalence.specs.Walked.{op_walk}
+use Rattle.equivalence.proofs.Telling.{told_ended}
+use Rattle.equivalence.proofs.Answering.{tests_passed, tests_failed, pair_exists, refused_pair, walked, few_walk, op_walk_lem}
 use Rattle.mapping.proofs.Entries.{allowed_long}
 use Rattle.equivalence.proofs.comparison.operations_eq.Goals as goal
+use Rattle.equivalence.proofs.comparison.operations_eq.Goals.{In_ok-both_exist}
 
-pub pair_cause-cause-requires : goal.pair_cause-cause-requires
-pair_cause-cause-requires c = c.requires.readable.sound
+-- both operations exist
+both : (c : In_ok-both_exist) → (exists (store_in c.args.terms.now.store.now) op c.args.lhs ≡ true) × (exists (store_in c.args.terms.now.store.now) op c.args.rhs ≡ true)
+unfolding sort_of
+both c = pair_exists _ _ _ _ (tests_passed (store_in c.args.terms.now.store.now) op c.args.lhs c.args.rhs _ c.both_exist.ensures c.in_ok-both_exist.was)
 
-pub returns-in-Is : goal.returns-in-Is
-unfolding cause_of sort_of
-returns-in-Is c =
+pub returns-in_err-both_exist : goal.returns-in_err-both_exist
+unfolding sort_of compared_of
+returns-in_err-both_exist c =
     let a = c.args in
-    let b = a.store.now in
-    refused_pair b (list_in a.types.now) a.mapping.now (ignore_of a.ignore) op a.lhs a.rhs c.requires.mapping_value
-    (index_holds _ c.requires.readable.indexed) _ (sym c.pair_cause-cause.ensures ∙ ap cause_of c.in-Is.is)
+    let b = a.terms.now.store.now in
+    let failed : c.from_residual.result ≡ Err c.in_err-both_exist.field-0.0 = search rules in
+    subst (λ q. Answered true b (list_in a.terms.now.types.now) a.mapping.now a.mapping.now (ignore_of a.terms.now.ignore) op a.lhs a.rhs (compared_of q)) (sym failed)
+    (refused_pair b (list_in a.terms.now.types.now) a.mapping.now (ignore_of a.terms.now.ignore) op a.lhs a.rhs c.requires (index_holds _ c.args.terms.now.readable.indexed) _
+    (tests_failed (store_in b) op a.lhs a.rhs _ c.both_exist.ensures c.in_err-both_exist.was))
 
-pub at-requires : goal.at-requires
-unfolding cause_of sort_of
-at-requires c =
-    let cols : Cols = columns c.args.store.now in
-    let passed : first_failed (pair_tests (store_in c.args.store.now) op c.args.lhs c.args.rhs) ≡ none =
-    sym c.pair_cause-cause.ensures ∙ ap cause_of c.in_default.is in
-    let both : (exists (store_in c.args.store.now) op c.args.lhs ≡ true) × (exists (store_in c.args.store.now) op c.args.rhs ≡ true) =
-    pair_exists (store_in c.args.store.now) op c.args.lhs c.args.rhs passed in
-    let l_here : c.args.lhs < op_count cols = there cols op c.args.lhs both.0 in
-    let few : op_count cols ≤ 512 = (laid_facts cols c.requires.readable.sound.laid).counts.ops in
-    record { store_len = c.requires.readable.sound.sized; column_lt_column_count = omega arith; n_bound = omega (arith, l_here, few) }
+pub at-requires-clause-n_bound : goal.at-requires-clause-n_bound
+at-requires-clause-n_bound c =
+    let cols = columns c.args.terms.now.store.now in
+    let few = (laid_facts cols c.args.terms.now.readable.sound.laid).counts.ops in
+    omega (arith, few, there cols op c.args.lhs (both ((goal.at.at-requires-clause-n_bound c).In_ok-both_exist)).0)
 
-pub at-requires-2 : goal.at-requires-2
-unfolding cause_of sort_of
-at-requires-2 c =
-    let cols : Cols = columns c.args.store.now in
-    let passed : first_failed (pair_tests (store_in c.args.store.now) op c.args.lhs c.args.rhs) ≡ none =
-    sym c.pair_cause-cause.ensures ∙ ap cause_of c.in_default.is in
-    let both : (exists (store_in c.args.store.now) op c.args.lhs ≡ true) × (exists (store_in c.args.store.now) op c.args.rhs ≡ true) =
-    pair_exists (store_in c.args.store.now) op c.args.lhs c.args.rhs passed in
-    let r_here : c.args.rhs < op_count cols = there cols op c.args.rhs both.1 in
-    let few : op_count cols ≤ 512 = (laid_facts cols c.requires.readable.sound.laid).counts.ops in
-    record { store_len = c.requires.readable.sound.sized; column_lt_column_count = omega arith; n_bound = omega (arith, r_here, few) }
+pub at-requires-2-clause-n_bound : goal.at-requires-2-clause-n_bound
+at-requires-2-clause-n_bound c =
+    let cols = columns c.args.terms.now.store.now in
+    let few = (laid_facts cols c.args.terms.now.readable.sound.laid).counts.ops in
+    omega (arith, few, there cols op c.args.rhs (both ((goal.at.at-requires-2-clause-n_bound c).In_ok-both_exist)).1)
 
 pub returns-then-at : goal.returns-then-at
-unfolding head_of_op cause_of sort_of
+unfolding head_of_op sort_of compared_of
 returns-then-at c =
-    let cols : Cols = columns c.args.store.now in
-    let passed : first_failed (pair_tests (store_in c.args.store.now) op c.args.lhs c.args.rhs) ≡ none =
-    sym c.pair_cause-cause.ensures ∙ ap cause_of c.in_default.is in
-    let both : (exists (store_in c.args.store.now) op c.args.lhs ≡ true) × (exists (store_in c.args.store.now) op c.args.rhs ≡ true) =
-    pair_exists (store_in c.args.store.now) op c.args.lhs c.args.rhs passed in
-    let l_here : c.args.lhs < op_count cols = there cols op c.args.lhs both.0 in
-    let r_here : c.args.rhs < op_count cols = there cols op c.args.rhs both.1 in
     let a = c.args in
-    let b = a.store.now in
+    let b = a.terms.now.store.now in
+    let cols = columns b in
+    let there_both = both ((goal.at.returns-then-at c).In_ok-both_exist) in
     let S = store_in b in
-    let o = options_of a.ignore a.types.now in
+    let o = options_in a.terms.now in
     let m = a.mapping.now in
-    let q = FirstNEQOps a.lhs a.rhs 0 in
     let st = state_of m 0 in
     let unlike =
-    kinds_unlike (columns b) o (head_whole b c.requires.readable.sound a.lhs l_here) (head_whole b c.requires.readable.sound a.rhs r_here)
+    kinds_unlike cols o (head_whole b c.args.terms.now.readable.sound a.lhs (there cols op a.lhs there_both.0)) (head_whole b c.args.terms.now.readable.sound a.rhs (there cols op a.rhs there_both.1))
     (λ e. c.if-at.true (c.at.ensures ∙ e ∙ sym c.at-2.ensures)) in
     let told =
-    told_ended (pair_ops (under o S) o.ignore a.lhs a.rhs st) (op_walk S o a.lhs a.rhs) q m (ops_not_eq a.lhs a.rhs 0)
+    told_ended (pair_ops (under o S) o.ignore a.lhs a.rhs st) (op_walk S o a.lhs a.rhs) (FirstNEQOps a.lhs a.rhs 0) m refl
     (ops_unlike S o a.lhs a.rhs m 0 unlike) in
-    walked b (list_in a.types.now) m o.ignore op a.lhs a.rhs c.requires.mapping_value (index_holds _ c.requires.readable.indexed)
-    c.requires.readable.sound q m passed (subst (λ (w : Walk). Told w q m) (sym (op_walk_lem S o a.lhs a.rhs st)) told)
+    walked b (list_in a.terms.now.types.now) m o.ignore op a.lhs a.rhs c.requires (index_holds _ c.args.terms.now.readable.indexed)
+    c.args.terms.now.readable.sound (Err (FirstNEQOps a.lhs a.rhs 0)) m
+    (tests_passed S op a.lhs a.rhs _ c.both_exist.ensures c.in_ok-both_exist.was)
+    (subst (λ (w : Walk). Told w (Err (FirstNEQOps a.lhs a.rhs 0)) m) (sym (op_walk_lem S o a.lhs a.rhs st)) told)
 
-pub ops_eq-requires : goal.ops_eq-requires
-unfolding cause_of sort_of
-ops_eq-requires c =
-    let cols : Cols = columns c.args.store.now in
-    let passed : first_failed (pair_tests (store_in c.args.store.now) op c.args.lhs c.args.rhs) ≡ none =
-    sym c.pair_cause-cause.ensures ∙ ap cause_of c.in_default.is in
-    let both : (exists (store_in c.args.store.now) op c.args.lhs ≡ true) × (exists (store_in c.args.store.now) op c.args.rhs ≡ true) =
-    pair_exists (store_in c.args.store.now) op c.args.lhs c.args.rhs passed in
-    let l_here : c.args.lhs < op_count cols = there cols op c.args.lhs both.0 in
-    let r_here : c.args.rhs < op_count cols = there cols op c.args.rhs both.1 in
-    let a = c.args in
-    let S = store_in a.store.now in
-    record {
-      ready_to_compare = record { sound = c.requires.readable.sound; indexed = c.requires.readable.indexed; long = allowed_long S a.mapping.now c.requires.mapping_value };
-      lhs_bound = l_here;
-      rhs_bound = r_here;
-      paired_fits = few_walk S c.requires.readable.sound.ruled (options_of a.ignore a.types.now) op a.lhs a.rhs both.0 a.mapping.now;
-    }
+pub ops_eq-requires-clause-mapping_len : goal.ops_eq-requires-clause-mapping_len
+ops_eq-requires-clause-mapping_len c = allowed_long (store_in c.args.terms.now.store.now) c.args.mapping.now c.requires
 
-pub shape_of-mapping : goal.shape_of-mapping
-shape_of-mapping c = c.ops_eq.auto.mapping
+pub ops_eq-requires-clause-lhs_bound : goal.ops_eq-requires-clause-lhs_bound
+ops_eq-requires-clause-lhs_bound c = there (columns c.args.terms.now.store.now) op c.args.lhs (both ((goal.at.ops_eq-requires-clause-lhs_bound c).In_ok-both_exist)).0
+
+pub ops_eq-requires-clause-rhs_bound : goal.ops_eq-requires-clause-rhs_bound
+ops_eq-requires-clause-rhs_bound c = there (columns c.args.terms.now.store.now) op c.args.rhs (both ((goal.at.ops_eq-requires-clause-rhs_bound c).In_ok-both_exist)).1
+
+pub ops_eq-requires-clause-paired_fits : goal.ops_eq-requires-clause-paired_fits
+ops_eq-requires-clause-paired_fits c =
+    few_walk (store_in c.args.terms.now.store.now) c.args.terms.now.readable.sound.ruled (options_in c.args.terms.now) op c.args.lhs c.args.rhs
+    (both ((goal.at.ops_eq-requires-clause-paired_fits c).In_ok-both_exist)).0 c.args.mapping.now
 
 pub returns : goal.returns
-unfolding cause_of sort_of
+unfolding sort_of compared_of
 returns c =
-    let passed : first_failed (pair_tests (store_in c.args.store.now) op c.args.lhs c.args.rhs) ≡ none =
-    sym c.pair_cause-cause.ensures ∙ ap cause_of c.in_default.is in
     let a = c.args in
-    let b = a.store.now in
-    let r = c.ops_eq in
-    walked b (list_in a.types.now) a.mapping.now (ignore_of a.ignore) op a.lhs a.rhs c.requires.mapping_value
-    (index_holds _ c.requires.readable.indexed) c.requires.readable.sound r.result r.new.mapping passed r.ensures
+    let b = a.terms.now.store.now in
+    walked b (list_in a.terms.now.types.now) a.mapping.now (ignore_of a.terms.now.ignore) op a.lhs a.rhs c.requires (index_holds _ c.args.terms.now.readable.indexed)
+    c.args.terms.now.readable.sound c.ops_eq.result c.ops_eq.new.mapping
+    (tests_passed (store_in b) op a.lhs a.rhs _ c.both_exist.ensures c.in_ok-both_exist.was) c.ops_eq.ensures

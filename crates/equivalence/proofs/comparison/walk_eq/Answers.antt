@@ -5,9 +5,9 @@ use Rattle.rules.specs.Fragments.{op, block, region, exists}
 use Rattle.rules.specs.Comparison.{Walk}
 use Rattle.layout.specs.Columns.{columns}
 use Rattle.layout.specs.Reading.{store_in}
-use Rattle.fragments.specs.Options.{options_of}
 use Rattle.fragments.specs.Sorts.{sort_of}
 use Rattle.fragments.specs.Order.{BlocksExist}
+use Rattle.fragments.specs.Terms.{options_in}
 use Rattle.fragments.proofs.There.{there}
 use Rattle.pairing.specs.Told.{state_of, Told, PairedFits}
 use Rattle.equivalence.specs.Walked.{left_of, right_of}
@@ -18,13 +18,13 @@ pub ops_eq-requires : goal.ops_eq-requires
 unfolding sort_of
 ops_eq-requires c =
     let a = c.args in
-    let b = a.store.now in
+    let b = a.terms.now.store.now in
     let sort = c.in-Op.is in
     let el = subst (λ x. exists (store_in b) (sort_of x) a.of.lhs ≡ true) sort c.requires.lhs_value in
     let er = subst (λ x. exists (store_in b) (sort_of x) a.of.rhs ≡ true) sort c.requires.rhs_value in
-    let few = few_walk (store_in b) c.requires.ready_to_compare.sound.ruled (options_of a.ignore a.types.now) op a.of.lhs a.of.rhs el a.mapping.now in
+    let few = few_walk (store_in b) c.args.terms.now.readable.sound.ruled (options_in a.terms.now) op a.of.lhs a.of.rhs el a.mapping.now in
     record {
-      ready_to_compare = c.requires.ready_to_compare;
+      mapping_len = c.requires.mapping_len;
       lhs_bound = there (columns b) op a.of.lhs el;
       rhs_bound = there (columns b) op a.of.rhs er;
       paired_fits = few;
@@ -34,14 +34,14 @@ pub blocks_eq-requires : goal.blocks_eq-requires
 unfolding sort_of BlocksExist left_of right_of
 blocks_eq-requires c =
     let a = c.args in
-    let b = a.store.now in
-    let o = options_of a.ignore a.types.now in
+    let b = a.terms.now.store.now in
+    let o = options_in a.terms.now in
     let sort = c.in-Block.is in
     let el = subst (λ x. exists (store_in b) (sort_of x) a.of.lhs ≡ true) sort c.requires.lhs_value in
     let er = subst (λ x. exists (store_in b) (sort_of x) a.of.rhs ≡ true) sort c.requires.rhs_value in
-    let few = few_walk (store_in b) c.requires.ready_to_compare.sound.ruled o block a.of.lhs a.of.rhs el a.mapping.now in
+    let few = few_walk (store_in b) c.args.terms.now.readable.sound.ruled o block a.of.lhs a.of.rhs el a.mapping.now in
     record {
-      ready_to_compare = c.requires.ready_to_compare;
+      mapping_len = c.requires.mapping_len;
       lists_exist = (there (columns b) block a.of.lhs el, there (columns b) block a.of.rhs er);
       paired_fits = subst (λ (w : Walk). PairedFits w) (block_walk (store_in b) o a.of.lhs a.of.rhs (state_of a.mapping.now 0)) few;
     }
@@ -50,14 +50,14 @@ pub region_eq-requires : goal.region_eq-requires
 unfolding sort_of
 region_eq-requires c =
     let a = c.args in
-    let b = a.store.now in
-    let o = options_of a.ignore a.types.now in
+    let b = a.terms.now.store.now in
+    let o = options_in a.terms.now in
     let sort = c.in-Region.is in
     let el = subst (λ x. exists (store_in b) (sort_of x) a.of.lhs ≡ true) sort c.requires.lhs_value in
     let er = subst (λ x. exists (store_in b) (sort_of x) a.of.rhs ≡ true) sort c.requires.rhs_value in
-    let few = few_walk (store_in b) c.requires.ready_to_compare.sound.ruled o region a.of.lhs a.of.rhs el a.mapping.now in
+    let few = few_walk (store_in b) c.args.terms.now.readable.sound.ruled o region a.of.lhs a.of.rhs el a.mapping.now in
     record {
-      ready_to_compare = c.requires.ready_to_compare;
+      mapping_len = c.requires.mapping_len;
       lhs_bound = there (columns b) region a.of.lhs el;
       rhs_bound = there (columns b) region a.of.rhs er;
       paired_fits = subst (λ (w : Walk). PairedFits w) (region_walk_lem (store_in b) o a.of.lhs a.of.rhs (state_of a.mapping.now 0)) few;
@@ -73,7 +73,7 @@ returns-in-Block c =
     let a = c.args in
     let r = c.blocks_eq in
     rw c.in-Block.is
-    (subst (λ (w : Walk). Told w r.result r.new.mapping) (sym (block_walk (store_in a.store.now) (options_of a.ignore a.types.now) a.of.lhs a.of.rhs (state_of a.mapping.now 0))) r.ensures)
+    (subst (λ (w : Walk). Told w r.result r.new.mapping) (sym (block_walk (store_in a.terms.now.store.now) (options_in a.terms.now) a.of.lhs a.of.rhs (state_of a.mapping.now 0))) r.ensures)
 
 pub returns-in-Region : goal.returns-in-Region
 unfolding sort_of
@@ -81,4 +81,4 @@ returns-in-Region c =
     let a = c.args in
     let r = c.region_eq in
     rw c.in-Region.is
-    (subst (λ (w : Walk). Told w r.result r.new.mapping) (sym (region_walk_lem (store_in a.store.now) (options_of a.ignore a.types.now) a.of.lhs a.of.rhs (state_of a.mapping.now 0))) r.ensures)
+    (subst (λ (w : Walk). Told w r.result r.new.mapping) (sym (region_walk_lem (store_in a.terms.now.store.now) (options_in a.terms.now) a.of.lhs a.of.rhs (state_of a.mapping.now 0))) r.ensures)

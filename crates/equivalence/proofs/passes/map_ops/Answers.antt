@@ -1,138 +1,75 @@
 -- `map_ops` meets its contract: what is left to pair, from the words as they are, is the whole from the words as they were. Assumes nothing.
-use Prim.Native.Nat.{ℕ, ◌≤◌}
-use native.Mathlib.Omega.{arith}
-use mathlib.Core.List.{List}
-use mathlib.Core.Path.{refl, ◌∙◌}
+use mathlib.Core.Path.{refl, ap, ◌∙◌}
+use Rattle.std.proofs.Common.{rules}
 use Rattle.rules.specs.Store.{Store, ops_of}
 use Rattle.rules.specs.Fragments.{block}
 use Rattle.rules.specs.Types.{renamed}
-use Rattle.rules.specs.Comparison.{State, Walk, pair_of, pass2}
+use Rattle.rules.specs.Comparison.{each_pair, pair_of, pass2}
 use Rattle.rules.proofs.Walking.Paired.{grows_pairwise, grows_pair_ops}
-use Rattle.layout.specs.Columns.{Cols, columns}
-use Rattle.layout.specs.Reading.{block_count, store_in}
-use Rattle.layout.proofs.Laid.{laid_facts}
-use Rattle.fragments.specs.Options.{Options, options_of, under}
-use Rattle.fragments.proofs.Ordered.{block_list_rises, block_in_lem}
-use Rattle.equivalence.specs.Walked.{left_of, right_of, lefts, rights, pairs_walk}
-use Rattle.equivalence.proofs.Telling.{still_ready}
-use Rattle.equivalence.proofs.Zipped.{each_zips, rest_begins, turn, step_fits, turn_ends, turn_rest, each_ends}
+use Rattle.layout.specs.Reading.{store_in}
+use Rattle.fragments.specs.BlocksLeft.{blocks_left}
+use Rattle.fragments.specs.Options.{Options, under}
+use Rattle.fragments.specs.Order.{block_list}
+use Rattle.fragments.specs.Terms.{options_in}
+use Rattle.fragments.proofs.Ordered.{block_in_lem}
+use Rattle.pairing.specs.Told.{state_of}
+use Rattle.equivalence.specs.Walked.{left_of, right_of, lefts, rights, pairs_walk, pass2_walk}
+use Rattle.pairing.proofs.Nexts.{over_next}
+use Rattle.equivalence.proofs.Zipped.{Zips, Turn, each_zips, rest_begins, turn, step_fits, turn_ends, turn_rest, each_ends}
 use Rattle.equivalence.proofs.passes.map_ops.Goals as goal
+use Rattle.equivalence.proofs.passes.map_ops.Goals.{In-Some}
 
-pub loop-l-init : goal.loop-l-init
+zips : (s : Store) (o : Options) → Zips (pairs_walk s o) (each_pair (pairs_walk s o))
+zips s o = each_zips (pairs_walk s o) (λ i j. grows_pairwise _ (grows_pair_ops (under o s) o.ignore) (pair_of block i j) _ _)
+
+-- the two blocks that come
+pair_comes : (c : In-Some)
+    → Turn (pairs_walk (store_in c.args.terms.now.store.now) (options_in c.args.terms.now)) (each_pair (pairs_walk (store_in c.args.terms.now.store.now) (options_in c.args.terms.now)))
+    (lefts (store_in c.args.terms.now.store.now) c.args.lists) (rights (store_in c.args.terms.now.store.now) c.args.lists) (blocks_left c.next.new.self.a) (blocks_left c.next.new.self.b)
+    (pass2_walk (store_in c.args.terms.now.store.now) (options_in c.args.terms.now) c.args.lists (state_of c.args.mapping.now c.args.paired))
+    (state_of c.loop-lhs.mapping c.loop-lhs.count) c.in-Some.lhs c.in-Some.rhs
+pair_comes c = turn (zips (store_in c.args.terms.now.store.now) (options_in c.args.terms.now)) c.loop-lhs.invariant.3 c.in-Some.ensures.steps.0 c.in-Some.ensures.steps.1
+
+pub loop-lhs-init : goal.loop-lhs-init
 unfolding pass2 renamed ops_of
-loop-l-init c =
-    let rule : Options = options_of c.args.ignore c.args.types.now in
-    let store : Store = store_in c.args.store.now in
-    let ls : List ℕ = lefts store c.args.lists in
-    let rs : List ℕ = rights store c.args.lists in
-    let step : ℕ → ℕ → State → Walk = pairs_walk store rule in
-    let zips = each_zips step (λ i j. grows_pairwise _ (grows_pair_ops (under rule store) rule.ignore) (pair_of block i j) _ _) in
-    (refl, rest_begins zips ls rs c.args.mapping.now c.args.paired)
+loop-lhs-init c =
+    let S = store_in c.args.terms.now.store.now in
+    let given = c.into_iter-lhs-iterator.ensures.into_iter_gives in
+    let zipped = c.zip-lhs-items.ensures in (
+      _,
+      _,
+      refl,
+      rest_begins _ (lefts S c.args.lists) (rights S c.args.lists) _ _ c.args.mapping.now c.args.paired
+          ((λ i. blocks_left (given i).a) ∙ ap blocks_left zipped.first ∙ c.new-ls.ensures ∙ ap (block_list S) c.left.ensures)
+          ((λ i. blocks_left (given i).b) ∙ ap blocks_left zipped.second ∙ c.new-rs.ensures ∙ ap (block_list S) c.right.ensures),
+    )
 
-pub next_blocks-next-requires : goal.next_blocks-next-requires
-next_blocks-next-requires c =
-    record { sound = c.requires.ready_to_compare.sound; lists_exist = c.requires.lists_exist }
+pub map_ops_in-requires-clause-lhs_bound : goal.map_ops_in-requires-clause-lhs_bound
+map_ops_in-requires-clause-lhs_bound c =
+    block_in_lem _ (left_of c.args.lists) _ c.requires.lists_exist.0 (pair_comes ((goal.at.map_ops_in-requires-clause-lhs_bound c).In-Some)).l_in
 
-pub shape_of-mapping-in_default : goal.shape_of-mapping-in_default
-shape_of-mapping-in_default c = c.loop-l.invariant.0
+pub map_ops_in-requires-clause-rhs_bound : goal.map_ops_in-requires-clause-rhs_bound
+map_ops_in-requires-clause-rhs_bound c =
+    block_in_lem _ (right_of c.args.lists) _ c.requires.lists_exist.1 (pair_comes ((goal.at.map_ops_in-requires-clause-rhs_bound c).In-Some)).r_in
 
-pub returns-in_default : goal.returns-in_default
-returns-in_default c =
-    let rule : Options = options_of c.args.ignore c.args.types.now in
-    let store : Store = store_in c.args.store.now in
-    let step : ℕ → ℕ → State → Walk = pairs_walk store rule in
-    each_ends step c.loop-l.invariant.1 _ c.next_blocks-next.ensures c.in_default.not-Both
+pub map_ops_in-requires-clause-paired_fits : goal.map_ops_in-requires-clause-paired_fits
+map_ops_in-requires-clause-paired_fits c =
+    step_fits (zips (store_in c.args.terms.now.store.now) (options_in c.args.terms.now)) (pair_comes ((goal.at.map_ops_in-requires-clause-paired_fits c).In-Some)) c.requires.paired_fits
 
-pub map_ops_in-mapped-requires : goal.map_ops_in-mapped-requires
-map_ops_in-mapped-requires c =
-    let rule : Options = options_of c.args.ignore c.args.types.now in
-    let cols : Cols = columns c.args.store.now in
-    let store : Store = store_in c.args.store.now in
-    let step : ℕ → ℕ → State → Walk = pairs_walk store rule in
-    let zips = each_zips step (λ i j. grows_pairwise _ (grows_pair_ops (under rule store) rule.ignore) (pair_of block i j) _ _) in
-    let l : ℕ = c.in-Both.l in
-    let r : ℕ = c.in-Both.r in
-    let here =
-    turn zips c.loop-l.invariant.1 (block_list_rises store (left_of c.args.lists)) (block_list_rises store (right_of c.args.lists))
-    c.next_blocks-next.ensures c.in-Both.is in
-    let l_here = block_in_lem cols (left_of c.args.lists) l c.requires.lists_exist.0 here.l_in in
-    let r_here = block_in_lem cols (right_of c.args.lists) r c.requires.lists_exist.1 here.r_in in
-    let m = c.loop-l in
-    record {
-      ready_to_compare = still_ready m.invariant.0 c.requires.ready_to_compare;
-      lhs_bound = l_here;
-      rhs_bound = r_here;
-      paired_fits = step_fits zips here c.requires.paired_fits;
-    }
+pub returns-in_err-count : goal.returns-in_err-count
+returns-in_err-count c =
+    turn_ends (zips (store_in c.args.terms.now.store.now) (options_in c.args.terms.now)) (pair_comes ((goal.at.returns-in_err-count c).In-Some)) _ _ c.map_ops_in.ensures
+    c.in_err-count.field-0.0 _ c.in_err-count.was (search rules)
 
-pub shape_of-mapping-in_default-mapped : goal.shape_of-mapping-in_default-mapped
-shape_of-mapping-in_default-mapped c = c.map_ops_in-mapped.auto.mapping ∙ c.loop-l.invariant.0
+pub loop-lhs-preserved : goal.loop-lhs-preserved
+loop-lhs-preserved c = (
+  _,
+  _,
+  c.map_ops_in.auto.mapping ∙ c.loop-lhs.invariant.2,
+  turn_rest (zips (store_in c.args.terms.now.store.now) (options_in c.args.terms.now)) (pair_comes ((goal.at.loop-lhs-preserved c).In-Some)) _ _ c.map_ops_in.ensures c.in_ok-count.was,
+)
 
-pub returns-in_default-mapped : goal.returns-in_default-mapped
-returns-in_default-mapped c =
-    let rule : Options = options_of c.args.ignore c.args.types.now in
-    let store : Store = store_in c.args.store.now in
-    let step : ℕ → ℕ → State → Walk = pairs_walk store rule in
-    let zips = each_zips step (λ i j. grows_pairwise _ (grows_pair_ops (under rule store) rule.ignore) (pair_of block i j) _ _) in
-    let here =
-    turn zips c.loop-l.invariant.1 (block_list_rises store (left_of c.args.lists)) (block_list_rises store (right_of c.args.lists))
-    c.next_blocks-next.ensures c.in-Both.is in
-    let mapped = c.map_ops_in-mapped in
-    turn_ends zips here mapped.result mapped.new.mapping mapped.ensures c.in_default-mapped.not-Eq
-
-pub overflow_add-lfrom : goal.overflow_add-lfrom
-overflow_add-lfrom c =
-    let rule : Options = options_of c.args.ignore c.args.types.now in
-    let cols : Cols = columns c.args.store.now in
-    let store : Store = store_in c.args.store.now in
-    let step : ℕ → ℕ → State → Walk = pairs_walk store rule in
-    let zips = each_zips step (λ i j. grows_pairwise _ (grows_pair_ops (under rule store) rule.ignore) (pair_of block i j) _ _) in
-    let few : block_count cols ≤ 256 = (laid_facts cols c.requires.ready_to_compare.sound.laid).counts.blocks in
-    let l : ℕ = c.in-Both.l in
-    let here =
-    turn zips c.loop-l.invariant.1 (block_list_rises store (left_of c.args.lists)) (block_list_rises store (right_of c.args.lists))
-    c.next_blocks-next.ensures c.in-Both.is in
-    let l_here = block_in_lem cols (left_of c.args.lists) l c.requires.lists_exist.0 here.l_in in
-    record { fits = omega (arith, l_here, few) }
-
-pub overflow_add-rfrom : goal.overflow_add-rfrom
-overflow_add-rfrom c =
-    let rule : Options = options_of c.args.ignore c.args.types.now in
-    let cols : Cols = columns c.args.store.now in
-    let store : Store = store_in c.args.store.now in
-    let step : ℕ → ℕ → State → Walk = pairs_walk store rule in
-    let zips = each_zips step (λ i j. grows_pairwise _ (grows_pair_ops (under rule store) rule.ignore) (pair_of block i j) _ _) in
-    let few : block_count cols ≤ 256 = (laid_facts cols c.requires.ready_to_compare.sound.laid).counts.blocks in
-    let r : ℕ = c.in-Both.r in
-    let here =
-    turn zips c.loop-l.invariant.1 (block_list_rises store (left_of c.args.lists)) (block_list_rises store (right_of c.args.lists))
-    c.next_blocks-next.ensures c.in-Both.is in
-    let r_here = block_in_lem cols (right_of c.args.lists) r c.requires.lists_exist.1 here.r_in in
-    record { fits = omega (arith, r_here, few) }
-
-pub loop-l-smaller : goal.loop-l-smaller
-loop-l-smaller c =
-    let rule : Options = options_of c.args.ignore c.args.types.now in
-    let cols : Cols = columns c.args.store.now in
-    let store : Store = store_in c.args.store.now in
-    let step : ℕ → ℕ → State → Walk = pairs_walk store rule in
-    let zips = each_zips step (λ i j. grows_pairwise _ (grows_pair_ops (under rule store) rule.ignore) (pair_of block i j) _ _) in
-    let few : block_count cols ≤ 256 = (laid_facts cols c.requires.ready_to_compare.sound.laid).counts.blocks in
-    let l : ℕ = c.in-Both.l in
-    let here =
-    turn zips c.loop-l.invariant.1 (block_list_rises store (left_of c.args.lists)) (block_list_rises store (right_of c.args.lists))
-    c.next_blocks-next.ensures c.in-Both.is in
-    let l_here = block_in_lem cols (left_of c.args.lists) l c.requires.lists_exist.0 here.l_in in
-    omega (arith, l_here, few, here.l_from)
-
-pub loop-l-preserved : goal.loop-l-preserved
-loop-l-preserved c =
-    let rule : Options = options_of c.args.ignore c.args.types.now in
-    let store : Store = store_in c.args.store.now in
-    let step : ℕ → ℕ → State → Walk = pairs_walk store rule in
-    let zips = each_zips step (λ i j. grows_pairwise _ (grows_pair_ops (under rule store) rule.ignore) (pair_of block i j) _ _) in
-    let here =
-    turn zips c.loop-l.invariant.1 (block_list_rises store (left_of c.args.lists)) (block_list_rises store (right_of c.args.lists))
-    c.next_blocks-next.ensures c.in-Both.is in
-    let mapped = c.map_ops_in-mapped in
-    (mapped.auto.mapping ∙ c.loop-l.invariant.0, turn_rest zips here mapped.result mapped.new.mapping mapped.ensures c.in-Eq.is)
+pub returns : goal.returns
+returns c =
+    each_ends (pairs_walk (store_in c.args.terms.now.store.now) (options_in c.args.terms.now)) c.loop-lhs.invariant.3
+    (over_next blocks_left blocks_left c.loop-lhs.lhs-iterator.a c.loop-lhs.lhs-iterator.b c.in-None.ensures.steps)

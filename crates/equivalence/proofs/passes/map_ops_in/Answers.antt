@@ -1,168 +1,95 @@
 -- `map_ops_in` meets its contract: what is left to pair, from the words as they are, is the whole from the words as they were. Assumes nothing.
-use Prim.Native.Nat.{ℕ, ◌<◌, ◌≤◌}
+use Prim.Native.Nat.{ℕ}
 use native.Mathlib.Omega.{arith}
-use mathlib.Core.List.{List}
+use Rattle.std.proofs.Common.{rules}
+use mathlib.Core.Logic.{inl, inr}
 use mathlib.Core.Path.{refl, ◌∙◌}
 use Rattle.rules.specs.Store.{Store, ops_of}
 use Rattle.rules.specs.Fragments.{block}
 use Rattle.rules.specs.Comparison.{State, Pair, Walk, pair_of, pairwise, pair_ops}
 use Rattle.rules.proofs.Walking.Paired.{grows_pair_ops}
-use Rattle.layout.specs.Columns.{Cols, columns}
-use Rattle.layout.specs.Reading.{op_count, store_in}
+use Rattle.layout.specs.Columns.{columns}
+use Rattle.layout.specs.Reading.{store_in}
+use Rattle.layout.specs.OpsLeft.{ops_left}
 use Rattle.layout.proofs.Laid.{laid_facts}
-use Rattle.layout.proofs.Seeking.{ops_rise}
-use Rattle.fragments.specs.Options.{Options, options_of, under}
+use Rattle.fragments.specs.Options.{Options, under}
+use Rattle.fragments.specs.Terms.{options_in}
 use Rattle.fragments.proofs.Ordered.{op_in_lem}
-use Rattle.pairing.specs.Told.{answer_of}
-use Rattle.pairing.specs.declared.types.EqResult.TheVariants.{FirstNEQBlocks}
-use Rattle.equivalence.proofs.Telling.{still_ready}
-use Rattle.equivalence.proofs.Zipped.{Zips, pairwise_zips, rest_begins, rest_fits, turn, turn_ends, turn_rest, pairwise_ends, pairwise_uneven_ends}
+use Rattle.pairing.specs.Told.{answer_of, state_of}
+use Rattle.equivalence.specs.Walked.{pairs_walk}
+use Rattle.pairing.proofs.Nexts.{none_next, some_next}
+use Rattle.equivalence.proofs.Zipped.{Zips, Turn, pairwise_zips, rest_fits, turn, turn_ends, turn_rest, pairwise_ends, uneven_ends}
 use Rattle.equivalence.proofs.passes.map_ops_in.Goals as goal
+use Rattle.equivalence.proofs.passes.map_ops_in.Goals.{In-Some-Some, in-Some+in-None-1, in-None+in-Some-1}
 
-pub loop-l-init : goal.loop-l-init
-loop-l-init c =
-    let rule : Options = options_of c.args.ignore c.args.types.now in
-    let store : Store = store_in c.args.store.now in
-    let blocks : Pair = pair_of block c.args.pair.lhs c.args.pair.rhs in
-    let ls : List ℕ = ops_of store c.args.pair.lhs in
-    let rs : List ℕ = ops_of store c.args.pair.rhs in
-    let step : ℕ → ℕ → State → Walk = pair_ops (under rule store) rule.ignore in
-    let walk : List ℕ → List ℕ → State → Walk = pairwise step blocks in
-    let zips : Zips step walk = pairwise_zips step (grows_pair_ops (under rule store) rule.ignore) blocks in
-    (refl, rest_begins zips ls rs c.args.mapping.now c.args.paired)
+abbrev step : Store → Options → ℕ → ℕ → State → Walk
+step s o = pair_ops (under o s) o.ignore
 
-pub next_ops-requires : goal.next_ops-requires
-next_ops-requires c =
-    record { sound = c.requires.ready_to_compare.sound; l_bound = c.requires.lhs_bound; r_bound = c.requires.rhs_bound }
+zips : (s : Store) (o : Options) (p : Pair) → Zips (step s o) (pairwise (step s o) p)
+zips s o p = pairwise_zips (step s o) (grows_pair_ops (under o s) o.ignore) p
 
-pub op_eq_map-mapped-requires : goal.op_eq_map-mapped-requires
-op_eq_map-mapped-requires c =
-    let rule : Options = options_of c.args.ignore c.args.types.now in
-    let cols : Cols = columns c.args.store.now in
-    let store : Store = store_in c.args.store.now in
-    let blocks : Pair = pair_of block c.args.pair.lhs c.args.pair.rhs in
-    let step : ℕ → ℕ → State → Walk = pair_ops (under rule store) rule.ignore in
-    let walk : List ℕ → List ℕ → State → Walk = pairwise step blocks in
-    let zips : Zips step walk = pairwise_zips step (grows_pair_ops (under rule store) rule.ignore) blocks in
-    let l : ℕ = c.in-Both.l in
-    let r : ℕ = c.in-Both.r in
-    let here = turn zips c.loop-l.invariant.1 (ops_rise store c.args.pair.lhs) (ops_rise store c.args.pair.rhs) c.next_ops.ensures c.in-Both.is in
-    let l_here : l < op_count cols = op_in_lem cols c.args.pair.lhs l here.l_in in
-    let r_here : r < op_count cols = op_in_lem cols c.args.pair.rhs r here.r_in in
-    let m = c.loop-l in
-    record {
-      ready_to_compare = still_ready m.invariant.0 c.requires.ready_to_compare;
-      lhs_bound = l_here;
-      rhs_bound = r_here;
-      paired_le_max_paired = rest_fits zips m.invariant.1 c.requires.paired_fits;
-    }
+-- the two operations that come
+pair_comes : (c : In-Some-Some)
+    → Turn (step (store_in c.args.terms.now.store.now) (options_in c.args.terms.now)) (pairwise (step (store_in c.args.terms.now.store.now) (options_in c.args.terms.now)) (pair_of block c.args.pair.lhs c.args.pair.rhs))
+    (ops_of (store_in c.args.terms.now.store.now) c.args.pair.lhs) (ops_of (store_in c.args.terms.now.store.now) c.args.pair.rhs)
+    (ops_left c.next.new.self) (ops_left c.next-in-loop-lhs.new.self)
+    (pairs_walk (store_in c.args.terms.now.store.now) (options_in c.args.terms.now) c.args.pair.lhs c.args.pair.rhs (state_of c.args.mapping.now c.args.paired))
+    (state_of c.loop-lhs.mapping c.loop-lhs.count) c.in-Some-Some.lhs c.in-Some-Some.rhs
+pair_comes c =
+    turn (zips (store_in c.args.terms.now.store.now) (options_in c.args.terms.now) (pair_of block c.args.pair.lhs c.args.pair.rhs)) c.loop-lhs.invariant.3
+    c.in-Some-Some.ensures.steps c.in-Some-Some.ensures'.steps
 
-pub shape_of-mapping-in_default : goal.shape_of-mapping-in_default
-shape_of-mapping-in_default c = c.op_eq_map-mapped.auto.mapping ∙ c.loop-l.invariant.0
+pub op_eq_map-requires-clause-lhs_bound : goal.op_eq_map-requires-clause-lhs_bound
+op_eq_map-requires-clause-lhs_bound c = op_in_lem _ c.args.pair.lhs _ (pair_comes ((goal.at.op_eq_map-requires-clause-lhs_bound c).In-Some-Some)).l_in
 
-pub returns-in_default : goal.returns-in_default
-returns-in_default c =
-    let rule : Options = options_of c.args.ignore c.args.types.now in
-    let store : Store = store_in c.args.store.now in
-    let blocks : Pair = pair_of block c.args.pair.lhs c.args.pair.rhs in
-    let step : ℕ → ℕ → State → Walk = pair_ops (under rule store) rule.ignore in
-    let walk : List ℕ → List ℕ → State → Walk = pairwise step blocks in
-    let zips : Zips step walk = pairwise_zips step (grows_pair_ops (under rule store) rule.ignore) blocks in
-    let here = turn zips c.loop-l.invariant.1 (ops_rise store c.args.pair.lhs) (ops_rise store c.args.pair.rhs) c.next_ops.ensures c.in-Both.is in
-    let mapped = c.op_eq_map-mapped in
-    turn_ends zips here mapped.result mapped.new.mapping mapped.ensures c.in_default.not-Eq
+pub op_eq_map-requires-clause-rhs_bound : goal.op_eq_map-requires-clause-rhs_bound
+op_eq_map-requires-clause-rhs_bound c = op_in_lem _ c.args.pair.rhs _ (pair_comes ((goal.at.op_eq_map-requires-clause-rhs_bound c).In-Some-Some)).r_in
 
-pub overflow_add-a : goal.overflow_add-a
-overflow_add-a c =
-    let rule : Options = options_of c.args.ignore c.args.types.now in
-    let cols : Cols = columns c.args.store.now in
-    let store : Store = store_in c.args.store.now in
-    let blocks : Pair = pair_of block c.args.pair.lhs c.args.pair.rhs in
-    let step : ℕ → ℕ → State → Walk = pair_ops (under rule store) rule.ignore in
-    let walk : List ℕ → List ℕ → State → Walk = pairwise step blocks in
-    let zips : Zips step walk = pairwise_zips step (grows_pair_ops (under rule store) rule.ignore) blocks in
-    let few : op_count cols ≤ 512 = (laid_facts cols c.requires.ready_to_compare.sound.laid).counts.ops in
-    let l : ℕ = c.in-Both.l in
-    let here = turn zips c.loop-l.invariant.1 (ops_rise store c.args.pair.lhs) (ops_rise store c.args.pair.rhs) c.next_ops.ensures c.in-Both.is in
-    let l_here : l < op_count cols = op_in_lem cols c.args.pair.lhs l here.l_in in
-    record { fits = omega (arith, l_here, few) }
+pub op_eq_map-requires-clause-paired_le_max_paired : goal.op_eq_map-requires-clause-paired_le_max_paired
+op_eq_map-requires-clause-paired_le_max_paired c =
+    rest_fits (zips (store_in c.args.terms.now.store.now) (options_in c.args.terms.now) (pair_of block c.args.pair.lhs c.args.pair.rhs)) c.loop-lhs.invariant.3 c.requires.paired_fits
 
-pub overflow_add-b : goal.overflow_add-b
-overflow_add-b c =
-    let rule : Options = options_of c.args.ignore c.args.types.now in
-    let cols : Cols = columns c.args.store.now in
-    let store : Store = store_in c.args.store.now in
-    let blocks : Pair = pair_of block c.args.pair.lhs c.args.pair.rhs in
-    let step : ℕ → ℕ → State → Walk = pair_ops (under rule store) rule.ignore in
-    let walk : List ℕ → List ℕ → State → Walk = pairwise step blocks in
-    let zips : Zips step walk = pairwise_zips step (grows_pair_ops (under rule store) rule.ignore) blocks in
-    let few : op_count cols ≤ 512 = (laid_facts cols c.requires.ready_to_compare.sound.laid).counts.ops in
-    let r : ℕ = c.in-Both.r in
-    let here = turn zips c.loop-l.invariant.1 (ops_rise store c.args.pair.lhs) (ops_rise store c.args.pair.rhs) c.next_ops.ensures c.in-Both.is in
-    let r_here : r < op_count cols = op_in_lem cols c.args.pair.rhs r here.r_in in
-    record { fits = omega (arith, r_here, few) }
+pub returns-in_err-count-in-Some-Some : goal.returns-in_err-count-in-Some-Some
+returns-in_err-count-in-Some-Some c =
+    let t = pair_comes ((goal.at.returns-in_err-count-in-Some-Some c).In-Some-Some) in
+    turn_ends (zips (store_in c.args.terms.now.store.now) (options_in c.args.terms.now) (pair_of block c.args.pair.lhs c.args.pair.rhs)) t _ _ c.op_eq_map.ensures
+    c.in_err-count-in-Some-Some.field-0.0 _ c.in_err-count-in-Some-Some.was (search rules)
 
-pub loop-l-smaller : goal.loop-l-smaller
-loop-l-smaller c =
-    let rule : Options = options_of c.args.ignore c.args.types.now in
-    let cols : Cols = columns c.args.store.now in
-    let store : Store = store_in c.args.store.now in
-    let blocks : Pair = pair_of block c.args.pair.lhs c.args.pair.rhs in
-    let step : ℕ → ℕ → State → Walk = pair_ops (under rule store) rule.ignore in
-    let walk : List ℕ → List ℕ → State → Walk = pairwise step blocks in
-    let zips : Zips step walk = pairwise_zips step (grows_pair_ops (under rule store) rule.ignore) blocks in
-    let few : op_count cols ≤ 512 = (laid_facts cols c.requires.ready_to_compare.sound.laid).counts.ops in
-    let l : ℕ = c.in-Both.l in
-    let here = turn zips c.loop-l.invariant.1 (ops_rise store c.args.pair.lhs) (ops_rise store c.args.pair.rhs) c.next_ops.ensures c.in-Both.is in
-    let l_here : l < op_count cols = op_in_lem cols c.args.pair.lhs l here.l_in in
-    omega (arith, l_here, few, here.l_from)
+pub loop-lhs-preserved : goal.loop-lhs-preserved
+loop-lhs-preserved c =
+    let t = pair_comes ((goal.at.loop-lhs-preserved c).In-Some-Some) in (
+      _,
+      _,
+      c.op_eq_map.auto.mapping ∙ c.loop-lhs.invariant.2,
+      turn_rest (zips (store_in c.args.terms.now.store.now) (options_in c.args.terms.now) (pair_of block c.args.pair.lhs c.args.pair.rhs)) t _ _ c.op_eq_map.ensures c.in_ok-count-in-Some-Some.was,
+    )
 
-pub loop-l-preserved : goal.loop-l-preserved
-loop-l-preserved c =
-    let rule : Options = options_of c.args.ignore c.args.types.now in
-    let store : Store = store_in c.args.store.now in
-    let blocks : Pair = pair_of block c.args.pair.lhs c.args.pair.rhs in
-    let step : ℕ → ℕ → State → Walk = pair_ops (under rule store) rule.ignore in
-    let walk : List ℕ → List ℕ → State → Walk = pairwise step blocks in
-    let zips : Zips step walk = pairwise_zips step (grows_pair_ops (under rule store) rule.ignore) blocks in
-    let here = turn zips c.loop-l.invariant.1 (ops_rise store c.args.pair.lhs) (ops_rise store c.args.pair.rhs) c.next_ops.ensures c.in-Both.is in
-    let mapped = c.op_eq_map-mapped in
-    (mapped.auto.mapping ∙ c.loop-l.invariant.0, turn_rest zips here mapped.result mapped.new.mapping mapped.ensures c.in-Eq.is)
-
-pub shape_of-mapping-in-Neither : goal.shape_of-mapping-in-Neither
-shape_of-mapping-in-Neither c = c.loop-l.invariant.0
-
-pub returns-in-Neither : goal.returns-in-Neither
-returns-in-Neither c =
-    let rule : Options = options_of c.args.ignore c.args.types.now in
-    let store : Store = store_in c.args.store.now in
-    let blocks : Pair = pair_of block c.args.pair.lhs c.args.pair.rhs in
-    let step : ℕ → ℕ → State → Walk = pair_ops (under rule store) rule.ignore in
-    let m = c.loop-l in
-    pairwise_ends step blocks m.invariant.1 c.next_ops.ensures c.in-Neither.is
+pub returns-in-None-None : goal.returns-in-None-None
+returns-in-None-None c =
+    pairwise_ends (step (store_in c.args.terms.now.store.now) (options_in c.args.terms.now)) (pair_of block c.args.pair.lhs c.args.pair.rhs) c.loop-lhs.invariant.3
+    (none_next ops_left c.loop-lhs.ls c.next.new.self _ c.next.ensures.steps c.in-None-None.is-0) (none_next ops_left c.loop-lhs.rs c.next-in-loop-lhs.new.self _ c.next-in-loop-lhs.ensures.steps c.in-None-None.is-1)
 
 pub overflow_cast-result : goal.overflow_cast-result
 overflow_cast-result c =
-    let cols : Cols = columns c.args.store.now in
-    let few_blocks = (laid_facts cols c.requires.ready_to_compare.sound.laid).counts.blocks in
-    record { fits = omega (arith, few_blocks, c.requires.lhs_bound) }
+    let few = (laid_facts (columns c.args.terms.now.store.now) c.args.terms.now.readable.sound.laid).counts.blocks in
+    record { fits = omega (arith, few, c.requires.lhs_bound) }
 
-pub overflow_cast-result-in-Unequal : goal.overflow_cast-result-in-Unequal
-overflow_cast-result-in-Unequal c =
-    let cols : Cols = columns c.args.store.now in
-    let few_blocks = (laid_facts cols c.requires.ready_to_compare.sound.laid).counts.blocks in
-    record { fits = omega (arith, few_blocks, c.requires.rhs_bound) }
+pub overflow_cast-result-in-Some-None : goal.overflow_cast-result-in-Some-None
+overflow_cast-result-in-Some-None c =
+    let few = (laid_facts (columns c.args.terms.now.store.now) c.args.terms.now.readable.sound.laid).counts.blocks in
+    record { fits = omega (arith, few, c.requires.rhs_bound) }
 
-pub shape_of-mapping-in-Unequal : goal.shape_of-mapping-in-Unequal
-shape_of-mapping-in-Unequal c = c.loop-l.invariant.0
-
-pub returns-in-Unequal : goal.returns-in-Unequal
+pub returns-in-Some-None : goal.returns-in-Some-None
 unfolding answer_of
-returns-in-Unequal c =
-    let rule : Options = options_of c.args.ignore c.args.types.now in
-    let store : Store = store_in c.args.store.now in
-    let blocks : Pair = pair_of block c.args.pair.lhs c.args.pair.rhs in
-    let step : ℕ → ℕ → State → Walk = pair_ops (under rule store) rule.ignore in
-    let m = c.loop-l in
-    pairwise_uneven_ends step blocks m.invariant.1 c.next_ops.ensures (ops_rise store c.args.pair.lhs) (ops_rise store c.args.pair.rhs)
-    (FirstNEQBlocks c.args.pair.lhs c.args.pair.rhs m.count) refl c.in-Unequal.is
+returns-in-Some-None c =
+    uneven_ends (step (store_in c.args.terms.now.store.now) (options_in c.args.terms.now)) (pair_of block c.args.pair.lhs c.args.pair.rhs) c.loop-lhs.invariant.3 _ refl
+    (elim c.in-Some-None-1.branch [
+      | in-Some+in-None-1 w ↦ inl (
+        some_next ops_left c.loop-lhs.ls c.next.new.self _ c.next.ensures.steps (search rules),
+        none_next ops_left c.loop-lhs.rs c.next-in-loop-lhs.new.self _ c.next-in-loop-lhs.ensures.steps (search rules),
+      )
+      | in-None+in-Some-1 w ↦ inr (
+        none_next ops_left c.loop-lhs.ls c.next.new.self _ c.next.ensures.steps (search rules),
+        some_next ops_left c.loop-lhs.rs c.next-in-loop-lhs.new.self _ c.next-in-loop-lhs.ensures.steps (search rules),
+      )
+    ])

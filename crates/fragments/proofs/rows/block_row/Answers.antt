@@ -1,57 +1,7 @@
--- `block_row` meets its contract: each field is read off its column. Assumes nothing.
-use Prim.Native.Nat.{◌<◌}
+-- A block's number fits a word. Assumes nothing.
 use native.Mathlib.Omega.{arith}
-use Rattle.rules.specs.Store.{of_block}
-use Rattle.layout.specs.Columns.{Cols, columns}
-use Rattle.layout.specs.Owners.{owner_of}
-use Rattle.layout.proofs.Laid.{Laid, laid_facts}
-use Rattle.layout.proofs.OwnerKeys.{in_exists}
-use Rattle.fragments.proofs.ByRows.{block_row}
+use Rattle.fragments.proofs.Few.{block_low}
 use Rattle.fragments.proofs.rows.block_row.Goals as goal
 
-pub overflow_cast-owner : goal.overflow_cast-owner
-overflow_cast-owner c =
-    let cols : Cols = columns c.args.store.now in
-    let laid : Laid cols = laid_facts cols c.requires.sound.laid in
-    let small : c.args.n < 256 = omega (arith, laid.counts.blocks, c.requires.n_bound) in
-    omega (arith, small)
-
-pub at-requires : goal.at-requires
-at-requires c =
-    let cols : Cols = columns c.args.store.now in
-    let laid : Laid cols = laid_facts cols c.requires.sound.laid in
-    let small : c.args.n < 256 = omega (arith, laid.counts.blocks, c.requires.n_bound) in
-    record { store_len = c.requires.sound.sized; column_lt_column_count = omega arith; n_bound = small }
-
-pub key_count-requires : goal.key_count-requires
-unfolding owner_of
-key_count-requires c =
-    let cols : Cols = columns c.args.store.now in
-    record { arranged = record { sized = c.requires.sound.sized; laid = c.requires.sound.laid }; owner_value = in_exists cols (of_block c.args.n) c.requires.n_bound }
-
-pub number-requires : goal.number-requires
-number-requires c =
-    let cols : Cols = columns c.args.store.now in
-    let laid : Laid cols = laid_facts cols c.requires.sound.laid in
-    let small : c.args.n < 256 = omega (arith, laid.counts.blocks, c.requires.n_bound) in
-    record { store_len = c.requires.sound.sized; column_lt_column_count = omega arith; n_bound = small }
-
-pub span-requires : goal.span-requires
-span-requires c =
-    let cols : Cols = columns c.args.store.now in
-    let laid : Laid cols = laid_facts cols c.requires.sound.laid in
-    let small : c.args.n < 256 = omega (arith, laid.counts.blocks, c.requires.n_bound) in
-    record {
-      store_len = c.requires.sound.sized;
-      first_lt_column_count = omega arith;
-      end_lt_column_count = omega arith;
-      n_bound = small;
-      n_bound_2 = small;
-      n_bound_3 = (laid.block c.args.n c.requires.n_bound).arguments.range.rises;
-    }
-
-pub returns : goal.returns
-unfolding owner_of
-returns c =
-    block_row c.args.store.now c.requires.sound c.args.n c.requires.n_bound c.at.ensures c.first_slot.ensures c.key_count.ensures
-    c.number.ensures c.span.ensures
+pub overflow_cast-n : goal.overflow_cast-n
+overflow_cast-n c = omega (arith, block_low _ c.requires.sound _ c.requires.n_bound)

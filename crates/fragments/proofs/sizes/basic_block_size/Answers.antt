@@ -9,10 +9,6 @@ use Rattle.fragments.specs.Sizes.{size_from}
 use Rattle.fragments.proofs.Parts.{block_whole}
 use Rattle.fragments.proofs.sizes.basic_block_size.Goals as goal
 
-pub op_around-requires : goal.op_around-requires
-op_around-requires c =
-    record { arranged = record { sized = c.requires.sound.sized; laid = c.requires.sound.laid }; block_bound = c.requires.n_bound }
-
 pub levels_left-requires : goal.levels_left-requires
 levels_left-requires c =
     let C = columns c.args.store.now in

@@ -9,10 +9,9 @@ pub returns : goal.returns
 unfolding attribute_at
 returns c =
     let a = c.args in
-    attribute_fed (attribute_at (columns a.store.now) a.slot) a.word
+    attribute_fed (attribute_at (columns a.store.now) a.slot) a.state.now.word
     c.at-key.ensures
     (c.kind_from.ensures ∙ ap kind_from c.at-kind.ensures)
     c.at-content.ensures
     (c.inherent_from.ensures ∙ ap inherent_from c.at-kind.ensures)
-    c.with_attribute-fed.ensures
-    c.with_flag.ensures
+    c.hash_attribute.ensures

@@ -1,5 +1,5 @@
 -- `lent_hash` meets its contract: cause 1 comes first, and where no list of types is lent, its words are their own index. Assumes nothing.
-use Rattle.std.proofs.Common.{◌≡◌, ℕ, true, List, [], sym, ap, ◌∙◌, subst}
+use Rattle.std.proofs.Common.{◌≡◌, ℕ, true, List, [], length, sym, ap, ◌∙◌, subst, rules}
 use Rattle.layout.specs.Soundness.{IsSound}
 use Rattle.journal.specs.Words.{sound_lent}
 use Rattle.marks.proofs.Lent.{lent_facts}
@@ -17,18 +17,20 @@ returns-then-not-is_sound c =
     let a = c.args in
     unsound a.store.now a.types.now (ignore_of a.ignore) (sort_of a.sort) a.n _ (sym c.is_sound.ensures ∙ c.if-not-is_sound.true)
 
-pub fragment_hash-requires : goal.fragment_hash-requires
-fragment_hash-requires c =
+pub invariant_of-terms : goal.invariant_of-terms
+invariant_of-terms c =
     let lent : sound_lent c.args.store.now ≡ true = sym c.is_sound.ensures ∙ c.if-not-is_sound.false in
     let sound : IsSound c.args.store.now = (lent_facts c.args.store.now lent).tables in
     let a = c.args in
-    record { sound = sound; indexed = subst IsIndex (sym (no_children a.types.now c.if-types-eq0.true)) no_words_lem }
+    let none : length a.types.now ≡ 0 = search rules in
+    record { readable = record { sound = sound; indexed = subst IsIndex (sym (no_children a.types.now none)) no_words_lem } }
 
-pub returns-then-types-eq0 : goal.returns-then-types-eq0
-returns-then-types-eq0 c =
+pub returns-then-is_empty : goal.returns-then-is_empty
+returns-then-is_empty c =
     let lent : sound_lent c.args.store.now ≡ true = sym c.is_sound.ensures ∙ c.if-not-is_sound.false in
     let a = c.args in
-    let none : a.types.now ≡ [] = no_children a.types.now c.if-types-eq0.true in
+    let few : length a.types.now ≡ 0 = search rules in
+    let none : a.types.now ≡ [] = no_children a.types.now few in
     as_found a.store.now a.types.now (ignore_of a.ignore) (sort_of a.sort) a.n _ lent
     (subst (λ (types : List ℕ). Answered true a.store.now types (ignore_of a.ignore) (sort_of a.sort) a.n c.fragment_hash.result)
     (ap list_in none ∙ no_list ∙ sym none) c.fragment_hash.ensures)
@@ -38,9 +40,3 @@ indexed_hash-requires c =
     let lent : sound_lent c.args.store.now ≡ true = sym c.is_sound.ensures ∙ c.if-not-is_sound.false in
     let sound : IsSound c.args.store.now = (lent_facts c.args.store.now lent).tables in
     sound
-
-pub returns : goal.returns
-returns c =
-    let lent : sound_lent c.args.store.now ≡ true = sym c.is_sound.ensures ∙ c.if-not-is_sound.false in
-    let a = c.args in
-    as_found a.store.now a.types.now (ignore_of a.ignore) (sort_of a.sort) a.n _ lent c.indexed_hash.ensures

@@ -1,11 +1,7 @@
 -- `feed_pair` meets its contract: it feeds the low half and then the high half. Assumes nothing.
-use Rattle.std.proofs.Common.{rules}
 use Rattle.rules.specs.Hash.{tag}
 use Rattle.hashing.proofs.Halves.{fed_in_two}
 use Rattle.hashing.proofs.fnv.feed_pair.Goals as goal
-
-pub feed_tag-fed-requires : goal.feed_tag-fed-requires
-feed_tag-fed-requires c = search rules
 
 pub returns : goal.returns
 unfolding tag

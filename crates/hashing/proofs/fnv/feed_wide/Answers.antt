@@ -1,11 +1,7 @@
 -- `feed_wide` meets its contract: it feeds the low half and then the high half. Assumes nothing.
-use Rattle.std.proofs.Common.{rules}
 use Rattle.rules.specs.Hash.{leaf}
 use Rattle.hashing.proofs.Halves.{fed_in_two}
 use Rattle.hashing.proofs.fnv.feed_wide.Goals as goal
-
-pub feed_pair-fed-requires : goal.feed_pair-fed-requires
-feed_pair-fed-requires c = search rules
 
 pub returns : goal.returns
 unfolding leaf

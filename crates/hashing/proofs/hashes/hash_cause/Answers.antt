@@ -8,9 +8,6 @@ use Rattle.fragments.specs.Sorts.{sort_of}
 use Rattle.hashing.proofs.Answering.{missing, both_pass}
 use Rattle.hashing.proofs.hashes.hash_cause.Goals as goal
 
-pub exists-requires : goal.exists-requires
-exists-requires c = c.requires.sized
-
 pub returns-then-not-exists : goal.returns-then-not-exists
 unfolding cause_of
 returns-then-not-exists c =

@@ -1,85 +1,42 @@
--- `hash_block_shells` meets its contract: a pass through the list, whose step is a block's shell. Assumes nothing.
-use Rattle.std.proofs.Common.{ℕ, ◌<◌, List, arith}
-use Rattle.rules.specs.Store.{Store, of_block}
-use Rattle.layout.specs.Columns.{Cols, columns}
-use Rattle.layout.specs.Reading.{block_count, store_in}
-use Rattle.layout.proofs.Laid.{laid_facts}
-use Rattle.layout.proofs.Seeking.{NextChild, none_next}
-use Rattle.fragments.specs.Options.{options_of}
+-- `hash_block_shells` meets its contract: the steps of the blocks that came are done, whose step is a shell. Assumes nothing.
+use Rattle.std.proofs.Common.{◌≡◌, ◌∷◌, ◌++◌, ap, ◌∙◌, subst}
+use Rattle.rules.specs.Store.{of_block}
+use Rattle.layout.specs.Columns.{columns}
+use Rattle.layout.specs.Reading.{store_in}
+use Rattle.fragments.specs.BlocksLeft.{blocks_left}
+use Rattle.fragments.specs.Terms.{options_in}
 use Rattle.fragments.specs.Order.{block_list}
-use Rattle.fragments.proofs.Ordered.{next_in_list, block_in_lem}
+use Rattle.fragments.proofs.Ordered.{block_in_lem}
+use Rattle.fragments.proofs.Yielded.{item_comes, all_came, comes_mem}
 use Rattle.numbering.specs.Parts.{block_shells}
-use Rattle.numbering.proofs.Passing.{StepRelation, pass_begun, pass_over, pass_room, pass_again}
-use Rattle.numbering.proofs.Rounds.{each_shell_lem}
+use Rattle.numbering.proofs.Passing.{none_came, came_room, came_again}
+use Rattle.numbering.proofs.Rounds.{each_shell, each_shell_lem}
+use Rattle.hashing.specs.Walked.{Fed}
 use Rattle.hashing.proofs.Parting.{hash_walk, shells_room, shells_fed}
 use Rattle.hashing.proofs.passes.hash_block_shells.Goals as goal
+use Rattle.hashing.proofs.passes.hash_block_shells.Goals.{In-Some}
+
+block_comes : (c : In-Some) → c.loop-b.yielded ++ c.in-Some.b ∷ blocks_left c.next.new.self ≡ block_list (store_in c.args.terms.now.store.now) c.args.blocks
+block_comes c =
+    item_comes blocks_left _ _ _ _ (ap blocks_left c.into_iter-b-iterator.ensures.into_iter_gives ∙ c.new-b-items.ensures) c.loop-b.yielded_by c.next.new.self _ _ c.in-Some.is c.next.ensures.steps
 
 pub loop-b-init : goal.loop-b-init
-loop-b-init c =
-    let store : Store = store_in c.args.store.now in
-    let walk : StepRelation (List ℕ × ℕ) = hash_walk store (options_of c.args.ignore c.args.types.now) in
-    let list : List ℕ = block_list store c.args.blocks in
-    pass_begun walk (each_shell_lem of_block) list
+loop-b-init c = none_came (hash_walk _ _) (each_shell_lem of_block) {a = (c.args.numbers.now, c.args.state.now.word)}
 
-pub next_in-requires : goal.next_in-requires
-next_in-requires c =
-    record { sound = c.requires.readable.sound; blocks_exist = c.requires.blocks_exist }
-
-pub returns-in_default : goal.returns-in_default
+pub hash_block_shell-requires : goal.hash_block_shell-requires
 unfolding block_shells
-returns-in_default c =
-    let store : Store = store_in c.args.store.now in
-    let walk : StepRelation (List ℕ × ℕ) = hash_walk store (options_of c.args.ignore c.args.types.now) in
-    let list : List ℕ = block_list store c.args.blocks in
-    let m = c.loop-b in
-    shells_fed of_block list
-    (pass_over walk (each_shell_lem of_block) list m.from m.invariant (none_next m.from list _ c.next_in.ensures c.in_default.is))
-
-pub hash_block_shell-fed-requires : goal.hash_block_shell-fed-requires
-unfolding block_shells
-hash_block_shell-fed-requires c =
-    let store : Store = store_in c.args.store.now in
-    let walk : StepRelation (List ℕ × ℕ) = hash_walk store (options_of c.args.ignore c.args.types.now) in
-    let list : List ℕ = block_list store c.args.blocks in
-    let cols : Cols = columns c.args.store.now in
-    let n : ℕ = c.in-At.b in
-    let found : NextChild list c.loop-b.from n = next_in_list store c.args.blocks c.loop-b.from n _ c.next_in.ensures c.in-At.is in
-    let here : n < block_count cols = block_in_lem cols c.args.blocks n c.requires.blocks_exist found.child in
-    let m = c.loop-b in
+hash_block_shell-requires c =
+    let turn = block_comes ((goal.at.hash_block_shell-requires c).In-Some) in
     record {
-      readable = c.requires.readable;
-      n_bound = here;
-      definitions_fit = pass_room walk (each_shell_lem of_block) list m.from m.invariant found (shells_room of_block list c.requires.definitions_fit);
+      n_bound = block_in_lem (columns c.args.terms.now.store.now) c.args.blocks _ c.requires.blocks_exist (comes_mem _ _ _ _ turn);
+      definitions_fit = came_room (hash_walk _ _) (each_shell_lem of_block) c.loop-b.yielded c.loop-b.invariant c.in-Some.b _ _ turn (shells_room of_block _ c.requires.definitions_fit);
     }
 
-pub overflow_add-from : goal.overflow_add-from
-overflow_add-from c =
-    let store : Store = store_in c.args.store.now in
-    let list : List ℕ = block_list store c.args.blocks in
-    let cols : Cols = columns c.args.store.now in
-    let n : ℕ = c.in-At.b in
-    let found : NextChild list c.loop-b.from n = next_in_list store c.args.blocks c.loop-b.from n _ c.next_in.ensures c.in-At.is in
-    let here : n < block_count cols = block_in_lem cols c.args.blocks n c.requires.blocks_exist found.child in
-    let few : n < 256 = omega (arith, here, (laid_facts cols c.requires.readable.sound.laid).counts.blocks) in
-    record { fits = omega (arith, few) }
-
-pub loop-b-smaller : goal.loop-b-smaller
-loop-b-smaller c =
-    let store : Store = store_in c.args.store.now in
-    let list : List ℕ = block_list store c.args.blocks in
-    let cols : Cols = columns c.args.store.now in
-    let n : ℕ = c.in-At.b in
-    let found : NextChild list c.loop-b.from n = next_in_list store c.args.blocks c.loop-b.from n _ c.next_in.ensures c.in-At.is in
-    let here : n < block_count cols = block_in_lem cols c.args.blocks n c.requires.blocks_exist found.child in
-    let few : n < 256 = omega (arith, here, (laid_facts cols c.requires.readable.sound.laid).counts.blocks) in
-    omega (arith, few, found.later)
-
 pub loop-b-preserved : goal.loop-b-preserved
-loop-b-preserved c =
-    let store : Store = store_in c.args.store.now in
-    let walk : StepRelation (List ℕ × ℕ) = hash_walk store (options_of c.args.ignore c.args.types.now) in
-    let list : List ℕ = block_list store c.args.blocks in
-    let n : ℕ = c.in-At.b in
-    let found : NextChild list c.loop-b.from n = next_in_list store c.args.blocks c.loop-b.from n _ c.next_in.ensures c.in-At.is in
-    let m = c.loop-b in
-    pass_again walk (each_shell_lem of_block) list m.from m.invariant found c.hash_block_shell-fed.ensures
+loop-b-preserved c = came_again (hash_walk _ _) (each_shell_lem of_block) c.loop-b.yielded c.loop-b.invariant c.in-Some.b c.hash_block_shell.ensures
+
+pub returns : goal.returns
+unfolding block_shells
+returns c =
+    let came = all_came blocks_left _ _ _ _ (ap blocks_left c.into_iter-b-iterator.ensures.into_iter_gives ∙ c.new-b-items.ensures) c.loop-b.yielded_by c.next.new.self _ c.in-None.is c.next.ensures.steps in
+    shells_fed of_block _ (subst (λ xs. Fed (store_in c.args.terms.now.store.now) (options_in c.args.terms.now) (each_shell of_block xs) c.args.numbers.now c.loop-b.numbers c.args.state.now.word c.loop-b.state.word) came c.loop-b.invariant)

@@ -1,17 +1,11 @@
--- `hash_block_shells` meets its contract: a pass through the list, whose step is a block's shell. Assumes nothing.
-use Rattle.std.proofs.Common.{◌-◌}
+-- `hash_block_shells` meets its contract: the steps of the blocks that came are done, whose step is a shell. Assumes nothing.
 use Rattle.rules.specs.Store.{of_block}
 use Rattle.layout.specs.Reading.{store_in}
-use Rattle.fragments.specs.Options.{options_of}
-use Rattle.fragments.specs.Order.{block_list}
-use Rattle.numbering.proofs.Passing.{Passing}
+use Rattle.fragments.specs.Terms.{options_in}
 use Rattle.numbering.proofs.Rounds.{each_shell}
-use Rattle.hashing.proofs.Parting.{hash_walk}
+use Rattle.hashing.specs.Walked.{Fed}
 use Rattle.hashing.proofs.passes.hash_block_shells.Given as goal
 
 abbrev pub invariant-loop-b : goal.invariant-loop-b
 invariant-loop-b l =
-    Passing (hash_walk (store_in l.store) (options_of l.ignore l.types)) (each_shell of_block) (block_list (store_in l.store) l.blocks) l.from (l.initial.numbers, l.word) (l.numbers, l.fed)
-
-abbrev pub decreases-loop-b : goal.decreases-loop-b
-decreases-loop-b l = 256 - l.from
+    Fed (store_in l.terms.store.now) (options_in l.terms) (each_shell of_block l.yielded) l.fn.numbers l.numbers l.fn.state.word l.state.word

@@ -1,82 +1,40 @@
--- `hash_op_shells` meets its contract: a pass through the list, whose step is a block's operations. Assumes nothing.
-use Rattle.std.proofs.Common.{ℕ, ◌<◌, List, arith}
-use Rattle.rules.specs.Store.{Store}
-use Rattle.layout.specs.Columns.{Cols, columns}
-use Rattle.layout.specs.Reading.{block_count, store_in}
-use Rattle.layout.proofs.Laid.{laid_facts}
-use Rattle.layout.proofs.Seeking.{NextChild, none_next}
-use Rattle.fragments.specs.Options.{options_of}
+-- `hash_op_shells` meets its contract: the steps of the blocks that came are done, which are those of their operations. Assumes nothing.
+use Rattle.std.proofs.Common.{◌≡◌, ◌∷◌, ◌++◌, ap, ◌∙◌, subst}
+use Rattle.rules.specs.Lists.{concat_map}
+use Rattle.layout.specs.Columns.{columns}
+use Rattle.layout.specs.Reading.{store_in}
+use Rattle.fragments.specs.BlocksLeft.{blocks_left}
+use Rattle.fragments.specs.Terms.{options_in}
 use Rattle.fragments.specs.Order.{block_list}
-use Rattle.fragments.proofs.Ordered.{next_in_list, block_in_lem}
+use Rattle.fragments.proofs.Ordered.{block_in_lem}
+use Rattle.fragments.proofs.Yielded.{item_comes, all_came, comes_mem}
 use Rattle.numbering.specs.Parts.{op_shells}
-use Rattle.numbering.proofs.Passing.{StepRelation, pass_begun, pass_over, pass_room, pass_again}
+use Rattle.numbering.proofs.Passing.{none_came, came_room, came_again}
 use Rattle.numbering.proofs.Rounds.{each}
+use Rattle.hashing.specs.Walked.{Fed}
 use Rattle.hashing.proofs.Parting.{hash_walk}
 use Rattle.hashing.proofs.passes.hash_op_shells.Goals as goal
+use Rattle.hashing.proofs.passes.hash_op_shells.Goals.{In-Some}
+
+block_comes : (c : In-Some) → c.loop-b.yielded ++ c.in-Some.b ∷ blocks_left c.next.new.self ≡ block_list (store_in c.args.terms.now.store.now) c.args.blocks
+block_comes c =
+    item_comes blocks_left _ _ _ _ (ap blocks_left c.into_iter-b-iterator.ensures.into_iter_gives ∙ c.new-b-items.ensures) c.loop-b.yielded_by c.next.new.self _ _ c.in-Some.is c.next.ensures.steps
 
 pub loop-b-init : goal.loop-b-init
-loop-b-init c =
-    let store : Store = store_in c.args.store.now in
-    let walk : StepRelation (List ℕ × ℕ) = hash_walk store (options_of c.args.ignore c.args.types.now) in
-    let list : List ℕ = block_list store c.args.blocks in
-    pass_begun walk (each (op_shells store)) list
+loop-b-init c = none_came (hash_walk _ _) (each (op_shells _)) {a = (c.args.numbers.now, c.args.state.now.word)}
 
-pub next_in-requires : goal.next_in-requires
-next_in-requires c =
-    record { sound = c.requires.readable.sound; blocks_exist = c.requires.blocks_exist }
-
-pub returns-in_default : goal.returns-in_default
-returns-in_default c =
-    let store : Store = store_in c.args.store.now in
-    let walk : StepRelation (List ℕ × ℕ) = hash_walk store (options_of c.args.ignore c.args.types.now) in
-    let list : List ℕ = block_list store c.args.blocks in
-    let m = c.loop-b in
-    pass_over walk (each (op_shells store)) list m.from m.invariant (none_next m.from list _ c.next_in.ensures c.in_default.is)
-
-pub hash_op_shells_in-fed-requires : goal.hash_op_shells_in-fed-requires
-hash_op_shells_in-fed-requires c =
-    let store : Store = store_in c.args.store.now in
-    let walk : StepRelation (List ℕ × ℕ) = hash_walk store (options_of c.args.ignore c.args.types.now) in
-    let list : List ℕ = block_list store c.args.blocks in
-    let cols : Cols = columns c.args.store.now in
-    let n : ℕ = c.in-At.b in
-    let found : NextChild list c.loop-b.from n = next_in_list store c.args.blocks c.loop-b.from n _ c.next_in.ensures c.in-At.is in
-    let here : n < block_count cols = block_in_lem cols c.args.blocks n c.requires.blocks_exist found.child in
-    let m = c.loop-b in
+pub hash_op_shells_in-requires : goal.hash_op_shells_in-requires
+hash_op_shells_in-requires c =
+    let turn = block_comes ((goal.at.hash_op_shells_in-requires c).In-Some) in
     record {
-      readable = c.requires.readable;
-      b_bound = here;
-      definitions_fit = pass_room walk (each (op_shells store)) list m.from m.invariant found c.requires.definitions_fit;
+      b_bound = block_in_lem (columns c.args.terms.now.store.now) c.args.blocks _ c.requires.blocks_exist (comes_mem _ _ _ _ turn);
+      definitions_fit = came_room (hash_walk _ _) (each (op_shells _)) c.loop-b.yielded c.loop-b.invariant c.in-Some.b _ _ turn c.requires.definitions_fit;
     }
 
-pub overflow_add-from : goal.overflow_add-from
-overflow_add-from c =
-    let store : Store = store_in c.args.store.now in
-    let list : List ℕ = block_list store c.args.blocks in
-    let cols : Cols = columns c.args.store.now in
-    let n : ℕ = c.in-At.b in
-    let found : NextChild list c.loop-b.from n = next_in_list store c.args.blocks c.loop-b.from n _ c.next_in.ensures c.in-At.is in
-    let here : n < block_count cols = block_in_lem cols c.args.blocks n c.requires.blocks_exist found.child in
-    let few : n < 256 = omega (arith, here, (laid_facts cols c.requires.readable.sound.laid).counts.blocks) in
-    record { fits = omega (arith, few) }
-
-pub loop-b-smaller : goal.loop-b-smaller
-loop-b-smaller c =
-    let store : Store = store_in c.args.store.now in
-    let list : List ℕ = block_list store c.args.blocks in
-    let cols : Cols = columns c.args.store.now in
-    let n : ℕ = c.in-At.b in
-    let found : NextChild list c.loop-b.from n = next_in_list store c.args.blocks c.loop-b.from n _ c.next_in.ensures c.in-At.is in
-    let here : n < block_count cols = block_in_lem cols c.args.blocks n c.requires.blocks_exist found.child in
-    let few : n < 256 = omega (arith, here, (laid_facts cols c.requires.readable.sound.laid).counts.blocks) in
-    omega (arith, few, found.later)
-
 pub loop-b-preserved : goal.loop-b-preserved
-loop-b-preserved c =
-    let store : Store = store_in c.args.store.now in
-    let walk : StepRelation (List ℕ × ℕ) = hash_walk store (options_of c.args.ignore c.args.types.now) in
-    let list : List ℕ = block_list store c.args.blocks in
-    let n : ℕ = c.in-At.b in
-    let found : NextChild list c.loop-b.from n = next_in_list store c.args.blocks c.loop-b.from n _ c.next_in.ensures c.in-At.is in
-    let m = c.loop-b in
-    pass_again walk (each (op_shells store)) list m.from m.invariant found c.hash_op_shells_in-fed.ensures
+loop-b-preserved c = came_again (hash_walk _ _) (each (op_shells _)) c.loop-b.yielded c.loop-b.invariant c.in-Some.b c.hash_op_shells_in.ensures
+
+pub returns : goal.returns
+returns c =
+    let came = all_came blocks_left _ _ _ _ (ap blocks_left c.into_iter-b-iterator.ensures.into_iter_gives ∙ c.new-b-items.ensures) c.loop-b.yielded_by c.next.new.self _ c.in-None.is c.next.ensures.steps in
+    subst (λ xs. Fed (store_in c.args.terms.now.store.now) (options_in c.args.terms.now) (concat_map (op_shells (store_in c.args.terms.now.store.now)) xs) c.args.numbers.now c.loop-b.numbers c.args.state.now.word c.loop-b.state.word) came c.loop-b.invariant

@@ -1,17 +1,11 @@
--- `hash_op_shells` meets its contract: a pass through the list, whose step is a block's operations. Assumes nothing.
-use Rattle.std.proofs.Common.{◌-◌}
+-- `hash_op_shells` meets its contract: the steps of the blocks that came are done, which are those of their operations. Assumes nothing.
 use Rattle.rules.specs.Lists.{concat_map}
 use Rattle.layout.specs.Reading.{store_in}
-use Rattle.fragments.specs.Options.{options_of}
-use Rattle.fragments.specs.Order.{block_list}
+use Rattle.fragments.specs.Terms.{options_in}
 use Rattle.numbering.specs.Parts.{op_shells}
-use Rattle.numbering.proofs.Passing.{Passing}
-use Rattle.hashing.proofs.Parting.{hash_walk}
+use Rattle.hashing.specs.Walked.{Fed}
 use Rattle.hashing.proofs.passes.hash_op_shells.Given as goal
 
 abbrev pub invariant-loop-b : goal.invariant-loop-b
 invariant-loop-b l =
-    Passing (hash_walk (store_in l.store) (options_of l.ignore l.types)) (concat_map (op_shells (store_in l.store))) (block_list (store_in l.store) l.blocks) l.from (l.initial.numbers, l.word) (l.numbers, l.fed)
-
-abbrev pub decreases-loop-b : goal.decreases-loop-b
-decreases-loop-b l = 256 - l.from
+    Fed (store_in l.terms.store.now) (options_in l.terms) (concat_map (op_shells (store_in l.terms.store.now)) l.yielded) l.fn.numbers l.numbers l.fn.state.word l.state.word

@@ -1,89 +1,41 @@
--- `hash_op_shells_in` meets its contract: a pass through the block's operations, whose step is a shell. Assumes nothing.
-use Rattle.std.proofs.Common.{ℕ, ◌<◌, List, arith}
-use Rattle.rules.specs.Store.{Store, of_op, ops_of}
-use Rattle.layout.specs.Columns.{Cols, columns}
-use Rattle.layout.specs.Reading.{op_count, store_in}
-use Rattle.layout.proofs.Laid.{laid_facts}
-use Rattle.layout.proofs.Seeking.{NextChild, none_next, next_op}
-use Rattle.fragments.specs.Options.{options_of}
+-- `hash_op_shells_in` meets its contract: the steps of the operations that came are done, whose step is a shell. Assumes nothing.
+use Rattle.std.proofs.Common.{◌≡◌, ◌∷◌, ◌++◌, ap, ◌∙◌, subst}
+use Rattle.rules.specs.Store.{of_op, ops_of}
+use Rattle.layout.specs.Columns.{columns}
+use Rattle.layout.specs.Reading.{store_in}
+use Rattle.layout.specs.OpsLeft.{ops_left}
+use Rattle.fragments.specs.Terms.{options_in}
 use Rattle.fragments.proofs.Ordered.{op_in_lem}
+use Rattle.fragments.proofs.Yielded.{item_comes, all_came, comes_mem}
 use Rattle.numbering.specs.Parts.{op_shells}
-use Rattle.numbering.proofs.Passing.{StepRelation, pass_begun, pass_over, pass_room, pass_again}
-use Rattle.numbering.proofs.Rounds.{each_shell_lem}
+use Rattle.numbering.proofs.Passing.{none_came, came_room, came_again}
+use Rattle.numbering.proofs.Rounds.{each_shell, each_shell_lem}
+use Rattle.hashing.specs.Walked.{Fed}
 use Rattle.hashing.proofs.Parting.{hash_walk, shells_room, shells_fed}
 use Rattle.hashing.proofs.passes.hash_op_shells_in.Goals as goal
+use Rattle.hashing.proofs.passes.hash_op_shells_in.Goals.{In-Some}
+
+op_comes : (c : In-Some) → c.loop-n.yielded ++ c.in-Some.n ∷ ops_left c.next.new.self ≡ ops_of (store_in c.args.terms.now.store.now) c.args.b
+op_comes c =
+    item_comes ops_left _ _ _ _ (ap ops_left c.into_iter-n-iterator.ensures.into_iter_gives ∙ c.new-n-items.ensures) c.loop-n.yielded_by c.next.new.self _ _ c.in-Some.is c.next.ensures.steps
 
 pub loop-n-init : goal.loop-n-init
-unfolding op_shells
-loop-n-init c =
-    let store : Store = store_in c.args.store.now in
-    let walk : StepRelation (List ℕ × ℕ) = hash_walk store (options_of c.args.ignore c.args.types.now) in
-    let list : List ℕ = ops_of store c.args.b in
-    pass_begun walk (each_shell_lem of_op) list
+loop-n-init c = none_came (hash_walk _ _) (each_shell_lem of_op) {a = (c.args.numbers.now, c.args.state.now.word)}
 
-pub next_op-requires : goal.next_op-requires
-next_op-requires c =
+pub hash_op_shell-requires : goal.hash_op_shell-requires
+unfolding op_shells
+hash_op_shell-requires c =
+    let turn = op_comes ((goal.at.hash_op_shell-requires c).In-Some) in
     record {
-      arranged = record { sized = c.requires.readable.sound.sized; laid = c.requires.readable.sound.laid };
-      block_bound = c.requires.b_bound;
+      n_bound = op_in_lem (columns c.args.terms.now.store.now) c.args.b _ (comes_mem _ _ _ _ turn);
+      definitions_fit = came_room (hash_walk _ _) (each_shell_lem of_op) c.loop-n.yielded c.loop-n.invariant c.in-Some.n _ _ turn (shells_room of_op _ c.requires.definitions_fit);
     }
-
-pub returns-in_default : goal.returns-in_default
-unfolding op_shells
-returns-in_default c =
-    let store : Store = store_in c.args.store.now in
-    let walk : StepRelation (List ℕ × ℕ) = hash_walk store (options_of c.args.ignore c.args.types.now) in
-    let list : List ℕ = ops_of store c.args.b in
-    let m = c.loop-n in
-    shells_fed of_op list
-    (pass_over walk (each_shell_lem of_op) list m.from m.invariant (none_next m.from list _ c.next_op.ensures c.in_default.is))
-
-pub hash_op_shell-fed-requires : goal.hash_op_shell-fed-requires
-unfolding op_shells
-hash_op_shell-fed-requires c =
-    let store : Store = store_in c.args.store.now in
-    let walk : StepRelation (List ℕ × ℕ) = hash_walk store (options_of c.args.ignore c.args.types.now) in
-    let list : List ℕ = ops_of store c.args.b in
-    let cols : Cols = columns c.args.store.now in
-    let n : ℕ = c.in-At.n in
-    let found : NextChild list c.loop-n.from n = next_op store c.args.b c.loop-n.from n _ c.next_op.ensures c.in-At.is in
-    let here : n < op_count cols = op_in_lem cols c.args.b n found.child in
-    let m = c.loop-n in
-    record {
-      readable = c.requires.readable;
-      n_bound = here;
-      definitions_fit = pass_room walk (each_shell_lem of_op) list m.from m.invariant found (shells_room of_op list c.requires.definitions_fit);
-    }
-
-pub overflow_add-from : goal.overflow_add-from
-overflow_add-from c =
-    let store : Store = store_in c.args.store.now in
-    let list : List ℕ = ops_of store c.args.b in
-    let cols : Cols = columns c.args.store.now in
-    let n : ℕ = c.in-At.n in
-    let found : NextChild list c.loop-n.from n = next_op store c.args.b c.loop-n.from n _ c.next_op.ensures c.in-At.is in
-    let here : n < op_count cols = op_in_lem cols c.args.b n found.child in
-    let few : n < 512 = omega (arith, here, (laid_facts cols c.requires.readable.sound.laid).counts.ops) in
-    record { fits = omega (arith, few) }
-
-pub loop-n-smaller : goal.loop-n-smaller
-loop-n-smaller c =
-    let store : Store = store_in c.args.store.now in
-    let list : List ℕ = ops_of store c.args.b in
-    let cols : Cols = columns c.args.store.now in
-    let n : ℕ = c.in-At.n in
-    let found : NextChild list c.loop-n.from n = next_op store c.args.b c.loop-n.from n _ c.next_op.ensures c.in-At.is in
-    let here : n < op_count cols = op_in_lem cols c.args.b n found.child in
-    let few : n < 512 = omega (arith, here, (laid_facts cols c.requires.readable.sound.laid).counts.ops) in
-    omega (arith, few, found.later)
 
 pub loop-n-preserved : goal.loop-n-preserved
+loop-n-preserved c = came_again (hash_walk _ _) (each_shell_lem of_op) c.loop-n.yielded c.loop-n.invariant c.in-Some.n c.hash_op_shell.ensures
+
+pub returns : goal.returns
 unfolding op_shells
-loop-n-preserved c =
-    let store : Store = store_in c.args.store.now in
-    let walk : StepRelation (List ℕ × ℕ) = hash_walk store (options_of c.args.ignore c.args.types.now) in
-    let list : List ℕ = ops_of store c.args.b in
-    let n : ℕ = c.in-At.n in
-    let found : NextChild list c.loop-n.from n = next_op store c.args.b c.loop-n.from n _ c.next_op.ensures c.in-At.is in
-    let m = c.loop-n in
-    pass_again walk (each_shell_lem of_op) list m.from m.invariant found c.hash_op_shell-fed.ensures
+returns c =
+    let came = all_came ops_left _ _ _ _ (ap ops_left c.into_iter-n-iterator.ensures.into_iter_gives ∙ c.new-n-items.ensures) c.loop-n.yielded_by c.next.new.self _ c.in-None.is c.next.ensures.steps in
+    shells_fed of_op _ (subst (λ xs. Fed (store_in c.args.terms.now.store.now) (options_in c.args.terms.now) (each_shell of_op xs) c.args.numbers.now c.loop-n.numbers c.args.state.now.word c.loop-n.state.word) came c.loop-n.invariant)

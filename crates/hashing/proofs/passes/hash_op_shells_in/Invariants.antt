@@ -1,16 +1,11 @@
--- `hash_op_shells_in` meets its contract: a pass through the block's operations, whose step is a shell. Assumes nothing.
-use Rattle.std.proofs.Common.{◌-◌}
-use Rattle.rules.specs.Store.{of_op, ops_of}
+-- `hash_op_shells_in` meets its contract: the steps of the operations that came are done, whose step is a shell. Assumes nothing.
+use Rattle.rules.specs.Store.{of_op}
 use Rattle.layout.specs.Reading.{store_in}
-use Rattle.fragments.specs.Options.{options_of}
-use Rattle.numbering.proofs.Passing.{Passing}
+use Rattle.fragments.specs.Terms.{options_in}
 use Rattle.numbering.proofs.Rounds.{each_shell}
-use Rattle.hashing.proofs.Parting.{hash_walk}
+use Rattle.hashing.specs.Walked.{Fed}
 use Rattle.hashing.proofs.passes.hash_op_shells_in.Given as goal
 
 abbrev pub invariant-loop-n : goal.invariant-loop-n
 invariant-loop-n l =
-    Passing (hash_walk (store_in l.store) (options_of l.ignore l.types)) (each_shell of_op) (ops_of (store_in l.store) l.b) l.from (l.initial.numbers, l.word) (l.numbers, l.fed)
-
-abbrev pub decreases-loop-n : goal.decreases-loop-n
-decreases-loop-n l = 512 - l.from
+    Fed (store_in l.terms.store.now) (options_in l.terms) (each_shell of_op l.yielded) l.fn.numbers l.numbers l.fn.state.word l.state.word

@@ -1,5 +1,5 @@
 -- `hash_head` meets its contract: kind and number of regions are read off the operation's row. Assumes nothing.
-use Rattle.std.proofs.Common.{arith, rules}
+use Rattle.std.proofs.Common.{arith}
 use Rattle.layout.specs.Columns.{columns}
 use Rattle.layout.proofs.Laid.{laid_facts}
 use Rattle.numbering.proofs.Rounds.{regions_few}
@@ -14,10 +14,6 @@ at-kind-requires c =
       n_bound = omega (arith, (laid_facts (columns c.args.store.now) c.requires.sound.laid).counts.ops, c.requires.n_bound);
     }
 
-pub op_regions-requires : goal.op_regions-requires
-op_regions-requires c =
-    record { sound = search rules; n_bound = search rules }
-
 pub overflow_cast-op_regions : goal.overflow_cast-op_regions
 overflow_cast-op_regions c =
     record {
@@ -26,4 +22,4 @@ overflow_cast-op_regions c =
 
 pub returns : goal.returns
 returns c =
-    head_fed (columns c.args.store.now) c.args.n c.requires.n_bound c.args.word c.at-kind.ensures c.op_regions.ensures c.with_head.ensures
+    head_fed (columns c.args.store.now) c.args.n c.requires.n_bound c.args.state.now.word c.at-kind.ensures c.op_regions.ensures c.hash_head.ensures

@@ -3,14 +3,14 @@ use Rattle.fragments.specs.Ignoring.{ignore_of}
 use Rattle.hashing.proofs.Bytes.{location_ignored, location_fed}
 use Rattle.hashing.proofs.shells.location_hash.Goals as goal
 
-pub returns-then-ignore : goal.returns-then-ignore
+pub returns-then-not-ignore : goal.returns-then-not-ignore
 unfolding ignore_of
-returns-then-ignore c =
+returns-then-not-ignore c =
     let a = c.args in
-    location_ignored (ignore_of a.ignore) a.location a.word c.if-ignore.true
+    location_fed (ignore_of a.ignore) a.location a.state.now.word c.if-not-ignore.true c.hash_leaf.ensures
 
-pub returns : goal.returns
+pub returns-else-not-ignore : goal.returns-else-not-ignore
 unfolding ignore_of
-returns c =
+returns-else-not-ignore c =
     let a = c.args in
-    location_fed (ignore_of a.ignore) a.location a.word c.if-ignore.false c.with_leaf.ensures
+    location_ignored (ignore_of a.ignore) a.location a.state.now.word c.if-not-ignore.false

@@ -1,282 +1,170 @@
--- The three calls that go round meet their contracts together: the number of operations below falls from round to round, a pass goes through
--- its list child by child, and what each loop has fed and what is left make the whole. Assumes nothing.
-use Rattle.std.proofs.Common.{◌≡◌, ℕ, ◌+◌, ◌*◌, ◌<◌, List, sym, refl, ◌∙◌, subst, ap₂, arith}
+-- The three calls that go round meet their contracts together: the number of operations below falls from round to round, and in each loop the
+-- steps of what came are done. Assumes nothing.
+use Rattle.std.proofs.Common.{◌≡◌, ℕ, ◌+◌, ◌*◌, ◌<◌, List, ◌∷◌, ◌++◌, sym, refl, ap, ◌∙◌, subst, ap₂, arith}
 use mathlib.Core.List.{Memᴰ}
 use Rattle.rules.specs.Lists.{concat_map}
-use Rattle.rules.specs.Store.{Store, ops_of, regions_of}
+use Rattle.rules.specs.Store.{ops_of, regions_of}
 use Rattle.rules.specs.Fragments.{Step}
-use Rattle.layout.specs.Columns.{Cols, columns}
-use Rattle.layout.specs.Reading.{op_count, block_count, region_count, store_in}
+use Rattle.layout.specs.Columns.{columns}
+use Rattle.layout.specs.OpsLeft.{ops_left}
+use Rattle.layout.specs.Reading.{region_count, store_in}
 use Rattle.layout.proofs.Laid.{Laid, laid_facts}
-use Rattle.layout.proofs.Ranges.{range, regions_range, in_range}
-use Rattle.layout.proofs.Seeking.{NextChild, none_next, next_op}
-use Rattle.fragments.specs.Options.{Options, options_of}
+use Rattle.layout.proofs.Ranges.{range, range_empty, regions_range}
+use Rattle.fragments.specs.BlocksLeft.{blocks_left}
+use Rattle.fragments.specs.Terms.{options_in}
 use Rattle.fragments.specs.Order.{block_list, BlocksExist}
 use Rattle.fragments.specs.declared.types.Blocks.TheVariants.{InRegion, Alone}
-use Rattle.fragments.proofs.Ordered.{next_in_list, block_in_lem, op_in_lem}
 use Rattle.fragments.proofs.Below.{below, around_list, around_block, op_falls, around_region}
+use Rattle.fragments.proofs.Ordered.{block_in_lem, op_in_lem}
+use Rattle.fragments.proofs.Yielded.{item_comes, all_came, comes_mem, number_comes, number_came}
 use Rattle.numbering.specs.Numbered.{DefinitionsFit}
 use Rattle.numbering.specs.Parts.{full_steps, ops_in_full}
+use Rattle.numbering.proofs.Passing.{none_came, came_room, came_again}
+use Rattle.numbering.proofs.Rounds.{in_region, region_list, regions_room, full_done, each, first_room, second_room, third_room, passes_done}
 use Rattle.hashing.specs.Walked.{Fed}
-use Rattle.numbering.proofs.Passing.{StepRelation, none_done, all_done, part_room, part_done, pass_begun, pass_over, pass_room, pass_again}
-use Rattle.numbering.proofs.Rounds.{in_region, region_list, regions_room, full_done, range_left, range_over, each, first_room, second_room, third_room, passes_done}
 use Rattle.hashing.proofs.Parting.{hash_walk}
 use Rattle.hashing.proofs.walk.+hash_blocks_full_hash_op_full_hash_ops_full.Goals as goal
+use Rattle.hashing.proofs.walk.+hash_blocks_full_hash_op_full_hash_ops_full.Goals.{hash_blocks_full-In-Some, hash_ops_full-In-Some, hash_op_full-In-loop-r}
 
 -- ---- a list of blocks
 
-pub hash_blocks_full-hash_block_shells-shells-requires : goal.hash_blocks_full-hash_block_shells-shells-requires
-hash_blocks_full-hash_block_shells-shells-requires t c =
-    let store : Store = store_in c.args.store.now in
-    let walk : StepRelation (List ℕ × ℕ) = hash_walk store (options_of c.args.ignore c.args.types.now) in
-    let list : List ℕ = block_list store c.args.blocks in
+block_comes : (t : ℕ) (c : hash_blocks_full-In-Some t) → c.loop-b.yielded ++ c.in-Some.b ∷ blocks_left c.next.new.self ≡ block_list (store_in c.args.terms.now.store.now) c.args.blocks
+block_comes t c =
+    item_comes blocks_left _ _ _ _ (ap blocks_left c.into_iter-b-iterator.ensures.into_iter_gives ∙ c.new-b-items.ensures) c.loop-b.yielded_by c.next.new.self _ _ c.in-Some.is c.next.ensures.steps
+
+pub hash_blocks_full-hash_block_shells-requires : goal.hash_blocks_full-hash_block_shells-requires
+hash_blocks_full-hash_block_shells-requires t c =
     record {
-      readable = c.requires.readable;
       blocks_exist = c.requires.blocks_exist;
-      definitions_fit = first_room walk store list {a = (c.args.numbers.now, c.args.word)} c.requires.definitions_fit;
+      definitions_fit = first_room (hash_walk _ (options_in c.args.terms.now)) _ _ {a = (c.args.numbers.now, c.args.state.now.word)} c.requires.definitions_fit;
     }
 
-pub hash_blocks_full-hash_op_shells-fed-requires : goal.hash_blocks_full-hash_op_shells-fed-requires
-hash_blocks_full-hash_op_shells-fed-requires t c =
-    let store : Store = store_in c.args.store.now in
-    let walk : StepRelation (List ℕ × ℕ) = hash_walk store (options_of c.args.ignore c.args.types.now) in
-    let list : List ℕ = block_list store c.args.blocks in
+pub hash_blocks_full-hash_op_shells-requires : goal.hash_blocks_full-hash_op_shells-requires
+hash_blocks_full-hash_op_shells-requires t c =
     record {
-      readable = c.requires.readable;
       blocks_exist = c.requires.blocks_exist;
-      definitions_fit = second_room walk store list c.hash_block_shells-shells.ensures c.requires.definitions_fit;
+      definitions_fit = second_room (hash_walk _ _) _ _ c.hash_block_shells.ensures c.requires.definitions_fit;
     }
 
 pub hash_blocks_full-loop-b-init : goal.hash_blocks_full-loop-b-init
-hash_blocks_full-loop-b-init t c =
-    let store : Store = store_in c.args.store.now in
-    let walk : StepRelation (List ℕ × ℕ) = hash_walk store (options_of c.args.ignore c.args.types.now) in
-    let list : List ℕ = block_list store c.args.blocks in
-    pass_begun walk (each (ops_in_full store)) list
+hash_blocks_full-loop-b-init t c = none_came (hash_walk _ _) (each (ops_in_full _)) {a = (c.hash_op_shells.new.numbers, c.hash_op_shells.new.state.word)}
 
-pub hash_blocks_full-next_in-requires : goal.hash_blocks_full-next_in-requires
-hash_blocks_full-next_in-requires t c =
-    record { sound = c.requires.readable.sound; blocks_exist = c.requires.blocks_exist }
-
-pub hash_blocks_full-returns-in_default : goal.hash_blocks_full-returns-in_default
-hash_blocks_full-returns-in_default t c =
-    let store : Store = store_in c.args.store.now in
-    let walk : StepRelation (List ℕ × ℕ) = hash_walk store (options_of c.args.ignore c.args.types.now) in
-    let list : List ℕ = block_list store c.args.blocks in
-    let m = c.loop-b in
-    passes_done walk store list c.hash_block_shells-shells.ensures c.hash_op_shells-fed.ensures
-    (pass_over walk (each (ops_in_full store)) list m.from m.invariant (none_next m.from list _ c.next_in.ensures c.in_default.is))
-
-pub hash_blocks_full-hash_ops_full-fed-requires : goal.hash_blocks_full-hash_ops_full-fed-requires
-hash_blocks_full-hash_ops_full-fed-requires t c =
-    let store : Store = store_in c.args.store.now in
-    let walk : StepRelation (List ℕ × ℕ) = hash_walk store (options_of c.args.ignore c.args.types.now) in
-    let list : List ℕ = block_list store c.args.blocks in
-    let b : ℕ = c.in-At.b in
-    let block_found : NextChild list c.loop-b.from b = next_in_list store c.args.blocks c.loop-b.from b _ c.next_in.ensures c.in-At.is in
-    let block_here : b < block_count (columns c.args.store.now) =
-    block_in_lem (columns c.args.store.now) c.args.blocks b c.requires.blocks_exist block_found.child in
-    let S = store in
-    let m = c.loop-b in
-    let same : around_list S (Alone b) ≡ around_list S c.args.blocks = around_block S c.args.blocks b block_found.child in
-    let falls : 3 * below S (around_list S (Alone b)) < 3 * below S (around_list S c.args.blocks) + 1 = omega arith in
-    let third = third_room walk S list c.hash_block_shells-shells.ensures c.hash_op_shells-fed.ensures c.requires.definitions_fit in (
-      subst (λ (j : ℕ). 3 * below S (around_list S (Alone b)) < j) c.decreases falls,
-      (c.requires.readable, (block_here, pass_room walk (each (ops_in_full S)) list m.from m.invariant block_found third)),
+pub hash_blocks_full-hash_ops_full-requires : goal.hash_blocks_full-hash_ops_full-requires
+hash_blocks_full-hash_ops_full-requires t c =
+    let S = store_in c.args.terms.now.store.now in
+    let turn = block_comes t ((goal.at.hash_blocks_full-hash_ops_full-requires t c).In-Some) in
+    let inside = comes_mem _ _ _ _ turn in
+    let same : around_list S (Alone c.in-Some.b) ≡ around_list S c.args.blocks = around_block S c.args.blocks c.in-Some.b inside in
+    let falls : 3 * below S (around_list S (Alone c.in-Some.b)) < 3 * below S (around_list S c.args.blocks) + 1 = omega arith in
+    let third = third_room (hash_walk S (options_in c.args.terms.now)) S _ c.hash_block_shells.ensures c.hash_op_shells.ensures c.requires.definitions_fit in (
+      subst (λ (j : ℕ). 3 * below S (around_list S (Alone c.in-Some.b)) < j) c.decreases falls,
+      (
+        block_in_lem (columns c.args.terms.now.store.now) c.args.blocks _ c.requires.blocks_exist inside,
+        came_room (hash_walk _ _) (each (ops_in_full S)) c.loop-b.yielded c.loop-b.invariant c.in-Some.b _ _ turn third,
+      ),
     )
 
-pub hash_blocks_full-overflow_add-from : goal.hash_blocks_full-overflow_add-from
-hash_blocks_full-overflow_add-from t c =
-    let store : Store = store_in c.args.store.now in
-    let list : List ℕ = block_list store c.args.blocks in
-    let b : ℕ = c.in-At.b in
-    let block_found : NextChild list c.loop-b.from b = next_in_list store c.args.blocks c.loop-b.from b _ c.next_in.ensures c.in-At.is in
-    let block_here : b < block_count (columns c.args.store.now) =
-    block_in_lem (columns c.args.store.now) c.args.blocks b c.requires.blocks_exist block_found.child in
-    let block_few : b < 256 =
-    omega (arith, block_here, (laid_facts (columns c.args.store.now) c.requires.readable.sound.laid).counts.blocks) in
-    record { fits = omega (arith, block_few) }
-
-pub hash_blocks_full-loop-b-smaller : goal.hash_blocks_full-loop-b-smaller
-hash_blocks_full-loop-b-smaller t c =
-    let store : Store = store_in c.args.store.now in
-    let list : List ℕ = block_list store c.args.blocks in
-    let b : ℕ = c.in-At.b in
-    let block_found : NextChild list c.loop-b.from b = next_in_list store c.args.blocks c.loop-b.from b _ c.next_in.ensures c.in-At.is in
-    let block_here : b < block_count (columns c.args.store.now) =
-    block_in_lem (columns c.args.store.now) c.args.blocks b c.requires.blocks_exist block_found.child in
-    let block_few : b < 256 =
-    omega (arith, block_here, (laid_facts (columns c.args.store.now) c.requires.readable.sound.laid).counts.blocks) in
-    omega (arith, block_few, block_found.later)
-
 pub hash_blocks_full-loop-b-preserved : goal.hash_blocks_full-loop-b-preserved
-hash_blocks_full-loop-b-preserved t c =
-    let store : Store = store_in c.args.store.now in
-    let walk : StepRelation (List ℕ × ℕ) = hash_walk store (options_of c.args.ignore c.args.types.now) in
-    let list : List ℕ = block_list store c.args.blocks in
-    let b : ℕ = c.in-At.b in
-    let block_found : NextChild list c.loop-b.from b = next_in_list store c.args.blocks c.loop-b.from b _ c.next_in.ensures c.in-At.is in
-    let m = c.loop-b in
-    pass_again walk (each (ops_in_full store)) list m.from m.invariant block_found c.hash_ops_full-fed.ensures
+hash_blocks_full-loop-b-preserved t c = came_again (hash_walk _ _) (each (ops_in_full _)) c.loop-b.yielded c.loop-b.invariant c.in-Some.b c.hash_ops_full.ensures
+
+pub hash_blocks_full-returns : goal.hash_blocks_full-returns
+hash_blocks_full-returns t c =
+    let S = store_in c.args.terms.now.store.now in
+    let came = all_came blocks_left _ _ _ _ (ap blocks_left c.into_iter-b-iterator.ensures.into_iter_gives ∙ c.new-b-items.ensures) c.loop-b.yielded_by c.next.new.self _ c.in-None.is c.next.ensures.steps in
+    passes_done (hash_walk _ _) S _ c.hash_block_shells.ensures c.hash_op_shells.ensures
+    (subst (λ xs. Fed S (options_in c.args.terms.now) (concat_map (ops_in_full S) xs) c.hash_op_shells.new.numbers c.loop-b.numbers c.hash_op_shells.new.state.word c.loop-b.state.word) came c.loop-b.invariant)
 
 -- ---- an operation
 
-pub hash_op_full-hash_names-fed-requires : goal.hash_op_full-hash_names-fed-requires
-hash_op_full-hash_names-fed-requires t c =
-    record { sound = c.requires.readable.sound; n_bound = c.requires.n_bound }
+region_comes : (t : ℕ) (c : hash_op_full-In-loop-r t)
+    → range c.number-r.result c.loop-r.r ++ c.loop-r.r ∷ range (c.loop-r.r + 1) c.number-r-end.result ≡ regions_of (store_in c.args.terms.now.store.now) c.args.n
+region_comes t c =
+    number_comes _ _ _ c.loop-r.auto.r c.loop-r-test.true
+    ∙ ap₂ range c.number-r.ensures c.number-r-end.ensures ∙ sym (regions_range _ (laid_facts _ c.args.terms.now.readable.sound.laid) c.args.n c.requires.n_bound)
 
-pub hash_op_full-number-end-requires : goal.hash_op_full-number-end-requires
-hash_op_full-number-end-requires t c =
-    let cols : Cols = columns c.args.store.now in
-    let laid : Laid cols = laid_facts cols c.requires.readable.sound.laid in
-    let small : c.args.n < 512 = omega (arith, laid.counts.ops, c.requires.n_bound) in
-    record { store_len = c.requires.readable.sound.sized; column_lt_column_count = omega arith; n_bound = small }
+pub hash_op_full-number-r-requires-clause-n_bound : goal.hash_op_full-number-r-requires-clause-n_bound
+hash_op_full-number-r-requires-clause-n_bound t c = omega (arith, (laid_facts _ c.args.terms.now.readable.sound.laid).counts.ops, c.requires.n_bound)
 
-pub hash_op_full-number-r-requires : goal.hash_op_full-number-r-requires
-hash_op_full-number-r-requires t c =
-    let cols : Cols = columns c.args.store.now in
-    let laid : Laid cols = laid_facts cols c.requires.readable.sound.laid in
-    let small : c.args.n < 512 = omega (arith, laid.counts.ops, c.requires.n_bound) in
-    record { store_len = c.requires.readable.sound.sized; column_lt_column_count = omega arith; n_bound = small }
+pub hash_op_full-number-r-end-requires-clause-n_bound : goal.hash_op_full-number-r-end-requires-clause-n_bound
+hash_op_full-number-r-end-requires-clause-n_bound t c = omega (arith, (laid_facts _ c.args.terms.now.readable.sound.laid).counts.ops, c.requires.n_bound)
 
 pub hash_op_full-loop-r-init : goal.hash_op_full-loop-r-init
 hash_op_full-loop-r-init t c =
-    let options : Options = options_of c.args.ignore c.args.types.now in
-    let op_walk_lem : StepRelation (List ℕ × ℕ) = hash_walk (store_in c.args.store.now) options in
-    (omega arith, none_done op_walk_lem _ _)
+    let S = store_in c.args.terms.now.store.now in
+    let o = options_in c.args.terms.now in
+    subst (λ xs. Fed S o (concat_map (in_region S) xs) c.args.numbers.now c.args.numbers.now c.hash_names.new.state.word c.hash_names.new.state.word) (sym (range_empty c.number-r.result c.number-r.result (omega arith)))
+    (none_came (hash_walk S o) (each (in_region S)) {a = (c.args.numbers.now, c.hash_names.new.state.word)})
 
-pub hash_op_full-hash_blocks_full-fed-requires : goal.hash_op_full-hash_blocks_full-fed-requires
+pub hash_op_full-hash_blocks_full-requires : goal.hash_op_full-hash_blocks_full-requires
 unfolding BlocksExist
-hash_op_full-hash_blocks_full-fed-requires t c =
-    let cols : Cols = columns c.args.store.now in
-    let options : Options = options_of c.args.ignore c.args.types.now in
-    let op_walk_lem : StepRelation (List ℕ × ℕ) = hash_walk (store_in c.args.store.now) options in
-    let laid : Laid cols = laid_facts cols c.requires.readable.sound.laid in
-    let regions : regions_of (store_in c.args.store.now) c.args.n ≡ range c.number-r.result c.number-end.result =
-    regions_range cols laid c.args.n c.requires.n_bound ∙ ap₂ range (sym c.number-r.ensures) (sym c.number-end.ensures) in
-    let region_here : c.loop-r.r < region_count cols =
-    omega (arith, c.loop-r-test.true, c.number-end.ensures, (laid.op c.args.n c.requires.n_bound).regions.range.fits) in
-    let S = store_in c.args.store.now in
+hash_op_full-hash_blocks_full-requires t c =
+    let S = store_in c.args.terms.now.store.now in
     let n = c.args.n in
-    let m = c.loop-r in
-    let first = c.number-r.result in
-    let end = c.number-end.result in
-    let known = regions in
-    let inside = subst (Memᴰ m.r) (sym known) (in_range first end m.r m.invariant.0 c.loop-r-test.true) in
-    let around : around_list S (InRegion m.r) ≡ n = around_region S n m.r inside in
-    let falls : 3 * below S (around_list S (InRegion m.r)) + 1 < 3 * below S n + 2 = omega arith in
-    let all = regions_room op_walk_lem S n (c.hash_names-fed.ensures options) (range first end) known c.requires.definitions_fit in
-    let room = part_room op_walk_lem m.invariant.1 (in_region S m.r) (concat_map (in_region S) (range (m.r + 1) end)) (range_left (in_region S) m.r end c.loop-r-test.true) all in (
-      subst (λ (j : ℕ). 3 * below S (around_list S (InRegion m.r)) + 1 < j) c.decreases falls,
-      (c.requires.readable, (region_here, subst (λ (xs : List Step). DefinitionsFit S xs m.numbers) (region_list S c.requires.readable.sound.ruled m.r) room)),
+    let r = c.loop-r.r in
+    let walk = hash_walk S (options_in c.args.terms.now) in
+    let turn = region_comes t ((goal.at.hash_op_full-hash_blocks_full-requires t c).In-loop-r) in
+    let laid : Laid (columns c.args.terms.now.store.now) = laid_facts _ c.args.terms.now.readable.sound.laid in
+    let here : r < region_count (columns c.args.terms.now.store.now) = omega (arith, c.loop-r-test.true, c.number-r-end.ensures, (laid.op c.args.n c.requires.n_bound).regions.range.fits) in
+    let around : around_list S (InRegion r) ≡ n = around_region S n r (comes_mem _ _ _ _ turn) in
+    let falls : 3 * below S (around_list S (InRegion r)) + 1 < 3 * below S n + 2 = omega arith in
+    let all = regions_room walk S n (c.hash_names.ensures (options_in c.args.terms.now)) _ refl c.requires.definitions_fit in
+    let room = came_room walk (each (in_region S)) (range c.number-r.result r) c.loop-r.invariant r _ _ turn all in (
+      subst (λ (j : ℕ). 3 * below S (around_list S (InRegion r)) + 1 < j) c.decreases falls,
+      (here, subst (λ (xs : List Step). DefinitionsFit S xs c.loop-r.numbers) (region_list S c.args.terms.now.readable.sound.ruled r) room),
     )
-
-pub hash_op_full-overflow_add-r : goal.hash_op_full-overflow_add-r
-hash_op_full-overflow_add-r t c =
-    let cols : Cols = columns c.args.store.now in
-    let laid : Laid cols = laid_facts cols c.requires.readable.sound.laid in
-    let region_here : c.loop-r.r < region_count cols =
-    omega (arith, c.loop-r-test.true, c.number-end.ensures, (laid.op c.args.n c.requires.n_bound).regions.range.fits) in
-    record { fits = omega (arith, region_here, laid.counts.regions) }
-
-pub hash_op_full-loop-r-smaller : goal.hash_op_full-loop-r-smaller
-hash_op_full-loop-r-smaller t c = omega (arith, c.loop-r-test.true)
 
 pub hash_op_full-loop-r-preserved : goal.hash_op_full-loop-r-preserved
 hash_op_full-loop-r-preserved t c =
-    let options : Options = options_of c.args.ignore c.args.types.now in
-    let op_walk_lem : StepRelation (List ℕ × ℕ) = hash_walk (store_in c.args.store.now) options in
-    let S = store_in c.args.store.now in
+    let S = store_in c.args.terms.now.store.now in
+    let o = options_in c.args.terms.now in
     let m = c.loop-r in
-    let end = c.number-end.result in
-    let blocks = c.hash_blocks_full-fed in
-    let one =
-    subst (λ (xs : List Step). Fed S options xs m.numbers blocks.new.numbers m.fed blocks.result) (sym (region_list S c.requires.readable.sound.ruled m.r)) blocks.ensures in
-    (omega (arith, m.invariant.0), part_done op_walk_lem m.invariant.1 (in_region S m.r) (concat_map (in_region S) (range (m.r + 1) end)) (range_left (in_region S) m.r end c.loop-r-test.true) one)
+    let new = c.hash_blocks_full.new in
+    let one = subst (λ (xs : List Step). Fed S o xs m.numbers new.numbers m.state.word new.state.word) (sym (region_list S c.args.terms.now.readable.sound.ruled m.r)) c.hash_blocks_full.ensures in
+    subst (λ xs. Fed S o (concat_map (in_region S) xs) c.args.numbers.now new.numbers c.hash_names.new.state.word new.state.word) (sym (number_came c.number-r.result m.r m.auto.r))
+    (came_again (hash_walk S o) (each (in_region S)) (range c.number-r.result m.r) m.invariant m.r one)
 
 pub hash_op_full-returns : goal.hash_op_full-returns
 hash_op_full-returns t c =
-    let cols : Cols = columns c.args.store.now in
-    let options : Options = options_of c.args.ignore c.args.types.now in
-    let op_walk_lem : StepRelation (List ℕ × ℕ) = hash_walk (store_in c.args.store.now) options in
-    let laid : Laid cols = laid_facts cols c.requires.readable.sound.laid in
-    let regions : regions_of (store_in c.args.store.now) c.args.n ≡ range c.number-r.result c.number-end.result =
-    regions_range cols laid c.args.n c.requires.n_bound ∙ ap₂ range (sym c.number-r.ensures) (sym c.number-end.ensures) in
-    let S = store_in c.args.store.now in
-    let end = c.number-end.result in
-    let m = c.loop-r in
-    full_done op_walk_lem S c.args.n (c.hash_names-fed.ensures options) (range c.number-r.result end) regions
-    (all_done op_walk_lem m.invariant.1 (range_over (in_region S) m.r end c.loop-r-test.false))
+    let C = columns c.args.terms.now.store.now in
+    let S = store_in c.args.terms.now.store.now in
+    let laid : Laid C = laid_facts C c.args.terms.now.readable.sound.laid in
+    let rises = (laid.op c.args.n c.requires.n_bound).regions.range.rises in
+    let done : c.loop-r.r ≡ c.number-r-end.result = omega (arith, c.loop-r-test.false, c.loop-r.auto, c.number-r.ensures, c.number-r-end.ensures, rises) in
+    let all = regions_range C laid c.args.n c.requires.n_bound ∙ sym (ap₂ range c.number-r.ensures (done ∙ c.number-r-end.ensures)) in
+    full_done (hash_walk S (options_in c.args.terms.now)) S c.args.n (c.hash_names.ensures (options_in c.args.terms.now)) _ all c.loop-r.invariant
 
 -- ---- the operations of a block
 
+op_comes : (t : ℕ) (c : hash_ops_full-In-Some t) → c.loop-n.yielded ++ c.in-Some.n ∷ ops_left c.next.new.self ≡ ops_of (store_in c.args.terms.now.store.now) c.args.b
+op_comes t c =
+    item_comes ops_left _ _ _ _ (ap ops_left c.into_iter-n-iterator.ensures.into_iter_gives ∙ c.new-n-items.ensures) c.loop-n.yielded_by c.next.new.self _ _ c.in-Some.is c.next.ensures.steps
+
 pub hash_ops_full-loop-n-init : goal.hash_ops_full-loop-n-init
-hash_ops_full-loop-n-init t c =
-    let ops_store : Store = store_in c.args.store.now in
-    let ops_walk_lem : StepRelation (List ℕ × ℕ) = hash_walk ops_store (options_of c.args.ignore c.args.types.now) in
-    let ops_list : List ℕ = ops_of ops_store c.args.b in
-    pass_begun ops_walk_lem (each (full_steps ops_store)) ops_list
+hash_ops_full-loop-n-init t c = none_came (hash_walk _ _) (each (full_steps _)) {a = (c.args.numbers.now, c.args.state.now.word)}
 
-pub hash_ops_full-next_op-requires : goal.hash_ops_full-next_op-requires
-hash_ops_full-next_op-requires t c =
-    record {
-      arranged = record { sized = c.requires.readable.sound.sized; laid = c.requires.readable.sound.laid };
-      block_bound = c.requires.b_bound;
-    }
-
-pub hash_ops_full-returns-in_default : goal.hash_ops_full-returns-in_default
-unfolding ops_in_full
-hash_ops_full-returns-in_default t c =
-    let ops_store : Store = store_in c.args.store.now in
-    let ops_walk_lem : StepRelation (List ℕ × ℕ) = hash_walk ops_store (options_of c.args.ignore c.args.types.now) in
-    let ops_list : List ℕ = ops_of ops_store c.args.b in
-    let m = c.loop-n in
-    pass_over ops_walk_lem (each (full_steps ops_store)) ops_list m.from m.invariant (none_next m.from ops_list _ c.next_op.ensures c.in_default.is)
-
-pub hash_ops_full-hash_op_full-fed-requires : goal.hash_ops_full-hash_op_full-fed-requires
+pub hash_ops_full-hash_op_full-requires : goal.hash_ops_full-hash_op_full-requires
 unfolding ops_in_full block_list
-hash_ops_full-hash_op_full-fed-requires t c =
-    let ops_store : Store = store_in c.args.store.now in
-    let ops_walk_lem : StepRelation (List ℕ × ℕ) = hash_walk ops_store (options_of c.args.ignore c.args.types.now) in
-    let ops_list : List ℕ = ops_of ops_store c.args.b in
-    let n : ℕ = c.in-At.n in
-    let op_found : NextChild ops_list c.loop-n.from n = next_op ops_store c.args.b c.loop-n.from n _ c.next_op.ensures c.in-At.is in
-    let op_here : n < op_count (columns c.args.store.now) = op_in_lem (columns c.args.store.now) c.args.b n op_found.child in
-    let S = ops_store in
-    let m = c.loop-n in
+hash_ops_full-hash_op_full-requires t c =
+    let S = store_in c.args.terms.now.store.now in
+    let n = c.in-Some.n in
+    let turn = op_comes t ((goal.at.hash_ops_full-hash_op_full-requires t c).In-Some) in
+    let inside = comes_mem _ _ _ _ turn in
     let fewer : below S n < below S (around_list S (Alone c.args.b)) =
-    op_falls S c.requires.readable.sound.ruled (Alone c.args.b) c.args.b n (Memᴰ.head refl) op_found.child in
+    op_falls S c.args.terms.now.readable.sound.ruled (Alone c.args.b) c.args.b n (Memᴰ.head refl) inside in
     let falls : 3 * below S n + 2 < 3 * below S (around_list S (Alone c.args.b)) = omega arith in (
       subst (λ (j : ℕ). 3 * below S n + 2 < j) c.decreases falls,
-      (c.requires.readable, (op_here, pass_room ops_walk_lem (each (full_steps S)) ops_list m.from m.invariant op_found c.requires.definitions_fit)),
+      (
+        op_in_lem (columns c.args.terms.now.store.now) c.args.b _ inside,
+        came_room (hash_walk _ _) (each (full_steps S)) c.loop-n.yielded c.loop-n.invariant n _ _ turn c.requires.definitions_fit,
+      ),
     )
 
-pub hash_ops_full-overflow_add-from : goal.hash_ops_full-overflow_add-from
-hash_ops_full-overflow_add-from t c =
-    let ops_store : Store = store_in c.args.store.now in
-    let ops_list : List ℕ = ops_of ops_store c.args.b in
-    let n : ℕ = c.in-At.n in
-    let op_found : NextChild ops_list c.loop-n.from n = next_op ops_store c.args.b c.loop-n.from n _ c.next_op.ensures c.in-At.is in
-    let op_here : n < op_count (columns c.args.store.now) = op_in_lem (columns c.args.store.now) c.args.b n op_found.child in
-    let op_few : n < 512 = omega (arith, op_here, (laid_facts (columns c.args.store.now) c.requires.readable.sound.laid).counts.ops) in
-    record { fits = omega (arith, op_few) }
-
-pub hash_ops_full-loop-n-smaller : goal.hash_ops_full-loop-n-smaller
-hash_ops_full-loop-n-smaller t c =
-    let ops_store : Store = store_in c.args.store.now in
-    let ops_list : List ℕ = ops_of ops_store c.args.b in
-    let n : ℕ = c.in-At.n in
-    let op_found : NextChild ops_list c.loop-n.from n = next_op ops_store c.args.b c.loop-n.from n _ c.next_op.ensures c.in-At.is in
-    let op_here : n < op_count (columns c.args.store.now) = op_in_lem (columns c.args.store.now) c.args.b n op_found.child in
-    let op_few : n < 512 = omega (arith, op_here, (laid_facts (columns c.args.store.now) c.requires.readable.sound.laid).counts.ops) in
-    omega (arith, op_few, op_found.later)
-
 pub hash_ops_full-loop-n-preserved : goal.hash_ops_full-loop-n-preserved
-hash_ops_full-loop-n-preserved t c =
-    let ops_store : Store = store_in c.args.store.now in
-    let ops_walk_lem : StepRelation (List ℕ × ℕ) = hash_walk ops_store (options_of c.args.ignore c.args.types.now) in
-    let ops_list : List ℕ = ops_of ops_store c.args.b in
-    let n : ℕ = c.in-At.n in
-    let op_found : NextChild ops_list c.loop-n.from n = next_op ops_store c.args.b c.loop-n.from n _ c.next_op.ensures c.in-At.is in
-    let m = c.loop-n in
-    pass_again ops_walk_lem (each (full_steps ops_store)) ops_list m.from m.invariant op_found c.hash_op_full-fed.ensures
+hash_ops_full-loop-n-preserved t c = came_again (hash_walk _ _) (each (full_steps _)) c.loop-n.yielded c.loop-n.invariant c.in-Some.n c.hash_op_full.ensures
+
+pub hash_ops_full-returns : goal.hash_ops_full-returns
+unfolding ops_in_full
+hash_ops_full-returns t c =
+    let S = store_in c.args.terms.now.store.now in
+    let came = all_came ops_left _ _ _ _ (ap ops_left c.into_iter-n-iterator.ensures.into_iter_gives ∙ c.new-n-items.ensures) c.loop-n.yielded_by c.next.new.self _ c.in-None.is c.next.ensures.steps in
+    subst (λ xs. Fed S (options_in c.args.terms.now) (concat_map (full_steps S) xs) c.args.numbers.now c.loop-n.numbers c.args.state.now.word c.loop-n.state.word) came c.loop-n.invariant

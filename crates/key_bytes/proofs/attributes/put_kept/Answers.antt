@@ -1,57 +1,42 @@
--- `put_kept` meets its contract: it goes from one kept slot to the next and puts each. Assumes nothing.
+-- `put_kept` meets its contract: the attributes at the slots that came are put, and in the end all that are kept came. Assumes nothing.
 use native.Mathlib.Omega.{arith}
-use Rattle.rules.specs.Hash.{bytes, leaf, flag, attribute_bytes}
-use Rattle.layout.specs.Columns.{columns}
+use mathlib.Core.Path.{sym, ap, ◌∙◌}
+use Rattle.rules.specs.Lists.{concat_map}
+use Rattle.rules.specs.Hash.{attribute_bytes}
+use Rattle.layout.specs.Columns.{Cols, columns}
 use Rattle.layout.specs.Reading.{attribute_at}
-use Rattle.fragments.specs.Ignoring.{ignore_of}
-use Rattle.key_bytes.proofs.Putting.{put_rest}
-use Rattle.key_bytes.proofs.Slots.{kept_begins, kept_goes_on, kept_over}
+use Rattle.fragments.specs.Ignoring.{ignore_of, kept_slots}
+use Rattle.fragments.specs.SlotsLeft.{slots_left}
+use Rattle.fragments.proofs.Kept.{kept_by_slots, slot_in_run}
+use Rattle.fragments.proofs.Yielded.{item_comes, all_came, comes_mem}
+use Rattle.key_bytes.proofs.Entries.{none_put, more_put, each_mapped}
+use Rattle.key_bytes.proofs.Putting.{puts_as}
+use Rattle.key_bytes.proofs.Shelling.{slot_bytes}
 use Rattle.key_bytes.proofs.attributes.put_kept.Goals as goal
 
-pub loop-i-init : goal.loop-i-init
-loop-i-init c =
+pub loop-slot-init : goal.loop-slot-init
+loop-slot-init c = (_, _, none_put (slot_bytes (columns c.args.store.now)) _)
+
+pub put_slot-requires-clause-slot_lt_slot_count : goal.put_slot-requires-clause-slot_lt_slot_count
+put_slot-requires-clause-slot_lt_slot_count c =
     let a = c.args in
-    kept_begins (columns a.store.now) (ignore_of a.ignore) a.first a.end a.key.now _ c.next_kept-i.ensures
+    let turn =
+    item_comes slots_left _ _ _ _ (ap slots_left c.into_iter-slot-iterator.ensures.into_iter_gives ∙ c.new-slot-items.ensures)
+    c.loop-slot.yielded_by c.next.new.self _ _ c.in-Some.is c.next.ensures.steps in
+    let run = slot_in_run (columns a.store.now) (ignore_of a.ignore) a.first a.end c.in-Some.slot (comes_mem _ _ _ _ turn) in
+    omega (arith, run.1, c.requires.end_le_slot_count)
 
-pub put_slot-at-requires : goal.put_slot-at-requires
-put_slot-at-requires c =
-    record { store_len = c.requires.store_len; slot_lt_slot_count = omega (arith, c.loop-i-test.true, c.requires.end_le_slot_count) }
-
-pub overflow_add-at : goal.overflow_add-at
-unfolding bytes leaf flag attribute_bytes
-overflow_add-at c =
-    let i = c.loop-i.invariant in
-    record { fits = omega (arith, c.put_slot-at.ensures.many, i.few, i.stop.up_to, c.requires.end_le_slot_count) }
-
-pub overflow_add-i : goal.overflow_add-i
-overflow_add-i c =
-    omega (arith, c.loop-i.invariant.stop.up_to, c.requires.end_le_slot_count)
-
-pub next_kept-i-requires-in-loop-i : goal.next_kept-i-requires-in-loop-i
-next_kept-i-requires-in-loop-i c =
-    record {
-      store_len = c.requires.store_len;
-      end_le_slot_count = c.requires.end_le_slot_count;
-      from_le_end = omega (arith, c.loop-i-test.true, c.requires.end_le_slot_count);
-    }
-
-pub loop-i-smaller : goal.loop-i-smaller
-loop-i-smaller c = omega (arith, c.next_kept-i-in-loop-i.ensures.from, c.loop-i-test.true)
-
-pub loop-i-preserved : goal.loop-i-preserved
-unfolding bytes leaf flag attribute_bytes
-loop-i-preserved c =
-    let least = c.least-rest in
-    let a = c.args in
-    let m = c.loop-i in
-    let one = c.put_slot-at.ensures in
-    let w = least.ensures in
-    kept_goes_on (columns a.store.now) (ignore_of a.ignore) a.first a.end _ m.i m.key m.at m.invariant _ least.result w c.loop-i-test.true
-    (omega (arith, one.many))
-    (put_rest (attribute_bytes (attribute_at (columns a.store.now) m.i)) _ _ _ w one).long one c.next_kept-i-in-loop-i.ensures
+pub loop-slot-preserved : goal.loop-slot-preserved
+loop-slot-preserved c =
+    (_, _, more_put (slot_bytes (columns c.args.store.now)) c.loop-slot.yielded c.in-Some.slot c.loop-slot.invariant.2 c.put_slot.ensures)
 
 pub returns : goal.returns
 returns c =
     let a = c.args in
-    let m = c.loop-i in
-    kept_over (columns a.store.now) (ignore_of a.ignore) a.first a.end _ m.i m.key m.at m.invariant c.loop-i-test.false
+    let C : Cols = columns a.store.now in
+    let all =
+    all_came slots_left _ _ _ _ (ap slots_left c.into_iter-slot-iterator.ensures.into_iter_gives ∙ c.new-slot-items.ensures)
+    c.loop-slot.yielded_by c.next.new.self _ c.in-None.is c.next.ensures.steps in
+    puts_as (ap (concat_map (slot_bytes C)) all
+    ∙ each_mapped attribute_bytes (attribute_at C) (kept_slots C (ignore_of a.ignore) a.first a.end)
+    ∙ ap (concat_map attribute_bytes) (sym (kept_by_slots C (ignore_of a.ignore) a.first a.end))) c.loop-slot.invariant.2

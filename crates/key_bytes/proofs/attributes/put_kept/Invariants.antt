@@ -1,12 +1,12 @@
--- `put_kept` meets its contract: it goes from one kept slot to the next and puts each. Assumes nothing.
-use Prim.Native.Nat.{◌-◌}
+-- `put_kept` meets its contract: the attributes at the slots that came so far are put. Assumes nothing.
+use Rattle.rules.specs.Lists.{concat_map}
 use Rattle.layout.specs.Columns.{columns}
-use Rattle.fragments.specs.Ignoring.{ignore_of}
-use Rattle.key_bytes.proofs.Slots.{KeptPutting}
+use Rattle.key_bytes.specs.Put.{Puts}
+use Rattle.key_bytes.proofs.Shelling.{slot_bytes}
 use Rattle.key_bytes.proofs.attributes.put_kept.Given as goal
 
-abbrev pub invariant-loop-i : goal.invariant-loop-i
-invariant-loop-i l = KeptPutting (columns l.store) (ignore_of l.ignore) l.first l.end l.initial.key l.i l.key l.at
-
-abbrev pub decreases-loop-i : goal.decreases-loop-i
-decreases-loop-i l = l.end - l.i
+abbrev pub invariant-loop-slot : goal.invariant-loop-slot
+invariant-loop-slot l =
+    (goal.iterator-loop-slot).can_next l.slot-iterator
+    × (goal.iterator-loop-slot).is_finite l.slot-iterator
+    × Puts (concat_map (slot_bytes (columns l.store)) l.yielded) l.initial.key l.key

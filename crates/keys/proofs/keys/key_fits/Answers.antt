@@ -1,11 +1,9 @@
 -- `key_fits` meets its contract: no key is longer than the longest, and else its length is compared. Assumes nothing.
-use Prim.Native.Nat.{ℕ}
 use native.Mathlib.Omega.{arith}
-use mathlib.Core.Path.{sym, ap}
+use mathlib.Core.Path.{sym, ◌∙◌}
 use borrow.Author.Tests.{le-leb}
-use lib.Dec.{leb}
 use lib.ListN.{length}
-use Rattle.rules.specs.Keys.{key}
+use Rattle.rules.specs.Keys.{key, longest_key}
 use Rattle.layout.specs.Reading.{store_in}
 use Rattle.fragments.specs.Options.{options_of, under}
 use Rattle.fragments.specs.Sorts.{sort_of}
@@ -18,8 +16,6 @@ returns-then-room-ge-LONGEST_KEY c =
     let S = store_in a.store.now in
     let o = options_of a.ignore a.types.now in
     let f = sort_of a.sort in
-    sym (le-leb (length (key (under o S) o.ignore f a.n)) a.room
+    le-leb longest_key a.room c.if-room-ge-LONGEST_KEY.true
+    ∙ sym (le-leb (length (key (under o S) o.ignore f a.n)) a.room
     (omega (arith, longest S o f a.n c.requires.readable.sound.ruled c.requires.n_value, c.if-room-ge-LONGEST_KEY.true)))
-
-pub returns : goal.returns
-returns c = ap (λ (l : ℕ). leb l c.args.room) c.key_length.ensures

@@ -1,71 +1,56 @@
--- `put_names` meets its contract: the operands, then the successors into the rest, and nothing is numbered. Assumes nothing.
+-- `put_names` meets its contract: the operands, then the successors, and nothing is numbered. Assumes nothing.
+use Rattle.std.proofs.Common.{rules}
 use Prim.Native.Nat.{ℕ, ◌<◌}
-use native.Mathlib.Omega.{arith}
 use mathlib.Core.Bool.{true}
-use mathlib.Core.List.{List}
-use mathlib.Core.Path.{◌≡◌, sym, ap, subst}
+use mathlib.Core.Path.{◌≡◌, refl, sym, ap, subst}
 use lib.Dec.{ltb}
-use lib.ListN.{length}
+use lib.ListN.{length, get_or}
 use Rattle.rules.specs.Lists.{all}
-use Rattle.rules.specs.Store.{Store, op_at}
-use Rattle.rules.proofs.Soundness.Sound.{OpSound, facts}
-use Rattle.layout.specs.Reading.{value_count, store_in}
+use Rattle.rules.specs.Store.{Store, op_at, max_blocks}
+use Rattle.rules.specs.Hash.{name_of}
+use Rattle.layout.specs.Reading.{value_count}
 use Rattle.layout.specs.Columns.{columns}
 use Rattle.layout.proofs.Tabulate.{ops_length, values_length}
-use Rattle.numbering.proofs.Rounds.{operands_there, successors_few}
+use Rattle.numbering.proofs.Rounds.{operands_there, successors_few, below_at}
+use Rattle.key_bytes.proofs.Putting.{puts_as}
+use Rattle.fragments.specs.Terms.{store_read}
 use Rattle.keys.specs.Written.{names_bytes}
-use Rattle.key_bytes.proofs.Putting.{put_rest, put_as}
+use Rattle.keys.proofs.Naming.{block_named}
 use Rattle.keys.proofs.Writing.{wrote_names}
 use Rattle.keys.proofs.names.put_names.Goals as goal
 
-pub operands_of-requires : goal.operands_of-requires
-operands_of-requires c =
-    record { arranged = record { sized = c.requires.sound.sized; laid = c.requires.sound.laid }; n_bound = c.requires.n_bound }
-
-pub put_operands-at-requires : goal.put_operands-at-requires
-put_operands-at-requires c =
-    let store : Store = store_in c.args.store.now in
+pub put_uses-requires : goal.put_uses-requires
+put_uses-requires c =
+    let store : Store = store_read c.args.terms.now in
     let inside : c.args.n < length store.ops =
-    subst (λ (k : ℕ). c.args.n < k) (sym (ops_length (columns c.args.store.now))) c.requires.n_bound in
-    let known : OpSound store c.args.n = (facts store c.requires.sound.ruled).op c.args.n inside in
-    let operands_of = c.operands_of in
-    let C = columns c.args.store.now in
-    let there =
-    subst (λ (k : ℕ). all (λ (v : ℕ). ltb v k) (op_at store c.args.n).operands ≡ true) (values_length C)
-    (operands_there store c.requires.sound.ruled c.args.n inside) in
-    record {
-      sound = c.requires.sound;
-      list_len_bound = omega (arith, ap length operands_of.ensures, known.operands_fit);
-      list_value = subst (λ (xs : List ℕ). all (λ (v : ℕ). ltb v (value_count C)) xs ≡ true) (sym operands_of.ensures) there;
-    }
+    subst (λ (k : ℕ). c.args.n < k) (sym (ops_length (columns c.args.terms.now.store.now))) c.requires in
+    let count : ℕ = value_count (columns c.args.terms.now.store.now) in
+    let there : all (λ (v : ℕ). ltb v count) (op_at store c.args.n).operands ≡ true =
+    subst (λ (k : ℕ). all (λ (v : ℕ). ltb v k) (op_at store c.args.n).operands ≡ true) (values_length (columns c.args.terms.now.store.now))
+    (operands_there store c.args.terms.now.readable.sound.ruled c.args.n inside) in
+    let list = c.operands_of.result.now in
+    let below : (i : ℕ) → i < length list → get_or list i 0 < count =
+    below_at count list (subst (λ xs. all (λ (v : ℕ). ltb v count) xs ≡ true) (sym c.operands_of.ensures) there) in
+    search rules
 
-pub successors_of-requires : goal.successors_of-requires
-successors_of-requires c =
-    record { arranged = record { sized = c.requires.sound.sized; laid = c.requires.sound.laid }; n_bound = c.requires.n_bound }
-
-pub put_successors-requires : goal.put_successors-requires
-put_successors-requires c =
-    let store : Store = store_in c.args.store.now in
+pub put_uses-requires-2 : goal.put_uses-requires-2
+put_uses-requires-2 c =
+    let store : Store = store_read c.args.terms.now in
     let inside : c.args.n < length store.ops =
-    subst (λ (k : ℕ). c.args.n < k) (sym (ops_length (columns c.args.store.now))) c.requires.n_bound in
-    let known : OpSound store c.args.n = (facts store c.requires.sound.ruled).op c.args.n inside in
-    let successors_of = c.successors_of in
-    let few = successors_few store c.requires.sound.ruled c.args.n inside in
-    record {
-      list_len_bound = omega (arith, ap length successors_of.ensures, known.successors_fit);
-      list_value = subst (λ (xs : List ℕ). all (λ (v : ℕ). ltb v 256) xs ≡ true) (sym successors_of.ensures) few;
-    }
-
-pub overflow_add-result : goal.overflow_add-result
-overflow_add-result c =
-    let store : Store = store_in c.args.store.now in
-    record { fits = omega (arith, c.put_operands-at.ensures.few, (c.put_successors.ensures store).few) }
+    subst (λ (k : ℕ). c.args.n < k) (sym (ops_length (columns c.args.terms.now.store.now))) c.requires in
+    let few : all (λ (b : ℕ). ltb b max_blocks) (op_at store c.args.n).successors ≡ true =
+    successors_few store c.args.terms.now.readable.sound.ruled c.args.n inside in
+    let list = c.successors_of.result.now in
+    let below : (i : ℕ) → i < length list → get_or list i 0 < max_blocks =
+    below_at max_blocks list (subst (λ xs. all (λ (b : ℕ). ltb b max_blocks) xs ≡ true) (sym c.successors_of.ensures) few) in
+    search rules
 
 pub returns : goal.returns
+unfolding names_bytes
 returns c =
-    let store : Store = store_in c.args.store.now in
-    let g = c.put_successors.ensures in
-    λ o. wrote_names store o c.args.n
-    (λ N h. put_as (ap (names_bytes N.values) c.operands_of.ensures) (c.put_operands-at.ensures.put N h))
-    (λ N h. put_as (ap (names_bytes N.blocks) c.successors_of.ensures)
-    (put_rest (names_bytes N.blocks _) _ _ _ c.least-rest.ensures ((g store).put N h)))
+    let store : Store = store_read c.args.terms.now in
+    let f = c.put_uses.ensures in
+    let g = c.put_uses-2.ensures in
+    λ o. wrote_names store o c.args.n refl f.same_reference g.same_reference
+    (λ N h. puts_as (ap (names_bytes N.values) c.operands_of.ensures) (f.put (name_of N.values) (λ i x l p. search rules)))
+    (λ N h. puts_as (ap (names_bytes N.blocks) c.successors_of.ensures) (g.put (name_of N.blocks) (λ i x l p. search (rules, block_named store N))))

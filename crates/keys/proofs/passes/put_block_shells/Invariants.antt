@@ -1,18 +1,12 @@
--- `put_block_shells` meets its contract: how many there are, then a pass through the list, whose step is a block's shell. Assumes nothing.
-use Prim.Native.Nat.{◌-◌}
+-- `put_block_shells` meets its contract: how many there are, then the shells of the blocks that came so far. Assumes nothing.
 use Rattle.rules.specs.Store.{of_block}
-use Rattle.layout.specs.Reading.{store_in}
-use Rattle.fragments.specs.Options.{options_of}
-use Rattle.fragments.specs.Order.{block_list}
-use Rattle.numbering.proofs.Passing.{Passing}
 use Rattle.numbering.proofs.Rounds.{each_shell}
-use Rattle.keys.specs.Written.{up_to}
-use Rattle.keys.proofs.Writing.{key_walk}
+use Rattle.fragments.specs.Terms.{store_read, options_in}
+use Rattle.keys.specs.Written.{place, Wrote}
 use Rattle.keys.proofs.passes.put_block_shells.Given as goal
 
 abbrev pub invariant-loop-b : goal.invariant-loop-b
-invariant-loop-b l = Passing (key_walk (store_in l.store) (options_of l.ignore l.types)) (each_shell of_block)
-    (block_list (store_in l.store) l.blocks) l.from (up_to l.initial.numbers l.initial.key l.initial.at) (up_to l.numbers l.key l.at)
-
-abbrev pub decreases-loop-b : goal.decreases-loop-b
-decreases-loop-b l = 256 - l.from
+invariant-loop-b l =
+    (goal.iterator-loop-b).can_next l.b-iterator
+    × (goal.iterator-loop-b).is_finite l.b-iterator
+    × Wrote (store_read l.terms) (options_in l.terms) (each_shell of_block l.yielded) (place l.initial.numbers l.initial.key) (place l.numbers l.key)

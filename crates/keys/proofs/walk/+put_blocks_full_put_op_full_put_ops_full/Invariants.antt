@@ -1,54 +1,39 @@
--- The three calls that go round meet their contracts together: the number of operations below falls from round to round, a pass goes through
--- its list child by child, and what each loop has written and what is left make the whole. Assumes nothing.
-use Prim.Native.Nat.{◌+◌, ◌*◌, ◌-◌, ◌≤◌}
+-- The three calls that go round meet their contracts together: the number of operations below falls from round to round, and what came so far
+-- is written. Assumes nothing.
+use Prim.Native.Nat.{◌+◌, ◌*◌}
 use Rattle.rules.specs.Lists.{concat_map}
-use Rattle.rules.specs.Store.{ops_of}
-use Rattle.layout.specs.Reading.{store_in}
 use Rattle.layout.proofs.Ranges.{range}
-use Rattle.fragments.specs.Options.{options_of}
-use Rattle.fragments.specs.Order.{block_list}
 use Rattle.fragments.specs.declared.types.Blocks.TheVariants.{Alone}
 use Rattle.fragments.proofs.Below.{below, around_list}
 use Rattle.numbering.specs.Parts.{full_steps, ops_in_full}
-use Rattle.numbering.proofs.Passing.{Partly, Passing}
 use Rattle.numbering.proofs.Rounds.{in_region}
-use Rattle.keys.specs.Written.{up_to}
-use Rattle.keys.proofs.Writing.{key_walk}
+use Rattle.fragments.specs.Terms.{store_read, options_in}
+use Rattle.keys.specs.Written.{place, Wrote}
 use Rattle.keys.proofs.walk.+put_blocks_full_put_op_full_put_ops_full.Given as goal
 
--- pass 3: the blocks that are left, and in a block the operations
+-- pass 3: the blocks, and in a block the operations
 abbrev pub invariant-put_blocks_full-loop-b : goal.invariant-put_blocks_full-loop-b
 invariant-put_blocks_full-loop-b l =
-    Passing (key_walk (store_in l.store) (options_of l.ignore l.types)) (concat_map (ops_in_full (store_in l.store)))
-    (block_list (store_in l.store) l.blocks) l.from (up_to l.initial.numbers l.initial.key l.initial.at) (up_to l.numbers l.key l.at)
-
-abbrev pub decreases-put_blocks_full-loop-b : goal.decreases-put_blocks_full-loop-b
-decreases-put_blocks_full-loop-b l = 256 - l.from
+    (goal.iterator-put_blocks_full-loop-b).can_next l.b-iterator
+    × (goal.iterator-put_blocks_full-loop-b).is_finite l.b-iterator
+    × Wrote (store_read l.terms) (options_in l.terms) (concat_map (ops_in_full (store_read l.terms)) l.yielded) (place l.initial.numbers l.initial.key) (place l.numbers l.key)
 
 abbrev pub decreases-put_blocks_full : goal.decreases-put_blocks_full
-decreases-put_blocks_full l = 3 * below (store_in l.store.now) (around_list (store_in l.store.now) l.blocks) + 1
+decreases-put_blocks_full l = 3 * below (store_read l.terms.now) (around_list (store_read l.terms.now) l.blocks) + 1
 
--- an operation's regions: those that are left
+-- an operation's regions
 abbrev pub invariant-put_op_full-loop-r : goal.invariant-put_op_full-loop-r
 invariant-put_op_full-loop-r l =
-    (l.initial.r ≤ l.r)
-    × Partly (key_walk (store_in l.store) (options_of l.ignore l.types)) (concat_map (in_region (store_in l.store)) (range l.initial.r l.end))
-    (concat_map (in_region (store_in l.store)) (range l.r l.end)) (up_to l.initial.numbers l.initial.key l.initial.at)
-    (up_to l.numbers l.key l.at)
-
-abbrev pub decreases-put_op_full-loop-r : goal.decreases-put_op_full-loop-r
-decreases-put_op_full-loop-r l = l.end - l.r
+    Wrote (store_read l.terms) (options_in l.terms) (concat_map (in_region (store_read l.terms)) (range l.initial.r l.r)) (place l.initial.numbers l.initial.key) (place l.numbers l.key)
 
 abbrev pub decreases-put_op_full : goal.decreases-put_op_full
-decreases-put_op_full l = 3 * below (store_in l.store.now) l.n + 2
+decreases-put_op_full l = 3 * below (store_read l.terms.now) l.n + 2
 
 abbrev pub invariant-put_ops_full-loop-n : goal.invariant-put_ops_full-loop-n
 invariant-put_ops_full-loop-n l =
-    Passing (key_walk (store_in l.store) (options_of l.ignore l.types)) (concat_map (full_steps (store_in l.store)))
-    (ops_of (store_in l.store) l.b) l.from (up_to l.initial.numbers l.initial.key l.initial.at) (up_to l.numbers l.key l.at)
-
-abbrev pub decreases-put_ops_full-loop-n : goal.decreases-put_ops_full-loop-n
-decreases-put_ops_full-loop-n l = 512 - l.from
+    (goal.iterator-put_ops_full-loop-n).can_next l.n-iterator
+    × (goal.iterator-put_ops_full-loop-n).is_finite l.n-iterator
+    × Wrote (store_read l.terms) (options_in l.terms) (concat_map (full_steps (store_read l.terms)) l.yielded) (place l.initial.numbers l.initial.key) (place l.numbers l.key)
 
 abbrev pub decreases-put_ops_full : goal.decreases-put_ops_full
-decreases-put_ops_full l = 3 * below (store_in l.store.now) (around_list (store_in l.store.now) (Alone l.b))
+decreases-put_ops_full l = 3 * below (store_read l.terms.now) (around_list (store_read l.terms.now) (Alone l.b))

@@ -1,5 +1,4 @@
 -- `rows_laid` meets its contract: a scan that ends at the first row that is not laid out. Assumes nothing.
-use Prim.Native.Nat.{◌-◌}
 use Rattle.layout.specs.Columns.{columns, at, counts}
 use Rattle.layout.specs.Soundness.{row_laid}
 use Rattle.layout.proofs.Scans.{Scanned}
@@ -7,6 +6,3 @@ use Rattle.layout.proofs.checks.rows_laid.Given as goal
 
 abbrev pub invariant-loop-i : goal.invariant-loop-i
 invariant-loop-i l = Scanned (row_laid (columns l.store) l.table) (at (columns l.store) counts l.table) l.count l.i
-
-abbrev pub decreases-loop-i : goal.decreases-loop-i
-decreases-loop-i l = l.count - l.i

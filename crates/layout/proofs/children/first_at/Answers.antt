@@ -16,9 +16,6 @@ returns-then-at-w c =
     let i = c.loop-i.i in
     sym (ap found_from (c.loop-i.invariant ∙ word_here (columns a.store.now) a.column a.w i a.e (omega arith) (sym c.at.ensures ∙ c.if-at-w.true)))
 
-pub loop-i-smaller : goal.loop-i-smaller
-loop-i-smaller c = omega arith
-
 pub loop-i-preserved : goal.loop-i-preserved
 loop-i-preserved c =
     let a = c.args in

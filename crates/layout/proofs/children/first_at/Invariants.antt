@@ -7,6 +7,3 @@ use Rattle.layout.proofs.children.first_at.Given as goal
 
 abbrev pub invariant-loop-i : goal.invariant-loop-i
 invariant-loop-i l = first_word (columns l.store) l.column l.w l.a (l.e - l.a) ≡ first_word (columns l.store) l.column l.w l.i (l.e - l.i)
-
-abbrev pub decreases-loop-i : goal.decreases-loop-i
-decreases-loop-i l = l.e - l.i

@@ -1,5 +1,4 @@
 -- `blocks_hold` meets its contract: a scan that ends at the first block that breaks the rules. Assumes nothing.
-use Prim.Native.Nat.{◌-◌}
 use Rattle.layout.specs.Columns.{columns}
 use Rattle.layout.specs.Reading.{block_count}
 use Rattle.layout.specs.Soundness.{block_rules}
@@ -8,6 +7,3 @@ use Rattle.layout.proofs.ruled.blocks_hold.Given as goal
 
 abbrev pub invariant-loop-m : goal.invariant-loop-m
 invariant-loop-m l = Scanned (block_rules (columns l.store)) (block_count (columns l.store)) l.blocks l.m
-
-abbrev pub decreases-loop-m : goal.decreases-loop-m
-decreases-loop-m l = l.blocks - l.m

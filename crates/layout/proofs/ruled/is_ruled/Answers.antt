@@ -9,19 +9,20 @@ use Rattle.layout.proofs.Buffer.{columns_shaped}
 use Rattle.layout.proofs.Rules.{rules_sound}
 use Rattle.layout.proofs.ruled.is_ruled.Goals as goal
 
-pub returns-then-not-ops_hold : goal.returns-then-not-ops_hold
+pub returns-then-ops_hold : goal.returns-then-ops_hold
 unfolding rules_hold
-returns-then-not-ops_hold c =
-    let b = c.args.store.now in
-    let C = columns b in
-    sym (ap (λ (t : Bool). t && all_below (block_count C) (block_rules C)) (sym c.ops_hold.ensures ∙ c.if-not-ops_hold.true))
-    ∙ rules_sound C (columns_shaped b c.requires.sized) c.requires.laid
-
-pub returns : goal.returns
-unfolding rules_hold
-returns c =
+returns-then-ops_hold c =
     let b = c.args.store.now in
     let C = columns b in
     c.blocks_hold.ensures
-    ∙ sym (ap (λ (t : Bool). t && all_below (block_count C) (block_rules C)) (sym c.ops_hold.ensures ∙ c.if-not-ops_hold.false))
+    ∙ sym (ap (λ (t : Bool). t && all_below (block_count C) (block_rules C)) (sym c.ops_hold.ensures ∙ c.if-ops_hold.true))
+    ∙ rules_sound C (columns_shaped b c.requires.sized) c.requires.laid
+
+pub returns-else-ops_hold : goal.returns-else-ops_hold
+unfolding rules_hold
+returns-else-ops_hold c =
+    let b = c.args.store.now in
+    let C = columns b in
+    c.if-ops_hold.false
+    ∙ sym (ap (λ (t : Bool). t && all_below (block_count C) (block_rules C)) (sym c.ops_hold.ensures ∙ c.if-ops_hold.false))
     ∙ rules_sound C (columns_shaped b c.requires.sized) c.requires.laid

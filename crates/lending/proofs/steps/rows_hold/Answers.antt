@@ -4,7 +4,7 @@ use native.Mathlib.Omega.{arith}
 use mathlib.Core.Path.{◌≡◌, refl, sym, subst, subst₂, ◌∙◌}
 use Rattle.layout.specs.Columns.{columns}
 use Rattle.journal.specs.Words.{mark_count, entry_count}
-use Rattle.lending.proofs.Reached.{Reached, reach_starts, end_fits, step_on}
+use Rattle.lending.proofs.Reached.{Reached, reach_starts, step_on}
 use Rattle.lending.proofs.Whole.{step_fails, all_told}
 use Rattle.lending.proofs.Marks.{words_facts}
 use Rattle.lending.proofs.steps.rows_hold.Goals as goal
@@ -13,41 +13,15 @@ pub loop-i-init : goal.loop-i-init
 unfolding mark_count entry_count
 loop-i-init c =
     let C = columns c.args.copy.now in
-    (refl, c.requires.sound, subst₂ (λ (i end : ℕ). Reached C C i end) (sym c.number-i.ensures) (sym c.number-end.ensures) (reach_starts C))
-
-pub step_back-requires : goal.step_back-requires
-unfolding mark_count
-step_back-requires c =
-    let C = columns c.args.copy.now in
-    let w = words_facts C c.requires.nonzero c.requires.copy_value in
-    let g = c.loop-i.invariant.2 in
-    record {
-      sound = c.loop-i.invariant.1;
-      copy_bound = omega (arith, w.few, g.behind.marks);
-      i_bound = omega (arith, w.few, g.low);
-      end_le_max_entries = omega (arith, w.short, end_fits C c.requires.nonzero (columns c.loop-i.copy) c.loop-i.i c.loop-i.end g);
-    }
-
-pub shape_of-copy-then-not-step_back : goal.shape_of-copy-then-not-step_back
-shape_of-copy-then-not-step_back c = c.step_back.auto.copy ∙ c.loop-i.invariant.0
+    record { long = refl; sound = c.requires.sound; reached = subst₂ (λ (i end : ℕ). Reached C C i end) (sym c.number-i.ensures) (sym c.number-end.ensures) (reach_starts C) }
 
 pub returns-then-not-step_back : goal.returns-then-not-step_back
 returns-then-not-step_back c =
     let C = columns c.args.copy.now in
     let D = columns c.loop-i.copy in
     let e : c.loop-i.i ≡ suc (c.loop-i.i - 1) = omega arith in
-    step_fails C c.requires.nonzero D (c.loop-i.i - 1) c.loop-i.end (subst (λ (i : ℕ). Reached C D i c.loop-i.end) e c.loop-i.invariant.2)
+    step_fails C c.requires.nonzero D (c.loop-i.i - 1) c.loop-i.end (subst (λ (i : ℕ). Reached C D i c.loop-i.end) e c.loop-i.invariant.reached)
     (sym c.step_back.ensures.told ∙ c.if-not-step_back.true)
-
-pub number-end-requires-in-loop-i : goal.number-end-requires-in-loop-i
-number-end-requires-in-loop-i c =
-    let C = columns c.args.copy.now in
-    let w = words_facts C c.requires.nonzero c.requires.copy_value in
-    record {
-      store_len = c.step_back.auto.copy ∙ c.loop-i.invariant.1.sized;
-      column_lt_column_count = omega arith;
-      n_bound = omega (arith, w.few, c.loop-i.invariant.2.low);
-    }
 
 pub loop-i-preserved : goal.loop-i-preserved
 loop-i-preserved c =
@@ -56,16 +30,15 @@ loop-i-preserved c =
     let i = c.loop-i.i - 1 in
     let e : c.loop-i.i ≡ suc i = omega arith in
     let came = c.step_back.ensures in
-    let yes = c.if-not-step_back.false in (
-      c.step_back.auto.copy ∙ c.loop-i.invariant.0,
-      came.sound yes,
-      step_on C c.requires.nonzero D i c.loop-i.end (subst (λ (k : ℕ). Reached C D k c.loop-i.end) e c.loop-i.invariant.2)
+    let yes = c.if-not-step_back.false in
+    record {
+      long = c.step_back.auto.copy ∙ c.loop-i.invariant.long;
+      sound = came.sound yes;
+      reached =
+          step_on C c.requires.nonzero D i c.loop-i.end (subst (λ (k : ℕ). Reached C D k c.loop-i.end) e c.loop-i.invariant.reached)
           (sym came.told ∙ yes)
-          (columns c.step_back.new.copy) (came.reads yes) (came.behind yes) c.number-end-in-loop-i.result c.number-end-in-loop-i.ensures,
-    )
-
-pub shape_of-copy : goal.shape_of-copy
-shape_of-copy c = c.loop-i.invariant.0
+          (columns c.step_back.new.copy) (came.reads yes) (came.behind yes) c.number-end-in-loop-i.result c.number-end-in-loop-i.ensures;
+    }
 
 pub returns : goal.returns
 returns c =
@@ -74,4 +47,4 @@ returns c =
     let w = words_facts C c.requires.nonzero c.requires.copy_value in
     let e : c.loop-i.i ≡ 0 = omega arith in
     all_told C c.requires.nonzero c.requires.sound.ruled w.most D c.loop-i.end
-    (subst (λ (i : ℕ). Reached C D i c.loop-i.end) e c.loop-i.invariant.2)
+    (subst (λ (i : ℕ). Reached C D i c.loop-i.end) e c.loop-i.invariant.reached)

@@ -7,7 +7,9 @@ use Rattle.lending.proofs.Reached.{Reached}
 use Rattle.lending.proofs.steps.rows_hold.Given as goal
 
 abbrev pub invariant-loop-i : goal.invariant-loop-i
-invariant-loop-i l = (length l.copy ≡ length l.initial.copy) × IsSound l.copy × Reached (columns l.initial.copy) (columns l.copy) l.i l.end
-
-abbrev pub decreases-loop-i : goal.decreases-loop-i
-decreases-loop-i l = l.i
+invariant-loop-i l =
+    record {
+      long : length l.copy ≡ length l.initial.copy;
+      sound : IsSound l.copy;
+      reached : Reached (columns l.initial.copy) (columns l.copy) l.i l.end;
+    }

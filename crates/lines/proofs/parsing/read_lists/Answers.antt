@@ -1,45 +1,28 @@
 -- `read_lists` meets its contract: it reads one list after the other, and nothing more is left. Assumes nothing.
-use mathlib.Core.Path.{refl, sym, ◌∙◌}
+use Rattle.std.proofs.Common.{arith}
+use Rattle.rules.specs.Lines.{wholly}
 use Rattle.lines.specs.Parsing.{operation_lists, lists_of, ListsFit}
-use Rattle.lines.proofs.Answers.{read_items, items_fit, items_nothing}
-use Rattle.lines.proofs.Meaning.{stops, goes, unread, more_left, all_read_lem}
+use Rattle.lines.proofs.Ended.{ended, kept_if}
+use Rattle.lines.proofs.Items.{items_left}
 use Rattle.lines.proofs.parsing.read_lists.Goals as goal
 
-pub returns-in_default : goal.returns-in_default
-unfolding operation_lists lists_of ListsFit
-returns-in_default c = record { same = unread (stops _ (items_nothing c.items_at.ensures c.in_default.is)); fit = tt }
+pub items-requires-2 : goal.items-requires-2
+items-requires-2 c =
+    let l = items_left c.args.fields.now c.in_ok-types.ensures.same in
+    omega (arith, c.requires.operands_fit)
 
-pub returns-in_default-items_at : goal.returns-in_default-items_at
-unfolding operation_lists lists_of ListsFit
-returns-in_default-items_at c =
-    let t = read_items c.items_at.ensures _ _ c.in-At.is in
-    record { same = unread (goes _ t (stops _ (items_nothing c.items_at-2.ensures c.in_default-items_at.is))); fit = tt }
-
-pub returns-in_default-items_at-2 : goal.returns-in_default-items_at-2
-unfolding operation_lists lists_of ListsFit
-returns-in_default-items_at-2 c =
-    let t = read_items c.items_at.ensures _ _ c.in-At.is in
-    let o = read_items c.items_at-2.ensures _ _ c.in-At-items_at.is in
-    record { same = unread (goes _ t (goes _ o (stops _ (items_nothing c.items_at-3.ensures c.in_default-items_at-2.is)))); fit = tt }
-
-pub returns-then-not-ended_at : goal.returns-then-not-ended_at
-unfolding operation_lists lists_of ListsFit
-returns-then-not-ended_at c =
-    let t = read_items c.items_at.ensures _ _ c.in-At.is in
-    let o = read_items c.items_at-2.ensures _ _ c.in-At-items_at.is in
-    let s = read_items c.items_at-3.ensures _ _ c.in-At-items_at-2.is in
-    record { same = more_left _ (goes _ t (goes _ o (goes _ s refl))) (sym c.ended_at.ensures ∙ c.if-not-ended_at.true); fit = tt }
+pub items-requires-3 : goal.items-requires-3
+items-requires-3 c =
+    let l = items_left c.args.fields.now c.in_ok-types.ensures.same in
+    let m = items_left c.items.new.self c.in_ok-operands.ensures.same in
+    omega (arith, c.requires.successors_fit)
 
 pub returns : goal.returns
-unfolding operation_lists lists_of ListsFit
+unfolding operation_lists wholly
 returns c =
-    let t = read_items c.items_at.ensures _ _ c.in-At.is in
-    let o = read_items c.items_at-2.ensures _ _ c.in-At-items_at.is in
-    let s = read_items c.items_at-3.ensures _ _ c.in-At-items_at-2.is in
-    let fits_t = items_fit c.items_at.ensures _ _ c.in-At.is in
-    let fits_o = items_fit c.items_at-2.ensures _ _ c.in-At-items_at.is in
-    let fits_s = items_fit c.items_at-3.ensures _ _ c.in-At-items_at-2.is in
     record {
-      same = all_read_lem _ (goes _ t (goes _ o (goes _ s refl))) (sym c.ended_at.ensures ∙ c.if-not-ended_at.false);
-      fit = (fits_t, fits_o, fits_s);
+      same =
+          rw (c.in_ok-types.ensures.same, c.in_ok-operands.ensures.same, c.in_ok-successors.ensures.same)
+          (ended (lists_of c.items.new.list c.items-2.new.list c.items-3.new.list) _ _ _ _ c.is_empty.ensures c.then_some.ensures);
+      fit = kept_if (ListsFit c.items.new.list c.items-2.new.list c.items-3.new.list) tt _ (c.in_ok-types.ensures.fit, c.in_ok-operands.ensures.fit, c.in_ok-successors.ensures.fit) _ _ c.then_some.ensures;
     }

@@ -2,8 +2,5 @@
 use Rattle.lines.proofs.Digits.{Filling}
 use Rattle.lines.proofs.writing.put_digits.Given as goal
 
-abbrev pub invariant-loop-left : goal.invariant-loop-left
-invariant-loop-left l = Filling l.initial.out l.at l.base l.count l.n l.out l.rest l.left
-
-abbrev pub decreases-loop-left : goal.decreases-loop-left
-decreases-loop-left l = l.left
+abbrev pub invariant-loop-i : goal.invariant-loop-i
+invariant-loop-i l = Filling l.initial.out l.at l.base l.count l.n l.out l.rest l.i

@@ -3,4 +3,4 @@ use mathlib.Core.Path.{sym}
 use Rattle.link.proofs.known.wz_known_clone_operation.Goals as goal
 
 pub returns : goal.returns
-returns c = rw (c.of_built.ensures, sym c.parent.ensures) c.clone_operation.ensures
+returns c = rw (c.of_made.ensures, sym c.parent.ensures) c.clone_operation.ensures

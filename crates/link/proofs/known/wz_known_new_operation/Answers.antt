@@ -4,4 +4,4 @@ use Rattle.link.proofs.known.wz_known_new_operation.Goals as goal
 
 pub returns : goal.returns
 returns c =
-    rw (c.of_built.ensures, sym c.parent.ensures) c.new_operation.ensures
+    rw (c.of_made.ensures, sym c.parent.ensures) c.new_operation.ensures

@@ -6,4 +6,4 @@ use Rattle.link.proofs.known.wz_known_region_hash.Goals as goal
 
 pub returns : goal.returns
 unfolding ignoring ignore_of sort_of
-returns c = rw c.of_hash.ensures c.fragment_hash.ensures
+returns c = rw c.of_hash.ensures c.fragment_hash.ensures.told

@@ -5,4 +5,4 @@ use Rattle.link.proofs.known.wz_known_repeated_run.Goals as goal
 
 pub returns : goal.returns
 unfolding ignoring ignore_of
-returns c = rw c.of_run.ensures c.block_runs.ensures
+returns c = rw c.of_run.ensures c.block_runs.ensures.told

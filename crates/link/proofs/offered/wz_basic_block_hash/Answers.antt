@@ -5,4 +5,4 @@ use Rattle.link.proofs.offered.wz_basic_block_hash.Goals as goal
 
 pub returns : goal.returns
 unfolding ignoring ignore_of
-returns c = rw c.of_hash.ensures c.basic_block_hash.ensures
+returns c = rw c.of_hash.ensures c.basic_block_hash.ensures.told

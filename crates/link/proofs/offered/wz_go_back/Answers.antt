@@ -2,4 +2,4 @@
 use Rattle.link.proofs.offered.wz_go_back.Goals as goal
 
 pub returns : goal.returns
-returns c = rw c.of_built.ensures c.go_back.ensures
+returns c = rw c.of_done.ensures c.go_back.ensures

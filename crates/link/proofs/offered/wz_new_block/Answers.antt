@@ -2,4 +2,4 @@
 use Rattle.link.proofs.offered.wz_new_block.Goals as goal
 
 pub returns : goal.returns
-returns c = rw c.of_built.ensures c.new_block.ensures
+returns c = rw c.of_made.ensures c.new_block.ensures

@@ -3,4 +3,4 @@ use mathlib.Core.Path.{sym}
 use Rattle.link.proofs.offered.wz_new_operation.Goals as goal
 
 pub returns : goal.returns
-returns c = rw (c.of_built.ensures, sym c.parent.ensures) c.new_operation.ensures
+returns c = rw (c.of_made.ensures, sym c.parent.ensures) c.new_operation.ensures

@@ -5,4 +5,4 @@ use Rattle.link.proofs.offered.wz_repeated_run.Goals as goal
 
 pub returns : goal.returns
 unfolding ignoring ignore_of
-returns c = rw c.of_run.ensures c.repeated_run.ensures
+returns c = rw c.of_run.ensures c.repeated_run.ensures.told

@@ -6,4 +6,4 @@ use Rattle.link.proofs.offered.wz_set_attribute.Goals as goal
 
 pub returns : goal.returns
 unfolding attribute_of attribute_from
-returns c = rw (c.of_built.ensures, sym c.owner.ensures) c.set_attribute.ensures
+returns c = rw (c.of_done.ensures, sym c.owner.ensures) c.set_attribute.ensures

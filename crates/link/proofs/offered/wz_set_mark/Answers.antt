@@ -2,4 +2,4 @@
 use Rattle.link.proofs.offered.wz_set_mark.Goals as goal
 
 pub returns : goal.returns
-returns c = rw c.of_built.ensures c.set_mark.ensures
+returns c = rw c.of_done.ensures c.set_mark.ensures

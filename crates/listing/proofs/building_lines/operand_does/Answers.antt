@@ -1,15 +1,9 @@
--- `operand_does` meets its contract: a line that means nothing is cause 10, any other makes its call. Assumes nothing.
-use mathlib.Core.Path.{sym, ap, ◌∙◌}
-use Rattle.lines.specs.Parsing.{operand_line_of}
-use Rattle.listing.proofs.Built.{unread, line_built}
+-- `operand_does` meets its contract: a line that means nothing is a bad line, any other makes its call. Assumes nothing.
+use Rattle.listing.proofs.Built.{unread, line_done}
 use Rattle.listing.proofs.building_lines.operand_does.Goals as goal
 
 pub returns-in_default : goal.returns-in_default
-unfolding operand_line_of
-returns-in_default c =
-    unread _ _ (ap operand_line_of (sym c.in_default.is) ∙ c.operand_line.ensures) c.requires
+returns-in_default c = unread _ _ c.in_default.ensures c.requires
 
 pub returns : goal.returns
-unfolding operand_line_of
-returns c =
-    line_built _ _ _ _ _ c.set_operand.ensures c.refusal_in.ensures _ (ap operand_line_of (sym c.in-Is.is) ∙ c.operand_line.ensures)
+returns c = line_done c.in-Some.ensures c.set_operand.result c.set_operand.ensures

@@ -11,7 +11,7 @@ use Rattle.listing.proofs.closing.close.Goals as goal
 pub put_share-requires : goal.put_share-requires
 put_share-requires c =
     let counted = c.counts-counted.ensures in
-    record { share_room_in_bounds = c.requires.share_room_in_bounds; equal_le_all = counted.part; all_le_max_ops = counted.few }
+    record { share_room_in_bounds = c.requires; equal_le_all = counted.part; all_le_max_ops = counted.few }
 
 pub returns-in-Twins : goal.returns-in-Twins
 unfolding closes share

@@ -1,8 +1,12 @@
 -- `empty_mapping` meets its contract: every word is written over. Assumes nothing.
-use mathlib.Core.Path.{◌∙◌}
-use Rattle.listing.proofs.Emptied.{mapping_empty}
+use Rattle.std.proofs.Common.{◌≡◌, ℕ, length, ap, ◌∙◌, rules}
+use lib.ListN.{replicate}
+use Rattle.rules.specs.Mapping.{no_image}
+use Rattle.mapping.specs.MappingWords.{empty_words}
 use Rattle.listing.proofs.emptying.empty_mapping.Goals as goal
 
 pub returns : goal.returns
+unfolding empty_words
 returns c =
-    c.fill_at.ensures ∙ mapping_empty c.args.mapping.now c.requires
+    let e : c.fill.new.self ≡ replicate (length c.args.mapping.now) no_image = search rules in
+    e ∙ ap (λ (n : ℕ). replicate n no_image) c.requires

@@ -1,8 +1,10 @@
 -- `line_does` meets its contract: it tests the length, then the letter, and then does what the letter says. Assumes nothing.
-use mathlib.Core.Path.{sym, ap, ◌∙◌}
+use Rattle.std.proofs.Common.{length, sym, ap, ◌∙◌, arith, length-drop}
+use Rattle.std.proofs.lemmas.Result.{err_from_is_err_and}
+use Rattle.rules.specs.Lines.{field}
 use Rattle.rules.specs.Listings.{line_does}
-use Rattle.lines.specs.Reading.{word_of}
-use Rattle.lines.proofs.Answers.{told}
+use Rattle.lines.specs.Reading.{one_byte}
+use Rattle.layout.specs.declared.causes.Cause.TheVariants.{BadLine, BadLength}
 use Rattle.listing.specs.Progress.{program_of, progress_of}
 use Rattle.listing.proofs.Steps.{too_long_lem, unlettered, asks, builds, line_stopped, line_asked, line_refused, line_built}
 use Rattle.listing.proofs.running.line_does.Goals as goal
@@ -13,57 +15,59 @@ returns-then-line-gt-MAX_LINE c =
     let r = c.requires in
     let cause = too_long_lem (program_of a.progress.program) (progress_of a.store.now a.tally.now) a.line.now c.if-line-gt-MAX_LINE.true in
     record {
-      line_does = line_stopped a.progress.program a.line.now a.store.now a.tally.now a.out.now a.progress.at r.sound r.tally 11 cause;
+      line_does = line_stopped a.progress.program a.line.now a.store.now a.tally.now a.out.now a.progress.at r.sound BadLength cause;
       mapping_after = r.mapping_value;
     }
 
 pub returns-in_default : goal.returns-in_default
-unfolding word_of
 returns-in_default c =
     let a = c.args in
     let r = c.requires in
     let line = a.line.now in
-    let no_letter = told (word_of line) c.word_at.ensures c.in_default.is in
     let now = progress_of a.store.now a.tally.now in
-    let cause = unlettered (program_of a.progress.program) now line c.if-line-gt-MAX_LINE.false no_letter in
+    let read = ap (λ fs. field one_byte fs) (sym c.new-fields.ensures.fields) ∙ c.in_default.ensures.reads in
+    let cause = unlettered (program_of a.progress.program) now line c.if-line-gt-MAX_LINE.false read in
     record {
-      line_does = line_stopped a.progress.program line a.store.now a.tally.now a.out.now a.progress.at r.sound r.tally 10 cause;
+      line_does = line_stopped a.progress.program line a.store.now a.tally.now a.out.now a.progress.at r.sound BadLine cause;
       mapping_after = r.mapping_value;
     }
 
 pub returns-then-letter-eq113 : goal.returns-then-letter-eq113
-unfolding word_of
 returns-then-letter-eq113 c =
     let a = c.args in
     let r = c.requires in
     let program = program_of a.progress.program in
     let now = progress_of a.store.now a.tally.now in
-    let read = told (word_of a.line.now) c.word_at.ensures c.in-At.is in
-    let query_asked = asks program now a.line.now c.if-line-gt-MAX_LINE.false c.in-At.letter _ read c.if-letter-eq113.true in
-    let asked = query_asked ∙ ap (line_does program now) (sym c.query_line-query.ensures) in
-    let line_does_lem = line_asked a.progress.program a.line.now a.store.now a.tally.now a.out.now a.progress.at r.sound r.tally in
+    let read = ap (λ fs. field one_byte fs) (sym c.new-fields.ensures.fields) ∙ c.in-Some.ensures.reads in
+    let query_asked = asks program now a.line.now c.if-line-gt-MAX_LINE.false c.in-Some.letter _ read c.if-letter-eq113.true in
+    let asked = query_asked ∙ ap (line_does program now) c.query_line-query.ensures in
+    let line_does_lem = line_asked a.progress.program a.line.now a.store.now a.tally.now a.out.now a.progress.at r.sound in
     record { line_does = line_does_lem _ _ _ _ asked c.query_does.ensures.stepped; mapping_after = c.query_does.ensures.mapping_after }
 
-pub returns-in-Is : goal.returns-in-Is
-unfolding word_of
-returns-in-Is c =
-    let a = c.args in
-    let r = c.requires in
-    let program = program_of a.progress.program in
-    let now = progress_of a.store.now a.tally.now in
-    let read = told (word_of a.line.now) c.word_at.ensures c.in-At.is in
-    let built = builds program now a.line.now c.if-line-gt-MAX_LINE.false c.in-At.letter _ read c.if-letter-eq113.false in
-    let line_does_lem = line_refused a.progress.program a.line.now a.store.now a.tally.now a.out.now a.progress.at r.sound r.tally in
-    record { line_does = line_does_lem _ _ _ built c.building_does.ensures _ c.in-Is.is; mapping_after = r.mapping_value }
+pub building_does-requires-clause-line_len_bound : goal.building_does-requires-clause-line_len_bound
+building_does-requires-clause-line_len_bound c =
+    let few = c.new-fields.ensures.few in
+    omega (arith, ap length c.in-Some.ensures.passed, length-drop 1 c.new-fields.result)
 
-pub returns-in-None : goal.returns-in-None
-unfolding word_of
-returns-in-None c =
+pub returns-in_err-building_does : goal.returns-in_err-building_does
+returns-in_err-building_does c =
     let a = c.args in
     let r = c.requires in
     let program = program_of a.progress.program in
     let now = progress_of a.store.now a.tally.now in
-    let read = told (word_of a.line.now) c.word_at.ensures c.in-At.is in
-    let built = builds program now a.line.now c.if-line-gt-MAX_LINE.false c.in-At.letter _ read c.if-letter-eq113.false in
-    let line_does_lem = line_built a.progress.program a.line.now a.store.now a.tally.now a.out.now a.progress.at r.sound r.tally in
-    record { line_does = line_does_lem _ _ _ built c.building_does.ensures c.in-None.is; mapping_after = r.mapping_value }
+    let read = ap (λ fs. field one_byte fs) (sym c.new-fields.ensures.fields) ∙ c.in-Some.ensures.reads in
+    let built = builds program now a.line.now c.if-line-gt-MAX_LINE.false c.in-Some.letter _ read c.if-letter-eq113.false in
+    let line_does_lem = line_refused a.progress.program a.line.now a.store.now a.tally.now a.out.now a.progress.at r.sound in
+    let p = err_from_is_err_and c.from_residual.result c.from_residual.ensures.1 in
+    rw (p.1, p.2) (record { line_does = line_does_lem _ _ built _ c.in_err-building_does.ensures; mapping_after = r.mapping_value })
+
+pub returns : goal.returns
+returns c =
+    let a = c.args in
+    let r = c.requires in
+    let program = program_of a.progress.program in
+    let now = progress_of a.store.now a.tally.now in
+    let read = ap (λ fs. field one_byte fs) (sym c.new-fields.ensures.fields) ∙ c.in-Some.ensures.reads in
+    let built = builds program now a.line.now c.if-line-gt-MAX_LINE.false c.in-Some.letter _ read c.if-letter-eq113.false in
+    let line_does_lem = line_built a.progress.program a.line.now a.store.now a.tally.now a.out.now a.progress.at r.sound in
+    record { line_does = line_does_lem _ _ built c.in_ok-building_does.ensures; mapping_after = r.mapping_value }

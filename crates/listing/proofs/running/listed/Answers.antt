@@ -1,21 +1,23 @@
 -- `listed` meets its contract: a refused first line is all that is printed; behind any other the lines run on an empty store. Assumes
 -- nothing.
 use native.Mathlib.Omega.{arith}
+use mathlib.Core.Path.{refl}
+use Rattle.listing.proofs.Runs.{numbered}
 use Rattle.listing.proofs.Whole.{first_refused, all_ran}
 use Rattle.listing.proofs.running.listed.Goals as goal
 
-pub returns-in-Is : goal.returns-in-Is
-returns-in-Is c =
+pub returns-in-Err : goal.returns-in-Err
+returns-in-Err c =
     let a = c.args in
     let listing = a.listing.now in
     let store = a.store.now in
     let mapping = a.mapping.now in
     let out = a.out.now in
-    first_refused a.program listing store mapping out _ _ _ _ c.header_cause-cause.ensures c.in-Is.is c.put_refusal.ensures
+    first_refused a.program listing store mapping out _ _ _ c.in-Err.ensures (numbered 1 c.number.ensures c.put_refusal.ensures)
 
 pub run-requires : goal.run-requires
 run-requires c =
-    let b = c.header_cause-cause.ensures.begun c.in_default.is in
+    let b = c.in_default.ensures.begun refl in
     record {
       bare = c.empty_store.ensures.bare;
       store_value = c.empty_store.ensures.store_after;
@@ -33,4 +35,4 @@ returns c =
     let store = a.store.now in
     let mapping = a.mapping.now in
     let out = a.out.now in
-    all_ran a.program listing store mapping out _ _ _ _ _ c.header_cause-cause.ensures c.in_default.is c.run.ensures
+    all_ran a.program listing store mapping out _ _ _ _ c.in_default.ensures c.run.ensures

@@ -1,48 +1,37 @@
 -- `sums_does` meets its contract: a refused hash stops the program, and else both are printed. Assumes nothing.
-use Prim.Native.Nat.{ℕ}
-use mathlib.Core.Bool.{true}
-use mathlib.Core.List.{List, []}
-use mathlib.Core.Path.{subst}
+use Rattle.std.proofs.Common.{ℕ, true, List, [], Result, subst}
+use Rattle.std.proofs.lemmas.Result.{err_from_is_err_and}
 use Rattle.rules.specs.Fragments.{Sort}
 use Rattle.rules.specs.Shells.{Ignore}
+use Rattle.layout.specs.declared.causes.Cause.{Cause}
 use Rattle.renaming.specs.Index.{list_in}
 use Rattle.renaming.proofs.Indexed.{no_words_lem, no_list}
 use Rattle.hashing.specs.Calls.{Answered}
-use Rattle.hashing.specs.declared.types.Hashed.{Hashed}
 use Rattle.listing.proofs.Hashes.{left_stops, right_stops, sums_goes}
 use Rattle.listing.proofs.summing.sums_does.Goals as goal
 
 -- as a list that is empty
-unlisted : {b : List ℕ} {ig : Ignore} {f : Sort} {n : ℕ} {h : Hashed} → Answered true b (list_in []) ig f n h → Answered true b [] ig f n h
+unlisted : {b : List ℕ} {ig : Ignore} {f : Sort} {n : ℕ} {h : Result ℕ Cause} → Answered true b (list_in []) ig f n h → Answered true b [] ig f n h
 unlisted {b} {ig} {f} {n} {h} a = subst (λ (ts : List ℕ). Answered true b ts ig f n h) no_list a
 
-pub fragment_hash-left-requires : goal.fragment_hash-left-requires
-fragment_hash-left-requires c =
-    record { sound = c.requires.sound; indexed = no_words_lem }
+pub invariant_of-terms : goal.invariant_of-terms
+invariant_of-terms c = record { readable = record { sound = c.requires.sound; indexed = no_words_lem } }
 
-pub fragment_hash-right-requires : goal.fragment_hash-right-requires
-fragment_hash-right-requires c =
-    record { sound = c.requires.sound; indexed = no_words_lem }
-
-pub returns-in-Refused : goal.returns-in-Refused
-returns-in-Refused c =
+pub returns-in_err-left : goal.returns-in_err-left
+returns-in_err-left c =
     let a = c.args in
-    let left = unlisted c.fragment_hash-left.ensures in
-    let right = unlisted c.fragment_hash-right.ensures in
-    λ tally h. left_stops a.store.now tally h a.query _ _ left right a.out.now a.at _ c.in-Refused.is
+    let p = err_from_is_err_and c.from_residual.result c.from_residual.ensures.1 in
+    rw (p.1, p.2) (λ tally. left_stops a.store.now tally a.query a.out.now a.at (unlisted c.in_err-left.ensures))
 
-pub returns-in-Refused-right : goal.returns-in-Refused-right
-returns-in-Refused-right c =
+pub returns-in_err-right : goal.returns-in_err-right
+returns-in_err-right c =
     let a = c.args in
-    let left = unlisted c.fragment_hash-left.ensures in
-    let right = unlisted c.fragment_hash-right.ensures in
-    λ tally h. right_stops a.store.now tally h a.query _ _ left right a.out.now a.at _ _ c.in-Hash.is c.in-Refused-right.is
+    let p = err_from_is_err_and c.from_residual-in_err-right.result c.from_residual-in_err-right.ensures.1 in
+    rw (p.1, p.2) (λ tally. right_stops a.store.now tally a.query (unlisted c.in_ok-left.ensures) a.out.now a.at (unlisted c.in_err-right.ensures))
 
-pub returns-in-Hash-right : goal.returns-in-Hash-right
-returns-in-Hash-right c =
+pub returns : goal.returns
+returns c =
     let a = c.args in
-    let left = unlisted c.fragment_hash-left.ensures in
-    let right = unlisted c.fragment_hash-right.ensures in
-    let put = c.put_hashes-next in
-    λ tally h.
-    sums_goes a.store.now tally h a.query _ _ left right a.out.now a.at _ _ c.in-Hash.is c.in-Hash-right.is put.new.out put.result put.ensures
+    let put = c.put_hashes in
+    λ tally.
+    sums_goes a.store.now tally a.query (unlisted c.in_ok-left.ensures) (unlisted c.in_ok-right.ensures) a.out.now put.new.out a.at put.result put.ensures

@@ -1,19 +1,15 @@
 -- `images_allowed` meets its contract: the flag answers of the entries that were passed. Assumes nothing.
-use Rattle.std.proofs.Common.{refl, arith}
+use Rattle.std.proofs.Common.{rules, ◌≡◌, refl, subst}
+use Rattle.std.proofs.lemmas.Fn.{fold_over, slice_gives, fronts}
 use Rattle.rules.specs.Lists.{all}
-use Rattle.mapping.proofs.Entries.{scan_next, scan_over}
+use Rattle.mapping.specs.MappingWords.{image_allowed}
+use Rattle.mapping.proofs.Entries.{all_push}
 use Rattle.mapping.proofs.mapping.images_allowed.Goals as goal
 
-pub loop-i-init : goal.loop-i-init
-unfolding all
-loop-i-init c = (omega arith, refl)
-
-pub loop-i-smaller : goal.loop-i-smaller
-loop-i-smaller c = omega arith
-
-pub loop-i-preserved : goal.loop-i-preserved
-loop-i-preserved c =
-    (omega arith, scan_next _ _ c.loop-i.i c.loop-i-test.true c.loop-i.invariant.1 c.image_allowed-good.ensures)
-
 pub returns : goal.returns
-returns c = scan_over _ _ c.loop-i.i (omega arith) c.loop-i.invariant.1
+unfolding all
+returns c =
+    subst (λ l. c.fold.result ≡ all (image_allowed c.args.count) l) c.iter.ensures.rest
+    (fold_over fronts (λ y. y.now) _ (λ ys good. good ≡ all (image_allowed c.args.count) ys) _
+    (λ ys a x b f' j k. let more = all_push (image_allowed c.args.count) ys x.now in search rules)
+    _ _ _ _ (slice_gives c.iter.result) refl c.fold.ensures.ran)

@@ -9,7 +9,7 @@ pub returns-then-i-lt-OP_ENTRIES : goal.returns-then-i-lt-OP_ENTRIES
 returns-then-i-lt-OP_ENTRIES c =
     let cols : Cols = columns c.args.store.now in
     let laid : Laid cols = laid_facts cols c.requires.sound.laid in
-    block_values cols laid c.args.i c.requires.owner_at _ c.if-i-lt-OP_ENTRIES.true c.at.ensures c.at-then-i-lt-OP_ENTRIES.ensures
+    block_values cols laid c.args.i c.requires.owner_at _ _ c.if-i-lt-OP_ENTRIES.true c.at.ensures c.at-then-i-lt-OP_ENTRIES.ensures
 
 pub at-requires-2 : goal.at-requires-2
 at-requires-2 c =
@@ -29,4 +29,4 @@ pub returns : goal.returns
 returns c =
     let cols : Cols = columns c.args.store.now in
     let laid : Laid cols = laid_facts cols c.requires.sound.laid in
-    op_values cols laid c.args.i c.requires.owner_at _ (omega arith) c.at-2.ensures c.at-3.ensures
+    op_values cols laid c.args.i c.requires.owner_at _ _ (omega arith) c.at-2.ensures c.at-3.ensures

@@ -5,47 +5,35 @@ use Rattle.layout.proofs.Laid.{Laid, laid_facts}
 use Rattle.mapping.proofs.Searching.{block_most, op_most, blocks_seen, ops_seen, at_first, further}
 use Rattle.mapping.proofs.unmapping.searched.Goals as goal
 
-pub seen-blocks-requires : goal.seen-blocks-requires
-seen-blocks-requires c =
+pub seen-blocks-requires-clause-count_bound : goal.seen-blocks-requires-clause-count_bound
+seen-blocks-requires-clause-count_bound c =
     let cols : Cols = columns c.args.store.now in
-    let laid : Laid cols = laid_facts cols c.requires.sound.laid in
-    record { count_bound = omega (arith, c.number.ensures, block_most cols laid); most_bound = omega arith }
+    omega (arith, c.number.ensures, block_most cols (laid_facts cols c.requires.sound.laid))
 
-pub seen-ops-requires : goal.seen-ops-requires
-seen-ops-requires c =
+pub seen-ops-requires-clause-count_bound : goal.seen-ops-requires-clause-count_bound
+seen-ops-requires-clause-count_bound c =
     let cols : Cols = columns c.args.store.now in
-    let laid : Laid cols = laid_facts cols c.requires.sound.laid in
-    record { count_bound = omega (arith, c.number-2.ensures, op_most cols laid); most_bound = omega arith }
+    omega (arith, c.number-2.ensures, op_most cols (laid_facts cols c.requires.sound.laid))
 
-pub look-in_blocks-requires : goal.look-in_blocks-requires
-look-in_blocks-requires c =
+pub look-requires-clause-owners_at : goal.look-requires-clause-owners_at
+look-requires-clause-owners_at c =
     let cols : Cols = columns c.args.store.now in
-    let laid : Laid cols = laid_facts cols c.requires.sound.laid in
-    let seen = blocks_seen cols laid _ c.seen-blocks.result c.number.ensures c.seen-blocks.ensures in
-    record {
-      sound = c.requires.sound;
-      mapping_len = c.requires.mapping_len;
-      owners_at = seen;
-      searched = at_first cols laid c.args.mapping.now c.args.paired c.requires.entered_by _ _ refl refl refl;
-    }
+    blocks_seen cols (laid_facts cols c.requires.sound.laid) _ _ _ c.number.ensures c.seen-blocks.ensures
 
-pub look-requires : goal.look-requires
-look-requires c =
+pub look-requires-clause-searched : goal.look-requires-clause-searched
+look-requires-clause-searched c =
     let cols : Cols = columns c.args.store.now in
-    let laid : Laid cols = laid_facts cols c.requires.sound.laid in
-    let seen = ops_seen cols laid _ c.seen-ops.result c.number-2.ensures c.seen-ops.ensures in
-    let less : c.seen-blocks.result.to ≤ c.seen-ops.result.from =
-    omega (arith, c.seen-blocks.ensures.ends, c.number.ensures, block_most cols laid, c.seen-ops.ensures.from) in
-    record {
-      sound = c.requires.sound;
-      mapping_len = c.requires.mapping_len;
-      owners_at = seen;
-      searched = further cols laid c.args.mapping.now _ _ _ less c.look-in_blocks.ensures;
-    }
+    at_first cols (laid_facts cols c.requires.sound.laid) c.args.mapping.now c.args.paired c.requires.entered_by _ _ refl refl refl
 
-pub returns : goal.returns
-returns c =
+pub look-requires-2-clause-owners_at : goal.look-requires-2-clause-owners_at
+look-requires-2-clause-owners_at c =
+    let cols : Cols = columns c.args.store.now in
+    ops_seen cols (laid_facts cols c.requires.sound.laid) _ _ _ c.number-2.ensures c.seen-ops.ensures
+
+pub look-requires-2-clause-searched : goal.look-requires-2-clause-searched
+look-requires-2-clause-searched c =
     let cols : Cols = columns c.args.store.now in
     let laid : Laid cols = laid_facts cols c.requires.sound.laid in
-    let less : c.seen-ops.result.to ≤ 2816 = omega (arith, c.seen-ops.ensures.ends, c.number-2.ensures, op_most cols laid) in
-    further cols laid c.args.mapping.now _ 2816 _ less c.look.ensures
+    let less : c.seen-blocks.result.end ≤ c.seen-ops.result.start =
+    omega (arith, c.seen-blocks.ensures.ends, c.number.ensures, block_most cols laid, c.seen-ops.ensures.begins) in
+    further cols laid c.args.mapping.now _ _ _ less c.look.ensures

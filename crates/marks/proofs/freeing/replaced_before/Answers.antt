@@ -1,34 +1,21 @@
--- `replaced_before` meets its contract: each turn counts one entry more by its sort. Assumes nothing.
+-- `replaced_before` meets its contract: an entry counts by its sort. Assumes nothing.
 use Prim.Native.Nat.{ℕ}
+use mathlib.Core.Path.{◌∙◌}
 use native.Mathlib.Omega.{arith}
-use mathlib.Core.Path.{◌≡◌, ap, ◌∙◌}
-use Rattle.layout.specs.Columns.{columns}
-use Rattle.journal.specs.Journal.{replaced_in}
-use Rattle.marks.specs.Raw.{first_entries}
-use Rattle.marks.proofs.Gone.{none_counted, counted_more, counted_same}
+use borrow.Author.Tests.{tests}
+use lib.Dec.{ltb}
+use Rattle.std.proofs.Common.{rules}
+use Rattle.std.proofs.lemmas.Iterator.{YieldsList-from_slice}
+use Rattle.std.proofs.lemmas.Iterator.Consumers.{YieldsList-from_filter, count_from_yields_List}
+use Rattle.layout.specs.Columns.{columns, journal_sort}
+use Rattle.layout.proofs.Buffer.{columns_shaped}
+use Rattle.marks.proofs.Listed.{first_words}
+use Rattle.marks.proofs.Gone.{counted}
 use Rattle.marks.proofs.freeing.replaced_before.Goals as goal
-use Rattle.marks.proofs.freeing.replaced_before.Goals.{then-at-lt2, else-at-lt2}
-
-pub loop-i-init : goal.loop-i-init
-loop-i-init c = (none_counted (columns c.args.store.now), omega arith, omega arith)
-
-pub loop-i-preserved : goal.loop-i-preserved
-loop-i-preserved c =
-    let C = columns c.args.store.now in
-    elim c.if-at-lt2.branch [
-      | then-at-lt2 w ↦ (
-        w.found-is ∙ counted_more C c.loop-i.i c.loop-i.found c.loop-i.invariant.0 (omega (arith, c.at.ensures, w.if-at-lt2.true)),
-        omega (arith, w.found-is),
-        omega arith,
-      )
-      | else-at-lt2 w ↦ (
-        w.found-is ∙ counted_same C c.loop-i.i c.loop-i.found c.loop-i.invariant.0 (omega (arith, c.at.ensures, w.if-at-lt2.false)),
-        omega (arith, w.found-is),
-        omega arith,
-      )
-    ]
 
 pub returns : goal.returns
 returns c =
-    let e : c.loop-i.i ≡ c.args.n = omega arith in
-    c.loop-i.invariant.0 ∙ ap (λ (k : ℕ). replaced_in (first_entries (columns c.args.store.now) k)) e
+    let C = columns c.args.store.now in
+    count_from_yields_List c.filter.result c.count.result c.count.ensures.ran
+    (YieldsList-from_filter _ (λ (x : ℕ). ltb x 2) (YieldsList-from_slice c.words.result.now cc) (cc) (λ x b q j. search (rules, tests)))
+    ∙ counted C c.args.n c.words.result.now (c.words.ensures ∙ first_words C journal_sort c.args.n (omega (arith, columns_shaped c.args.store.now c.requires.store_len journal_sort)))

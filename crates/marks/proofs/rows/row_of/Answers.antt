@@ -1,32 +1,26 @@
--- `row_of` meets its contract: each turn goes past a row of another number. Assumes nothing.
+-- `row_of` meets its contract: the numbers of the rows are gone through from the oldest on. Assumes nothing.
+use Prim.Native.Nat.{ℕ}
+use mathlib.Core.Path.{ap, ◌∙◌}
 use native.Mathlib.Omega.{arith}
-use mathlib.Core.Path.{sym, ◌∙◌}
-use Rattle.layout.specs.Columns.{columns}
-use Rattle.layout.proofs.Scans.{scan_starts}
+use borrow.Author.Tests.{tests}
+use lib.Dec.{eqb}
+use Rattle.std.proofs.Common.{rules}
+use Rattle.std.proofs.lemmas.Iterator.{YieldsList-from_slice}
+use Rattle.std.proofs.lemmas.Iterator.Search.{position_from_yields_List}
+use Rattle.layout.specs.Columns.{columns, mark_number}
 use Rattle.journal.specs.Words.{mark_count}
-use Rattle.marks.proofs.Sought.{seek_stops, seek_turn, seek_ends}
+use Rattle.layout.specs.Reading.{slice}
+use Rattle.layout.proofs.Buffer.{columns_shaped}
+use Rattle.marks.proofs.Listed.{first_words}
+use Rattle.marks.proofs.Sought.{position_row}
 use Rattle.marks.proofs.rows.row_of.Goals as goal
 
-pub loop-i-init : goal.loop-i-init
-unfolding mark_count
-loop-i-init c = scan_starts _ _ _ c.number-count.ensures
-
-pub at-requires : goal.at-requires
-at-requires c =
-    record {
-      store_len = c.requires.store_len;
-      column_lt_column_count = omega arith;
-      n_bound = omega (arith, c.loop-i.invariant.counted, c.requires.store_bound);
-    }
-
-pub returns-then-at-mark : goal.returns-then-at-mark
-returns-then-at-mark c =
-    seek_stops (columns c.args.store.now) c.args.mark _ _ c.loop-i.invariant c.loop-i-test.true (sym c.at.ensures ∙ c.if-at-mark.true)
-
-pub loop-i-preserved : goal.loop-i-preserved
-loop-i-preserved c =
-    seek_turn (columns c.args.store.now) c.args.mark _ _ c.loop-i.invariant c.loop-i-test.true (λ e. c.if-at-mark.false (c.at.ensures ∙ e))
-
 pub returns : goal.returns
+unfolding mark_count
 returns c =
-    seek_ends (columns c.args.store.now) c.args.mark _ _ c.loop-i.invariant c.loop-i-test.false
+    let C = columns c.args.store.now in
+    let k = c.args.mark in
+    position_from_yields_List (λ (x : ℕ). eqb x k) _ _ c.position.result c.position.ensures.ran (YieldsList-from_slice c.words.result.now cc) (λ x b q j. search (rules, tests))
+    ∙ position_row C k c.words.result.now
+    (c.words.ensures ∙ ap (slice (C mark_number) 0) c.number-count.ensures
+    ∙ first_words C mark_number (mark_count C) (omega (arith, columns_shaped c.args.store.now c.requires.store_len mark_number)))

@@ -2,30 +2,27 @@
 use native.Mathlib.Omega.{arith}
 use mathlib.Core.Path.{refl}
 use Rattle.rules.specs.Marks.{set_mark}
-use Rattle.calling.specs.Types.{built_of}
+use Rattle.calling.specs.Types.{done_of}
 use Rattle.marks.proofs.Lent.{lent_facts}
 use Rattle.marks.proofs.Doing.{marked_refuse}
 use Rattle.marks.proofs.SetMark.{is_mark_lem, no_mark_low, no_mark_high, mark_done}
 use Rattle.marks.proofs.setting.set_mark.Goals as goal
+use Rattle.marks.proofs.setting.set_mark.Goals.{then-mark-lt1-via-then-mark-lt1, then-mark-lt1-via-else-mark-lt1+then-mark-gt8}
 
 pub returns-then-mark-lt1 : goal.returns-then-mark-lt1
-unfolding built_of
+unfolding done_of
 returns-then-mark-lt1 c =
     let a = c.args in
-    marked_refuse a.store.now (set_mark a.mark) _ c.requires 16 (no_mark_low a.store.now a.mark (omega arith)) refl
-
-pub returns-then-mark-gt8 : goal.returns-then-mark-gt8
-unfolding built_of
-returns-then-mark-gt8 c =
-    let a = c.args in
-    marked_refuse a.store.now (set_mark a.mark) _ c.requires 16 (no_mark_high a.store.now a.mark (omega arith)) refl
-
-pub put_mark-requires : goal.put_mark-requires
-put_mark-requires c =
-    record { lent = c.requires; mark_value = is_mark_lem c.args.mark (omega arith) (omega arith) }
+    elim c.then-mark-lt1.branch [
+      | then-mark-lt1-via-then-mark-lt1 w ↦
+          marked_refuse a.store.now (set_mark a.mark) _ c.requires 16 (no_mark_low a.store.now a.mark (omega arith)) refl
+      | then-mark-lt1-via-else-mark-lt1+then-mark-gt8 w ↦
+          marked_refuse a.store.now (set_mark a.mark) _ c.requires 16 (no_mark_high a.store.now a.mark (omega arith)) refl
+    ]
 
 pub returns : goal.returns
+unfolding done_of
 returns c =
     let a = c.args in
-    mark_done a.store.now (lent_facts a.store.now c.requires) a.mark
-    (is_mark_lem a.mark (omega arith) (omega arith)) c.put_mark.new.store c.put_mark.auto.store c.put_mark.ensures
+    mark_done a.store.now (lent_facts a.store.now c.requires) a.mark (is_mark_lem a.mark (omega arith) (omega arith)) c.put_mark.new.store
+    c.put_mark.auto.store c.put_mark.ensures

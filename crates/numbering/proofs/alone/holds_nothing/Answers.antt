@@ -1,5 +1,5 @@
 -- `holds_nothing` meets its contract by its two tests. Assumes nothing.
-use Rattle.std.proofs.Common.{◌≡◌, true, sym, ap, ◌∙◌, subst, true≢false, eqb-true}
+use Rattle.std.proofs.Common.{◌≡◌, true, sym, ap, ◌∙◌, subst, eqb-true}
 use Rattle.rules.specs.Store.{regions_of}
 use Rattle.rules.specs.Fragments.{op, exists}
 use Rattle.layout.specs.Columns.{columns}
@@ -8,9 +8,6 @@ use Rattle.fragments.specs.Sorts.{sort_of}
 use Rattle.fragments.proofs.There.{there}
 use Rattle.numbering.proofs.Lone.{no_children}
 use Rattle.numbering.proofs.alone.holds_nothing.Goals as goal
-
-pub returns-in_default : goal.returns-in_default
-returns-in_default c = λ e. absurd (true≢false (sym e))
 
 pub op_regions-requires : goal.op_regions-requires
 unfolding sort_of
@@ -22,8 +19,8 @@ op_regions-requires c =
       n_bound = there (columns b) op n (subst (λ x. exists (store_in b) (sort_of x) n ≡ true) c.in-Op.is c.requires.n_value);
     }
 
-pub returns : goal.returns
+pub returns-in-Op : goal.returns-in-Op
 unfolding sort_of
-returns c =
+returns-in-Op c =
     let a = c.args in
     λ e. (ap sort_of c.in-Op.is, no_children (regions_of (store_in a.store.now) a.n) (sym c.op_regions.ensures ∙ eqb-true c.op_regions.result 0 e))

@@ -1,21 +1,13 @@
--- `own_name` meets its contract, test by test. Assumes nothing.
-use Rattle.std.proofs.Common.{sym, arith}
+-- `own_name` meets its contract by its one test. Assumes nothing.
+use Rattle.std.proofs.Common.{sym, arith, rules, tests}
 use Rattle.numbering.specs.Words.{rule_name}
 use Rattle.numbering.proofs.Lone.{own_outside, own_inside}
 use Rattle.numbering.proofs.alone.own_name.Goals as goal
 
-pub returns-then-i-first : goal.returns-then-i-first
+pub returns-then-contains : goal.returns-then-contains
 unfolding rule_name
-returns-then-i-first c = sym (own_outside c.args.first c.args.end c.args.n (λ l h. omega (arith, l, c.if-i-first.true)))
+returns-then-contains c = sym (own_inside c.args.first c.args.end c.args.n (grind (arith, rules, tests)) (grind (arith, rules, tests)))
 
-pub returns-then-i-end : goal.returns-then-i-end
+pub returns-else-contains : goal.returns-else-contains
 unfolding rule_name
-returns-then-i-end c = sym (own_outside c.args.first c.args.end c.args.n (λ l h. omega (arith, h, c.if-i-end.true)))
-
-pub overflow_cast-result : goal.overflow_cast-result
-overflow_cast-result c =
-    record { fits = omega (arith, c.ranges.n.fits) }
-
-pub returns : goal.returns
-unfolding rule_name
-returns c = sym (own_inside c.args.first c.args.end c.args.n (omega (arith, c.if-i-first.false)) (omega (arith, c.if-i-end.false)))
+returns-else-contains c = sym (own_outside c.args.first c.args.end c.args.n (λ l h. grind (arith, rules, tests)))

@@ -1,38 +1,28 @@
 -- `value_name` meets its contract: the word that is read is that of the value's owner. Assumes nothing.
 use Rattle.std.proofs.Common.{ℕ, ◌<◌, sym, ◌∙◌, subst, arith}
-use Rattle.layout.specs.Columns.{columns, at, value_owner}
+use Rattle.layout.specs.Columns.{columns}
 use Rattle.layout.specs.Reading.{store_of}
-use Rattle.layout.proofs.Laid.{laid_facts}
 use Rattle.layout.proofs.Tabulate.{values_length}
+use Rattle.fragments.proofs.Few.{value_low}
 use Rattle.numbering.proofs.Naming.{value_named}
 use Rattle.numbering.proofs.Reading.{owner_code_lem, owner_low}
 use Rattle.numbering.proofs.words.value_name.Goals as goal
 
 pub number-owner-requires : goal.number-owner-requires
 number-owner-requires c =
-    let few : c.args.v < 2048 =
-    omega (arith, c.requires.v_bound, (laid_facts (columns c.args.store.now) c.requires.sound.laid).counts.values) in
+    let few = value_low _ c.requires.sound _ c.requires.v_bound in
     record { store_len = c.requires.sound.sized; column_lt_column_count = omega arith; n_bound = omega (arith, few) }
 
 pub offset_bounds-numbers-owner : goal.offset_bounds-numbers-owner
 offset_bounds-numbers-owner c =
-    let low : at (columns c.args.store.now) value_owner c.args.v < 1024 =
-    owner_low (columns c.args.store.now) c.requires.sound.ruled c.args.v c.requires.v_bound in
-    let l = low in
-    record { fits = omega (arith, c.number-owner.ensures) }
+    omega (arith, c.number-owner.ensures, owner_low (columns c.args.store.now) c.requires.sound.ruled c.args.v c.requires.v_bound)
 
 pub bounds-numbers-owner : goal.bounds-numbers-owner
 bounds-numbers-owner c =
-    let low : at (columns c.args.store.now) value_owner c.args.v < 1024 =
-    owner_low (columns c.args.store.now) c.requires.sound.ruled c.args.v c.requires.v_bound in
-    let l = low in
-    omega (arith, c.number-owner.ensures)
+    omega (arith, c.number-owner.ensures, owner_low (columns c.args.store.now) c.requires.sound.ruled c.args.v c.requires.v_bound)
 
 pub name_by-requires : goal.name_by-requires
-name_by-requires c =
-    let few : c.args.v < 2048 =
-    omega (arith, c.requires.v_bound, (laid_facts (columns c.args.store.now) c.requires.sound.laid).counts.values) in
-    few
+name_by-requires c = value_low _ c.requires.sound _ c.requires.v_bound
 
 pub returns : goal.returns
 returns c =

@@ -1,23 +1,47 @@
--- `names_agree` meets its contract: operands, then successors. Assumes nothing.
-use mathlib.Core.Bool.{Bool, ◌&&◌}
-use mathlib.Core.Path.{sym, ap, ◌∙◌}
+-- `names_agree` meets its contract: operands, then successors, each as the operations are read with. Assumes nothing.
+use Rattle.std.proofs.Common.{◌≡◌, ℕ, List, true, ltb, sym, subst, ap₂, ◌∙◌}
+use Rattle.rules.specs.Lists.{all, all_pairs}
 use Rattle.rules.specs.Store.{op_at}
 use Rattle.rules.specs.Types.{renamed}
-use Rattle.rules.specs.Comparison.{successors_agree}
+use Rattle.rules.specs.Comparison.{operands_agree, successors_agree}
 use Rattle.layout.specs.Reading.{store_in}
 use Rattle.renaming.specs.Index.{list_in}
-use Rattle.mapping.specs.MappingWords.{mapping_of}
+use Rattle.mapping.specs.MappingWords.{mapping_of, same_operand, same_successor}
+use Rattle.mapping.proofs.Chained.{and_goes, and_stops}
+use Rattle.pairing.proofs.Named.{operands_below, successors_below}
 use Rattle.pairing.proofs.names.names_agree.Goals as goal
 
-pub returns-then-not-op_operands_agree : goal.returns-then-not-op_operands_agree
-returns-then-not-op_operands_agree c =
-    let a = c.args in
-    sym
-    (ap (λ (t : Bool). t && successors_agree (renamed (list_in a.types.now) (store_in a.store.now)) (mapping_of a.mapping.now) a.lhs a.rhs) (sym c.op_operands_agree.ensures ∙ c.if-not-op_operands_agree.true))
+-- what the tests ask for, of the lists that the code reads
+read_below : (n : ℕ) (xs ys : List ℕ) → ys ≡ xs → all (λ (v : ℕ). ltb v n) xs ≡ true → all (λ (v : ℕ). ltb v n) ys ≡ true
+read_below n xs ys e h = subst (λ (zs : List ℕ). all (λ (v : ℕ). ltb v n) zs ≡ true) (sym e) h
 
-pub returns : goal.returns
-unfolding successors_agree renamed op_at
-returns c =
+pub operands_agree-requires-clause-l_value : goal.operands_agree-requires-clause-l_value
+operands_agree-requires-clause-l_value c =
+    read_below _ _ _ c.operands_of-l.ensures (operands_below c.args.terms.now.store.now c.args.terms.now.readable.sound c.args.lhs c.requires.lhs_bound)
+
+pub operands_agree-requires-clause-r_value : goal.operands_agree-requires-clause-r_value
+operands_agree-requires-clause-r_value c =
+    read_below _ _ _ c.operands_of-r.ensures (operands_below c.args.terms.now.store.now c.args.terms.now.readable.sound c.args.rhs c.requires.rhs_bound)
+
+pub successors_agree-requires-clause-l_value : goal.successors_agree-requires-clause-l_value
+successors_agree-requires-clause-l_value c =
+    read_below _ _ _ c.successors_of.ensures (successors_below c.args.terms.now.store.now c.args.terms.now.readable.sound c.args.lhs c.requires.lhs_bound)
+
+pub returns-then-operands_agree : goal.returns-then-operands_agree
+unfolding operands_agree successors_agree same_operand same_successor renamed op_at
+returns-then-operands_agree c =
     let a = c.args in
-    c.op_successors_agree.ensures ∙ sym
-    (ap (λ (t : Bool). t && successors_agree (renamed (list_in a.types.now) (store_in a.store.now)) (mapping_of a.mapping.now) a.lhs a.rhs) (sym c.op_operands_agree.ensures ∙ c.if-not-op_operands_agree.false))
+    let s = renamed (list_in a.terms.now.types.now) (store_in a.terms.now.store.now) in
+    let m = mapping_of a.mapping.now in
+    let operands = c.operands_agree.ensures ∙ ap₂ (all_pairs (same_operand s m)) c.operands_of-l.ensures c.operands_of-r.ensures in
+    let successors = c.successors_agree.ensures ∙ ap₂ (all_pairs (same_successor m)) c.successors_of.ensures c.successors_of-then-operands_agree.ensures in
+    and_goes (operands_agree s m a.lhs a.rhs) (successors_agree s m a.lhs a.rhs) (sym operands ∙ c.if-operands_agree.true) successors
+
+pub returns-else-operands_agree : goal.returns-else-operands_agree
+unfolding operands_agree same_operand renamed op_at
+returns-else-operands_agree c =
+    let a = c.args in
+    let s = renamed (list_in a.terms.now.types.now) (store_in a.terms.now.store.now) in
+    let m = mapping_of a.mapping.now in
+    let operands = c.operands_agree.ensures ∙ ap₂ (all_pairs (same_operand s m)) c.operands_of-l.ensures c.operands_of-r.ensures in
+    and_stops (operands_agree s m a.lhs a.rhs) (successors_agree s m a.lhs a.rhs) (sym operands ∙ c.if-operands_agree.false) c.if-operands_agree.false

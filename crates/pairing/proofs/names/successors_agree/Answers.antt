@@ -1,44 +1,24 @@
--- `successors_agree` meets its contract: a scan up to the shorter end, which ends at the first pair that does not agree. Assumes nothing.
-use mathlib.Core.Path.{sym, ◌∙◌}
-use Prim.Native.Nat.{ℕ}
-use mathlib.Core.Bool.{Bool}
-use Rattle.layout.proofs.Scans.{scan_starts, scan_on}
+-- `successors_agree` meets its contract: each pair of the two lists is tested. Assumes nothing.
+use Rattle.std.proofs.Common.{rules, ◌≡◌, ◌<◌, ℕ, sym, subst, true, ltb, ◌∙◌, ltb-true}
+use Rattle.std.proofs.lemmas.Iterator.{YieldsList-from_slice, YieldsList-from_zip}
+use Rattle.std.proofs.lemmas.Iterator.Adapters.{serves_from_places}
+use Rattle.std.proofs.lemmas.Iterator.Search.{all_from_yields_List}
 use Rattle.mapping.specs.MappingWords.{mapping_of, same_successor}
-use Rattle.pairing.proofs.Pairs.{pair_in, pair_fails, pairs_done, below_at}
+use Rattle.pairing.proofs.Pairs.{pairs_zipped, left_passes}
 use Rattle.pairing.proofs.names.successors_agree.Goals as goal
 
-pub loop-i-init : goal.loop-i-init
-loop-i-init c = scan_starts _ _ _ c.shorter-n.ensures
-
-pub bounds-l-i : goal.bounds-l-i
-bounds-l-i c =
-    let agree : ℕ → ℕ → Bool = same_successor (mapping_of c.args.mapping.now) in
-    let here = pair_in agree c.args.l.now c.args.r.now c.loop-i.invariant c.loop-i-test.true in
-    here.0
-
-pub bounds-r-i : goal.bounds-r-i
-bounds-r-i c =
-    let agree : ℕ → ℕ → Bool = same_successor (mapping_of c.args.mapping.now) in
-    let here = pair_in agree c.args.l.now c.args.r.now c.loop-i.invariant c.loop-i-test.true in
-    here.1
-
-pub block_agrees-requires : goal.block_agrees-requires
-block_agrees-requires c =
-    let agree : ℕ → ℕ → Bool = same_successor (mapping_of c.args.mapping.now) in
-    let i : ℕ = c.loop-i.i in
-    let here = pair_in agree c.args.l.now c.args.r.now c.loop-i.invariant c.loop-i-test.true in
-    record { mapping_len = c.requires.mapping_len; l_bound = below_at 256 c.args.l.now c.requires.l_value i here.0 }
-
-pub returns-then-not-block_agrees : goal.returns-then-not-block_agrees
-returns-then-not-block_agrees c =
-    let agree : ℕ → ℕ → Bool = same_successor (mapping_of c.args.mapping.now) in
-    pair_fails agree c.args.l.now c.args.r.now c.loop-i.invariant c.loop-i-test.true (sym c.block_agrees.ensures ∙ c.if-not-block_agrees.true)
-
-pub loop-i-preserved : goal.loop-i-preserved
-loop-i-preserved c =
-    scan_on c.loop-i.invariant c.loop-i-test.true (sym c.block_agrees.ensures ∙ c.if-not-block_agrees.false)
+pub all-requires-clause-callable : goal.all-requires-clause-callable
+all-requires-clause-callable c =
+    let xs = c.args.l.now in
+    let ys = c.args.r.now in
+    serves_from_places (YieldsList-from_zip (YieldsList-from_slice xs (cc)) (YieldsList-from_slice ys (cc))) (λ x q k. search rules)
+    (λ x k l e. let small : x.0.now < 256 = ltb-true _ _ (subst (λ (z : ℕ × ℕ). ltb z.0 256 ≡ true) (sym e) (left_passes _ xs ys c.requires.l_value k _ l)) in search rules)
 
 pub returns : goal.returns
 returns c =
-    let agree : ℕ → ℕ → Bool = same_successor (mapping_of c.args.mapping.now) in
-    pairs_done agree c.args.l.now c.args.r.now c.loop-i.invariant c.loop-i-test.false
+    let xs = c.args.l.now in
+    let ys = c.args.r.now in
+    let agree = same_successor (mapping_of c.args.mapping.now) in
+    all_from_yields_List (λ (z : ℕ × ℕ). agree z.0 z.1) c.all.new.self _ _ c.all.ensures.ran
+    (YieldsList-from_zip (YieldsList-from_slice xs (cc)) (YieldsList-from_slice ys (cc))) (λ x b q k. search rules)
+    ∙ pairs_zipped agree xs ys

@@ -1,59 +1,64 @@
 -- `op_shells_eq` meets its contract: the shells are compared by what is read off the rows. Assumes nothing.
-use mathlib.Core.Bool.{Bool, ◌&&◌}
-use mathlib.Core.Path.{sym, ap, ◌∙◌}
+use Rattle.std.proofs.Common.{◌≡◌, Bool, ◌&&◌, sym, ap, ◌∙◌}
+use Rattle.rules.proofs.Basics.Tests.{and_left, and_right}
 use Rattle.layout.specs.Columns.{Cols, columns}
-use Rattle.fragments.specs.Options.{Options, options_of}
-use Rattle.pairing.specs.Rows.{same_rows}
-use Rattle.pairing.proofs.Alike.{op_shells_lem, rows_unlike, rows_plain, rows_left}
+use Rattle.fragments.specs.Ignoring.{ignore_of}
+use Rattle.fragments.specs.Options.{Options}
+use Rattle.fragments.specs.Terms.{options_in}
+use Rattle.mapping.proofs.Chained.{and_goes, and_stops, and_again}
+use Rattle.pairing.specs.Rows.{same_heads, same_bare_rows, same_closely, same_rows}
+use Rattle.pairing.proofs.Alike.{op_shells_lem, parts, rows_plain, rows_left}
 use Rattle.pairing.proofs.shells.op_shells_eq.Goals as goal
+use Rattle.pairing.proofs.shells.op_shells_eq.Goals.{then-heads_eq, else-heads_eq}
 
-pub returns-then-not-heads_eq : goal.returns-then-not-heads_eq
-returns-then-not-heads_eq c =
-    let a = c.args in
-    let o = options_of a.ignore a.types.now in
-    sym (op_shells_lem o c.op_head.ensures c.op_head-2.ensures c.requires.row_of c.requires.row_of_2
-    ∙ ap (λ (t : Bool). t && same_rows (columns a.store.now) o a.l a.r) (sym c.heads_eq.ensures ∙ c.if-not-heads_eq.true))
-
-pub returns-then-not-bare_rows_eq : goal.returns-then-not-bare_rows_eq
-returns-then-not-bare_rows_eq c =
-    let cols : Cols = columns c.args.store.now in
-    let rule : Options = options_of c.args.ignore c.args.types.now in
-    let left =
-    op_shells_lem rule c.op_head.ensures c.op_head-2.ensures c.requires.row_of c.requires.row_of_2
-    ∙ ap (λ (t : Bool). t && same_rows cols rule c.args.l c.args.r) (sym c.heads_eq.ensures ∙ c.if-not-heads_eq.false) in
-    let a = c.args in
-    sym (left ∙ rows_unlike cols rule a.l a.r (sym c.bare_rows_eq.ensures ∙ c.if-not-bare_rows_eq.true))
-
-pub plainly_eq-requires : goal.plainly_eq-requires
-plainly_eq-requires c =
-    record { store_len = c.requires.readable.sound.sized; row_fits = c.requires.row_of.fits; row_fits_2 = c.requires.row_of_2.fits }
+pub returns-else-bare_rows_eq : goal.returns-else-bare_rows_eq
+returns-else-bare_rows_eq c =
+    let cols : Cols = columns c.args.terms.now.store.now in
+    let rule : Options = options_in c.args.terms.now in
+    let heads : Bool = same_heads c.op_head.result c.op_head-2.result in
+    let bare : Bool = same_bare_rows (ignore_of c.args.terms.now.ignore) c.args.l c.args.r in
+    let same = c.heads_eq.ensures in
+    let first : c.if-heads_eq.value ≡ heads && bare =
+    elim c.if-heads_eq.branch [
+      | then-heads_eq w ↦ and_goes heads bare (sym same ∙ w.if-heads_eq.true) (w.value-is ∙ w.bare_rows_eq.ensures)
+      | else-heads_eq w ↦ and_stops heads bare (sym same ∙ w.if-heads_eq.false) (w.value-is ∙ w.if-heads_eq.false)
+    ] in
+    let shells = op_shells_lem rule c.op_head.ensures c.op_head-2.ensures c.requires.row_of c.requires.row_of_2 in
+    let closely : Bool = same_closely cols rule c.args.l c.args.r in
+    and_stops (heads && bare) closely (sym first ∙ c.if-bare_rows_eq.false) c.if-bare_rows_eq.false
+    ∙ and_again heads bare closely ∙ ap (λ (t : Bool). heads && t) (sym (parts cols rule c.args.l c.args.r)) ∙ sym shells
 
 pub returns-then-plainly_eq : goal.returns-then-plainly_eq
 returns-then-plainly_eq c =
-    let cols : Cols = columns c.args.store.now in
-    let rule : Options = options_of c.args.ignore c.args.types.now in
-    let left =
-    op_shells_lem rule c.op_head.ensures c.op_head-2.ensures c.requires.row_of c.requires.row_of_2
-    ∙ ap (λ (t : Bool). t && same_rows cols rule c.args.l c.args.r) (sym c.heads_eq.ensures ∙ c.if-not-heads_eq.false) in
-    let a = c.args in
-    sym
-    (left ∙ rows_plain cols rule a.l a.r (sym c.bare_rows_eq.ensures ∙ c.if-not-bare_rows_eq.false) (sym c.plainly_eq.ensures ∙ c.if-plainly_eq.true))
+    let cols : Cols = columns c.args.terms.now.store.now in
+    let rule : Options = options_in c.args.terms.now in
+    let heads : Bool = same_heads c.op_head.result c.op_head-2.result in
+    let bare : Bool = same_bare_rows (ignore_of c.args.terms.now.ignore) c.args.l c.args.r in
+    let same = c.heads_eq.ensures in
+    let first : c.if-heads_eq.value ≡ heads && bare =
+    elim c.if-heads_eq.branch [
+      | then-heads_eq w ↦ and_goes heads bare (sym same ∙ w.if-heads_eq.true) (w.value-is ∙ w.bare_rows_eq.ensures)
+      | else-heads_eq w ↦ and_stops heads bare (sym same ∙ w.if-heads_eq.false) (w.value-is ∙ w.if-heads_eq.false)
+    ] in
+    let shells = op_shells_lem rule c.op_head.ensures c.op_head-2.ensures c.requires.row_of c.requires.row_of_2 in
+    let both = sym first ∙ c.if-bare_rows_eq.true in
+    let left = shells ∙ ap (λ (t : Bool). t && same_rows cols rule c.args.l c.args.r) (and_left heads bare both) in
+    c.if-plainly_eq.true
+    ∙ sym (left ∙ rows_plain cols rule c.args.l c.args.r (and_right heads bare both) (sym c.plainly_eq.ensures ∙ c.if-plainly_eq.true))
 
-pub closely_eq-requires : goal.closely_eq-requires
-closely_eq-requires c =
-    record {
-      store_len = c.requires.readable.sound.sized;
-      index = c.requires.readable.indexed;
-      row_fits = c.requires.row_of.fits;
-      row_fits_2 = c.requires.row_of_2.fits;
-    }
-
-pub returns : goal.returns
-returns c =
-    let cols : Cols = columns c.args.store.now in
-    let rule : Options = options_of c.args.ignore c.args.types.now in
-    let left =
-    op_shells_lem rule c.op_head.ensures c.op_head-2.ensures c.requires.row_of c.requires.row_of_2
-    ∙ ap (λ (t : Bool). t && same_rows cols rule c.args.l c.args.r) (sym c.heads_eq.ensures ∙ c.if-not-heads_eq.false) in
-    let a = c.args in
-    c.closely_eq.ensures ∙ sym (left ∙ rows_left cols rule a.l a.r (sym c.bare_rows_eq.ensures ∙ c.if-not-bare_rows_eq.false))
+pub returns-else-plainly_eq : goal.returns-else-plainly_eq
+returns-else-plainly_eq c =
+    let cols : Cols = columns c.args.terms.now.store.now in
+    let rule : Options = options_in c.args.terms.now in
+    let heads : Bool = same_heads c.op_head.result c.op_head-2.result in
+    let bare : Bool = same_bare_rows (ignore_of c.args.terms.now.ignore) c.args.l c.args.r in
+    let same = c.heads_eq.ensures in
+    let first : c.if-heads_eq.value ≡ heads && bare =
+    elim c.if-heads_eq.branch [
+      | then-heads_eq w ↦ and_goes heads bare (sym same ∙ w.if-heads_eq.true) (w.value-is ∙ w.bare_rows_eq.ensures)
+      | else-heads_eq w ↦ and_stops heads bare (sym same ∙ w.if-heads_eq.false) (w.value-is ∙ w.if-heads_eq.false)
+    ] in
+    let shells = op_shells_lem rule c.op_head.ensures c.op_head-2.ensures c.requires.row_of c.requires.row_of_2 in
+    let both = sym first ∙ c.if-bare_rows_eq.true in
+    let left = shells ∙ ap (λ (t : Bool). t && same_rows cols rule c.args.l c.args.r) (and_left heads bare both) in
+    c.closely_eq.ensures ∙ sym (left ∙ rows_left cols rule c.args.l c.args.r (and_right heads bare both))

@@ -1,24 +1,16 @@
 -- `twins_printed` meets its contract: in buffers of their lengths, with room enough, the listing is printed. Assumes nothing.
-use Prim.Native.Nat.{ℕ}
+use Rattle.std.proofs.Common.{ℕ}
 use lib.ListN.{length-replicate}
 use Rattle.rules.specs.Listings.{twins_program}
 use Rattle.layout.specs.Columns.{buffer_length}
 use Rattle.mapping.specs.MappingWords.{mapping_length}
 use Rattle.listing.specs.Calls.{buffers}
-use Rattle.programs.proofs.Printing.{all_printed, never_refused, never_short}
+use Rattle.programs.proofs.Printing.{all_printed}
 use Rattle.programs.proofs.answers.twins_printed.Goals as goal
 
-pub returns-in-Printed : goal.returns-in-Printed
+pub returns : goal.returns
 unfolding buffers
-returns-in-Printed c =
-    all_printed twins_program c.args.listing.now _ _ _ c.twins.ensures _ c.in-Printed.is
-
-pub returns-in-Refused : goal.returns-in-Refused
-unfolding buffers
-returns-in-Refused c =
-    never_refused twins_program c.args.listing.now _ _ _ c.twins.ensures (length-replicate {A = ℕ} buffer_length 0) (length-replicate {A = ℕ} mapping_length 0) _ c.in-Refused.is
-
-pub returns-in-NoRoom : goal.returns-in-NoRoom
-unfolding buffers
-returns-in-NoRoom c =
-    never_short twins_program c.args.listing.now _ _ _ c.twins.ensures (length-replicate {A = ℕ} buffer_length 0) (length-replicate {A = ℕ} mapping_length 0) c.requires c.in-NoRoom.is
+returns c =
+    let printed =
+    all_printed twins_program c.args.listing.now _ _ (length-replicate {A = ℕ} buffer_length 0) (length-replicate {A = ℕ} mapping_length 0) c.requires in
+    rw c.unwrap_or.ensures (printed c.twins.result c.twins.ensures)

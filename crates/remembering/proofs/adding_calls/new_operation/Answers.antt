@@ -2,12 +2,8 @@
 use mathlib.Core.Path.{refl}
 use Rattle.rules.specs.Marks.{replaces}
 use Rattle.journal.specs.Journal.{entries_for}
-use Rattle.marks.proofs.Lent.{lent_facts}
 use Rattle.remembering.proofs.Unremembered.{adding_call}
 use Rattle.remembering.proofs.adding_calls.new_operation.Goals as goal
-
-pub new_operation-requires : goal.new_operation-requires
-new_operation-requires c = (lent_facts _ c.requires).tables
 
 pub returns : goal.returns
 unfolding replaces entries_for

@@ -12,13 +12,13 @@ use Rattle.remembering.proofs.WasAttribute.{adds_new, owner_small, key_replaced,
 use Rattle.remembering.proofs.attributes.add_attribute.Goals as goal
 
 pub key_was_none-was-requires : goal.key_was_none-was-requires
-unfolding PlaceMeans
+unfolding PlaceMeans attribute_of
 key_was_none-was-requires c =
     let a = c.args in
     let b = a.store.now in
     let t = (lent_facts b c.requires.lent).tables in
     let w = owner_of a.owner in
-    owner_small b t w (told b t w (attribute_of a.attribute) _ c.requires.slot_value).owner
+    owner_small b t w (told b t w (attribute_of a.attribute) c.requires.clear _ c.requires.slot_value).owner
 
 pub put_added-requires : goal.put_added-requires
 unfolding PlaceMeans attribute_of
@@ -26,11 +26,11 @@ put_added-requires c =
     let a = c.args in
     let b = a.store.now in
     let t = (lent_facts b c.requires.lent).tables in
-    let p = told b t (owner_of a.owner) (attribute_of a.attribute) _ c.requires.slot_value in
-    record { arranged = record { sized = (t).sized; laid = (t).laid }; owner_value = p.owner; slot_bound = p.low; owner_bound = p.room; kind_le_max_attribute_kind = p.fits }
+    let p = told b t (owner_of a.owner) (attribute_of a.attribute) c.requires.clear _ c.requires.slot_value in
+    record { arranged = record { sized = t.sized; laid = t.laid }; owner_value = p.owner; slot_bound = p.low; owner_bound = p.room; kind_le_max_attribute_kind = p.fits }
 
 pub remember-requires : goal.remember-requires
-unfolding PlaceMeans
+unfolding PlaceMeans attribute_of
 remember-requires c =
     let a = c.args in
     let b = a.store.now in
@@ -38,8 +38,8 @@ remember-requires c =
     let t = (lent_facts b h).tables in
     let w = owner_of a.owner in
     let x = attribute_of a.attribute in
-    let p = told b t w x _ c.requires.slot_value in
-    let k = adds_new (columns b) w x _ _ c.requires.slot_value in
+    let p = told b t w x c.requires.clear _ c.requires.slot_value in
+    let k = adds_new (columns b) w x _ c.requires.slot_value in
     let rest = attribute_room_lem b h w x c.requires.nonzero p.clear
     (new_fits b h c.requires.nonzero (set_attribute w x) (key_replaced b t w p.owner x _ k)) (key_entry w x.key)
     (key_entry_lem b t w p.owner x k) c.put_added.new.store c.put_added.auto.store (c.put_added.ensures ∙ p.written) in
@@ -54,8 +54,8 @@ returns c =
     let t = (lent_facts b h).tables in
     let w = owner_of a.owner in
     let x = attribute_of a.attribute in
-    let p = told b t w x _ c.requires.slot_value in
-    let k = adds_new (columns b) w x _ _ c.requires.slot_value in
+    let p = told b t w x c.requires.clear _ c.requires.slot_value in
+    let k = adds_new (columns b) w x _ c.requires.slot_value in
     attribute_remembered b h w x c.requires.nonzero p.clear
     (new_fits b h c.requires.nonzero (set_attribute w x) (key_replaced b t w p.owner x _ k))
     (key_entry w x.key) (key_entry_lem b t w p.owner x k)

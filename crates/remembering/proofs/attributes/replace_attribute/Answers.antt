@@ -3,7 +3,7 @@ use mathlib.Core.Path.{refl, sym, ap, ◌∙◌}
 use Rattle.rules.specs.Building.{set_attribute}
 use Rattle.layout.specs.Columns.{columns}
 use Rattle.layout.specs.Owners.{owner_of}
-use Rattle.calling.specs.Types.{attribute_of, built_of}
+use Rattle.calling.specs.Types.{attribute_of, done_of}
 use Rattle.setting.proofs.AttributeCauses.{owner_there}
 use Rattle.setting.proofs.Placed.{PlaceMeans, told}
 use Rattle.marks.proofs.Lent.{lent_facts}
@@ -13,11 +13,8 @@ use Rattle.remembering.proofs.Room.{one_fits, none_fits}
 use Rattle.remembering.proofs.WasAttribute.{replaces_there, owner_small, key_replaced, attribute_entry_lem, attribute_room_lem, attribute_remembered}
 use Rattle.remembering.proofs.attributes.replace_attribute.Goals as goal
 
-pub is_full-requires : goal.is_full-requires
-is_full-requires c = (lent_facts _ c.requires.lent).tables.sized
-
 pub returns-then-is_full : goal.returns-then-is_full
-unfolding PlaceMeans built_of
+unfolding PlaceMeans attribute_of done_of
 returns-then-is_full c =
     let a = c.args in
     let b = a.store.now in
@@ -25,22 +22,22 @@ returns-then-is_full c =
     let t = (lent_facts b h).tables in
     let w = owner_of a.owner in
     let x = attribute_of a.attribute in
-    let p = told b t w x _ c.requires.slot_value in
-    let k = (replaces_there (columns b) w x _ _ c.requires.slot_value).0 in
+    let p = told b t w x c.requires.clear _ c.requires.slot_value in
+    let k = (replaces_there (columns b) w x _ c.requires.slot_value).0 in
     marked_full b h (set_attribute w x) _ p.clear
     (none_fits b h c.requires.nonzero (set_attribute w x) (sym c.is_full.ensures ∙ c.if-is_full.true)
     (key_replaced b t w (owner_there b t w x p.clear) x _ k))
     refl
 
 pub attribute_was-was-requires : goal.attribute_was-was-requires
-unfolding PlaceMeans
+unfolding PlaceMeans attribute_of
 attribute_was-was-requires c =
     let a = c.args in
     let b = a.store.now in
     let t = (lent_facts b c.requires.lent).tables in
     let w = owner_of a.owner in
     let x = attribute_of a.attribute in
-    let p = told b t w x _ c.requires.slot_value in
+    let p = told b t w x c.requires.clear _ c.requires.slot_value in
     record { store_len = t.sized; owner_bound = owner_small b t w (owner_there b t w x p.clear); slot_lt_slot_count = p.reached }
 
 pub put_replaced-requires : goal.put_replaced-requires
@@ -49,11 +46,11 @@ put_replaced-requires c =
     let a = c.args in
     let b = a.store.now in
     let t = (lent_facts b c.requires.lent).tables in
-    let p = told b t (owner_of a.owner) (attribute_of a.attribute) _ c.requires.slot_value in
+    let p = told b t (owner_of a.owner) (attribute_of a.attribute) c.requires.clear _ c.requires.slot_value in
     record { store_len = t.sized; slot_lt_slot_count = p.reached; kind_le_max_attribute_kind = p.fits }
 
 pub remember-requires : goal.remember-requires
-unfolding PlaceMeans
+unfolding PlaceMeans attribute_of
 remember-requires c =
     let a = c.args in
     let b = a.store.now in
@@ -61,8 +58,8 @@ remember-requires c =
     let t = (lent_facts b h).tables in
     let w = owner_of a.owner in
     let x = attribute_of a.attribute in
-    let p = told b t w x _ c.requires.slot_value in
-    let k = replaces_there (columns b) w x _ _ c.requires.slot_value in
+    let p = told b t w x c.requires.clear _ c.requires.slot_value in
+    let k = replaces_there (columns b) w x _ c.requires.slot_value in
     let rest = attribute_room_lem b h w x c.requires.nonzero p.clear
     (one_fits b h c.requires.nonzero (set_attribute w x) (sym c.is_full.ensures ∙ c.if-is_full.false)) (attribute_entry (columns b) w a.slot)
     (attribute_entry_lem b t w (owner_there b t w x p.clear) x a.slot k.0 k.1) c.put_replaced.new.store c.put_replaced.auto.store
@@ -70,7 +67,7 @@ remember-requires c =
     record { store_len = rest.0; store_bound = rest.1.0; store_bound_2 = rest.1.1 }
 
 pub returns : goal.returns
-unfolding PlaceMeans
+unfolding PlaceMeans attribute_of done_of
 returns c =
     let a = c.args in
     let b = a.store.now in
@@ -78,8 +75,8 @@ returns c =
     let t = (lent_facts b h).tables in
     let w = owner_of a.owner in
     let x = attribute_of a.attribute in
-    let p = told b t w x _ c.requires.slot_value in
-    let k = replaces_there (columns b) w x _ _ c.requires.slot_value in
+    let p = told b t w x c.requires.clear _ c.requires.slot_value in
+    let k = replaces_there (columns b) w x _ c.requires.slot_value in
     attribute_remembered b h w x c.requires.nonzero p.clear
     (one_fits b h c.requires.nonzero (set_attribute w x) (sym c.is_full.ensures ∙ c.if-is_full.false))
     (attribute_entry (columns b) w a.slot) (attribute_entry_lem b t w (owner_there b t w x p.clear) x a.slot k.0 k.1)

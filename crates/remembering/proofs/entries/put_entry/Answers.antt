@@ -1,18 +1,21 @@
--- `put_entry` meets its contract: one word after the other. Assumes nothing.
-use mathlib.Core.Path.{ap, ◌∙◌}
-use Rattle.layout.specs.Columns.{Cols, write, journal_owner, journal_key, journal_kind, journal_content}
-use Rattle.remembering.specs.Raw.{entry_put}
+-- `put_entry` meets its contract: its words are written, one to a column. Assumes nothing.
+use Rattle.std.proofs.lemmas.Grind.{common_steps}
+use native.Mathlib.Omega.{arith}
+use mathlib.Core.Path.{refl, ap}
+use lib.ListN.{length}
+use Rattle.rules.specs.Lists.{all_below}
+use Rattle.layout.specs.Columns.{journal_sort}
+use Rattle.journal.specs.Words.{max_entries}
+use Rattle.adding.specs.Raw.{with_row}
+use Rattle.adding.proofs.RowWritten.{row_fits_lem}
+use Rattle.remembering.specs.Raw.{listed, entry_put}
 use Rattle.remembering.proofs.entries.put_entry.Goals as goal
 
+pub put_row-requires-clause-by_index : goal.put_row-requires-clause-by_index
+unfolding listed all_below
+put_row-requires-clause-by_index c =
+    λ j l. row_fits_lem journal_sort 5 max_entries c.args.n refl c.requires.n_lt_max_entries j (omega (arith, ap length c.words.ensures))
+
 pub returns : goal.returns
-unfolding entry_put
-returns c =
-    let a = c.args in
-    let e = a.entry in
-    c.put-5.ensures
-    ∙ ap (λ (X : Cols). write X journal_content a.n e.content)
-    (c.put-4.ensures
-    ∙ ap (λ (X : Cols). write X journal_kind a.n e.kind)
-    (c.put-3.ensures
-    ∙ ap (λ (X : Cols). write X journal_key a.n e.key)
-    (c.put-2.ensures ∙ ap (λ (X : Cols). write X journal_owner a.n e.owner) c.put.ensures)))
+unfolding entry_put listed with_row
+returns c = grind (arith, common_steps)

@@ -3,7 +3,7 @@ use mathlib.Core.Path.{refl, sym, ap, ◌∙◌}
 use Rattle.rules.specs.Building.{set_operand}
 use Rattle.rules.specs.Marks.{replaces}
 use Rattle.layout.specs.Columns.{columns}
-use Rattle.calling.specs.Types.{built_of}
+use Rattle.calling.specs.Types.{done_of}
 use Rattle.setting.proofs.OperandDone.{operand_reached}
 use Rattle.marks.proofs.Lent.{lent_facts}
 use Rattle.remembering.specs.Raw.{with_entry}
@@ -12,11 +12,8 @@ use Rattle.remembering.proofs.Room.{none_fits}
 use Rattle.remembering.proofs.WasOperand.{operand_room_lem, operand_remembered}
 use Rattle.remembering.proofs.operands.replace_operand.Goals as goal
 
-pub is_full-requires : goal.is_full-requires
-is_full-requires c = (lent_facts _ c.requires.lent).tables.sized
-
 pub returns-then-is_full : goal.returns-then-is_full
-unfolding built_of replaces
+unfolding done_of replaces
 returns-then-is_full c =
     let a = c.args in
     let b = a.store.now in
@@ -47,6 +44,7 @@ remember-requires c =
     record { store_len = rest.0; store_bound = rest.1.0; store_bound_2 = rest.1.1 }
 
 pub returns : goal.returns
+unfolding done_of
 returns c =
     let a = c.args in
     let full = sym c.is_full.ensures ∙ c.if-is_full.false in

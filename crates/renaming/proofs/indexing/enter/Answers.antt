@@ -5,32 +5,17 @@ use Rattle.renaming.proofs.Chains.{bucket_low}
 use Rattle.renaming.proofs.Making.{added}
 use Rattle.renaming.proofs.indexing.enter.Goals as goal
 
-pub bounds-index-row-2 : goal.bounds-index-row-2
-bounds-index-row-2 c = simp length-set (omega arith)
-
-pub offset_bounds-index-b : goal.offset_bounds-index-b
-offset_bounds-index-b c = omega (arith, c.bucket-b.ensures, bucket_low c.args.old)
-
 pub bounds-index-b : goal.bounds-index-b
 bounds-index-b c =
     let l = bucket_low c.args.old in
     let e = c.bucket-b.ensures in
     simp length-set (omega arith)
 
-pub bounds-index-row-3 : goal.bounds-index-row-3
-bounds-index-row-3 c = simp length-set (omega arith)
-
-pub offset_bounds-index-b-2 : goal.offset_bounds-index-b-2
-offset_bounds-index-b-2 c = omega (arith, c.bucket-b.ensures, bucket_low c.args.old)
-
 pub bounds-index-b-2 : goal.bounds-index-b-2
 bounds-index-b-2 c =
     let l = bucket_low c.args.old in
     let e = c.bucket-b.ensures in
     simp length-set (omega arith)
-
-pub shape_of-index : goal.shape_of-index
-shape_of-index c = simp length-set
 
 pub returns : goal.returns
 returns c =

@@ -1,42 +1,42 @@
--- `none_renamed` meets its contract: the present types that were passed have no row, and the first that has one ends it. Assumes nothing.
-use Prim.Native.Nat.{◌+◌, ◌*◌, ◌/◌}
-use native.Mathlib.Omega.{arith}
-use mathlib.Core.Path.{sym}
-use lib.ListN.{length, get_or}
-use Rattle.layout.proofs.Scans.{before_zero, before_next}
-use Rattle.renaming.proofs.Told.{has_none, has_row, all_present, some_present}
+-- `none_renamed` meets its contract: a lookup tells of each present type whether it has a row. Assumes nothing.
+use Prim.Native.Nat.{ℕ}
+use mathlib.Core.Bool.{Bool, not, ◌&&◌}
+use mathlib.Core.List.{List, []}
+use mathlib.Core.Path.{sym, ap, ap₂, ◌∙◌}
+use lib.ListN.{get_or}
+use Rattle.std.proofs.lemmas.List.{take_all}
+use Rattle.std.proofs.lemmas.List.Folds.{list_all_more, list_all_at}
+use Rattle.std.specs.List.{list_all}
+use Rattle.rules.specs.Types.{old_types, stands_in}
+use Rattle.renaming.proofs.Told.{found_told, all_present}
 use Rattle.renaming.proofs.indexing.none_renamed.Goals as goal
 
-pub loop-row-init : goal.loop-row-init
-loop-row-init c = (omega arith, before_zero _)
-
-pub bounds-types-row : goal.bounds-types-row
-bounds-types-row c =
-    omega (arith, c.requires.whole_and_few.whole, c.loop-row-test.true)
-
-pub row_of-requires : goal.row_of-requires
-row_of-requires c =
-    record { rows = length c.args.types.now / 2; entered = c.requires.rows.entered }
-
-pub returns-then-row_of-ne0 : goal.returns-then-row_of-ne0
-returns-then-row_of-ne0 c =
+pub returns-then-is_some : goal.returns-then-is_some
+returns-then-is_some c =
     let types = c.args.types.now in
-    let k = c.loop-row.row in
-    let l = c.row_of in
+    let whole = c.requires.whole_and_few.whole in
+    let p : ℕ → Bool = λ t. not (stands_in (old_types types) t) in
+    let told = found_told types whole c.args.index.now c.requires.rows _ _ (c.row_of.ensures.finds _ c.requires.rows.entered) in
     sym
-    (some_present types c.requires.whole_and_few.whole _ k c.loop-row-test.true
-    (has_row types c.requires.whole_and_few.whole c.args.index.now c.requires.rows (get_or types (2 * k + 1) 0) l.result (l.ensures _ c.requires.rows.entered) c.if-row_of-ne0.true))
+    (sym (all_present types whole p)
+    ∙ ap (list_all (λ (row : List ℕ). p (get_or row 1 0))) (sym c.as_chunks.ensures.front)
+    ∙ list_all_at (λ (row : List ℕ). p (get_or row 1 0)) c.as_chunks.result.0.now c.loop-present.present-index [] c.loop-present-test.true
+    (sym told ∙ ap not (sym c.is_some.ensures ∙ c.if-is_some.true)))
 
-pub loop-row-preserved : goal.loop-row-preserved
-loop-row-preserved c =
+pub loop-present-preserved : goal.loop-present-preserved
+loop-present-preserved c =
     let types = c.args.types.now in
-    let k = c.loop-row.row in
-    let l = c.row_of in (
-      omega (arith, c.requires.whole_and_few.whole, c.loop-row-test.true),
-      before_next _ k c.loop-row.invariant.1
-          (has_none types c.requires.whole_and_few.whole c.args.index.now c.requires.rows (get_or types (2 * k + 1) 0) l.result (l.ensures _ c.requires.rows.entered) c.if-row_of-ne0.false),
-    )
+    let p : ℕ → Bool = λ t. not (stands_in (old_types types) t) in
+    let told = found_told types c.requires.whole_and_few.whole c.args.index.now c.requires.rows _ _ (c.row_of.ensures.finds _ c.requires.rows.entered) in
+    list_all_more (λ (row : List ℕ). p (get_or row 1 0)) c.as_chunks.result.0.now c.loop-present.present-index [] c.loop-present-test.true
+    ∙ ap₂ ◌&&◌ c.loop-present.invariant (sym told ∙ ap not (sym c.is_some.ensures ∙ c.if-is_some.false))
 
 pub returns : goal.returns
 returns c =
-    sym (all_present c.args.types.now c.requires.whole_and_few.whole _ c.loop-row.row c.loop-row-test.false c.loop-row.invariant.1)
+    let types = c.args.types.now in
+    let p : ℕ → Bool = λ t. not (stands_in (old_types types) t) in
+    let rows = c.as_chunks.result.0.now in
+    sym
+    (sym (all_present types c.requires.whole_and_few.whole p)
+    ∙ ap (list_all (λ (row : List ℕ). p (get_or row 1 0))) (sym c.as_chunks.ensures.front ∙ sym (take_all c.loop-present.present-index rows c.loop-present-test.false))
+    ∙ c.loop-present.invariant)

@@ -1,36 +1,18 @@
 -- `present` meets its contract: the row that was found is the only one with this old type. Assumes nothing.
-use native.Mathlib.Omega.{arith}
-use mathlib.Core.Path.{sym}
-use Rattle.renaming.specs.Index.{Found, Table}
-use Rattle.renaming.proofs.Indexed.{table_of, present_alone, present_itself, present_row, row_within}
+use mathlib.Core.Path.{sym, ◌∙◌}
+use borrow.Author.Tests.{eqb-true}
+use Rattle.renaming.proofs.Indexed.{table_of, present_alone, present_itself, present_row}
 use Rattle.renaming.proofs.lookup.present.Goals as goal
 
-pub returns-then-index-eq0 : goal.returns-then-index-eq0
-returns-then-index-eq0 c = let a = c.args in sym (present_alone a.index.now a.t c.if-index-eq0.true)
+pub returns-then-is_empty : goal.returns-then-is_empty
+returns-then-is_empty c = sym (present_alone c.args.index.now c.args.t (eqb-true _ _ (sym c.is_empty.ensures ∙ c.if-is_empty.true)))
 
-pub row_of-i-requires : goal.row_of-i-requires
-row_of-i-requires c =
-    let b = table_of c.args.index.now c.requires c.if-index-eq0.false in
-    record { rows = b.rows; entered = b.entered }
+pub returns-in-Some : goal.returns-in-Some
+returns-in-Some c =
+    let words = table_of c.args.index.now c.requires c.is_empty.ensures c.if-is_empty.false in
+    sym (present_row c.args.index.now words (c.in-Some.ensures.finds words.rows words.entered))
 
-pub returns-then-i-eq0 : goal.returns-then-i-eq0
-returns-then-i-eq0 c =
-    let words : Table c.args.index.now = table_of c.args.index.now c.requires c.if-index-eq0.false in
-    let found : Found c.args.index.now words.rows c.args.t c.row_of-i.result = c.row_of-i.ensures words.rows words.entered in
-    let a = c.args in
-    sym (present_itself a.index.now words a.t c.row_of-i.result found c.if-i-eq0.true)
-
-pub bounds-index-i : goal.bounds-index-i
-bounds-index-i c =
-    let words : Table c.args.index.now = table_of c.args.index.now c.requires c.if-index-eq0.false in
-    let found : Found c.args.index.now words.rows c.args.t c.row_of-i.result = c.row_of-i.ensures words.rows words.entered in
-    let a = c.args in
-    let within = row_within a.index.now words a.t c.row_of-i.result found c.if-i-eq0.false in
-    omega arith
-
-pub returns : goal.returns
-returns c =
-    let words : Table c.args.index.now = table_of c.args.index.now c.requires c.if-index-eq0.false in
-    let found : Found c.args.index.now words.rows c.args.t c.row_of-i.result = c.row_of-i.ensures words.rows words.entered in
-    let a = c.args in
-    sym (present_row a.index.now words a.t c.row_of-i.result found c.if-i-eq0.false)
+pub returns-in-None : goal.returns-in-None
+returns-in-None c =
+    let words = table_of c.args.index.now c.requires c.is_empty.ensures c.if-is_empty.false in
+    sym (present_itself c.args.index.now words c.args.t (c.in-None.ensures.finds words.rows words.entered))

@@ -1,14 +1,12 @@
 -- `forget_from` meets its contract: what it counts is read before anything is written. Assumes nothing.
 use Prim.Native.Nat.{ℕ, ◌≤◌}
 use native.Mathlib.Omega.{arith}
-use mathlib.Core.Path.{ap₂, ◌∙◌}
 use Rattle.rules.proofs.Keys.Fitting.{filter_most}
-use Rattle.layout.specs.Columns.{Cols, columns, write}
+use Rattle.layout.specs.Columns.{Cols, columns}
 use Rattle.layout.proofs.Tabulate.{length_tabulate}
 use Rattle.journal.specs.Journal.{is_replaced, replaced_in}
 use Rattle.journal.specs.Words.{entry_at}
 use Rattle.marks.specs.Raw.{first_entries}
-use Rattle.returning.specs.Returning.{forgotten}
 use Rattle.returning.proofs.going.forget_from.Goals as goal
 
 most : (C : Cols) (n : ℕ) → replaced_in (first_entries C n) ≤ n
@@ -18,8 +16,3 @@ most C n = omega (arith, filter_most is_replaced (first_entries C n), length_tab
 pub overflow_cast-replaced : goal.overflow_cast-replaced
 overflow_cast-replaced c =
     omega (arith, c.replaced_before-replaced.ensures, most (columns c.args.store.now) c.args.n, c.requires.n_le_max_entries)
-
-pub returns : goal.returns
-unfolding forgotten
-returns c =
-    c.put-2.ensures ∙ ap₂ (λ (X : Cols) (x : ℕ). write X 37 1 x) c.put.ensures c.replaced_before-replaced.ensures

@@ -1,5 +1,7 @@
 -- `repeated_run` meets its contract: cause 1 comes first, and where no list of types is lent, its words are their own index. Assumes nothing.
 use Prim.Native.Nat.{ℕ}
+use lib.ListN.{length}
+use Rattle.std.proofs.Common.{rules}
 use mathlib.Core.Bool.{true}
 use mathlib.Core.List.{List, []}
 use mathlib.Core.Path.{◌≡◌, sym, ap, subst, ◌∙◌}
@@ -19,18 +21,19 @@ returns-then-not-is_sound c =
     let a = c.args in
     unsound a.store.now a.types.now (ignore_of a.ignore) a.block a.length _ (sym c.is_sound.ensures ∙ c.if-not-is_sound.true)
 
-pub block_runs-requires : goal.block_runs-requires
-block_runs-requires c =
+pub invariant_of-terms : goal.invariant_of-terms
+invariant_of-terms c =
     let lent : sound_lent c.args.store.now ≡ true = sym c.is_sound.ensures ∙ c.if-not-is_sound.false in
     let sound : IsSound c.args.store.now = (lent_facts c.args.store.now lent).tables in
-    let a = c.args in
-    record { sound = sound; indexed = subst IsIndex (sym (no_children a.types.now c.if-types-eq0.true)) no_words_lem }
+    let few : length c.args.types.now ≡ 0 = search rules in
+    record { readable = record { sound = sound; indexed = subst IsIndex (sym (no_children c.args.types.now few)) no_words_lem } }
 
-pub returns-then-types-eq0 : goal.returns-then-types-eq0
-returns-then-types-eq0 c =
+pub returns-then-is_empty : goal.returns-then-is_empty
+returns-then-is_empty c =
     let lent : sound_lent c.args.store.now ≡ true = sym c.is_sound.ensures ∙ c.if-not-is_sound.false in
     let a = c.args in
-    let none : a.types.now ≡ [] = no_children a.types.now c.if-types-eq0.true in
+    let few : length a.types.now ≡ 0 = search rules in
+    let none : a.types.now ≡ [] = no_children a.types.now few in
     as_found a.store.now a.types.now (ignore_of a.ignore) a.block a.length _ lent
     (subst (λ (types : List ℕ). Answered true a.store.now types (ignore_of a.ignore) a.block a.length c.block_runs.result)
     (ap list_in none ∙ no_list ∙ sym none) c.block_runs.ensures)
@@ -40,9 +43,3 @@ indexed_runs-requires c =
     let lent : sound_lent c.args.store.now ≡ true = sym c.is_sound.ensures ∙ c.if-not-is_sound.false in
     let sound : IsSound c.args.store.now = (lent_facts c.args.store.now lent).tables in
     sound
-
-pub returns : goal.returns
-returns c =
-    let lent : sound_lent c.args.store.now ≡ true = sym c.is_sound.ensures ∙ c.if-not-is_sound.false in
-    let a = c.args in
-    as_found a.store.now a.types.now (ignore_of a.ignore) a.block a.length _ lent c.indexed_runs.ensures

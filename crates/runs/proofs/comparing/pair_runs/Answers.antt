@@ -2,117 +2,74 @@
 use Prim.Native.Nat.{ℕ}
 use native.Mathlib.Omega.{arith}
 use mathlib.Core.List.{List}
-use mathlib.Core.Path.{◌≡◌, refl, ◌∙◌}
+use mathlib.Core.Path.{◌≡◌, sym, ap, ◌∙◌}
 use lib.ListN.{length}
+use Rattle.std.proofs.Common.{rules}
+use Rattle.std.proofs.lemmas.Slice.Zip.{Zip-more, either_empty_from_Zip}
+use Rattle.std.specs.Iterator.Adapters.{zip_first, zip_second}
+use Rattle.std.specs.Slice.Iter.{iter_rest}
 use Rattle.rules.specs.Store.{Store}
 use Rattle.rules.specs.Fragments.{block}
-use Rattle.rules.specs.Comparison.{State, Pair, Walk, pair_of, pairwise, pair_ops}
+use Rattle.rules.specs.Comparison.{State, Pair, Walk, pairwise, pair_of, pair_ops}
 use Rattle.rules.proofs.Walking.Paired.{grows_pair_ops}
+use Rattle.fragments.specs.Options.{Options, under}
+use Rattle.equivalence.proofs.Zipped.{Zips, Turn, pairwise_zips, rest_begins, rest_fits, turn, turn_ends, turn_rest, pairwise_ends}
+use Rattle.runs.specs.Walked.{left_run, right_run, pair_walk}
+use Rattle.runs.proofs.Listed.{run_here, run_long, end_together}
 use Rattle.layout.specs.Reading.{store_in}
-use Rattle.fragments.specs.Options.{Options, options_of, under}
+use Rattle.fragments.specs.Terms.{options_in}
 use Rattle.pairing.specs.Told.{state_of}
-use Rattle.equivalence.proofs.Zipped.{Zips, pairwise_zips}
-use Rattle.runs.specs.Walked.{pair_walk}
-use Rattle.runs.specs.declared.types.TwoRuns.{TwoRuns}
-use Rattle.runs.proofs.Stepping.{Turn, PairHere, pair_here, still_ready, rest_begins, rest_fits, turn, turn_ends, turn_rest, pairwise_ends}
 use Rattle.runs.proofs.comparing.pair_runs.Goals as goal
+use Rattle.runs.proofs.comparing.pair_runs.Goals.{In-Some}
 
-pub loop-k-init : goal.loop-k-init
-loop-k-init c =
-    let rule : Options = options_of c.args.two.ignore c.args.types.now in
-    let store : Store = store_in c.args.store.now in
-    let ops : List ℕ = c.args.ops.now in
-    let x : TwoRuns = c.args.two in
-    let blocks : Pair = pair_of block c.args.two.block c.args.two.block in
-    let step : ℕ → ℕ → State → Walk = pair_ops (under rule store) rule.ignore in
-    let zips : Zips step (pairwise step blocks) = pairwise_zips step (grows_pair_ops (under rule store) rule.ignore) blocks in
-    (refl, rest_begins zips ops x c.args.mapping.now 0)
+abbrev step : Store → Options → ℕ → ℕ → State → Walk
+step s o = pair_ops (under o s) o.ignore
 
-pub overflow_cast-pair : goal.overflow_cast-pair
-overflow_cast-pair c =
-    let ops : List ℕ = c.args.ops.now in
-    let x : TwoRuns = c.args.two in
-    let k : ℕ = c.loop-k.k in
-    let pair : PairHere c.args.store.now ops x k = pair_here c.requires.ready_to_compare.sound c.requires.runs_in k c.loop-k-test.true in
-    record { fits = omega (arith, pair.left, pair.few) }
+zips : (s : Store) (o : Options) (p : Pair) → Zips (step s o) (pairwise (step s o) p)
+zips s o p = pairwise_zips (step s o) (grows_pair_ops (under o s) o.ignore) p
 
-pub overflow_cast-pair-in-loop-k : goal.overflow_cast-pair-in-loop-k
-overflow_cast-pair-in-loop-k c =
-    let ops : List ℕ = c.args.ops.now in
-    let x : TwoRuns = c.args.two in
-    let k : ℕ = c.loop-k.k in
-    let pair : PairHere c.args.store.now ops x k = pair_here c.requires.ready_to_compare.sound c.requires.runs_in k c.loop-k-test.true in
-    record { fits = omega (arith, pair.right, pair.few) }
+-- the two operations that come
+pair_comes : (c : In-Some)
+    → Turn (step (store_in c.args.terms.now.store.now) (options_in c.args.terms.now)) (pairwise (step (store_in c.args.terms.now.store.now) (options_in c.args.terms.now)) (pair_of block c.args.two.runs.block c.args.two.runs.block)) (left_run c.args.ops.now c.args.two) (right_run c.args.ops.now c.args.two)
+    (iter_rest (zip_first c.next.new.self)) (iter_rest (zip_second c.next.new.self)) (pair_walk (store_in c.args.terms.now.store.now) (options_in c.args.terms.now) c.args.ops.now c.args.two (state_of c.args.mapping.now 0))
+    (state_of c.loop-lhs.mapping c.loop-lhs.count) c.in-Some.lhs.now c.in-Some.rhs.now
+pair_comes c =
+    let more = Zip-more c.loop-lhs.lhs-iterator c.next.new.self c.next.result (c.in-Some.lhs, c.in-Some.rhs) c.in-Some.is c.next.ensures.steps in
+    turn (zips (store_in c.args.terms.now.store.now) (options_in c.args.terms.now) (pair_of block c.args.two.runs.block c.args.two.runs.block)) c.loop-lhs.invariant.1 more.0 more.1
 
-pub op_eq_map-mapped-requires : goal.op_eq_map-mapped-requires
-op_eq_map-mapped-requires c =
-    let rule : Options = options_of c.args.two.ignore c.args.types.now in
-    let store : Store = store_in c.args.store.now in
-    let ops : List ℕ = c.args.ops.now in
-    let x : TwoRuns = c.args.two in
-    let blocks : Pair = pair_of block c.args.two.block c.args.two.block in
-    let step : ℕ → ℕ → State → Walk = pair_ops (under rule store) rule.ignore in
-    let zips : Zips step (pairwise step blocks) = pairwise_zips step (grows_pair_ops (under rule store) rule.ignore) blocks in
-    let k : ℕ = c.loop-k.k in
-    let pair : PairHere c.args.store.now ops x k = pair_here c.requires.ready_to_compare.sound c.requires.runs_in k c.loop-k-test.true in
-    let m = c.loop-k in
-    record {
-      ready_to_compare = still_ready c.requires.ready_to_compare m.invariant.0;
-      lhs_bound = pair.left;
-      rhs_bound = pair.right;
-      paired_le_max_paired = rest_fits zips m.invariant.1 c.requires.paired_fits;
-    }
+pub loop-lhs-init : goal.loop-lhs-init
+loop-lhs-init c =
+    let x = c.args.two in
+    let ops = c.args.ops.now in
+    let first : iter_rest (zip_first c.into_iter-lhs-iterator.result) ≡ left_run ops x = cc in
+    let second : iter_rest (zip_second c.into_iter-lhs-iterator.result) ≡ right_run ops x = cc in (
+      ap (λ (xs : List ℕ). length xs) first ∙ run_long ops x.runs.n x.left c.requires.runs_in.left
+          ∙ sym (ap (λ (xs : List ℕ). length xs) second ∙ run_long ops x.runs.n x.right c.requires.runs_in.right),
+      rest_begins _ (left_run ops x) (right_run ops x) _ _ c.args.mapping.now 0 first second,
+    )
 
-pub shape_of-mapping-in_default : goal.shape_of-mapping-in_default
-shape_of-mapping-in_default c =
-    let long_as : length c.op_eq_map-mapped.new.mapping ≡ length c.args.mapping.now =
-    c.op_eq_map-mapped.auto.mapping ∙ c.loop-k.invariant.0 in
-    long_as
+pub op_eq_map-requires-clause-lhs_bound : goal.op_eq_map-requires-clause-lhs_bound
+op_eq_map-requires-clause-lhs_bound c = run_here c.requires.runs_in.listed c.args.two.runs.n c.args.two.left _ (pair_comes ((goal.at.op_eq_map-requires-clause-lhs_bound c).In-Some)).l_in
 
-pub returns-in_default : goal.returns-in_default
-returns-in_default c =
-    let rule : Options = options_of c.args.two.ignore c.args.types.now in
-    let store : Store = store_in c.args.store.now in
-    let ops : List ℕ = c.args.ops.now in
-    let x : TwoRuns = c.args.two in
-    let whole : Walk = pair_walk store rule ops x (state_of c.args.mapping.now 0) in
-    let blocks : Pair = pair_of block c.args.two.block c.args.two.block in
-    let step : ℕ → ℕ → State → Walk = pair_ops (under rule store) rule.ignore in
-    let zips : Zips step (pairwise step blocks) = pairwise_zips step (grows_pair_ops (under rule store) rule.ignore) blocks in
-    let k : ℕ = c.loop-k.k in
-    let here : Turn step (pairwise step blocks) ops x whole k (state_of c.loop-k.mapping c.loop-k.count) =
-    turn zips c.loop-k.invariant.1 c.loop-k-test.true c.requires.runs_in in
-    let q = c.op_eq_map-mapped in
-    turn_ends zips here q.result q.new.mapping q.ensures c.in_default.not-Eq
+pub op_eq_map-requires-clause-rhs_bound : goal.op_eq_map-requires-clause-rhs_bound
+op_eq_map-requires-clause-rhs_bound c = run_here c.requires.runs_in.listed c.args.two.runs.n c.args.two.right _ (pair_comes ((goal.at.op_eq_map-requires-clause-rhs_bound c).In-Some)).r_in
 
-pub loop-k-smaller : goal.loop-k-smaller
-loop-k-smaller c = omega (arith, c.loop-k-test.true)
+pub op_eq_map-requires-clause-paired_le_max_paired : goal.op_eq_map-requires-clause-paired_le_max_paired
+op_eq_map-requires-clause-paired_le_max_paired c = rest_fits (zips (store_in c.args.terms.now.store.now) (options_in c.args.terms.now) (pair_of block c.args.two.runs.block c.args.two.runs.block)) c.loop-lhs.invariant.1 c.requires.paired_fits
 
-pub loop-k-preserved : goal.loop-k-preserved
-loop-k-preserved c =
-    let rule : Options = options_of c.args.two.ignore c.args.types.now in
-    let store : Store = store_in c.args.store.now in
-    let ops : List ℕ = c.args.ops.now in
-    let x : TwoRuns = c.args.two in
-    let whole : Walk = pair_walk store rule ops x (state_of c.args.mapping.now 0) in
-    let blocks : Pair = pair_of block c.args.two.block c.args.two.block in
-    let step : ℕ → ℕ → State → Walk = pair_ops (under rule store) rule.ignore in
-    let zips : Zips step (pairwise step blocks) = pairwise_zips step (grows_pair_ops (under rule store) rule.ignore) blocks in
-    let k : ℕ = c.loop-k.k in
-    let here : Turn step (pairwise step blocks) ops x whole k (state_of c.loop-k.mapping c.loop-k.count) =
-    turn zips c.loop-k.invariant.1 c.loop-k-test.true c.requires.runs_in in
-    let long_as : length c.op_eq_map-mapped.new.mapping ≡ length c.args.mapping.now =
-    c.op_eq_map-mapped.auto.mapping ∙ c.loop-k.invariant.0 in
-    let q = c.op_eq_map-mapped in
-    (long_as, turn_rest zips here q.result q.new.mapping q.ensures c.in-Eq.is)
+pub returns-in_err-count : goal.returns-in_err-count
+returns-in_err-count c =
+    turn_ends (zips (store_in c.args.terms.now.store.now) (options_in c.args.terms.now) (pair_of block c.args.two.runs.block c.args.two.runs.block)) (pair_comes ((goal.at.returns-in_err-count c).In-Some)) _ _ c.op_eq_map.ensures c.in_err-count.field-0.0 _ c.in_err-count.was (search rules)
 
-pub shape_of-mapping : goal.shape_of-mapping
-shape_of-mapping c = c.loop-k.invariant.0
+pub loop-lhs-preserved : goal.loop-lhs-preserved
+loop-lhs-preserved c =
+    let more = Zip-more c.loop-lhs.lhs-iterator c.next.new.self c.next.result (c.in-Some.lhs, c.in-Some.rhs) c.in-Some.is c.next.ensures.steps in
+    let left = ap (λ (xs : List ℕ). length xs) more.0 in
+    let right = ap (λ (xs : List ℕ). length xs) more.1 in
+    (omega (arith, left, right, c.loop-lhs.invariant.0), turn_rest (zips (store_in c.args.terms.now.store.now) (options_in c.args.terms.now) (pair_of block c.args.two.runs.block c.args.two.runs.block)) (pair_comes ((goal.at.loop-lhs-preserved c).In-Some)) _ _ c.op_eq_map.ensures c.in_ok-count.was)
 
 pub returns : goal.returns
 returns c =
-    let rule : Options = options_of c.args.two.ignore c.args.types.now in
-    let store : Store = store_in c.args.store.now in
-    let blocks : Pair = pair_of block c.args.two.block c.args.two.block in
-    let step : ℕ → ℕ → State → Walk = pair_ops (under rule store) rule.ignore in
-    pairwise_ends step c.loop-k-test.false blocks c.loop-k.invariant.1
+    let empty = either_empty_from_Zip c.loop-lhs.lhs-iterator c.next.new.self c.next.result c.in-None.is c.next.ensures.steps in
+    let both = end_together _ _ c.loop-lhs.invariant.0 empty in
+    pairwise_ends (step (store_in c.args.terms.now.store.now) (options_in c.args.terms.now)) (pair_of block c.args.two.runs.block c.args.two.runs.block) c.loop-lhs.invariant.1 both.0 both.1

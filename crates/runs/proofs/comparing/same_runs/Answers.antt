@@ -4,10 +4,11 @@ use lib.ListN.{length, length-replicate}
 use Rattle.rules.specs.Mapping.{no_image}
 use Rattle.rules.specs.Entered.{EnteredBy, paired_in}
 use Rattle.layout.specs.Reading.{store_in}
-use Rattle.fragments.specs.Options.{Options, options_of}
+use Rattle.fragments.specs.Options.{Options}
+use Rattle.fragments.specs.Terms.{options_in}
 use Rattle.mapping.specs.MappingWords.{mapping_of, mapping_length, empty_words}
 use Rattle.pairing.specs.Told.{answer_of}
-use Rattle.runs.proofs.Compared.{runs_same, runs_differ, runs_unmap}
+use Rattle.runs.proofs.Compared.{runs_told, runs_unmap}
 use Rattle.runs.proofs.comparing.same_runs.Goals as goal
 
 pub compare_runs-result-requires : goal.compare_runs-result-requires
@@ -16,38 +17,28 @@ compare_runs-result-requires c =
     let empty_long : length c.args.mapping.now ≡ mapping_length =
     ap length c.requires.mapping_value ∙ length-replicate mapping_length no_image in
     record {
-      ready_to_compare = record { sound = c.requires.readable.sound; indexed = c.requires.readable.indexed; long = empty_long };
+      mapping_len = empty_long;
       runs_in = c.requires.runs_in;
     }
 
 pub unmap_entered-requires : goal.unmap_entered-requires
 unfolding empty_words
 unmap_entered-requires c =
-    let rule : Options = options_of c.args.two.ignore c.args.types.now in
+    let rule : Options = options_in c.args.terms.now in
     let empty_long : length c.args.mapping.now ≡ mapping_length =
     ap length c.requires.mapping_value ∙ length-replicate mapping_length no_image in
     let q = c.compare_runs-result in
     let many : c.paired_of.result ≡ paired_in (answer_of q.result) = c.paired_of.ensures in
     record {
-      sound = c.requires.readable.sound;
+      sound = c.args.terms.now.readable.sound;
       mapping_len = q.auto.mapping ∙ empty_long;
-      entered_by = subst (λ (n : _). EnteredBy (store_in c.args.store.now) (mapping_of q.new.mapping) n) (sym many) (runs_unmap rule c.requires.readable.sound c.requires.runs_in c.requires.mapping_value q.result q.new.mapping q.ensures);
+      entered_by = subst (λ (n : _). EnteredBy (store_in c.args.terms.now.store.now) (mapping_of q.new.mapping) n) (sym many) (runs_unmap rule c.args.terms.now.readable.sound c.requires.runs_in c.requires.mapping_value q.result q.new.mapping q.ensures);
     }
 
-pub returns-in-Eq : goal.returns-in-Eq
-returns-in-Eq c =
-    let rule : Options = options_of c.args.two.ignore c.args.types.now in
+pub returns : goal.returns
+returns c =
     let q = c.compare_runs-result in
     record {
-      value = runs_same rule c.requires.readable.sound c.requires.runs_in c.requires.mapping_value q.result q.new.mapping q.ensures c.in-Eq.is;
-      mapping_after = c.unmap_entered.ensures;
-    }
-
-pub returns-in_default : goal.returns-in_default
-returns-in_default c =
-    let rule : Options = options_of c.args.two.ignore c.args.types.now in
-    let q = c.compare_runs-result in
-    record {
-      value = runs_differ rule c.requires.readable.sound c.requires.runs_in c.requires.mapping_value q.result q.new.mapping q.ensures c.in_default.not-Eq;
+      value = runs_told (options_in c.args.terms.now) c.args.terms.now.readable.sound c.requires.runs_in c.requires.mapping_value q.result q.new.mapping q.ensures c.is_ok.ensures.value;
       mapping_after = c.unmap_entered.ensures;
     }

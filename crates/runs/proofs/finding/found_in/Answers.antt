@@ -1,7 +1,7 @@
 -- `found_in` meets its contract: the listed words are the block's operations, and fewer than two runs have no right start. Assumes nothing.
 use Prim.Native.Nat.{ℕ, ◌≤◌}
 use native.Mathlib.Omega.{arith}
-use mathlib.Core.Path.{◌≡◌, refl, sym, ap, ◌∙◌}
+use mathlib.Core.Path.{◌≡◌, sym, ap, ◌∙◌}
 use lib.ListN.{length}
 use lib.Seq.{length-take-le}
 use Rattle.rules.specs.Store.{ops_of}
@@ -9,52 +9,45 @@ use Rattle.rules.specs.Runs.{repeated_of}
 use Rattle.rules.specs.Types.{renamed}
 use Rattle.rules.proofs.Runs.Answered.{few_ops}
 use Rattle.layout.specs.Reading.{store_in}
-use Rattle.fragments.specs.Options.{Options, options_of, under}
+use Rattle.fragments.specs.Options.{Options, under}
+use Rattle.fragments.specs.Terms.{options_in}
 use Rattle.runs.specs.Calls.{found_of}
 use Rattle.runs.proofs.Searched.{right_begins, right_over}
 use Rattle.runs.proofs.finding.found_in.Goals as goal
 
-pub ops_in-count-requires : goal.ops_in-count-requires
-ops_in-count-requires c =
-    record { sound = c.requires.readable.sound; b_bound = c.requires.block_bound; ops_len = refl }
-
 pub returns-then-count-runs : goal.returns-then-count-runs
 unfolding found_of repeated_of renamed ops_of
 returns-then-count-runs c =
-    let rule : Options = options_of c.args.runs.ignore c.args.types.now in
+    let rule : Options = options_in c.args.terms.now in
     let block : ℕ = c.args.runs.block in
-    let many : c.ops_in-count.result ≡ length (ops_of (under rule (store_in c.args.store.now)) block) = c.ops_in-count.ensures.lists.many in
+    let many : c.ops_in-count.result ≡ length (ops_of (under rule (store_in c.args.terms.now.store.now)) block) = c.ops_in-count.ensures.lists.many in
     let n = c.args.runs.n in
-    let S = under rule (store_in c.args.store.now) in
+    let S = under rule (store_in c.args.terms.now.store.now) in
     sym (ap repeated_of (right_begins S rule.ignore block n ∙ right_over S rule.ignore block n n (omega (arith, c.if-count-runs.true, many))))
 
 pub slice_bounds-ops-end : goal.slice_bounds-ops-end
 slice_bounds-ops-end c =
     let block : ℕ = c.args.runs.block in
     let low : c.ops_in-count.result ≤ length c.ops_in-count.new.ops =
-    omega (arith, c.ops_in-count.ensures.lists.many, c.ops_in-count.ensures.ops_len_2, few_ops (store_in c.args.store.now) c.requires.readable.sound.ruled block) in
+    omega (arith, c.ops_in-count.ensures.lists.many, c.ops_in-count.ensures.ops_len_2, few_ops (store_in c.args.terms.now.store.now) c.args.terms.now.readable.sound.ruled block) in
     low
 
 pub slice_bounds-found_among-end : goal.slice_bounds-found_among-end
 slice_bounds-found_among-end c =
     let block : ℕ = c.args.runs.block in
     let low : c.ops_in-count.result ≤ length c.ops_in-count.new.ops =
-    omega (arith, c.ops_in-count.ensures.lists.many, c.ops_in-count.ensures.ops_len_2, few_ops (store_in c.args.store.now) c.requires.readable.sound.ruled block) in
+    omega (arith, c.ops_in-count.ensures.lists.many, c.ops_in-count.ensures.ops_len_2, few_ops (store_in c.args.terms.now.store.now) c.args.terms.now.readable.sound.ruled block) in
     sym (length-take-le _ _ low)
 
 pub found_among-requires : goal.found_among-requires
 found_among-requires c =
     let block : ℕ = c.args.runs.block in
     let low : c.ops_in-count.result ≤ length c.ops_in-count.new.ops =
-    omega (arith, c.ops_in-count.ensures.lists.many, c.ops_in-count.ensures.ops_len_2, few_ops (store_in c.args.store.now) c.requires.readable.sound.ruled block) in
+    omega (arith, c.ops_in-count.ensures.lists.many, c.ops_in-count.ensures.ops_len_2, few_ops (store_in c.args.terms.now.store.now) c.args.terms.now.readable.sound.ruled block) in
     let long = length-take-le c.ops_in-count.result c.ops_in-count.new.ops low in
     record {
-      readable = c.requires.readable;
       ops_of = record { here = c.requires.block_bound; all = c.ops_in-count.ensures.lists.first };
       le_n = c.requires.le_n;
       n_le_max_run = c.requires.n_le_max_run;
       n_in_bounds = omega (arith, long, c.if-count-runs.false);
     }
-
-pub returns : goal.returns
-returns c = c.found_among.ensures

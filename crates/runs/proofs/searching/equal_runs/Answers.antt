@@ -1,12 +1,12 @@
 -- `equal_runs` meets its contract: runs that the test of first operands tells apart are not equal. Assumes nothing.
 use mathlib.Core.Path.{sym}
-use borrow.Author.Tests.{not-true}
 use Rattle.renaming.specs.Index.{list_in}
+use Rattle.fragments.specs.Ignoring.{ignore_of}
 use Rattle.runs.proofs.searching.equal_runs.Goals as goal
 
 pub returns-then-not-first_uses_may_agree : goal.returns-then-not-first_uses_may_agree
 returns-then-not-first_uses_may_agree c =
     record {
-      value = sym (c.first_uses_may_agree.ensures (list_in c.args.types.now) (not-true _ c.if-not-first_uses_may_agree.true-raw));
+      value = sym (c.first_uses_may_agree.ensures (list_in c.args.terms.now.types.now) (ignore_of c.args.terms.now.ignore) c.if-not-first_uses_may_agree.true);
       mapping_after = c.requires.mapping_value;
     }

@@ -1,9 +1,6 @@
 -- `slot_for` meets its contract: it seeks among the owner's slots. Assumes nothing.
 use native.Mathlib.Omega.{arith}
-use mathlib.Core.Path.{ap₂, ◌∙◌}
-use Rattle.layout.specs.Columns.{columns}
 use Rattle.layout.specs.Owners.{owner_of}
-use Rattle.setting.specs.Raw.{seek, slot_for}
 use Rattle.setting.proofs.Owners.{reachable}
 use Rattle.setting.proofs.attributes.slot_for.Goals as goal
 
@@ -12,9 +9,3 @@ slot_from-requires c =
     let a = c.args in
     let r = reachable a.store.now c.requires.sound (owner_of a.owner) c.requires.owner_value in
     record { store_len = c.requires.sound.sized; count_bound = omega arith; first_bound = omega arith }
-
-pub returns : goal.returns
-unfolding slot_for
-returns c =
-    let a = c.args in
-    c.slot_from.ensures ∙ ap₂ (seek (columns a.store.now) a.key) c.first_slot.ensures c.key_count.ensures

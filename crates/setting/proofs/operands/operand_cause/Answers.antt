@@ -2,25 +2,20 @@
 use Prim.Native.Nat.{◌<◌, ◌≤◌}
 use native.Mathlib.Omega.{arith}
 use mathlib.Core.Path.{sym, ◌∙◌}
+use Rattle.std.proofs.lemmas.Bool.Decides.{nat_tests}
+use Rattle.rules.specs.Lists.{every}
+use Rattle.rules.specs.Building.{tests, first_failed}
 use Rattle.layout.specs.Columns.{columns}
 use Rattle.layout.specs.Reading.{op_count}
 use Rattle.layout.specs.Causes.{cause_of}
 use Rattle.layout.proofs.Tabulate.{op_in_lem}
 use Rattle.calling.proofs.Facts.{laid}
-use Rattle.setting.proofs.OperandCauses.{no_op_lem, no_value_lem, no_operand, operand_there}
+use Rattle.setting.proofs.OperandCauses.{indexed}
 use Rattle.setting.proofs.operands.operand_cause.Goals as goal
 
 pub returns-then-not-op_exists : goal.returns-then-not-op_exists
-unfolding cause_of
-returns-then-not-op_exists c =
-    let a = c.args in
-    sym (no_op_lem a.store.now c.requires a.n a.i a.v (sym c.op_exists.ensures ∙ c.if-not-op_exists.true))
-
-pub returns-then-not-value_exists : goal.returns-then-not-value_exists
-unfolding cause_of
-returns-then-not-value_exists c =
-    let a = c.args in
-    sym (no_value_lem a.store.now c.requires a.n a.i a.v (sym c.op_exists.ensures ∙ c.if-not-op_exists.false) (sym c.value_exists.ensures ∙ c.if-not-value_exists.true))
+unfolding cause_of tests first_failed every
+returns-then-not-op_exists c = grind (arith, nat_tests)
 
 pub at-first-requires : goal.at-first-requires
 at-first-requires c =
@@ -47,13 +42,15 @@ overflow_sub-at c =
     omega arith
 
 pub returns-then-i-at : goal.returns-then-i-at
-unfolding cause_of
+unfolding cause_of tests first_failed every
 returns-then-i-at c =
     let a = c.args in
-    sym (no_operand a.store.now c.requires a.n a.i a.v (sym c.op_exists.ensures ∙ c.if-not-op_exists.false) (sym c.value_exists.ensures ∙ c.if-not-value_exists.false) (omega arith))
+    let own = indexed a.store.now c.requires a.n a.i a.v (op_in_lem (columns a.store.now) a.n (sym c.op_exists.ensures ∙ c.if-not-op_exists.false)) in
+    grind (arith, nat_tests, own)
 
 pub returns : goal.returns
-unfolding cause_of
+unfolding cause_of tests first_failed every
 returns c =
     let a = c.args in
-    sym (operand_there a.store.now c.requires a.n a.i a.v (sym c.op_exists.ensures ∙ c.if-not-op_exists.false) (sym c.value_exists.ensures ∙ c.if-not-value_exists.false) (omega arith))
+    let own = indexed a.store.now c.requires a.n a.i a.v (op_in_lem (columns a.store.now) a.n (sym c.op_exists.ensures ∙ c.if-not-op_exists.false)) in
+    grind (arith, nat_tests, own)

@@ -1,14 +1,9 @@
--- `include` meets its contract: a word is stored where the new state differs from the old one. Assumes nothing.
-use Rattle.tally.proofs.Including.{include_equal, include_first, include_again}
+-- The place becomes the one that is told. Assumes nothing.
+use lib.ListN.{set}
+use mathlib.Core.Path.{ap}
+use Rattle.tally.specs.Tally.{included}
 use Rattle.tally.proofs.counting.include.Goals as goal
 
-pub returns-then-found : goal.returns-then-found
-returns-then-found c = include_equal _ c.args.n c.args.tally.now c.if-found.true
-
-pub returns-then-tally-n-eq0 : goal.returns-then-tally-n-eq0
-returns-then-tally-n-eq0 c =
-    include_first _ c.args.n c.args.tally.now c.if-found.false c.if-tally-n-eq0.true
-
-pub returns-else-tally-n-eq0 : goal.returns-else-tally-n-eq0
-returns-else-tally-n-eq0 c =
-    include_again _ c.args.n c.args.tally.now c.if-found.false c.if-tally-n-eq0.false
+pub returns : goal.returns
+unfolding included
+returns c = ap (set c.args.tally.now c.args.n) c.after.ensures

@@ -10,7 +10,9 @@ use Rattle.undoing.specs.Undoing.{UndidAll}
 use Rattle.undoing.proofs.entries.undo_between.Given as goal
 
 abbrev pub invariant-loop-i : goal.invariant-loop-i
-invariant-loop-i l = UndidAll l.initial.store l.store (drop l.i (tabulate l.end (entry_at (columns l.initial.store)))) true × (length l.store ≡ length l.initial.store) × (l.place ≤ l.i) × (l.i ≤ l.end)
-
-abbrev pub decreases-loop-i : goal.decreases-loop-i
-decreases-loop-i l = l.i
+invariant-loop-i l =
+    record {
+      so_far : UndidAll l.initial.store l.store (drop l.i (tabulate l.end (entry_at (columns l.initial.store)))) true;
+      long : length l.store ≡ length l.initial.store;
+      low : l.place ≤ l.i;
+    }

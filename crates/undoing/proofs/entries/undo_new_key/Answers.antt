@@ -4,16 +4,9 @@ use Prim.Native.Nat.{ℕ, ◌+◌, ◌<◌, ◌≤◌}
 use Rattle.layout.specs.Columns.{columns}
 use Rattle.layout.specs.Reading.{slots_of}
 use Rattle.layout.specs.Owners.{owner_of, key_count}
-use Rattle.journal.specs.Journal.{key_was_none}
 use Rattle.undoing.specs.Raw.{without_slot}
-use Rattle.undoing.proofs.Told.{undid_not}
 use Rattle.undoing.proofs.KeyGone.{owner_there, slot_there, key_undid}
 use Rattle.undoing.proofs.entries.undo_new_key.Goals as goal
-
-pub returns-then-not-has_key : goal.returns-then-not-has_key
-returns-then-not-has_key c =
-    let a = c.args in
-    undid_not a.store.now c.requires (key_was_none (owner_of a.owner) a.key) (sym c.has_key.ensures ∙ c.if-not-has_key.true)
 
 pub slot_for-slot-requires : goal.slot_for-slot-requires
 slot_for-slot-requires c =

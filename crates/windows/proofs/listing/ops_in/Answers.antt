@@ -1,103 +1,50 @@
--- `ops_in` meets its contract: it goes through the list and writes each behind the others. Assumes nothing.
-use Rattle.std.proofs.Common.{ℕ, ◌<◌, List, sym, ◌∙◌, arith}
-use Rattle.rules.specs.Store.{Store, ops_of}
-use Rattle.layout.specs.Columns.{Cols, columns}
-use Rattle.layout.specs.Reading.{store_in}
+-- `ops_in` meets its contract: the operations that came are written, one behind the other. Assumes nothing.
+use Rattle.std.proofs.Common.{◌≡◌, ℕ, ◌+◌, ◌<◌, List, [], ◌∷◌, ◌++◌, length, take, set, ap, ◌∙◌, add-one, arith, length-append, length-set, take-suc-set}
+use Rattle.rules.specs.Store.{ops_of}
+use Rattle.rules.proofs.Runs.Answered.{few_ops}
+use Rattle.layout.specs.Columns.{columns}
+use Rattle.layout.specs.OpsLeft.{ops_left}
+use Rattle.layout.specs.Reading.{op_count, store_in}
 use Rattle.layout.proofs.Laid.{laid_facts}
-use Rattle.layout.proofs.Seeking.{NextChild, none_next, next_op}
 use Rattle.fragments.proofs.Ordered.{op_in_lem}
-use Rattle.windows.proofs.Listed.{listed_none, listed_next, listed_all}
+use Rattle.fragments.proofs.Yielded.{item_comes, all_came, comes_mem, came_fewer}
 use Rattle.windows.proofs.listing.ops_in.Goals as goal
+use Rattle.windows.proofs.listing.ops_in.Goals.{In-Some}
 
-pub loop-n-init : goal.loop-n-init
-loop-n-init c =
-    let store : Store = store_in c.args.store.now in
-    let list : List ℕ = ops_of store c.args.b in
-    listed_none list c.args.ops.now c.requires.ops_len
+op_comes : (c : In-Some) → c.loop-n.yielded ++ c.in-Some.n ∷ ops_left c.next.new.self ≡ ops_of (store_in c.args.store.now) c.args.b
+op_comes c =
+    item_comes ops_left _ _ _ _ (ap ops_left c.into_iter-n-iterator.ensures.into_iter_gives ∙ c.new-n-items.ensures) c.loop-n.yielded_by c.next.new.self _ _ c.in-Some.is c.next.ensures.steps
 
-pub next_op-requires : goal.next_op-requires
-next_op-requires c =
-    record { arranged = record { sized = c.requires.sound.sized; laid = c.requires.sound.laid }; block_bound = c.requires.b_bound }
-
-pub shape_of-ops-in_default : goal.shape_of-ops-in_default
-shape_of-ops-in_default c =
-    c.loop-n.invariant.room ∙ sym c.requires.ops_len
-
-pub returns-in_default : goal.returns-in_default
-returns-in_default c =
-    let store : Store = store_in c.args.store.now in
-    let list : List ℕ = ops_of store c.args.b in
-    let l = c.loop-n in
-    let done = none_next l.from list _ c.next_op.ensures c.in_default.is in
-    record { lists = listed_all list l.ops l.passed l.from l.invariant done; ops_len_2 = l.invariant.room }
+-- a block has room for one more
+one_more : (c : In-Some) → c.loop-n.passed < 512
+one_more c =
+    let fewer = came_fewer _ _ _ _ (op_comes c) in
+    let few = few_ops (store_in c.args.store.now) c.requires.sound.ruled c.args.b in
+    omega (arith, fewer, few, length-append c.loop-n.yielded (c.in-Some.n ∷ []))
 
 pub overflow_cast-ops : goal.overflow_cast-ops
 overflow_cast-ops c =
-    let store : Store = store_in c.args.store.now in
-    let list : List ℕ = ops_of store c.args.b in
-    let cols : Cols = columns c.args.store.now in
-    let n : ℕ = c.in-At.n in
-    let found : NextChild list c.loop-n.from n = next_op store c.args.b c.loop-n.from n _ c.next_op.ensures c.in-At.is in
-    let few : n < 512 = omega (arith, op_in_lem cols c.args.b n found.child, (laid_facts cols c.requires.sound.laid).counts.ops) in
-    record { fits = omega (arith, few) }
-
-pub offset_bounds-ops-passed : goal.offset_bounds-ops-passed
-offset_bounds-ops-passed c =
-    let store : Store = store_in c.args.store.now in
-    let list : List ℕ = ops_of store c.args.b in
-    let cols : Cols = columns c.args.store.now in
-    let n : ℕ = c.in-At.n in
-    let found : NextChild list c.loop-n.from n = next_op store c.args.b c.loop-n.from n _ c.next_op.ensures c.in-At.is in
-    let few : n < 512 = omega (arith, op_in_lem cols c.args.b n found.child, (laid_facts cols c.requires.sound.laid).counts.ops) in
-    omega (arith, few, found.later, c.loop-n.invariant.few)
+    let C = columns c.args.store.now in
+    let here : c.in-Some.n < op_count C = op_in_lem C c.args.b _ (comes_mem _ _ _ _ (op_comes ((goal.at.overflow_cast-ops c).In-Some))) in
+    record { fits = omega (arith, here, (laid_facts C c.requires.sound.laid).counts.ops) }
 
 pub bounds-ops-passed : goal.bounds-ops-passed
-bounds-ops-passed c =
-    let store : Store = store_in c.args.store.now in
-    let list : List ℕ = ops_of store c.args.b in
-    let cols : Cols = columns c.args.store.now in
-    let n : ℕ = c.in-At.n in
-    let found : NextChild list c.loop-n.from n = next_op store c.args.b c.loop-n.from n _ c.next_op.ensures c.in-At.is in
-    let few : n < 512 = omega (arith, op_in_lem cols c.args.b n found.child, (laid_facts cols c.requires.sound.laid).counts.ops) in
-    omega (arith, few, found.later, c.loop-n.invariant.few, c.loop-n.invariant.room)
-
-pub overflow_add-passed : goal.overflow_add-passed
-overflow_add-passed c =
-    let store : Store = store_in c.args.store.now in
-    let list : List ℕ = ops_of store c.args.b in
-    let cols : Cols = columns c.args.store.now in
-    let n : ℕ = c.in-At.n in
-    let found : NextChild list c.loop-n.from n = next_op store c.args.b c.loop-n.from n _ c.next_op.ensures c.in-At.is in
-    let few : n < 512 = omega (arith, op_in_lem cols c.args.b n found.child, (laid_facts cols c.requires.sound.laid).counts.ops) in
-    record { fits = omega (arith, few, found.later, c.loop-n.invariant.few) }
-
-pub overflow_add-from : goal.overflow_add-from
-overflow_add-from c =
-    let store : Store = store_in c.args.store.now in
-    let list : List ℕ = ops_of store c.args.b in
-    let cols : Cols = columns c.args.store.now in
-    let n : ℕ = c.in-At.n in
-    let found : NextChild list c.loop-n.from n = next_op store c.args.b c.loop-n.from n _ c.next_op.ensures c.in-At.is in
-    let few : n < 512 = omega (arith, op_in_lem cols c.args.b n found.child, (laid_facts cols c.requires.sound.laid).counts.ops) in
-    record { fits = omega (arith, few) }
-
-pub loop-n-smaller : goal.loop-n-smaller
-loop-n-smaller c =
-    let store : Store = store_in c.args.store.now in
-    let list : List ℕ = ops_of store c.args.b in
-    let cols : Cols = columns c.args.store.now in
-    let n : ℕ = c.in-At.n in
-    let found : NextChild list c.loop-n.from n = next_op store c.args.b c.loop-n.from n _ c.next_op.ensures c.in-At.is in
-    let few : n < 512 = omega (arith, op_in_lem cols c.args.b n found.child, (laid_facts cols c.requires.sound.laid).counts.ops) in
-    omega (arith, few, found.later)
+bounds-ops-passed c = omega (arith, one_more ((goal.at.bounds-ops-passed c).In-Some), c.loop-n.invariant.2)
 
 pub loop-n-preserved : goal.loop-n-preserved
 loop-n-preserved c =
-    let store : Store = store_in c.args.store.now in
-    let list : List ℕ = ops_of store c.args.b in
-    let cols : Cols = columns c.args.store.now in
-    let n : ℕ = c.in-At.n in
-    let found : NextChild list c.loop-n.from n = next_op store c.args.b c.loop-n.from n _ c.next_op.ensures c.in-At.is in
-    let few : n < 512 = omega (arith, op_in_lem cols c.args.b n found.child, (laid_facts cols c.requires.sound.laid).counts.ops) in
-    let l = c.loop-n in
-    listed_next list l.ops l.passed l.from l.invariant found few
+    let m = c.loop-n in
+    let n = c.in-Some.n in
+    let room : m.passed < length m.ops = omega (arith, one_more ((goal.at.loop-n-preserved c).In-Some), m.invariant.2) in
+    let written : take (m.passed + 1) (set m.ops m.passed n) ≡ take m.passed m.ops ++ (n ∷ []) =
+    ap (λ (k : ℕ). take k (set m.ops m.passed n)) (add-one m.passed) ∙ take-suc-set m.ops m.passed n room in (
+      omega (arith, m.invariant.0, length-append m.yielded (n ∷ [])),
+      written ∙ ap (λ (xs : List ℕ). xs ++ (n ∷ [])) m.invariant.1,
+      length-set m.ops m.passed n ∙ m.invariant.2,
+    )
+
+pub returns : goal.returns
+returns c =
+    let m = c.loop-n in
+    let came = all_came ops_left _ _ _ _ (ap ops_left c.into_iter-n-iterator.ensures.into_iter_gives ∙ c.new-n-items.ensures) m.yielded_by c.next.new.self _ c.in-None.is c.next.ensures.steps in
+    record { lists = record { many = m.invariant.0 ∙ ap length came; first = m.invariant.1 ∙ came }; ops_len_2 = m.invariant.2 }

@@ -1,9 +1,10 @@
 -- `shell_hashes` meets its contract: after each turn one hash more is in its place. Assumes nothing.
-use Rattle.std.proofs.Common.{◌≡◌, ℕ, ◌-◌, length}
+use Rattle.std.proofs.Common.{ℕ}
 use Rattle.rules.specs.Store.{Store}
 use Rattle.rules.specs.Runs.{shell_hash}
 use Rattle.layout.specs.Reading.{store_in}
-use Rattle.fragments.specs.Options.{Options, options_of, under}
+use Rattle.fragments.specs.Options.{Options, under}
+use Rattle.fragments.specs.Terms.{options_in}
 use Rattle.windows.proofs.Summed.{Hashed}
 use Rattle.windows.proofs.sums.shell_hashes.Given as goal
 
@@ -12,8 +13,4 @@ abbrev pub hash_by : Store → Options → ℕ → ℕ
 hash_by s o = shell_hash (under o s) o.ignore
 
 abbrev pub invariant-loop-k : goal.invariant-loop-k
-invariant-loop-k l =
-    Hashed (hash_by (store_in l.store) (options_of l.ignore l.types)) l.ops l.hashes l.k × (length l.hashes ≡ length l.initial.hashes)
-
-abbrev pub decreases-loop-k : goal.decreases-loop-k
-decreases-loop-k l = length l.ops - l.k
+invariant-loop-k l = Hashed (hash_by (store_in l.terms.store.now) (options_in l.terms)) l.ops l.hashes l.k

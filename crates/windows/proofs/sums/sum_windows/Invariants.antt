@@ -1,12 +1,9 @@
 -- `sum_windows` meets its contract: at each turn the sum is that of the window from i on, and the starts up to i have theirs. Assumes nothing.
-use Rattle.std.proofs.Common.{◌≡◌, ◌+◌, ◌-◌, ◌≤◌, length}
+use Rattle.std.proofs.Common.{◌≡◌, ◌+◌}
 use Rattle.rules.specs.Runs.{run_of, weighted}
 use Rattle.windows.proofs.Summed.{Summed}
 use Rattle.windows.proofs.sums.sum_windows.Given as goal
 
 abbrev pub invariant-loop-i : goal.invariant-loop-i
 invariant-loop-i l =
-    (Summed l.hashes l.sums l.n (l.i + 1) × (l.sum ≡ weighted (run_of l.hashes l.n l.i))) × ((l.i ≤ l.last) × (length l.sums ≡ length l.initial.sums))
-
-abbrev pub decreases-loop-i : goal.decreases-loop-i
-decreases-loop-i l = l.last - l.i
+    Summed l.hashes l.sums l.n (l.i + 1) × (l.sum ≡ weighted (run_of l.hashes l.n l.i))

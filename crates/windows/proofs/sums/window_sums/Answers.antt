@@ -1,39 +1,29 @@
 -- `window_sums` meets its contract: the table has the powers, and the sums are those of the operations' hashes. Assumes nothing.
-use Rattle.std.proofs.Common.{◌≡◌, ℕ, List, length, take, sym, refl, ◌∙◌, arith}
+use Rattle.std.proofs.Common.{◌≡◌, ℕ, List, length, take, sym, refl, arith}
 use Rattle.rules.specs.Store.{Store}
 use Rattle.layout.specs.Reading.{store_in}
-use Rattle.fragments.specs.Options.{Options, options_of}
+use Rattle.fragments.specs.Options.{Options}
+use Rattle.fragments.specs.Terms.{options_in}
 use Rattle.windows.specs.Powers.{chained}
 use Rattle.windows.proofs.Summed.{hashes_long, sums_of_lem}
 use Rattle.windows.proofs.Weights.{powers_chained}
 use Rattle.windows.proofs.sums.window_sums.Goals as goal
 
-pub shell_hashes-requires : goal.shell_hashes-requires
-shell_hashes-requires c =
-    record {
-      readable = record { sound = c.requires.readable.sound; indexed = c.requires.readable.indexed };
-      ops_value = c.requires.ops_value;
-      ops_in_bounds = c.requires.ops_len_bound;
-    }
-
 pub slice_bounds-sum_windows-end : goal.slice_bounds-sum_windows-end
 slice_bounds-sum_windows-end c =
-    let store : Store = store_in c.args.store.now in
-    let options : Options = options_of c.args.ignore c.args.types.now in
+    let store : Store = store_in c.args.terms.now.store.now in
+    let options : Options = options_in c.args.terms.now in
     let ops : List ℕ = c.args.ops.now in
     let hashes : List ℕ = c.shell_hashes.new.hashes in
     let long : length (take (length ops) hashes) ≡ length ops = hashes_long store options ops hashes c.shell_hashes.ensures in
     sym long
 
-pub slice_bounds-sum_windows-end-2 : goal.slice_bounds-sum_windows-end-2
-slice_bounds-sum_windows-end-2 c = refl
-
 -- the first `refl` is the test of the rule from entry to entry, computed over the whole table
 pub sum_windows-requires : goal.sum_windows-requires
 unfolding chained
 sum_windows-requires c =
-    let store : Store = store_in c.args.store.now in
-    let options : Options = options_of c.args.ignore c.args.types.now in
+    let store : Store = store_in c.args.terms.now.store.now in
+    let options : Options = options_in c.args.terms.now in
     let ops : List ℕ = c.args.ops.now in
     let hashes : List ℕ = c.shell_hashes.new.hashes in
     let long : length (take (length ops) hashes) ≡ length ops = hashes_long store options ops hashes c.shell_hashes.ensures in
@@ -42,15 +32,15 @@ sum_windows-requires c =
       le_n = c.requires.le_n;
       n_le_max_run = c.requires.n_le_max_run;
       n_in_bounds = omega (arith, long, c.requires.n_in_bounds);
-      hashes_in_bounds = omega (arith, long, c.requires.ops_len_bound, c.requires.sums_len);
+      hashes_in_bounds = omega (arith, long, c.requires.sums_in_bounds);
     }
 
 pub returns : goal.returns
 returns c =
-    let store : Store = store_in c.args.store.now in
-    let options : Options = options_of c.args.ignore c.args.types.now in
+    let store : Store = store_in c.args.terms.now.store.now in
+    let options : Options = options_in c.args.terms.now in
     let ops : List ℕ = c.args.ops.now in
     let hashes : List ℕ = c.shell_hashes.new.hashes in
     let sums = c.sum_windows.new.sums in
     let of = sums_of_lem store options ops hashes c.shell_hashes.ensures in
-    record { sums_of = of sums c.args.n c.sum_windows.ensures; sums_len_2 = c.sum_windows.auto.sums ∙ c.requires.sums_len }
+    record { sums_of = of sums c.args.n c.sum_windows.ensures; sums_len = c.sum_windows.auto.sums }

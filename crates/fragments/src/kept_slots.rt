@@ -1,0 +1,56 @@
+// The attribute slots of a run that are not ignored, by rising number.
+ghost use Rattle.std.specs.Prelude.{◌≡◌, ◌<◌, ◌≤◌, length};
+ghost use Rattle.layout.specs.Columns.{buffer_length, columns, slot_count};
+
+use crate::ignoring::{Ignore, slot_ignored};
+
+#[derive(Clone, Copy)]
+pub struct KeptSlots<'a> {
+    store: &'a [u32],
+    ignore: Ignore,
+    at: usize,
+    end: usize,
+    pub ghost store_len: { length store.now ≡ buffer_length },
+    pub ghost end_le_slot_count: { end ≤ slot_count },
+}
+
+impl<'a> KeptSlots<'a> {
+    ghost use Rattle.fragments.specs.Ignoring.{ignore_of, kept_slots};
+    ghost use Rattle.fragments.specs.SlotsLeft.{slots_left};
+
+    pub fn new(store: &'a [u32], ignore: Ignore, first: usize, end: usize) -> Self
+        requires store_len { length store.now ≡ buffer_length }
+        requires end_le_slot_count { end ≤ slot_count }
+        ensures { slots_left result ≡ kept_slots (columns store.now) (ignore_of ignore) first end }
+    {
+        KeptSlots {
+            store,
+            ignore,
+            at: first,
+            end,
+        }
+    }
+}
+
+impl<'a> Iterator for KeptSlots<'a> {
+    ghost use Rattle.std.specs.Iterator.{YieldsFirst, item_count};
+    ghost use Rattle.fragments.specs.SlotsLeft.{slots_left};
+
+    type Item = usize;
+
+    ghost next_gives = { YieldsFirst slots_left };
+
+    ghost remaining = { item_count slots_left };
+
+    fn next(&mut self) -> Option<usize> {
+        let KeptSlots {
+            store,
+            ignore,
+            at,
+            end,
+        } = *self;
+        let slot = (at..end).find(|slot| !slot_ignored(store, ignore, *slot))?;
+        self.at = slot + 1;
+        Some(slot)
+    }
+}

@@ -1,0 +1,78 @@
+-- `put_steps` meets its contract, sort by sort. Assumes nothing.
+use mathlib.Core.Bool.{true}
+use mathlib.Core.Path.{◌≡◌, subst}
+use Rattle.rules.specs.Store.{Store}
+use Rattle.rules.specs.Fragments.{op, block, region, exists, steps}
+use Rattle.layout.specs.Columns.{columns}
+use Rattle.fragments.specs.Order.{BlocksExist}
+use Rattle.fragments.specs.Sorts.{sort_of}
+use Rattle.fragments.proofs.There.{there}
+use Rattle.numbering.specs.Numbered.{DefinitionsFit}
+use Rattle.numbering.proofs.Rounds.{block_steps, region_steps_lem, steps_room, steps_done}
+use Rattle.fragments.specs.Terms.{store_read, options_in}
+use Rattle.keys.specs.Written.{place}
+use Rattle.keys.proofs.Writing.{key_walk}
+use Rattle.keys.proofs.keys.put_steps.Goals as goal
+
+-- ---- an operation
+
+pub put_op-requires-clause-n_bound : goal.put_op-requires-clause-n_bound
+unfolding sort_of
+put_op-requires-clause-n_bound c =
+    there (columns c.args.terms.now.store.now) op c.args.n
+    (subst (λ x. exists (store_read c.args.terms.now) (sort_of x) c.args.n ≡ true) c.in-Op.is c.requires.n_value)
+
+pub put_op-requires-clause-definitions_fit : goal.put_op-requires-clause-definitions_fit
+unfolding sort_of
+put_op-requires-clause-definitions_fit c =
+    let store : Store = store_read c.args.terms.now in
+    subst (λ x. DefinitionsFit store (steps store (sort_of x) c.args.n) c.args.numbers.now) c.in-Op.is c.requires.definitions_fit
+
+pub returns-in-Op : goal.returns-in-Op
+unfolding sort_of
+returns-in-Op c = rw c.in-Op.is c.put_op.ensures
+
+-- ---- a block
+
+pub put_blocks_full-requires-clause-blocks_exist : goal.put_blocks_full-requires-clause-blocks_exist
+unfolding sort_of BlocksExist
+put_blocks_full-requires-clause-blocks_exist c =
+    there (columns c.args.terms.now.store.now) block c.args.n
+    (subst (λ x. exists (store_read c.args.terms.now) (sort_of x) c.args.n ≡ true) c.in-Block.is c.requires.n_value)
+
+pub put_blocks_full-requires-clause-definitions_fit : goal.put_blocks_full-requires-clause-definitions_fit
+unfolding sort_of
+put_blocks_full-requires-clause-definitions_fit c =
+    let store : Store = store_read c.args.terms.now in
+    steps_room (key_walk store (options_in c.args.terms.now)) store block c.args.n _ (block_steps store c.args.n) {a = place c.args.numbers.now c.args.key.now}
+    (subst (λ x. DefinitionsFit store (steps store (sort_of x) c.args.n) c.args.numbers.now) c.in-Block.is c.requires.definitions_fit)
+
+pub returns-in-Block : goal.returns-in-Block
+unfolding sort_of
+returns-in-Block c =
+    let store : Store = store_read c.args.terms.now in
+    rw c.in-Block.is
+    (steps_done (key_walk store (options_in c.args.terms.now)) store block c.args.n _ (block_steps store c.args.n) c.put_blocks_full.ensures)
+
+-- ---- a region
+
+pub put_blocks_full-requires-in-Region-clause-blocks_exist : goal.put_blocks_full-requires-in-Region-clause-blocks_exist
+unfolding sort_of BlocksExist
+put_blocks_full-requires-in-Region-clause-blocks_exist c =
+    there (columns c.args.terms.now.store.now) region c.args.n
+    (subst (λ x. exists (store_read c.args.terms.now) (sort_of x) c.args.n ≡ true) c.in-Region.is c.requires.n_value)
+
+pub put_blocks_full-requires-in-Region-clause-definitions_fit : goal.put_blocks_full-requires-in-Region-clause-definitions_fit
+unfolding sort_of
+put_blocks_full-requires-in-Region-clause-definitions_fit c =
+    let store : Store = store_read c.args.terms.now in
+    steps_room (key_walk store (options_in c.args.terms.now)) store region c.args.n _
+    (region_steps_lem store c.args.terms.now.readable.sound.ruled c.args.n) {a = place c.args.numbers.now c.args.key.now}
+    (subst (λ x. DefinitionsFit store (steps store (sort_of x) c.args.n) c.args.numbers.now) c.in-Region.is c.requires.definitions_fit)
+
+pub returns-in-Region : goal.returns-in-Region
+unfolding sort_of
+returns-in-Region c =
+    let store : Store = store_read c.args.terms.now in
+    rw c.in-Region.is (steps_done (key_walk store (options_in c.args.terms.now)) store region c.args.n _
+    (region_steps_lem store c.args.terms.now.readable.sound.ruled c.args.n) c.put_blocks_full-in-Region.ensures)

@@ -1,0 +1,38 @@
+-- A line is read wholly if no field is left. Assumes nothing.
+use Rattle.std.proofs.Common.{◌≡◌, Bool, true, false, List, ℕ, [], ◌∷◌, Option, None, Some, refl, sym, ap, subst, ◌∙◌}
+use Rattle.std.specs.Option.{option_map}
+use Rattle.std.specs.Bool.{then_some}
+use Rattle.std.proofs.Math.Option.{none, some}
+use Rattle.rules.specs.Store.{Owner}
+use Rattle.rules.specs.Building.{set_attribute}
+use Rattle.rules.specs.Lines.{Line, Reader, building, and_then, ◌>>=◌, giving, number, attribute_line, all_read}
+use Rattle.lines.specs.Parsing.{owner_fields}
+use Rattle.lines.specs.Reading.{Answer, nothing_left, told}
+
+all_or_none : {A B : Type 0} (f : B → A) (v : B) (gs : List (List ℕ)) → all_read (f v) gs ≡ told (option_map f (then_some (nothing_left gs) v))
+unfolding all_read
+all_or_none f v [] = refl
+all_or_none f v (g ∷ gs) = refl
+
+pub ended : {A B : Type 0} (f : B → A) (v : B) (gs : List (List ℕ)) (t : Bool) (r : Option B) → t ≡ nothing_left gs → r ≡ then_some t v → all_read (f v) gs ≡ told (option_map f r)
+ended f v gs t r e h = all_or_none f v gs ∙ ap (λ s. told (option_map f (then_some s v))) (sym e) ∙ ap (λ s. told (option_map f s)) (sym h)
+
+-- what holds of a line that is read wholly
+pub kept_if : {B : Type 0} (P : Option B → Type 0) → P None → (v : B) → P (Some v) → (t : Bool) (r : Option B) → r ≡ then_some t v → P r
+kept_if P n v s true r e = subst P (sym e) s
+kept_if P n v s false r e = subst P (sym e) n
+
+-- ---- the line of an attribute begins with its owner
+
+abbrev owned : Owner → Reader Line
+owned w =
+    number >>= λ key. number >>= λ kind. number >>= λ content.
+    giving (building (set_attribute w (record { key = key; kind = kind; content = content; inherent = false })))
+
+regroup : {A B C : Type 0} (q : Answer A) (f : A → Reader B) (g : B → Reader C) → and_then (and_then q f) g ≡ and_then q (λ a gs. and_then (f a gs) g)
+regroup none f g = refl
+regroup (some got) f g = refl
+
+pub attribute_parts : (fs : List (List ℕ)) → attribute_line fs ≡ and_then (owner_fields fs) owned
+unfolding attribute_line owner_fields
+attribute_parts fs = simp regroup

@@ -1,0 +1,2 @@
+-- What crosses stands for what the calls answer.
+mod Indexing
