@@ -11,12 +11,12 @@ ghost use Rattle.calling.specs.Doing.{Did};
 
 use crate::writes::{place_child, put_row, put_values};
 use layout::causes::Cause;
-use layout::columns::{BLOCK_REGION, BLOCKS, COUNTS, VALUES, at, number, put};
+use layout::columns::{BLOCK_REGION, BLOCKS, COUNTS, StoreWords, VALUES, at, number, put};
 use layout::existing::region_exists;
 use layout::families::BLOCKS_IN_REGIONS;
 
 // The cause for which the call is refused, if there is one. It does not depend on label and location.
-fn block_cause(store: &[u32], region: u32, types: &[u32]) -> Result<(), Cause>
+fn block_cause(store: &StoreWords, region: u32, types: &[u32]) -> Result<(), Cause>
     requires { IsSound store.now }
     ensures { (label location : ℕ) → cause_of result ≡ first_failed (tests (store_in store.now) (new_block (record {
       region = region;
@@ -40,14 +40,13 @@ fn block_cause(store: &[u32], region: u32, types: &[u32]) -> Result<(), Cause>
 // Writes the row of a new block, m: its arguments are the next `arguments` values of the store, and it has no operations or attributes yet.
 #[tactic(auto, unfolding(layout::specs::Reading::value_count, crate::specs::Raw::block_written))]
 fn put_block_row(
-    store: &mut [u32],
+    store: &mut StoreWords,
     m: usize,
     region: u32,
     label: u32,
     location: u32,
     arguments: usize,
 )
-    requires store_len { length store.old ≡ buffer_length }
     requires m_bound { m < 256 }
     requires arguments_bound { value_count (columns store.old) + arguments ≤ 2048 }
     ensures { columns store.new ≡ block_written (columns store.old) m region label location arguments }
@@ -59,8 +58,7 @@ fn put_block_row(
 }
 
 // Block m goes to the end of its region's range, and the one before it is linked to it.
-fn place_block(store: &mut [u32], region: u32, m: usize)
-    requires store_len { length store.old ≡ buffer_length }
+fn place_block(store: &mut StoreWords, region: u32, m: usize)
     requires region_bound { region < 256 }
     requires m_bound { m < 256 }
     ensures { columns store.new ≡ block_placed (columns store.old) region m }
@@ -70,8 +68,7 @@ fn place_block(store: &mut [u32], region: u32, m: usize)
 
 // Writes all of a new block: its row, its number into its region's range, its arguments, and the count of blocks.
 #[tactic(auto, unfolding(layout::specs::Reading::block_count, layout::specs::Reading::value_count))]
-pub fn put_block(store: &mut [u32], region: u32, label: u32, location: u32, types: &[u32])
-    requires store_len { length store.old ≡ buffer_length }
+pub fn put_block(store: &mut StoreWords, region: u32, label: u32, location: u32, types: &[u32])
     requires region_bound { region < 256 }
     requires store_bound { block_count (columns store.old) + 1 ≤ 256 }
     requires types_bound { value_count (columns store.old) + length types.now ≤ 2048 }
@@ -91,7 +88,7 @@ pub fn put_block(store: &mut [u32], region: u32, label: u32, location: u32, type
 
 // The call, on a sound buffer.
 pub fn new_block(
-    store: &mut [u32],
+    store: &mut StoreWords,
     region: u32,
     label: u32,
     location: u32,

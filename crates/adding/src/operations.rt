@@ -17,8 +17,8 @@ use layout::causes::Cause;
 use layout::columns::{
     COUNTS, OP_ATTRIBUTES, OP_DEPTH, OP_KIND, OP_LOCATION, OP_OPERAND_END, OP_OPERAND_FIRST,
     OP_PARENT, OP_REGION_END, OP_REGION_FIRST, OP_RESULT_END, OP_RESULT_FIRST, OP_SUCCESSOR_END,
-    OP_SUCCESSOR_FIRST, OPERAND_WORDS, OPERANDS, OPS, REGIONS, SUCCESSOR_WORDS, SUCCESSORS, VALUES,
-    at, number, put,
+    OP_SUCCESSOR_FIRST, OPERAND_WORDS, OPERANDS, OPS, REGIONS, SUCCESSOR_WORDS, SUCCESSORS,
+    StoreWords, VALUES, at, number, put,
 };
 use layout::families::OPS_IN_BLOCKS;
 
@@ -33,7 +33,7 @@ struct Sizes {
 
 // The cause for which the call is refused, if there is one.
 fn operation_cause(
-    store: &[u32],
+    store: &StoreWords,
     fields: OpFields,
     types: &[u32],
     operands: &[u32],
@@ -59,8 +59,7 @@ fn operation_cause(
 
 // Operation n goes to the end of its block's range, if it has a block, and the one before it is linked to it.
 #[tactic(auto, unfolding(crate::specs::Raw::ParentBelow, calling::specs::Types::parent_of, crate::specs::Raw::op_placed))]
-fn place_op(store: &mut [u32], parent: Option<u32>, n: usize)
-    requires store_len { length store.old ≡ buffer_length }
+fn place_op(store: &mut StoreWords, parent: Option<u32>, n: usize)
     requires parent_below { ParentBelow 256 (parent_of parent) }
     requires n_bound { n < 512 }
     ensures { columns store.new ≡ op_placed (columns store.old) (parent_of parent) n }
@@ -85,7 +84,7 @@ fn parent_word(parent: Option<u32>) -> u32
 // The words of a new operation's row: its regions and results are the next of the store, its operands and successors the next of the shared
 // lists, and it has no attributes yet.
 #[tactic(auto, unfolding(layout::specs::Reading::region_count, layout::specs::Reading::value_count, layout::specs::Reading::operand_count, layout::specs::Reading::successor_count))]
-fn op_row(store: &[u32], fields: OpFields, sizes: Sizes) -> [u32; 13]
+fn op_row(store: &StoreWords, fields: OpFields, sizes: Sizes) -> [u32; 13]
     requires arranged { Arranged store.now }
     requires parent_value { parent_exists (store_in store.now) (parent_of fields.parent) ≡ true }
     requires op_room { OpRoom (columns store.now) sizes.regions sizes.results sizes.operands sizes.successors }
@@ -116,9 +115,8 @@ fn op_row(store: &[u32], fields: OpFields, sizes: Sizes) -> [u32; 13]
 
 // Writes an operation's row, as `put_row` does. (By constant columns: a loop over as many finds each of them anew, and takes twice as long.)
 #[inline(always)]
-fn put_op_row(store: &mut [u32], n: usize, row: &[u32; 13])
-    requires store_len { length store.old ≡ buffer_length }
-    requires n_bound { n < 512 }
+fn put_op_row(store: &mut StoreWords, n: usize, row: &[u32; 13])
+    requires { n < 512 }
     ensures { columns store.new ≡ with_row (columns store.old) op_kind n row.now }
 {
     put(store, OP_KIND, n, row[0]);
@@ -138,7 +136,7 @@ fn put_op_row(store: &mut [u32], n: usize, row: &[u32; 13])
 
 // Writes a new operation's row, and its number into its block's range.
 #[tactic(auto, unfolding(layout::specs::Reading::op_count))]
-fn put_op(store: &mut [u32], fields: OpFields, sizes: Sizes)
+fn put_op(store: &mut StoreWords, fields: OpFields, sizes: Sizes)
     requires arranged { Arranged store.old }
     requires parent_value { parent_exists (store_in store.old) (parent_of fields.parent) ≡ true }
     requires op_room { OpRoom (columns store.old) sizes.regions sizes.results sizes.operands sizes.successors }
@@ -154,7 +152,7 @@ fn put_op(store: &mut [u32], fields: OpFields, sizes: Sizes)
 // need not be there yet.
 #[tactic(auto, unfolding(layout::specs::Reading::op_count))]
 pub fn put_operation(
-    store: &mut [u32],
+    store: &mut StoreWords,
     fields: OpFields,
     types: &[u32],
     operands: &[u32],
@@ -182,7 +180,7 @@ pub fn put_operation(
 
 // The call, on a sound buffer. Its lists stand beside its fields, as the interface lends them.
 pub fn new_operation(
-    store: &mut [u32],
+    store: &mut StoreWords,
     fields: OpFields,
     types: &[u32],
     operands: &[u32],

@@ -12,14 +12,14 @@ ghost use Rattle.adding.specs.Raw.{depth_under};
 use calling::types::OpFields;
 use layout::children::op_around;
 use layout::columns::{
-    BLOCKS, COUNTS, OP_DEPTH, OPERANDS, OPS, REGIONS, SUCCESSORS, VALUES, at, number,
+    BLOCKS, COUNTS, OP_DEPTH, OPERANDS, OPS, REGIONS, SUCCESSORS, StoreWords, VALUES, at, number,
 };
 use layout::existing::block_exists;
 use layout::lists::all_below;
 
 // The parent, if there is one, exists.
 #[tactic(auto, unfolding(rules::specs::Store::parent_exists, calling::specs::Types::parent_of))]
-pub fn parent_exists(store: &[u32], parent: Option<u32>) -> bool
+pub fn parent_exists(store: &StoreWords, parent: Option<u32>) -> bool
     requires { IsSound store.now }
     ensures { result ≡ parent_exists (store_in store.now) (parent_of parent) }
 {
@@ -31,7 +31,7 @@ pub fn parent_exists(store: &[u32], parent: Option<u32>) -> bool
 
 // Everything that a new operation names exists.
 pub fn operation_names(
-    store: &[u32],
+    store: &StoreWords,
     fields: OpFields,
     operands: &[u32],
     successors: &[u32],
@@ -54,7 +54,7 @@ pub fn operation_fits(fields: OpFields, types: &[u32], operands: &[u32], success
 
 // The nesting of an operation in block b.
 #[tactic(auto, using(crate::proofs::Operating::in_block, layout::proofs::Laid::laid_facts))]
-fn depth_in(store: &[u32], b: usize) -> u32
+fn depth_in(store: &StoreWords, b: usize) -> u32
     requires arranged { Arranged store.now }
     requires b_value { block_exists (store_in store.now) b ≡ true }
     ensures { result ≡ depth_under (columns store.now) (some b) }
@@ -64,7 +64,7 @@ fn depth_in(store: &[u32], b: usize) -> u32
 
 // The nesting of an operation with this parent.
 #[tactic(auto, unfolding(rules::specs::Store::parent_exists, calling::specs::Types::parent_of, crate::specs::Raw::depth_under))]
-pub fn depth_under(store: &[u32], parent: Option<u32>) -> u32
+pub fn depth_under(store: &StoreWords, parent: Option<u32>) -> u32
     requires arranged { Arranged store.now }
     requires parent_value { parent_exists (store_in store.now) (parent_of parent) ≡ true }
     ensures { result ≡ depth_under (columns store.now) (parent_of parent) }
@@ -76,7 +76,7 @@ pub fn depth_under(store: &[u32], parent: Option<u32>) -> u32
 }
 
 // The nesting of an operation with this parent is at most 32.
-pub fn nesting_holds(store: &[u32], parent: Option<u32>) -> bool
+pub fn nesting_holds(store: &StoreWords, parent: Option<u32>) -> bool
     requires sound { IsSound store.now }
     requires parent_value { parent_exists (store_in store.now) (parent_of parent) ≡ true }
     ensures { result ≡ nesting_holds (store_in store.now) (parent_of parent) }
@@ -86,7 +86,7 @@ pub fn nesting_holds(store: &[u32], parent: Option<u32>) -> bool
 
 // The store has room for a new operation: no total is passed by it.
 pub fn operation_room(
-    store: &[u32],
+    store: &StoreWords,
     fields: OpFields,
     types: &[u32],
     operands: &[u32],

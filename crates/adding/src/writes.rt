@@ -6,14 +6,13 @@ ghost use Rattle.adding.specs.Raw.{with_row, begun, Placeable, last_linked, exte
 
 use layout::children::is_behind;
 use layout::columns::{
-    COUNTS, REGION_BLOCK_END, REGION_BLOCK_FIRST, REGION_OP, REGIONS, VALUE_OWNER, VALUE_TYPE,
-    VALUES, at, number, put, put_all, put_same,
+    COUNTS, REGION_BLOCK_END, REGION_BLOCK_FIRST, REGION_OP, REGIONS, StoreWords, VALUE_OWNER,
+    VALUE_TYPE, VALUES, at, number, put, put_all, put_same,
 };
 use layout::families::Family;
 
 // Writes row n of a table: its words, one to a column, from column `first` on.
-pub fn put_row(store: &mut [u32], first: usize, n: usize, row: &[u32])
-    requires store_len { length store.old ≡ buffer_length }
+pub fn put_row(store: &mut StoreWords, first: usize, n: usize, row: &[u32])
     requires row_bound { first + length row.now ≤ column_count }
     requires by_index { (j : ℕ) → j < length row.now → n < column_size (first + j) }
     ensures { columns store.new ≡ with_row (columns store.old) first n row.now }
@@ -37,9 +36,8 @@ fn begin(first: u32, end: u32, n: u32) -> u32
 // The last child before n, with which its owner's range ends, is linked to n.
 #[inline(always)]
 #[tactic(auto, using(layout::proofs::Linking::behind_facts), unfolding(crate::specs::Raw::last_linked))]
-fn link_last(store: &mut [u32], family: Family, owner: usize, n: usize)
-    requires store_len { length store.old ≡ buffer_length }
-    requires placeable { Placeable family owner n }
+fn link_last(store: &mut StoreWords, family: Family, owner: usize, n: usize)
+    requires { Placeable family owner n }
     ensures { columns store.new ≡ last_linked (columns store.old) family.owners family.links (at (columns store.old) family.ends owner) (owner + family.shift) n }
 {
     let end = number(store, family.ends, owner);
@@ -51,9 +49,8 @@ fn link_last(store: &mut [u32], family: Family, owner: usize, n: usize)
 
 // A new child, number n, goes to the end of its owner's range.
 #[inline(always)]
-fn extend(store: &mut [u32], family: Family, owner: usize, n: usize)
-    requires store_len { length store.old ≡ buffer_length }
-    requires placeable { Placeable family owner n }
+fn extend(store: &mut StoreWords, family: Family, owner: usize, n: usize)
+    requires { Placeable family owner n }
     ensures { columns store.new ≡ extended (columns store.old) family.firsts family.ends owner n }
 {
     let first = at(store, family.firsts, owner);
@@ -65,9 +62,8 @@ fn extend(store: &mut [u32], family: Family, owner: usize, n: usize)
 // A new child, number n, goes to the end of its owner's range; the one before it is linked to it, and it to none yet.
 #[inline(always)]
 #[tactic(auto, unfolding(crate::specs::Raw::child_placed, crate::specs::Raw::child_linked))]
-pub fn place_child(store: &mut [u32], family: Family, owner: usize, n: usize)
-    requires store_len { length store.old ≡ buffer_length }
-    requires placeable { Placeable family owner n }
+pub fn place_child(store: &mut StoreWords, family: Family, owner: usize, n: usize)
+    requires { Placeable family owner n }
     ensures { columns store.new ≡ child_placed (columns store.old) family.owners family.links family.firsts family.ends owner (owner + family.shift) n }
 {
     link_last(store, family, owner, n);
@@ -77,8 +73,7 @@ pub fn place_child(store: &mut [u32], family: Family, owner: usize, n: usize)
 
 // Makes `regions` regions of operation n, without blocks.
 #[tactic(auto, unfolding(layout::specs::Reading::region_count, crate::specs::Raw::with_regions))]
-pub fn put_regions(store: &mut [u32], n: usize, regions: usize)
-    requires store_len { length store.old ≡ buffer_length }
+pub fn put_regions(store: &mut StoreWords, n: usize, regions: usize)
     requires n_bound { n < 512 }
     requires regions_bound { region_count (columns store.old) + regions ≤ 256 }
     ensures { columns store.new ≡ with_regions (columns store.old) n regions }
@@ -93,9 +88,8 @@ pub fn put_regions(store: &mut [u32], n: usize, regions: usize)
 // Makes the values of a new owner, one of each type. The owner is given as a word: twice an operation's number, or twice a block's number
 // and one.
 #[tactic(auto, unfolding(layout::specs::Reading::value_count, crate::specs::Raw::with_values_by))]
-pub fn put_values(store: &mut [u32], owner: u32, types: &[u32])
-    requires store_len { length store.old ≡ buffer_length }
-    requires types_bound { value_count (columns store.old) + length types.now ≤ 2048 }
+pub fn put_values(store: &mut StoreWords, owner: u32, types: &[u32])
+    requires { value_count (columns store.old) + length types.now ≤ 2048 }
     ensures { columns store.new ≡ with_values_by (columns store.old) owner types.now }
 {
     let from = number(store, COUNTS, VALUES);
@@ -106,8 +100,7 @@ pub fn put_values(store: &mut [u32], owner: u32, types: &[u32])
 
 // Appends a list to a shared list; the shared list's length is word `word` of the counts.
 #[tactic(auto, unfolding(crate::specs::Raw::with_slice))]
-pub fn put_slice(store: &mut [u32], column: usize, word: usize, list: &[u32])
-    requires store_len { length store.old ≡ buffer_length }
+pub fn put_slice(store: &mut StoreWords, column: usize, word: usize, list: &[u32])
     requires column_lt_column_count { column < column_count }
     requires word_bound { word < 8 }
     requires list_bound { at (columns store.old) counts word + length list.now ≤ column_size column }

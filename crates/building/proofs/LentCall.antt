@@ -19,10 +19,11 @@ use Rattle.setting.specs.Raw.{slot_for, key_there}
 use Rattle.setting.proofs.AttributeCauses.{owner_there}
 use Rattle.journal.specs.Journal.{entries_for}
 use Rattle.journal.specs.Words.{mark_count, marked_in}
+use Rattle.journal.specs.Entries.{entry_of}
+use Rattle.journal.specs.declared.entries.Entry.{Entry}
 use Rattle.marks.specs.Doing.{IsLent, DidMarked}
 use Rattle.marks.proofs.Lent.{lent_facts}
-use Rattle.remembering.specs.declared.entries.Entry.{Entry}
-use Rattle.remembering.specs.Raw.{entry_of, replaced_count, with_entry, operand_entry, attribute_entry, key_entry}
+use Rattle.remembering.specs.Raw.{replaced_count, with_entry, operand_entry, attribute_entry, key_entry}
 use Rattle.remembering.proofs.Done.{marked_refuse, marked_full}
 use Rattle.remembering.proofs.Unremembered.{unmarked_call, adding_call}
 use Rattle.remembering.proofs.Remembered.{remembered_call}

@@ -24,7 +24,7 @@ use Rattle.setting.specs.Raw.{with_attribute, with_operand, inserted, replaced, 
 use Rattle.setting.proofs.Owners.{reachable}
 use Rattle.setting.proofs.KeySlot.{slot_low}
 use Rattle.setting.proofs.AttributeCauses.{owner_there, room_there}
-use Rattle.remembering.specs.declared.entries.Entry.{Entry}
+use Rattle.journal.specs.declared.entries.Entry.{Entry}
 use Rattle.remembering.specs.Raw.{entry_put, with_entry}
 use Rattle.undoing.specs.Raw.{removed, without_slot}
 use Rattle.cutting.specs.Cutting.{with_column, counts_taken, links_cut, ends_made, children_cut, ops_cut, blocks_cut, tables_cut}

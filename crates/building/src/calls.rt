@@ -9,7 +9,7 @@ ghost use Rattle.marks.specs.Doing.{Answered};
 use crate::types::{Attribute, Owner};
 use calling::types::OpFields;
 use layout::causes::Cause;
-use lending::lent::is_sound;
+use lending::lent::sound_words_mut;
 
 pub fn new_operation(
     store: &mut [u32],
@@ -31,16 +31,14 @@ pub fn new_operation(
       successors = successors.now;
     }))) (made_of result) }
 {
-    if !is_sound(store) {
-        return Err(Cause::NotSound);
-    }
+    let words = sound_words_mut(store).ok_or(Cause::NotSound)?;
     let fields = OpFields {
         kind,
         parent,
         location,
         regions,
     };
-    remembering::adding_calls::new_operation(store, fields, types, operands, successors)
+    remembering::adding_calls::new_operation(words, fields, types, operands, successors)
 }
 
 pub fn new_block(
@@ -57,47 +55,37 @@ pub fn new_block(
       types = types.now;
     }))) (made_of result) }
 {
-    if !is_sound(store) {
-        return Err(Cause::NotSound);
-    }
-    remembering::adding_calls::new_block(store, region, label, location, types)
+    let words = sound_words_mut(store).ok_or(Cause::NotSound)?;
+    remembering::adding_calls::new_block(words, region, label, location, types)
 }
 
 pub fn set_attribute(store: &mut [u32], owner: Owner, attribute: Attribute) -> Result<(), Cause>
     ensures { Answered store.old store.new (build (set_attribute (owner_of owner) (attribute_of attribute))) (done_of result) }
 {
-    if !is_sound(store) {
-        return Err(Cause::NotSound);
-    }
-    remembering::attributes::set_attribute(store, owner, attribute)
+    let words = sound_words_mut(store).ok_or(Cause::NotSound)?;
+    remembering::attributes::set_attribute(words, owner, attribute)
 }
 
 // Operand i of operation n becomes value v.
 pub fn set_operand(store: &mut [u32], n: u32, i: u32, v: u32) -> Result<(), Cause>
     ensures { Answered store.old store.new (build (set_operand (record { operation = n; index = i; value = v }))) (done_of result) }
 {
-    if !is_sound(store) {
-        return Err(Cause::NotSound);
-    }
-    remembering::operands::set_operand(store, n, i, v)
+    let words = sound_words_mut(store).ok_or(Cause::NotSound)?;
+    remembering::operands::set_operand(words, n, i, v)
 }
 
 // Mark `mark`, a number from 1 to 8, names the store as it stands now; set again, it moves, and is the youngest.
 pub fn set_mark(store: &mut [u32], mark: u32) -> Result<(), Cause>
     ensures { Answered store.old store.new (set_mark mark) (done_of result) }
 {
-    if !is_sound(store) {
-        return Err(Cause::NotSound);
-    }
-    marks::setting::set_mark(store, mark)
+    let words = sound_words_mut(store).ok_or(Cause::NotSound)?;
+    marks::setting::set_mark(words, mark)
 }
 
 // The store is again as it stood when the mark was set. The mark stays set, and younger ones are void.
 pub fn go_back(store: &mut [u32], mark: u32) -> Result<(), Cause>
     ensures { Answered store.old store.new (go_back mark) (done_of result) }
 {
-    if !is_sound(store) {
-        return Err(Cause::NotSound);
-    }
-    returning::going::go_back(store, mark)
+    let words = sound_words_mut(store).ok_or(Cause::NotSound)?;
+    returning::going::go_back(words, mark)
 }

@@ -15,7 +15,7 @@ use Rattle.layout.specs.Columns.{columns}
 use Rattle.layout.specs.Reading.{op_count, block_count, value_count, store_in}
 use Rattle.layout.specs.Soundness.{IsSound}
 use Rattle.layout.proofs.Tabulate.{ops_length, blocks_length, values_length}
-use Rattle.layout.proofs.Scans.{Scanned, passes_at, scan_starts, scan_on, entry_fails, entries_done}
+use Rattle.layout.proofs.Scans.{Scanned, passes_at, scan_on, entry_fails, entries_done}
 use Rattle.numbering.specs.Words.{Stands, rule_name}
 use Rattle.numbering.specs.Numbered.{numbered_all, values_in, blocks_in, Numbers, DefinitionsFit}
 use Rattle.numbering.specs.declared.words.Name.{Name}

@@ -37,3 +37,12 @@ module _ (b : List ℕ) where
     pub done : allowed (store_in b) (mapping_of m) ≡ true → (exit after : List ℕ) (r : Built) → Cloned true b exit m after n place r
         → Answered b exit m after n place r
     done = answered true
+
+-- the call takes the buffer's words and the mapping's
+module _ {b w : List ℕ} (same : w ≡ b) where
+  pub same_store : {exit m after : List ℕ} {n : ℕ} {place : Option ℕ} {r : Built} → Answered w exit m after n place r → Answered b exit m after n place r
+  same_store {exit} {m} {after} {n} {place} {r} h = subst (λ (x : List ℕ). Answered x exit m after n place r) same h
+
+module _ {m e : List ℕ} (same : e ≡ m) where
+  pub same_mapping : {b exit after : List ℕ} {n : ℕ} {place : Option ℕ} {r : Built} → Answered b exit e after n place r → Answered b exit m after n place r
+  same_mapping {b} {exit} {after} {n} {place} {r} h = subst (λ (x : List ℕ). Answered b exit x after n place r) same h

@@ -4,7 +4,7 @@ ghost use Rattle.copying.specs.Calls.{Answered};
 
 use crate::cloning;
 use layout::causes::Cause;
-use lending::lent::is_sound;
+use lending::lent::sound_words_mut;
 use mapping::mapping::is_allowed;
 
 // Operation `op` with all inside it is copied to the end of a block, or to no parent; the mapping is original to copy afterwards.
@@ -16,11 +16,12 @@ pub fn clone_operation(
 ) -> Result<u32, Cause>
     ensures { Answered store.old store.new mapping.old mapping.new op (parent_of parent) (made_of result) }
 {
-    if !is_sound(store) {
-        return Err(Cause::NotSound);
-    }
-    if !is_allowed(store, mapping) {
+    let words = sound_words_mut(store).ok_or(Cause::NotSound)?;
+    let Some(entries) = mapping.as_mut_array() else {
+        return Err(Cause::BadMapping);
+    };
+    if !is_allowed(words, entries) {
         return Err(Cause::BadMapping);
     }
-    cloning::clone_operation(store, op, parent, mapping)
+    cloning::clone_operation(words, op, parent, entries)
 }

@@ -22,8 +22,9 @@ use crate::totals::copy_totals_hold;
 use crate::writing::write_copies;
 use adding::tests::parent_exists;
 use layout::causes::Cause;
-use layout::columns::{COUNTS, OPS, at};
+use layout::columns::{COUNTS, OPS, StoreWords, at};
 use layout::existing::op_exists;
+use mapping::mapping::MappingWords;
 
 // Is a copy of an operation that exists refused? The tests past the first two.
 fn copy_cause(original: &Original, parent: Option<u32>) -> Result<(), Cause>
@@ -47,8 +48,8 @@ fn copy_cause(original: &Original, parent: Option<u32>) -> Result<(), Cause>
 
 // Operation and parent exist.
 fn copy_known(
-    store: &mut [u32],
-    mapping: &mut [u32],
+    store: &mut StoreWords,
+    mapping: &mut MappingWords,
     n: usize,
     parent: Option<u32>,
 ) -> Result<u32, Cause>
@@ -69,10 +70,10 @@ fn copy_known(
 }
 
 pub fn clone_operation(
-    store: &mut [u32],
+    store: &mut StoreWords,
     op: u32,
     parent: Option<u32>,
-    mapping: &mut [u32],
+    mapping: &mut MappingWords,
 ) -> Result<u32, Cause>
     requires lent { IsLent store.old }
     requires mapping_value { allowed (store_in store.old) (mapping_of mapping.old) ≡ true }

@@ -14,8 +14,8 @@ use crate::original::Original;
 use crate::steps::Step;
 use fragments::rows::{block_row, op_row};
 use fragments::types::Row;
-use layout::columns::{BLOCKS, COUNTS, OPS, VALUES, number};
-use mapping::mapping::{NO_IMAGE, map_block, map_op, map_values};
+use layout::columns::{BLOCKS, COUNTS, OPS, StoreWords, VALUES, number};
+use mapping::mapping::{MappingWords, NO_IMAGE, map_block, map_op, map_values};
 
 // How many there are of each, with those copied so far: the numbers that the next ones get.
 #[derive(Clone, Copy)]
@@ -26,8 +26,7 @@ struct Copied {
 }
 
 // A row's values get the next numbers.
-fn enter_values(mapping: &mut [u32], next: Copied, row: Row) -> Copied
-    requires mapping_len { length mapping.old ≡ mapping_length }
+fn enter_values(mapping: &mut MappingWords, next: Copied, row: Row) -> Copied
     requires values_bound { row.value + row.values ≤ max_values }
     requires copies_bound { next.values + row.values ≤ max_values }
     ensures entered { mapping_of mapping.new ≡ values_mapped (mapping_of mapping.old) (consecutive row.value row.values) (consecutive next.values row.values) }
@@ -41,10 +40,9 @@ fn enter_values(mapping: &mut [u32], next: Copied, row: Row) -> Copied
 }
 
 // What a step defines gets the next numbers: an operation and its results, or a block and its arguments.
-fn enter_step(store: &[u32], mapping: &mut [u32], next: Copied, step: Step) -> Copied
+fn enter_step(store: &StoreWords, mapping: &mut MappingWords, next: Copied, step: Step) -> Copied
     requires sound { IsSound store.now }
     requires there { StepThere (columns store.now) step }
-    requires mapping_len { length mapping.old ≡ mapping_length }
     requires copies_fit { CopiesFit (store_in store.now) (step_owners step) next }
     ensures entered { mapping_of mapping.new ≡ owners_entered (store_in store.now) (step_owners step) next (mapping_of mapping.old) }
     ensures counted { result ≡ owners_copied (store_in store.now) (step_owners step) next }
@@ -71,9 +69,8 @@ fn enter_step(store: &[u32], mapping: &mut [u32], next: Copied, step: Step) -> C
 }
 
 // Every entry is replaced, none included.
-pub fn enter_copies(original: &Original, mapping: &mut [u32])
-    requires totals_hold { totals_hold (copied (store_in original.now.store.now) original.now.n none) ≡ true }
-    requires mapping_len { length mapping.old ≡ mapping_length }
+pub fn enter_copies(original: &Original, mapping: &mut MappingWords)
+    requires { totals_hold (copied (store_in original.now.store.now) original.now.n none) ≡ true }
     ensures { mapping_of mapping.new ≡ copy_mapping (store_in original.now.store.now) original.now.n }
 {
     mapping.fill(NO_IMAGE);

@@ -6,10 +6,11 @@ ghost use Rattle.layout.specs.Soundness.{IsSound};
 ghost use Rattle.copying.specs.Steps.{AreSteps, are_steps_prop};
 
 use crate::steps::Step;
+use layout::columns::StoreWords;
 
 #[derive(Clone, Copy)]
 pub struct Original<'a> {
-    pub store: &'a [u32],
+    pub store: &'a StoreWords,
     pub n: usize,
     pub steps: &'a [Step],
     pub ghost sound: { IsSound store.now },

@@ -12,7 +12,7 @@ ghost use Rattle.copying.specs.declared.steps.Step.{Step};
 
 use fragments::order::BlocksIn;
 use fragments::types::Blocks;
-use layout::columns::{OP_REGION_END, OP_REGION_FIRST, number};
+use layout::columns::{OP_REGION_END, OP_REGION_FIRST, StoreWords, number};
 use layout::ops_in::OpsIn;
 use std::marker::Model;
 
@@ -69,7 +69,7 @@ impl Walk {
 }
 
 // Pass 1: every block's shell.
-fn list_block_shells(store: &[u32], walk: &mut Walk, blocks: Blocks)
+fn list_block_shells(store: &StoreWords, walk: &mut Walk, blocks: Blocks)
     requires sound { IsSound store.now }
     requires blocks_exist { BlocksExist (columns store.now) blocks }
     requires steps_fit { StepsFit (block_shells (block_list (store_in store.now) blocks)) walk.old }
@@ -81,7 +81,7 @@ fn list_block_shells(store: &[u32], walk: &mut Walk, blocks: Blocks)
 }
 
 // Pass 2 of one block: the shells of its operations.
-fn list_op_shells_in(store: &[u32], walk: &mut Walk, b: usize)
+fn list_op_shells_in(store: &StoreWords, walk: &mut Walk, b: usize)
     requires sound { IsSound store.now }
     requires b_bound { b < block_count (columns store.now) }
     requires steps_fit { StepsFit (op_shells (store_in store.now) b) walk.old }
@@ -93,7 +93,7 @@ fn list_op_shells_in(store: &[u32], walk: &mut Walk, b: usize)
 }
 
 // Pass 2: the shells of every block's operations.
-fn list_op_shells(store: &[u32], walk: &mut Walk, blocks: Blocks)
+fn list_op_shells(store: &StoreWords, walk: &mut Walk, blocks: Blocks)
     requires sound { IsSound store.now }
     requires blocks_exist { BlocksExist (columns store.now) blocks }
     requires steps_fit { StepsFit (concat_map (op_shells (store_in store.now)) (block_list (store_in store.now) blocks)) walk.old }
@@ -106,7 +106,7 @@ fn list_op_shells(store: &[u32], walk: &mut Walk, blocks: Blocks)
 
 // An operation in full: what it names, and then its regions.
 #[cycle(list_full)]
-fn list_op_full(store: &[u32], walk: &mut Walk, n: usize)
+fn list_op_full(store: &StoreWords, walk: &mut Walk, n: usize)
     requires sound { IsSound store.now }
     requires n_bound { n < op_count (columns store.now) }
     requires steps_fit { StepsFit (full_steps (store_in store.now) n) walk.old }
@@ -120,7 +120,7 @@ fn list_op_full(store: &[u32], walk: &mut Walk, n: usize)
 
 // A list of blocks: all block shells, all operation shells, all full operations.
 #[cycle(list_full)]
-fn list_blocks_full(store: &[u32], walk: &mut Walk, blocks: Blocks)
+fn list_blocks_full(store: &StoreWords, walk: &mut Walk, blocks: Blocks)
     requires sound { IsSound store.now }
     requires blocks_exist { BlocksExist (columns store.now) blocks }
     requires steps_fit { StepsFit (listed_steps (store_in store.now) (block_list (store_in store.now) blocks)) walk.old }
@@ -135,7 +135,7 @@ fn list_blocks_full(store: &[u32], walk: &mut Walk, blocks: Blocks)
 
 // Pass 3 of one block: its operations in full.
 #[cycle(list_full)]
-fn list_ops_full(store: &[u32], walk: &mut Walk, b: usize)
+fn list_ops_full(store: &StoreWords, walk: &mut Walk, b: usize)
     requires sound { IsSound store.now }
     requires b_bound { b < block_count (columns store.now) }
     requires steps_fit { StepsFit (ops_in_full (store_in store.now) b) walk.old }
@@ -147,7 +147,7 @@ fn list_ops_full(store: &[u32], walk: &mut Walk, b: usize)
 }
 
 // The steps of an operation's walk: its shell, then the operation in full.
-pub fn list_steps(store: &[u32], n: usize) -> Walk
+pub fn list_steps(store: &StoreWords, n: usize) -> Walk
     requires sound { IsSound store.now }
     requires n_bound { n < op_count (columns store.now) }
     ensures { AreSteps store.now n result }

@@ -15,7 +15,7 @@ use layout::columns::{
     ATTRIBUTES, BLOCK_ARGUMENT_END, BLOCK_ARGUMENT_FIRST, BLOCK_ATTRIBUTES, BLOCKS, COUNTS,
     OP_ATTRIBUTES, OP_OPERAND_END, OP_OPERAND_FIRST, OP_REGION_END, OP_REGION_FIRST, OP_RESULT_END,
     OP_RESULT_FIRST, OP_SUCCESSOR_END, OP_SUCCESSOR_FIRST, OPERANDS, OPS, REGIONS, SUCCESSORS,
-    VALUES, number,
+    StoreWords, VALUES, number,
 };
 
 // How many of each: in the order of the store's counts.
@@ -32,7 +32,7 @@ pub struct Totals {
 
 // One operation more.
 #[tactic(auto, using(crate::proofs::Spans::op_spans), unfolding(crate::specs::Totals::op_totalled, crate::specs::Totals::span_of))]
-fn with_op(store: &[u32], so_far: Totals, m: usize) -> Totals
+fn with_op(store: &StoreWords, so_far: Totals, m: usize) -> Totals
     requires sound { IsSound store.now }
     requires m_bound { m < op_count (columns store.now) }
     requires few { TotalsFit so_far }
@@ -51,7 +51,7 @@ fn with_op(store: &[u32], so_far: Totals, m: usize) -> Totals
 
 // One block more.
 #[tactic(auto, using(crate::proofs::Spans::block_spans), unfolding(crate::specs::Totals::block_totalled, crate::specs::Totals::span_of))]
-fn with_block(store: &[u32], so_far: Totals, b: usize) -> Totals
+fn with_block(store: &StoreWords, so_far: Totals, b: usize) -> Totals
     requires sound { IsSound store.now }
     requires b_bound { b < block_count (columns store.now) }
     requires few { TotalsFit so_far }

@@ -23,19 +23,24 @@ use calling::types::{Attribute, OpFields, Owner};
 use layout::columns::{
     BLOCK_ARGUMENT_END, BLOCK_ARGUMENT_FIRST, BLOCK_LABEL, BLOCK_LOCATION, BLOCK_REGION, BLOCKS,
     COUNTS, OP_KIND, OP_LOCATION, OP_PARENT, OP_REGION_END, OP_REGION_FIRST, OP_RESULT_END,
-    OP_RESULT_FIRST, OPS, REGION_OP, SLOT_CONTENT, SLOT_KEY, SLOT_KIND, VALUE_TYPE, at, number,
-    words,
+    OP_RESULT_FIRST, OPS, REGION_OP, SLOT_CONTENT, SLOT_KEY, SLOT_KIND, StoreWords, VALUE_TYPE, at,
+    number, words,
 };
 use layout::kinds::{inherent_from, kind_from};
 use layout::owners::{first_slot, key_count};
 use layout::slices::{operands_of, successors_of};
-use mapping::mapping::{BLOCK_ENTRIES, OP_ENTRIES};
+use mapping::mapping::{BLOCK_ENTRIES, MappingWords, OP_ENTRIES};
 use pairing::names::image_at;
 use setting::attributes::put_added;
 
 // The types of a row's values, which are those in the range that these two columns tell of, in a lent list.
-fn types_of<'a>(store: &[u32], first: usize, end: usize, i: usize, into: &'a mut [u32]) -> &'a [u32]
-    requires store_len { length store.now ≡ buffer_length }
+fn types_of<'a>(
+    store: &StoreWords,
+    first: usize,
+    end: usize,
+    i: usize,
+    into: &'a mut [u32],
+) -> &'a [u32]
     requires columns_bound { (first < column_count) × (end < column_count) }
     requires i_bound { (i < column_size first) × (i < column_size end) }
     requires rises { Rattle.layout.specs.Columns.at (columns store.now) first i ≤ Rattle.layout.specs.Columns.at (columns store.now) end i }
@@ -54,7 +59,12 @@ fn types_of<'a>(store: &[u32], first: usize, end: usize, i: usize, into: &'a mut
 }
 
 // The images of names, whose entries begin with word `base` of the mapping, in a lent list.
-fn images_of<'a>(mapping: &[u32], base: usize, names: &[u32], into: &'a mut [u32]) -> &'a [u32]
+fn images_of<'a>(
+    mapping: &MappingWords,
+    base: usize,
+    names: &[u32],
+    into: &'a mut [u32],
+) -> &'a [u32]
     requires base_bound { base ≤ 4096 }
     requires names_bound { (k : ℕ) → k < length names.now → base + get_or names.now k 0 < length mapping.now }
     requires room { length names.now ≤ length into.old }
@@ -67,9 +77,8 @@ fn images_of<'a>(mapping: &[u32], base: usize, names: &[u32], into: &'a mut [u32
 }
 
 // The attribute at a slot.
-fn attribute_at(store: &[u32], slot: usize) -> Attribute
-    requires store_len { length store.now ≡ buffer_length }
-    requires slot_bound { slot < slot_count }
+fn attribute_at(store: &StoreWords, slot: usize) -> Attribute
+    requires { slot < slot_count }
     ensures { attribute_of result ≡ attribute_at (columns store.now) slot }
 {
     let word = at(store, SLOT_KIND, slot);
@@ -82,7 +91,7 @@ fn attribute_at(store: &[u32], slot: usize) -> Attribute
 }
 
 // The attributes of one owner become those of another one, which has none yet.
-fn copy_attributes(store: &mut [u32], from: Owner, to: Owner)
+fn copy_attributes(store: &mut StoreWords, from: Owner, to: Owner)
     requires arranged { Arranged store.old }
     requires from_exists { owner_exists (store_in store.old) (owner_of from) ≡ true }
     requires to_exists { owner_exists (store_in store.old) (owner_of to) ≡ true }
@@ -100,9 +109,8 @@ fn copy_attributes(store: &mut [u32], from: Owner, to: Owner)
 }
 
 // The copy of operation m, under this parent.
-fn copy_op(store: &mut [u32], mapping: &[u32], m: usize, parent: Option<u32>)
+fn copy_op(store: &mut StoreWords, mapping: &MappingWords, m: usize, parent: Option<u32>)
     requires arranged { Arranged store.old }
-    requires mapping_len { length mapping.now ≡ mapping_length }
     requires m_bound { m < op_count (columns store.old) }
     requires parent_value { parent_exists (store_in store.old) (parent_of parent) ≡ true }
     requires ready { OpReady (store_in store.old) m }
@@ -132,14 +140,13 @@ fn copy_op(store: &mut [u32], mapping: &[u32], m: usize, parent: Option<u32>)
 
 // The parent of the copy of operation m: of the copy itself it is the named one, of another the copy of its block.
 fn parent_copy(
-    store: &[u32],
-    mapping: &[u32],
+    store: &StoreWords,
+    mapping: &MappingWords,
     n: usize,
     parent: Option<u32>,
     m: usize,
 ) -> Option<u32>
     requires arranged { Arranged store.now }
-    requires mapping_len { length mapping.now ≡ mapping_length }
     requires m_bound { m < op_count (columns store.now) }
     ensures { parent_of result ≡ parent_by (store_in store.now) (mapping_of mapping.now) n (parent_of parent) m }
 {
@@ -151,9 +158,8 @@ fn parent_copy(
 }
 
 // The copy of region r: as far behind the first region of its operation's copy as r is behind the first region of its operation.
-fn region_copy(store: &[u32], mapping: &[u32], r: u32) -> u32
+fn region_copy(store: &StoreWords, mapping: &MappingWords, r: u32) -> u32
     requires arranged { Arranged store.now }
-    requires mapping_len { length mapping.now ≡ mapping_length }
     requires r_bound { r < region_count (columns store.now) }
     requires copy_bound { image (mapping_of mapping.now).ops (get_or (store_in store.now).regions r 0) < op_count (columns store.now) }
     requires some { 0 < length (regions_of (store_in store.now) (image (mapping_of mapping.now).ops (get_or (store_in store.now).regions r 0))) }
@@ -165,9 +171,8 @@ fn region_copy(store: &[u32], mapping: &[u32], r: u32) -> u32
 }
 
 // The copy of block b.
-fn copy_block(store: &mut [u32], mapping: &[u32], b: usize)
+fn copy_block(store: &mut StoreWords, mapping: &MappingWords, b: usize)
     requires arranged { Arranged store.old }
-    requires mapping_len { length mapping.now ≡ mapping_length }
     requires b_bound { b < block_count (columns store.old) }
     requires ready { BlockReady (store_in store.old) (mapping_of mapping.now) b }
     ensures { Wrote store.old store.new (block_made (store_in store.old) (mapping_of mapping.now) b) }
@@ -189,9 +194,14 @@ fn copy_block(store: &mut [u32], mapping: &[u32], b: usize)
 }
 
 // The copies of what a step defines, if it is a shell.
-fn copy_step(store: &mut [u32], mapping: &[u32], n: usize, parent: Option<u32>, step: Step)
+fn copy_step(
+    store: &mut StoreWords,
+    mapping: &MappingWords,
+    n: usize,
+    parent: Option<u32>,
+    step: Step,
+)
     requires arranged { Arranged store.old }
-    requires mapping_len { length mapping.now ≡ mapping_length }
     requires ready { StepReady (store_in store.old) (mapping_of mapping.now) n (parent_of parent) step }
     ensures { Wrote store.old store.new (step_made (store_in store.old) (mapping_of mapping.now) n (parent_of parent) step) }
 {
@@ -207,8 +217,8 @@ fn copy_step(store: &mut [u32], mapping: &[u32], n: usize, parent: Option<u32>, 
 
 // All of the copy, once every test has passed.
 pub fn write_copies(
-    store: &mut [u32],
-    mapping: &[u32],
+    store: &mut StoreWords,
+    mapping: &MappingWords,
     n: usize,
     parent: Option<u32>,
     steps: &[Step],
@@ -217,7 +227,6 @@ pub fn write_copies(
     requires n_bound { n < op_count (columns store.old) }
     requires passed { first_failed (copy_tests (store_in store.old) n (parent_of parent)) ≡ none }
     requires are_steps { AreSteps store.old n steps.now }
-    requires mapping_len { length mapping.now ≡ mapping_length }
     requires mapped { mapping_of mapping.now ≡ copy_mapping (store_in store.old) n }
     ensures { Written store.old store.new n (parent_of parent) mapping.now }
 {

@@ -1,5 +1,5 @@
 -- A column in another's place, and the loops that write it word by word: the first words by their place, and the ends of the owners' ranges. Assumes nothing.
-use Prim.Native.Nat.{ℕ, zero, suc, ◌+◌, ◌-◌, ◌<◌, ◌≤◌}
+use Prim.Native.Nat.{ℕ, zero, suc, ◌+◌, ◌<◌, ◌≤◌}
 use native.Mathlib.Numerals.{add-one}
 use native.Mathlib.Nat.{zero-add}
 use native.Mathlib.Decide.{ℕ_discrete, dec_lt}

@@ -9,13 +9,12 @@ ghost use Rattle.journal.specs.Words.{row_counts};
 ghost use Rattle.cutting.specs.Cutting.{counts_taken, link_cut, links_cut, end_made, ends_made, ChildrenFit, children_cut};
 ghost use Rattle.cutting.specs.Back.{MarksKept, back_sound};
 
-use layout::columns::{COUNTS, MARK_COUNTS, at, copy, number, put, put_same};
+use layout::columns::{COUNTS, MARK_COUNTS, StoreWords, at, copy, number, put, put_same};
 use layout::families::{BLOCKS_IN_REGIONS, Family, OPS_IN_BLOCKS};
 
 // The counts of a mark's row become those of the tables. The eighth word, the number of set marks, stays.
-fn take_counts(store: &mut [u32], row: usize)
-    requires store_len { length store.old ≡ buffer_length }
-    requires row_bound { row < 8 }
+fn take_counts(store: &mut StoreWords, row: usize)
+    requires { row < 8 }
     ensures { columns store.new ≡ counts_taken (columns store.old) row }
 {
     copy(store, COUNTS, 0, MARK_COUNTS, 8 * row, 8 * row + 7);
@@ -31,8 +30,7 @@ fn link_cut(count: u32, link: u32) -> u32
 
 // The links of the children that stay: the first `count` words of a column of links.
 #[inline(always)]
-fn cut_links(store: &mut [u32], links: usize, count: usize)
-    requires store_len { length store.old ≡ buffer_length }
+fn cut_links(store: &mut StoreWords, links: usize, count: usize)
     requires links_lt_column_count { links < column_count }
     requires count_bound { count ≤ column_size links }
     requires count_bound_2 { count ≤ 512 }
@@ -47,8 +45,7 @@ fn cut_links(store: &mut [u32], links: usize, count: usize)
 // The range of child n's owner ends behind it. The child's word in the column of owners is `word`.
 #[inline(always)]
 #[tactic(auto, unfolding(crate::specs::Cutting::end_made, crate::specs::Cutting::end_put, crate::specs::Cutting::with_column, layout::specs::Columns::write))]
-fn end_child(store: &mut [u32], family: Family, word: usize, n: usize)
-    requires store_len { length store.old ≡ buffer_length }
+fn end_child(store: &mut StoreWords, family: Family, word: usize, n: usize)
     requires ends_lt_column_count { family.ends < column_count }
     requires word_bound { word < column_size family.ends + family.shift }
     requires n_bound { n < 512 }
@@ -61,8 +58,7 @@ fn end_child(store: &mut [u32], family: Family, word: usize, n: usize)
 
 // Each owner's range ends behind the last of the `count` children that name it.
 #[inline(always)]
-fn end_children(store: &mut [u32], family: Family, count: usize)
-    requires store_len { length store.old ≡ buffer_length }
+fn end_children(store: &mut StoreWords, family: Family, count: usize)
     requires owners_lt_column_count { family.owners < column_count }
     requires ends_lt_column_count { family.ends < column_count }
     requires ends_value { eqb family.owners family.ends ≡ false }
@@ -81,9 +77,8 @@ fn end_children(store: &mut [u32], family: Family, count: usize)
 // behind that of the children.
 #[inline(always)]
 #[tactic(auto, unfolding(crate::specs::Cutting::children_cut))]
-fn cut_children(store: &mut [u32], family: Family)
-    requires store_len { length store.old ≡ buffer_length }
-    requires children_fit { ChildrenFit (columns store.old) family }
+fn cut_children(store: &mut StoreWords, family: Family)
+    requires { ChildrenFit (columns store.old) family }
     ensures { columns store.new ≡ children_cut (columns store.old) family }
 {
     let count = number(store, COUNTS, family.table);
@@ -95,7 +90,7 @@ fn cut_children(store: &mut [u32], family: Family)
 
 // Cuts the tables of a sound buffer to the counts of a mark's row. They are sound again where the store that is left is, the row's counts
 // of operands, successors and attributes are its own, and no range of what stays ends behind the row's counts.
-pub fn cut_tables(store: &mut [u32], row: usize)
+pub fn cut_tables(store: &mut StoreWords, row: usize)
     requires sound { IsSound store.old }
     requires row_bound { row < 8 }
     requires store_value { counts_within (row_counts (columns store.old) row) (counts_of (store_in store.old)) ≡ true }

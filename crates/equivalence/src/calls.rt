@@ -18,16 +18,17 @@ use fragments::ignoring::Ignore;
 use fragments::terms::Terms;
 use fragments::types::Sort;
 use layout::causes::Cause;
-use lending::lent::is_sound;
-use mapping::mapping::is_allowed;
+use layout::columns::StoreWords;
+use lending::lent::sound_words;
+use mapping::mapping::{MappingWords, is_allowed};
 use renaming::indexing::{INDEX_LENGTH, index_types};
 
 // Compare two fragments on a sound store, begun with an allowed mapping, under a list of renamed types that may hold any words: it is
 // tested, and indexed for the walk.
 fn indexed_eq(
-    store: &[u32],
+    store: &StoreWords,
     types: &[u32],
-    mapping: &mut [u32],
+    mapping: &mut MappingWords,
     of: Fragments,
     ignore: Ignore,
 ) -> Result<EqResult, Cause>
@@ -56,21 +57,24 @@ fn lent_eq(
 ) -> Result<EqResult, Cause>
     ensures { Answered (sound_lent store.now) store.now types.now mapping.old mapping.new (ignore_of ignore) (sort_of of.sort) of.lhs of.rhs (compared_of result) }
 {
-    if !is_sound(store) {
+    let Some(words) = sound_words(store) else {
         return Err(Cause::NotSound);
-    }
-    if !is_allowed(store, mapping) {
+    };
+    let Some(entries) = mapping.as_mut_array() else {
+        return Err(Cause::BadMapping);
+    };
+    if !is_allowed(words, entries) {
         return Err(Cause::BadMapping);
     }
     if types.is_empty() {
         let terms = Terms {
-            store,
+            store: words,
             types,
             ignore,
         };
-        return fragments_eq(&terms, mapping, of);
+        return fragments_eq(&terms, entries, of);
     }
-    indexed_eq(store, types, mapping, of, ignore)
+    indexed_eq(words, types, entries, of, ignore)
 }
 
 #[tactic(auto, unfolding(fragments::specs::Sorts::sort_of))]

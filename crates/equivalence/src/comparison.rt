@@ -22,12 +22,13 @@ use fragments::sorts::exists;
 use fragments::terms::Terms;
 use fragments::types::Sort;
 use layout::causes::Cause;
-use layout::columns::{OP_KIND, at};
+use layout::columns::{OP_KIND, StoreWords, at};
+use mapping::mapping::MappingWords;
 use pairing::pairing::op_eq_map;
 use pairing::types::{Pair, Unequal};
 
 // Two fragments are compared if both exist. In a sound store none is nested too deep.
-fn both_exist(store: &[u32], sort: Sort, lhs: u32, rhs: u32) -> Result<(), Cause>
+fn both_exist(store: &StoreWords, sort: Sort, lhs: u32, rhs: u32) -> Result<(), Cause>
     requires { IsSound store.now }
     ensures { cause_of result ≡ first_failed (pair_tests (store_in store.now) (sort_of sort) lhs rhs) }
 {
@@ -39,8 +40,7 @@ fn both_exist(store: &[u32], sort: Sort, lhs: u32, rhs: u32) -> Result<(), Cause
 
 // Compare two operations: they are mapped, and then everything else about them is compared. The pair is put together anew, so that calls
 // take it in registers.
-fn ops_eq(terms: &Terms, mapping: &mut [u32], pair: Pair) -> EqResult
-    requires mapping_len { length mapping.old ≡ mapping_length }
+fn ops_eq(terms: &Terms, mapping: &mut MappingWords, pair: Pair) -> EqResult
     requires lhs_bound { pair.lhs < op_count (columns terms.now.store.now) }
     requires rhs_bound { pair.rhs < op_count (columns terms.now.store.now) }
     requires paired_fits { PairedFits (fragments_walk (store_read terms.now) (options_in terms.now) op pair.lhs pair.rhs (state_of mapping.old 0)) }
@@ -55,8 +55,7 @@ fn ops_eq(terms: &Terms, mapping: &mut [u32], pair: Pair) -> EqResult
 }
 
 // Compare two fragments by their sort. Two blocks are two lists of one block each.
-fn walk_eq(terms: &Terms, mapping: &mut [u32], of: Fragments) -> EqResult
-    requires mapping_len { length mapping.old ≡ mapping_length }
+fn walk_eq(terms: &Terms, mapping: &mut MappingWords, of: Fragments) -> EqResult
     requires lhs_value { Rattle.rules.specs.Fragments.exists (store_read terms.now) (sort_of of.sort) of.lhs ≡ true }
     requires rhs_value { Rattle.rules.specs.Fragments.exists (store_read terms.now) (sort_of of.sort) of.rhs ≡ true }
     ensures { Told (fragments_walk (store_read terms.now) (options_in terms.now) (sort_of of.sort) of.lhs of.rhs (state_of mapping.old 0)) result mapping.new }
@@ -76,7 +75,11 @@ fn walk_eq(terms: &Terms, mapping: &mut [u32], of: Fragments) -> EqResult
 }
 
 // Compare two fragments of one sort.
-pub fn fragments_eq(terms: &Terms, mapping: &mut [u32], of: Fragments) -> Result<EqResult, Cause>
+pub fn fragments_eq(
+    terms: &Terms,
+    mapping: &mut MappingWords,
+    of: Fragments,
+) -> Result<EqResult, Cause>
     requires { allowed (store_read terms.now) (mapping_of mapping.old) ≡ true }
     ensures { Answered true terms.now.store.now (list_in terms.now.types.now) mapping.old mapping.new (ignore_of terms.now.ignore) (sort_of of.sort) of.lhs of.rhs (compared_of result) }
 {
@@ -87,7 +90,7 @@ pub fn fragments_eq(terms: &Terms, mapping: &mut [u32], of: Fragments) -> Result
 // Compare two operations, as `fragments_eq` does. Kinds that differ at first sight are told before anything else is read.
 pub fn operations_eq(
     terms: &Terms,
-    mapping: &mut [u32],
+    mapping: &mut MappingWords,
     lhs: u32,
     rhs: u32,
 ) -> Result<EqResult, Cause>

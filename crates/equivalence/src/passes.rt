@@ -13,12 +13,17 @@ use crate::types::{BlockLists, EqResult};
 use fragments::order::BlocksIn;
 use fragments::terms::Terms;
 use layout::ops_in::OpsIn;
+use mapping::mapping::MappingWords;
 use pairing::pairing::{block_eq_map, op_eq_map};
 use pairing::types::{Pair, Unequal};
 
 // Pass 1: blocks and their arguments. (No `zip`, here and in `map_ops_in`: which of the two lists ends first decides the answer.)
-pub fn map_blocks(terms: &Terms, mapping: &mut [u32], lists: BlockLists, paired: u32) -> EqResult
-    requires mapping_len { length mapping.old ≡ mapping_length }
+pub fn map_blocks(
+    terms: &Terms,
+    mapping: &mut MappingWords,
+    lists: BlockLists,
+    paired: u32,
+) -> EqResult
     requires lists_exist { ListsExist (columns terms.now.store.now) lists }
     requires paired_fits { PairedFits (pass1_walk (store_read terms.now) (options_in terms.now) lists (state_of mapping.old paired)) }
     ensures { Told (pass1_walk (store_read terms.now) (options_in terms.now) lists (state_of mapping.old paired)) result mapping.new }
@@ -39,8 +44,7 @@ pub fn map_blocks(terms: &Terms, mapping: &mut [u32], lists: BlockLists, paired:
 }
 
 // Pass 2 in two blocks: their operations and results. If one block has more operations, the first unequal pair is the two blocks.
-fn map_ops_in(terms: &Terms, mapping: &mut [u32], pair: Pair, paired: u32) -> EqResult
-    requires mapping_len { length mapping.old ≡ mapping_length }
+fn map_ops_in(terms: &Terms, mapping: &mut MappingWords, pair: Pair, paired: u32) -> EqResult
     requires lhs_bound { pair.lhs < block_count (columns terms.now.store.now) }
     requires rhs_bound { pair.rhs < block_count (columns terms.now.store.now) }
     requires paired_fits { PairedFits (pairs_walk (store_read terms.now) (options_in terms.now) pair.lhs pair.rhs (state_of mapping.old paired)) }
@@ -64,8 +68,12 @@ fn map_ops_in(terms: &Terms, mapping: &mut [u32], pair: Pair, paired: u32) -> Eq
 }
 
 // Pass 2: every block's operations and their results.
-pub fn map_ops(terms: &Terms, mapping: &mut [u32], lists: BlockLists, paired: u32) -> EqResult
-    requires mapping_len { length mapping.old ≡ mapping_length }
+pub fn map_ops(
+    terms: &Terms,
+    mapping: &mut MappingWords,
+    lists: BlockLists,
+    paired: u32,
+) -> EqResult
     requires lists_exist { ListsExist (columns terms.now.store.now) lists }
     requires paired_fits { PairedFits (pass2_walk (store_read terms.now) (options_in terms.now) lists (state_of mapping.old paired)) }
     ensures { Told (pass2_walk (store_read terms.now) (options_in terms.now) lists (state_of mapping.old paired)) result mapping.new }

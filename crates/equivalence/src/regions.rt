@@ -1,7 +1,7 @@
 // Comparison of two regions, of two lists of blocks, and of two operations that are mapped. The four functions call one another; this ends
 // since a region holds fewer operations than the operation around it. An operation's uses are compared after everything in its list of
-// blocks is mapped, and before anything in its own regions is. Mapping and count are parameters of their own, and not the fields of one
-// value: so calls take them in registers.
+// blocks is mapped, and before anything in its own regions is. Mapping and count are parameters of their own: one value of the two would
+// hold a `&mut`, be made anew at each call, and be no plainer.
 ghost use Rattle.std.specs.Prelude.{◌≡◌, ◌<◌, length};
 ghost use Rattle.layout.specs.Columns.{columns};
 ghost use Rattle.layout.specs.Reading.{op_count, block_count, region_count};
@@ -16,13 +16,13 @@ use fragments::order::BlocksIn;
 use fragments::terms::Terms;
 use layout::columns::{OP_REGION_END, OP_REGION_FIRST, number};
 use layout::ops_in::OpsIn;
+use mapping::mapping::MappingWords;
 use pairing::names::names_agree;
 use pairing::types::{Pair, Unequal};
 
 // Compare everything that `op_eq_map` left unchecked: operands, successors and nested regions. Their mapping must already be updated.
 #[cycle(comparing)]
-pub fn op_eq_mapped(terms: &Terms, mapping: &mut [u32], pair: Pair, paired: u32) -> EqResult
-    requires mapping_len { length mapping.old ≡ mapping_length }
+pub fn op_eq_mapped(terms: &Terms, mapping: &mut MappingWords, pair: Pair, paired: u32) -> EqResult
     requires lhs_bound { pair.lhs < op_count (columns terms.now.store.now) }
     requires rhs_bound { pair.rhs < op_count (columns terms.now.store.now) }
     requires paired_fits { PairedFits (op_walk (store_read terms.now) (options_in terms.now) pair.lhs pair.rhs (state_of mapping.old paired)) }
@@ -45,8 +45,7 @@ pub fn op_eq_mapped(terms: &Terms, mapping: &mut [u32], pair: Pair, paired: u32)
 
 // Compare two regions.
 #[cycle(comparing)]
-pub fn region_eq(terms: &Terms, mapping: &mut [u32], pair: Pair, paired: u32) -> EqResult
-    requires mapping_len { length mapping.old ≡ mapping_length }
+pub fn region_eq(terms: &Terms, mapping: &mut MappingWords, pair: Pair, paired: u32) -> EqResult
     requires lhs_bound { pair.lhs < region_count (columns terms.now.store.now) }
     requires rhs_bound { pair.rhs < region_count (columns terms.now.store.now) }
     requires paired_fits { PairedFits (region_walk (store_read terms.now) (options_in terms.now) pair.lhs pair.rhs (state_of mapping.old paired)) }
@@ -62,8 +61,12 @@ pub fn region_eq(terms: &Terms, mapping: &mut [u32], pair: Pair, paired: u32) ->
 
 // Compare two lists of blocks, in three passes: the first two map all definitions, so that uses can be compared in the third.
 #[cycle(comparing)]
-pub fn blocks_eq(terms: &Terms, mapping: &mut [u32], lists: BlockLists, paired: u32) -> EqResult
-    requires mapping_len { length mapping.old ≡ mapping_length }
+pub fn blocks_eq(
+    terms: &Terms,
+    mapping: &mut MappingWords,
+    lists: BlockLists,
+    paired: u32,
+) -> EqResult
     requires lists_exist { ListsExist (columns terms.now.store.now) lists }
     requires paired_fits { PairedFits (lists_walk (store_read terms.now) (options_in terms.now) lists (state_of mapping.old paired)) }
     ensures { Told (lists_walk (store_read terms.now) (options_in terms.now) lists (state_of mapping.old paired)) result mapping.new }
@@ -84,8 +87,7 @@ pub fn blocks_eq(terms: &Terms, mapping: &mut [u32], lists: BlockLists, paired: 
 
 // Pass 3 in two blocks, whose operations and results are mapped.
 #[cycle(comparing)]
-fn check_ops_in(terms: &Terms, mapping: &mut [u32], pair: Pair, paired: u32) -> EqResult
-    requires mapping_len { length mapping.old ≡ mapping_length }
+fn check_ops_in(terms: &Terms, mapping: &mut MappingWords, pair: Pair, paired: u32) -> EqResult
     requires lhs_bound { pair.lhs < block_count (columns terms.now.store.now) }
     requires rhs_bound { pair.rhs < block_count (columns terms.now.store.now) }
     requires paired_fits { PairedFits (ops_walk (store_read terms.now) (options_in terms.now) pair.lhs pair.rhs (state_of mapping.old paired)) }

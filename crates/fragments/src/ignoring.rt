@@ -6,7 +6,7 @@ ghost use Rattle.layout.specs.Reading.{attribute_at};
 ghost use Rattle.fragments.specs.Ignoring.{ignore_of, bit_set, kept_from};
 
 use crate::kept_slots::KeptSlots;
-use layout::columns::{SLOT_KIND, at};
+use layout::columns::{SLOT_KIND, StoreWords, at};
 use layout::kinds::inherent_from;
 
 // An ignore rule: a yes or no for locations, and a bit for each attribute kind.
@@ -25,9 +25,8 @@ fn bit_set(bits: u64, kind: u32) -> bool
 }
 
 // The attribute at a slot is ignored: it is not inherent, so that its kind alone is in the slot's word, and the bit of its kind is set.
-pub fn slot_ignored(store: &[u32], ignore: Ignore, slot: usize) -> bool
-    requires store_len { length store.now ≡ buffer_length }
-    requires slot_lt_slot_count { slot < slot_count }
+pub fn slot_ignored(store: &StoreWords, ignore: Ignore, slot: usize) -> bool
+    requires { slot < slot_count }
     ensures { result ≡ ignored (ignore_of ignore) (attribute_at (columns store.now) slot) }
 {
     let kind = at(store, SLOT_KIND, slot);
@@ -38,8 +37,7 @@ pub fn slot_ignored(store: &[u32], ignore: Ignore, slot: usize) -> bool
 }
 
 // How many attributes of a run of slots are not ignored.
-pub fn count_kept(store: &[u32], ignore: Ignore, first: usize, end: usize) -> u32
-    requires store_len { length store.now ≡ buffer_length }
+pub fn count_kept(store: &StoreWords, ignore: Ignore, first: usize, end: usize) -> u32
     requires end_le_slot_count { end ≤ slot_count }
     requires first_le_end { first ≤ end }
     ensures { result ≡ length (kept_from (columns store.now) (ignore_of ignore) first end) }

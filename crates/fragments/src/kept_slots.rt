@@ -3,14 +3,14 @@ ghost use Rattle.std.specs.Prelude.{◌≡◌, ◌<◌, ◌≤◌, length};
 ghost use Rattle.layout.specs.Columns.{buffer_length, columns, slot_count};
 
 use crate::ignoring::{Ignore, slot_ignored};
+use layout::columns::StoreWords;
 
 #[derive(Clone, Copy)]
 pub struct KeptSlots<'a> {
-    store: &'a [u32],
+    store: &'a StoreWords,
     ignore: Ignore,
     at: usize,
     end: usize,
-    pub ghost store_len: { length store.now ≡ buffer_length },
     pub ghost end_le_slot_count: { end ≤ slot_count },
 }
 
@@ -18,9 +18,8 @@ impl<'a> KeptSlots<'a> {
     ghost use Rattle.fragments.specs.Ignoring.{ignore_of, kept_slots};
     ghost use Rattle.fragments.specs.SlotsLeft.{slots_left};
 
-    pub fn new(store: &'a [u32], ignore: Ignore, first: usize, end: usize) -> Self
-        requires store_len { length store.now ≡ buffer_length }
-        requires end_le_slot_count { end ≤ slot_count }
+    pub fn new(store: &'a StoreWords, ignore: Ignore, first: usize, end: usize) -> Self
+        requires { end ≤ slot_count }
         ensures { slots_left result ≡ kept_slots (columns store.now) (ignore_of ignore) first end }
     {
         KeptSlots {

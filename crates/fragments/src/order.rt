@@ -9,9 +9,10 @@ ghost use Rattle.fragments.specs.Order.{block_list, BlocksExist, blocks_exist_pr
 
 use crate::types::Blocks;
 use layout::children::{next_block, one_from};
+use layout::columns::StoreWords;
 
 // The first of a list of blocks whose number is not below `from`.
-pub fn next_in(store: &[u32], blocks: Blocks, from: usize) -> Option<usize>
+pub fn next_in(store: &StoreWords, blocks: Blocks, from: usize) -> Option<usize>
     requires sound { IsSound store.now }
     requires blocks_exist { BlocksExist (columns store.now) blocks }
     ensures { result ≡ found_from (first_from from (block_list (store_in store.now) blocks)) }
@@ -25,7 +26,7 @@ pub fn next_in(store: &[u32], blocks: Blocks, from: usize) -> Option<usize>
 // The blocks of a list, one after the other, by rising number: those from `from` on are left.
 #[derive(Clone, Copy)]
 pub struct BlocksIn<'a> {
-    store: &'a [u32],
+    store: &'a StoreWords,
     blocks: Blocks,
     from: usize,
     ghost sound: { IsSound store.now },
@@ -35,7 +36,7 @@ pub struct BlocksIn<'a> {
 impl<'a> BlocksIn<'a> {
     ghost use Rattle.fragments.specs.BlocksLeft.{blocks_left};
 
-    pub fn new(store: &'a [u32], blocks: Blocks) -> Self
+    pub fn new(store: &'a StoreWords, blocks: Blocks) -> Self
         requires sound { IsSound store.now }
         requires blocks_exist { BlocksExist (columns store.now) blocks }
         ensures { blocks_left result ≡ block_list (store_in store.now) blocks }

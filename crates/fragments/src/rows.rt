@@ -11,13 +11,12 @@ use crate::types::{Head, Row};
 use layout::columns::{
     BLOCK_ARGUMENT_END, BLOCK_ARGUMENT_FIRST, BLOCK_LOCATION, OP_KIND, OP_LOCATION, OP_OPERAND_END,
     OP_OPERAND_FIRST, OP_REGION_END, OP_REGION_FIRST, OP_RESULT_END, OP_RESULT_FIRST,
-    OP_SUCCESSOR_END, OP_SUCCESSOR_FIRST, at, number,
+    OP_SUCCESSOR_END, OP_SUCCESSOR_FIRST, StoreWords, at, number,
 };
 use layout::owners::{Owner, first_slot, key_count, owner_number};
 
 // How many numbers there are in a row's range.
-pub fn span(store: &[u32], first: usize, end: usize, n: usize) -> usize
-    requires store_len { length store.now ≡ buffer_length }
+pub fn span(store: &StoreWords, first: usize, end: usize, n: usize) -> usize
     requires first_lt_column_count { first < column_count }
     requires end_lt_column_count { end < column_count }
     requires n_bound { n < column_size first }
@@ -55,7 +54,7 @@ fn own_columns(owner: Owner) -> OwnColumns
 }
 
 // The row of an operation or a block; an operation's values are its results, a block's its arguments.
-pub fn owner_row(store: &[u32], owner: Owner) -> Row
+pub fn owner_row(store: &StoreWords, owner: Owner) -> Row
     requires sound { IsSound store.now }
     requires owner_value { owner_exists (store_in store.now) (owner_of owner) ≡ true }
     ensures { RowOf (columns store.now) (owner_of owner) result }
@@ -73,7 +72,7 @@ pub fn owner_row(store: &[u32], owner: Owner) -> Row
 
 // The row of an operation.
 #[tactic(auto, using(layout::proofs::OwnerKeys::in_exists), unfolding(layout::specs::Owners::owner_of))]
-pub fn op_row(store: &[u32], n: usize) -> Row
+pub fn op_row(store: &StoreWords, n: usize) -> Row
     requires sound { IsSound store.now }
     requires n_bound { n < op_count (columns store.now) }
     ensures { RowOf (columns store.now) (of_op n) result }
@@ -83,7 +82,7 @@ pub fn op_row(store: &[u32], n: usize) -> Row
 
 // The row of a block.
 #[tactic(auto, using(layout::proofs::OwnerKeys::in_exists), unfolding(layout::specs::Owners::owner_of))]
-pub fn block_row(store: &[u32], n: usize) -> Row
+pub fn block_row(store: &StoreWords, n: usize) -> Row
     requires sound { IsSound store.now }
     requires n_bound { n < block_count (columns store.now) }
     ensures { RowOf (columns store.now) (of_block n) result }
@@ -93,7 +92,7 @@ pub fn block_row(store: &[u32], n: usize) -> Row
 
 // How many regions an operation has.
 #[tactic(auto, using(crate::proofs::Few::regions_rise, crate::proofs::ByRows::op_regions))]
-pub fn op_regions(store: &[u32], n: usize) -> usize
+pub fn op_regions(store: &StoreWords, n: usize) -> usize
     requires sound { IsSound store.now }
     requires n_bound { n < op_count (columns store.now) }
     ensures { result ≡ length (regions_of (store_in store.now) n) }
@@ -103,7 +102,7 @@ pub fn op_regions(store: &[u32], n: usize) -> usize
 
 // What an operation has besides its row.
 #[tactic(auto, using(crate::proofs::Few::operands_rise, crate::proofs::Few::successors_rise, crate::proofs::ByRows::op_head_lem))]
-pub fn op_head(store: &[u32], n: usize) -> Head
+pub fn op_head(store: &StoreWords, n: usize) -> Head
     requires sound { IsSound store.now }
     requires n_bound { n < op_count (columns store.now) }
     ensures { HeadOf (store_in store.now) n result }

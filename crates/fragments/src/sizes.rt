@@ -12,12 +12,14 @@ ghost use Rattle.fragments.specs.Sizes.{size_from, block_size, region_size};
 use crate::order::BlocksIn;
 use crate::types::Blocks;
 use layout::children::op_around;
-use layout::columns::{OP_DEPTH, OP_REGION_END, OP_REGION_FIRST, REGION_OP, at, number};
+use layout::columns::{
+    OP_DEPTH, OP_REGION_END, OP_REGION_FIRST, REGION_OP, StoreWords, at, number,
+};
 use layout::ops_in::OpsIn;
 
 // The size of a block. `left` counts the region around the block and all levels inside it.
 #[cycle(size)]
-fn size_in_block(store: &[u32], b: usize, left: u32) -> Option<u32>
+fn size_in_block(store: &StoreWords, b: usize, left: u32) -> Option<u32>
     requires sound { IsSound store.now }
     requires b_bound { b < block_count (columns store.now) }
     ensures { result ≡ size_from (block_size left (store_in store.now) b) }
@@ -31,7 +33,7 @@ fn size_in_block(store: &[u32], b: usize, left: u32) -> Option<u32>
 
 // The size of a region. `left` counts this region and all levels inside it.
 #[cycle(size)]
-fn size_in_region(store: &[u32], r: usize, left: u32) -> Option<u32>
+fn size_in_region(store: &StoreWords, r: usize, left: u32) -> Option<u32>
     requires sound { IsSound store.now }
     requires r_bound { r < region_count (columns store.now) }
     ensures { result ≡ size_from (region_size left (store_in store.now) r) }
@@ -45,7 +47,7 @@ fn size_in_region(store: &[u32], r: usize, left: u32) -> Option<u32>
 
 // The size of an operation. `left` counts its regions as one level, and all levels inside them.
 #[cycle(size)]
-fn size_in_op(store: &[u32], n: usize, left: u32) -> Option<u32>
+fn size_in_op(store: &StoreWords, n: usize, left: u32) -> Option<u32>
     requires sound { IsSound store.now }
     requires n_bound { n < op_count (columns store.now) }
     ensures { result ≡ size_from (op_size left (store_in store.now) n) }
@@ -58,7 +60,7 @@ fn size_in_op(store: &[u32], n: usize, left: u32) -> Option<u32>
 }
 
 // How many levels of regions an operation may have inside it.
-fn levels_left(store: &[u32], n: usize) -> u32
+fn levels_left(store: &StoreWords, n: usize) -> u32
     requires sound { IsSound store.now }
     requires n_bound { n < op_count (columns store.now) }
     ensures { levels_left max_nesting (store_in store.now) (parent_of (store_in store.now) n) ≡ some result }
@@ -67,7 +69,7 @@ fn levels_left(store: &[u32], n: usize) -> u32
 }
 
 // The size of an operation.
-pub fn operation_size(store: &[u32], n: usize) -> Option<u32>
+pub fn operation_size(store: &StoreWords, n: usize) -> Option<u32>
     requires sound { IsSound store.now }
     requires n_bound { n < op_count (columns store.now) }
     ensures { result ≡ size_from (fragment_size (store_in store.now) op n) }
@@ -76,7 +78,7 @@ pub fn operation_size(store: &[u32], n: usize) -> Option<u32>
 }
 
 // The size of a block: its operations stand one region deeper than the operation around it.
-pub fn basic_block_size(store: &[u32], n: usize) -> Option<u32>
+pub fn basic_block_size(store: &StoreWords, n: usize) -> Option<u32>
     requires sound { IsSound store.now }
     requires n_bound { n < block_count (columns store.now) }
     ensures { result ≡ size_from (fragment_size (store_in store.now) block n) }
@@ -85,7 +87,7 @@ pub fn basic_block_size(store: &[u32], n: usize) -> Option<u32>
 }
 
 // The size of a region, likewise.
-pub fn region_size(store: &[u32], n: usize) -> Option<u32>
+pub fn region_size(store: &StoreWords, n: usize) -> Option<u32>
     requires sound { IsSound store.now }
     requires n_bound { n < region_count (columns store.now) }
     ensures { result ≡ size_from (fragment_size (store_in store.now) region n) }

@@ -9,12 +9,12 @@ ghost use Rattle.fragments.specs.Sorts.{sort_of};
 
 use crate::sizes::{basic_block_size, operation_size, region_size};
 use crate::types::Sort;
+use layout::columns::StoreWords;
 use layout::existing::{block_exists, op_exists, region_exists};
 
 // There is a fragment of this sort and number.
 #[tactic(auto, unfolding(crate::specs::Sorts::sort_of, rules::specs::Fragments::exists))]
-pub fn exists(store: &[u32], sort: Sort, n: u32) -> bool
-    requires { length store.now ≡ buffer_length }
+pub fn exists(store: &StoreWords, sort: Sort, n: u32) -> bool
     ensures { result ≡ Rattle.rules.specs.Fragments.exists (store_in store.now) (sort_of sort) n }
 {
     match sort {
@@ -26,7 +26,7 @@ pub fn exists(store: &[u32], sort: Sort, n: u32) -> bool
 
 // How many operations are in it.
 #[tactic(auto, using(crate::proofs::There::there), unfolding(crate::specs::Sorts::sort_of))]
-pub fn size(store: &[u32], sort: Sort, n: u32) -> Option<u32>
+pub fn size(store: &StoreWords, sort: Sort, n: u32) -> Option<u32>
     requires sound { IsSound store.now }
     requires n_value { Rattle.rules.specs.Fragments.exists (store_in store.now) (sort_of sort) n ≡ true }
     ensures { result ≡ size_from (fragment_size (store_in store.now) (sort_of sort) n) }

@@ -9,13 +9,12 @@ ghost use Rattle.fragments.specs.Ignoring.{ignore_of, kept_from};
 use crate::state::RunningHash;
 use fragments::ignoring::{Ignore, count_kept};
 use fragments::kept_slots::KeptSlots;
-use layout::columns::{SLOT_CONTENT, SLOT_KEY, SLOT_KIND, at};
+use layout::columns::{SLOT_CONTENT, SLOT_KEY, SLOT_KIND, StoreWords, at};
 use layout::kinds::{inherent_from, kind_from};
 
 // Hash the attribute at a slot: its key, its kind, its content, its flag.
-fn feed_attribute(store: &[u32], slot: usize, state: &mut RunningHash)
-    requires store_len { length store.now ≡ buffer_length }
-    requires slot_lt_slot_count { slot < slot_count }
+fn feed_attribute(store: &StoreWords, slot: usize, state: &mut RunningHash)
+    requires { slot < slot_count }
     ensures { state.new.word ≡ fnv_from state.old.word (attribute_bytes (attribute_at (columns store.now) slot)) }
 {
     let key = at(store, SLOT_KEY, slot);
@@ -26,13 +25,12 @@ fn feed_attribute(store: &[u32], slot: usize, state: &mut RunningHash)
 
 // Hash the attributes of a run of slots, ignoring those specified by `ignore`: how many there are, then each.
 pub fn attributes_hash(
-    store: &[u32],
+    store: &StoreWords,
     ignore: Ignore,
     first: usize,
     end: usize,
     state: &mut RunningHash,
 )
-    requires store_len { length store.now ≡ buffer_length }
     requires end_le_slot_count { end ≤ slot_count }
     requires first_le_end { first ≤ end }
     ensures { state.new.word ≡ fnv_from state.old.word (count (length (kept_from (columns store.now) (ignore_of ignore) first end)) ++ concat_map attribute_bytes (kept_from (columns store.now) (ignore_of ignore) first end)) }

@@ -13,12 +13,13 @@ use fragments::ignoring::Ignore;
 use fragments::terms::Terms;
 use fragments::types::Sort;
 use layout::causes::Cause;
-use lending::lent::is_sound;
+use layout::columns::StoreWords;
+use lending::lent::sound_words;
 use renaming::indexing::{INDEX_LENGTH, index_types};
 
 // Hash a fragment of a sound store, with the list of types tested and indexed first.
 fn indexed_hash(
-    store: &[u32],
+    store: &StoreWords,
     types: &[u32],
     sort: Sort,
     n: u32,
@@ -41,18 +42,18 @@ fn indexed_hash(
 fn lent_hash(store: &[u32], types: &[u32], sort: Sort, n: u32, ignore: Ignore) -> Result<u64, Cause>
     ensures { Answered (sound_lent store.now) store.now types.now (ignore_of ignore) (sort_of sort) n result }
 {
-    if !is_sound(store) {
+    let Some(words) = sound_words(store) else {
         return Err(Cause::NotSound);
-    }
+    };
     if types.is_empty() {
         let terms = Terms {
-            store,
+            store: words,
             types,
             ignore,
         };
         return fragment_hash(&terms, sort, n);
     }
-    indexed_hash(store, types, sort, n, ignore)
+    indexed_hash(words, types, sort, n, ignore)
 }
 
 pub fn operation_hash(store: &[u32], types: &[u32], n: u32, ignore: Ignore) -> Result<u64, Cause>

@@ -22,11 +22,12 @@ use fragments::sorts::exists;
 use fragments::terms::Terms;
 use fragments::types::{Blocks, Sort};
 use layout::causes::Cause;
+use layout::columns::StoreWords;
 use numbering::alone::holds_nothing;
 use numbering::words::{NUMBERS_LENGTH, WalkNumbers};
 
 // Why a fragment is not hashed: it does not exist. In a sound store nothing is nested too deep.
-fn hash_cause(store: &[u32], sort: Sort, n: u32) -> Result<(), Cause>
+fn hash_cause(store: &StoreWords, sort: Sort, n: u32) -> Result<(), Cause>
     requires { IsSound store.now }
     ensures { cause_of result ≡ first_failed (fragment_tests (store_in store.now) (sort_of sort) n) }
 {

@@ -6,6 +6,7 @@ ghost use Rattle.layout.specs.Soundness.{IsSound};
 ghost use Rattle.hashing.specs.Walked.{FeedsUses, FedNames};
 
 use crate::state::RunningHash;
+use layout::columns::StoreWords;
 use layout::slices::{operands_of, successors_of};
 use numbering::words::{Name, WalkNumbers, block_name, value_name};
 
@@ -20,7 +21,7 @@ pub fn hash_uses<F: Fn(u32) -> Name>(list: &[u32], name: F, state: &mut RunningH
 }
 
 // Hash what an operation uses: its operands, then its successors.
-pub fn hash_names(store: &[u32], numbers: &WalkNumbers, n: usize, state: &mut RunningHash)
+pub fn hash_names(store: &StoreWords, numbers: &WalkNumbers, n: usize, state: &mut RunningHash)
     requires sound { IsSound store.now }
     requires n_bound { n < op_count (columns store.now) }
     ensures { FedNames (store_in store.now) n numbers.now state.old.word state.new.word }

@@ -22,7 +22,7 @@ use fragments::ignoring::Ignore;
 use fragments::rows::{block_row, op_regions, op_row};
 use fragments::terms::Terms;
 use fragments::types::Row;
-use layout::columns::{OP_KIND, VALUE_TYPE, at, words};
+use layout::columns::{OP_KIND, StoreWords, VALUE_TYPE, at, words};
 use numbering::words::{WalkNumbers, define_block, define_op};
 use renaming::lookup::present;
 
@@ -58,7 +58,7 @@ pub fn hash_row(terms: &Terms, row: Row, state: &mut RunningHash)
 }
 
 // Hash what only an operation has: its kind, and how many regions it has.
-fn hash_head(store: &[u32], n: usize, state: &mut RunningHash)
+fn hash_head(store: &StoreWords, n: usize, state: &mut RunningHash)
     requires sound { IsSound store.now }
     requires n_bound { n < op_count (columns store.now) }
     ensures { state.new.word ≡ fnv_from state.old.word (head_bytes (store_in store.now) (of_op n)) }

@@ -10,13 +10,12 @@ ghost use Rattle.key_bytes.specs.Put.{Puts};
 use crate::sink::Sink;
 use fragments::ignoring::{Ignore, count_kept};
 use fragments::kept_slots::KeptSlots;
-use layout::columns::{SLOT_CONTENT, SLOT_KEY, SLOT_KIND, at};
+use layout::columns::{SLOT_CONTENT, SLOT_KEY, SLOT_KIND, StoreWords, at};
 use layout::kinds::{inherent_from, kind_from};
 
 // The attribute at a slot: its key, its kind, its content, its flag.
-fn put_slot(store: &[u32], key: &mut Sink, slot: usize)
-    requires store_len { length store.now ≡ buffer_length }
-    requires slot_lt_slot_count { slot < slot_count }
+fn put_slot(store: &StoreWords, key: &mut Sink, slot: usize)
+    requires { slot < slot_count }
     ensures { Puts (attribute_bytes (attribute_at (columns store.now) slot)) key.old key.new }
 {
     let kind = at(store, SLOT_KIND, slot);
@@ -27,9 +26,8 @@ fn put_slot(store: &[u32], key: &mut Sink, slot: usize)
 }
 
 // Each attribute of a run of slots that is not ignored.
-fn put_kept(store: &[u32], key: &mut Sink, ignore: Ignore, first: usize, end: usize)
-    requires store_len { length store.now ≡ buffer_length }
-    requires end_le_slot_count { end ≤ slot_count }
+fn put_kept(store: &StoreWords, key: &mut Sink, ignore: Ignore, first: usize, end: usize)
+    requires { end ≤ slot_count }
     ensures { Puts (concat_map attribute_bytes (kept_from (columns store.now) (ignore_of ignore) first end)) key.old key.new }
 {
     for slot in KeptSlots::new(store, ignore, first, end) {
@@ -38,8 +36,7 @@ fn put_kept(store: &[u32], key: &mut Sink, ignore: Ignore, first: usize, end: us
 }
 
 // The attributes of a run of slots, ignoring those specified by `ignore`: how many there are, then each.
-pub fn put_attributes(store: &[u32], key: &mut Sink, ignore: Ignore, first: usize, end: usize)
-    requires store_len { length store.now ≡ buffer_length }
+pub fn put_attributes(store: &StoreWords, key: &mut Sink, ignore: Ignore, first: usize, end: usize)
     requires end_le_slot_count { end ≤ slot_count }
     requires first_le_end { first ≤ end }
     ensures { Puts (count (length (kept_from (columns store.now) (ignore_of ignore) first end)) ++ concat_map attribute_bytes (kept_from (columns store.now) (ignore_of ignore) first end)) key.old key.new }

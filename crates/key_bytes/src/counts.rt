@@ -9,10 +9,11 @@ ghost use Rattle.fragments.specs.Order.{block_list, BlocksExist};
 
 use fragments::order::BlocksIn;
 use fragments::types::Blocks;
+use layout::columns::StoreWords;
 use layout::ops_in::OpsIn;
 
 // The blocks of a list.
-pub fn count_blocks(store: &[u32], blocks: Blocks) -> usize
+pub fn count_blocks(store: &StoreWords, blocks: Blocks) -> usize
     requires sound { IsSound store.now }
     requires blocks_exist { BlocksExist (columns store.now) blocks }
     ensures { result ≡ length (block_list (store_in store.now) blocks) }
@@ -21,7 +22,7 @@ pub fn count_blocks(store: &[u32], blocks: Blocks) -> usize
 }
 
 // The operations of a block.
-pub fn count_ops(store: &[u32], b: usize) -> usize
+pub fn count_ops(store: &StoreWords, b: usize) -> usize
     requires sound { IsSound store.now }
     requires b_bound { b < block_count (columns store.now) }
     ensures { result ≡ length (ops_of (store_in store.now) b) }

@@ -18,7 +18,7 @@ use fragments::ignoring::Ignore;
 use fragments::rows::{block_row, op_regions, op_row};
 use fragments::terms::Terms;
 use fragments::types::Row;
-use layout::columns::{OP_KIND, VALUE_TYPE, at, words};
+use layout::columns::{OP_KIND, StoreWords, VALUE_TYPE, at, words};
 use renaming::lookup::present;
 
 // A location, unless locations are ignored.
@@ -55,9 +55,8 @@ fn put_types(index: &[u32], key: &mut Sink, types: &[u32])
 }
 
 // Location and attributes.
-fn put_place(store: &[u32], key: &mut Sink, ignore: Ignore, row: Row)
-    requires store_len { length store.now ≡ buffer_length }
-    requires row_fits { RowFits (columns store.now) row }
+fn put_place(store: &StoreWords, key: &mut Sink, ignore: Ignore, row: Row)
+    requires { RowFits (columns store.now) row }
     ensures { Puts (place_bytes (columns store.now) (ignore_of ignore) row) key.old key.new }
 {
     put_location(key, ignore, row.location);

@@ -62,11 +62,13 @@ empty_list (x ∷ xs) e = absurd (omega arith)
 
 -- ---- answers
 
--- the same list, and found to be sound, as if known to be
-pub answered_as : {ok : Bool} {b types types' : List ℕ} {ig : Ignore} {f : Sort} {n : ℕ} {before after : List ℕ} {q : Keyed} → ok ≡ true → types ≡ types'
-    → Answered true b types ig f n before after q → Answered ok b types' ig f n before after q
-answered_as {ok} {b} {types} {types'} {ig} {f} {n} {before} {after} {q} k e h =
-    subst (λ (t : Bool). Answered t b types' ig f n before after q) (sym k) (subst (λ (ts : List ℕ). Answered true b ts ig f n before after q) e h)
+-- the same words and list, and found to be sound, as if known to be
+pub answered_as : {ok : Bool} {b b' types types' : List ℕ} {ig : Ignore} {f : Sort} {n : ℕ} {before after : List ℕ} {q : Keyed}
+    → ok ≡ true → b ≡ b' → types ≡ types' → Answered true b types ig f n before after q → Answered ok b' types' ig f n before after q
+answered_as {ok} {b} {b'} {types} {types'} {ig} {f} {n} {before} {after} {q} k same e h =
+    subst (λ (t : Bool). Answered t b' types' ig f n before after q) (sym k)
+    (subst (λ (x : List ℕ). Answered true x types' ig f n before after q) same
+    (subst (λ (ts : List ℕ). Answered true b ts ig f n before after q) e h))
 
 module _ (b types : List ℕ) (ig : Ignore) (f : Sort) (n : ℕ) (before : List ℕ) where
   abbrev its : List ℕ

@@ -18,12 +18,13 @@ use fragments::rows::op_row;
 use fragments::terms::Terms;
 use key_bytes::shells::put_own_op;
 use key_bytes::sink::Sink;
+use layout::columns::StoreWords;
 use layout::slices::{operands_of, successors_of};
 use numbering::alone::own_name;
 use numbering::words::Name;
 
 // The operands, of which the operation's own results are numbered, and the successors, of which none is.
-fn put_own_uses(store: &[u32], key: &mut Sink, n: usize)
+fn put_own_uses(store: &StoreWords, key: &mut Sink, n: usize)
     requires sound { IsSound store.now }
     requires n_bound { n < op_count (columns store.now) }
     ensures { Puts (names_bytes (values_of (store_in store.now) (of_op n)) (op_at (store_in store.now) n).operands ++ names_bytes [] (op_at (store_in store.now) n).successors) key.old key.new }

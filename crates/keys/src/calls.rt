@@ -10,7 +10,7 @@ use crate::keys::fragment_key;
 use fragments::ignoring::Ignore;
 use fragments::types::Sort;
 use layout::causes::Cause;
-use lending::lent::is_sound;
+use lending::lent::sound_words;
 use renaming::indexing::{INDEX_LENGTH, index_types};
 
 // Write the key of a fragment of one sort, of a buffer and under a list of types that may hold any words. An empty list is its own index.
@@ -24,15 +24,15 @@ fn lent_key(
 ) -> Result<u32, Cause>
     ensures { Answered (sound_lent store.now) store.now types.now (ignore_of ignore) (sort_of sort) n key.old key.new (keyed_of result) }
 {
-    if !is_sound(store) {
+    let Some(sound) = sound_words(store) else {
         return Err(Cause::NotSound);
-    }
+    };
     if types.is_empty() {
-        return fragment_key(store, types, key, sort, n, ignore);
+        return fragment_key(sound, types, key, sort, n, ignore);
     }
     let mut index = [0; INDEX_LENGTH];
     let words = index_types(types, &mut index).ok_or(Cause::BadTypes)?;
-    fragment_key(store, &index[..words], key, sort, n, ignore)
+    fragment_key(sound, &index[..words], key, sort, n, ignore)
 }
 
 pub fn operation_key(

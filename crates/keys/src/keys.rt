@@ -25,6 +25,7 @@ use fragments::terms::Terms;
 use fragments::types::{Blocks, Sort};
 use key_bytes::sink::Sink;
 use layout::causes::Cause;
+use layout::columns::StoreWords;
 use numbering::alone::holds_nothing;
 use numbering::words::{NUMBERS_LENGTH, WalkNumbers};
 
@@ -67,7 +68,7 @@ fn put_fragment(terms: &Terms, key: &mut Sink, sort: Sort, n: usize)
 }
 
 // The length of a fragment's key: what would be written, had any bytes been lent.
-pub fn key_length(store: &[u32], types: &[u32], sort: Sort, n: usize, ignore: Ignore) -> usize
+pub fn key_length(store: &StoreWords, types: &[u32], sort: Sort, n: usize, ignore: Ignore) -> usize
     requires readable { Readable store.now types.now }
     requires n_value { Rattle.rules.specs.Fragments.exists (store_in store.now) (sort_of sort) n ≡ true }
     ensures { result ≡ length (Keys.key (renamed (list_in types.now) (store_in store.now)) (ignore_of ignore) (sort_of sort) n) }
@@ -83,7 +84,14 @@ pub fn key_length(store: &[u32], types: &[u32], sort: Sort, n: usize, ignore: Ig
 }
 
 // Whether a fragment's key fits into so many bytes. Where they are enough for any key, its length is not asked for.
-fn key_fits(store: &[u32], types: &[u32], room: usize, sort: Sort, n: usize, ignore: Ignore) -> bool
+fn key_fits(
+    store: &StoreWords,
+    types: &[u32],
+    room: usize,
+    sort: Sort,
+    n: usize,
+    ignore: Ignore,
+) -> bool
     requires readable { Readable store.now types.now }
     requires n_value { Rattle.rules.specs.Fragments.exists (store_in store.now) (sort_of sort) n ≡ true }
     ensures { result ≡ leb (length (Keys.key (renamed (list_in types.now) (store_in store.now)) (ignore_of ignore) (sort_of sort) n)) room }
@@ -93,7 +101,7 @@ fn key_fits(store: &[u32], types: &[u32], room: usize, sort: Sort, n: usize, ign
 
 // Write the key of a fragment into lent bytes, unless it does not exist or its key does not fit. In a sound store nothing is nested too deep.
 pub fn fragment_key(
-    store: &[u32],
+    store: &StoreWords,
     types: &[u32],
     lent: &mut [u8],
     sort: Sort,

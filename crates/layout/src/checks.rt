@@ -7,7 +7,7 @@ ghost use Rattle.layout.specs.Soundness.{CountsBounded, op_laid, block_laid, row
 
 use crate::columns::{
     ATTRIBUTES, BLOCK_ATTRIBUTES, BLOCKS, COUNTS, OP_ATTRIBUTES, OP_OPERAND_END, OP_SUCCESSOR_END,
-    OPERANDS, OPS, REGIONS, SUCCESSORS, VALUES, number,
+    OPERANDS, OPS, REGIONS, SUCCESSORS, StoreWords, VALUES, number,
 };
 use crate::links::{blocks_linked, ops_linked};
 use crate::row_checks::{block_laid, op_laid, region_laid, value_laid};
@@ -15,8 +15,7 @@ use crate::rows::end_before;
 
 // The counts are within the totals of document 01.
 #[tactic(auto, unfolding(crate::specs::Soundness::counts_hold, crate::specs::Reading::op_count, crate::specs::Reading::block_count, crate::specs::Reading::region_count, crate::specs::Reading::value_count, crate::specs::Reading::operand_count, crate::specs::Reading::successor_count, crate::specs::Reading::attribute_count, rules::specs::Lists::every))]
-fn counts_hold(store: &[u32]) -> bool
-    requires { length store.now ≡ buffer_length }
+fn counts_hold(store: &StoreWords) -> bool
     ensures { result ≡ counts_hold (columns store.now) }
 {
     number(store, COUNTS, OPS) <= 512
@@ -29,7 +28,7 @@ fn counts_hold(store: &[u32]) -> bool
 }
 
 // Row i of a table is laid out. A table is named by its index among the counts: OPS, BLOCKS, REGIONS or VALUES.
-fn row_laid(store: &[u32], table: usize, i: usize) -> bool
+fn row_laid(store: &StoreWords, table: usize, i: usize) -> bool
     requires counts_bounded { CountsBounded store.now }
     requires table_bound { table < 4 }
     requires i_bound { i < at (columns store.now) counts table }
@@ -44,7 +43,7 @@ fn row_laid(store: &[u32], table: usize, i: usize) -> bool
 }
 
 // Each row of a table is laid out.
-fn rows_laid(store: &[u32], table: usize) -> bool
+fn rows_laid(store: &StoreWords, table: usize) -> bool
     requires counts_bounded { CountsBounded store.now }
     requires table_bound { table < 4 }
     ensures { result ≡ all_below (at (columns store.now) counts table) (row_laid (columns store.now) table) }
@@ -59,8 +58,7 @@ fn rows_laid(store: &[u32], table: usize) -> bool
 }
 
 // The sum of the first n words of a column, of which none is above 8.
-fn sum_of(store: &[u32], column: usize, n: usize) -> usize
-    requires store_len { length store.now ≡ buffer_length }
+fn sum_of(store: &StoreWords, column: usize, n: usize) -> usize
     requires column_lt_column_count { column < column_count }
     requires n_bound { n ≤ column_size column }
     requires i_value { all_below n (λ i. leb (at (columns store.now) column i) 8) ≡ true }
@@ -74,7 +72,7 @@ fn sum_of(store: &[u32], column: usize, n: usize) -> usize
 }
 
 // How many attributes the operations and the blocks have together.
-fn attribute_sum(store: &[u32]) -> usize
+fn attribute_sum(store: &StoreWords) -> usize
     requires counts_bounded { CountsBounded store.now }
     requires store_value { all_below (op_count (columns store.now)) (op_laid (columns store.now)) ≡ true }
     requires store_value_2 { all_below (block_count (columns store.now)) (block_laid (columns store.now)) ≡ true }
@@ -88,7 +86,7 @@ fn attribute_sum(store: &[u32]) -> usize
 // The shared lists of operands and of successors end where the last operation's slice ends, and there are as many attributes as their
 // owners count.
 #[tactic(auto, unfolding(crate::specs::Soundness::counts_laid, crate::specs::Reading::op_count, crate::specs::Reading::operand_count, crate::specs::Reading::successor_count, crate::specs::Reading::attribute_count, rules::specs::Lists::every))]
-fn counts_laid(store: &[u32]) -> bool
+fn counts_laid(store: &StoreWords) -> bool
     requires counts_bounded { CountsBounded store.now }
     requires store_value { all_below (op_count (columns store.now)) (op_laid (columns store.now)) ≡ true }
     requires store_value_2 { all_below (block_count (columns store.now)) (block_laid (columns store.now)) ≡ true }
@@ -102,8 +100,7 @@ fn counts_laid(store: &[u32]) -> bool
 
 // The buffer is laid out.
 #[tactic(auto, unfolding(crate::specs::Soundness::laid_out, crate::specs::Soundness::row_laid, crate::specs::Reading::op_count, crate::specs::Reading::block_count, crate::specs::Reading::region_count, crate::specs::Reading::value_count, rules::specs::Lists::every))]
-pub fn laid_out(store: &[u32]) -> bool
-    requires { length store.now ≡ buffer_length }
+pub fn laid_out(store: &StoreWords) -> bool
     ensures { result ≡ laid_out (columns store.now) }
 {
     counts_hold(store)

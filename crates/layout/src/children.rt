@@ -8,12 +8,11 @@ ghost use Rattle.layout.specs.Soundness.{Arranged};
 ghost use Rattle.layout.specs.Children.{first_from, first_word, found_from, link_found, behind_child};
 ghost use Rattle.layout.specs.Families.{OwnsChildren};
 
-use crate::columns::{BLOCK_REGION, COUNTS, REGION_OP, at, number};
+use crate::columns::{BLOCK_REGION, COUNTS, REGION_OP, StoreWords, at, number};
 use crate::families::{BLOCKS_IN_REGIONS, Family, OPS_IN_BLOCKS};
 
 // The first index from `a` up to `e` at which a column has the word `w`.
-fn first_at(store: &[u32], column: usize, w: u32, a: usize, e: usize) -> Option<usize>
-    requires store_len { length store.now ≡ buffer_length }
+fn first_at(store: &StoreWords, column: usize, w: u32, a: usize, e: usize) -> Option<usize>
     requires column_lt_column_count { column < column_count }
     requires e_bound { e ≤ column_size column }
     ensures { result ≡ found_from (first_word (columns store.now) column w a (e - a)) }
@@ -28,8 +27,7 @@ fn first_at(store: &[u32], column: usize, w: u32, a: usize, e: usize) -> Option<
 
 // The number before `from` is that of a child, of `count` children, whose owner's word is `w`.
 #[tactic(auto, unfolding(crate::specs::Children::behind_child, rules::specs::Lists::every))]
-pub fn is_behind(store: &[u32], owners: usize, count: usize, w: u32, from: usize) -> bool
-    requires store_len { length store.now ≡ buffer_length }
+pub fn is_behind(store: &StoreWords, owners: usize, count: usize, w: u32, from: usize) -> bool
     requires owners_lt_column_count { owners < column_count }
     requires count_bound { count ≤ column_size owners }
     ensures { result ≡ behind_child (columns store.now) owners count w from }
@@ -50,10 +48,9 @@ fn linked(link: usize) -> Option<usize>
 // The first child of an owner whose number is not below `from`. Behind a child of the owner its link tells; else the owner's range is
 // searched, which a store built by calls begins with its first child. (Out of line, a walk takes half as long again.)
 #[inline(always)]
-fn next_child(store: &[u32], family: Family, owner: usize, from: usize) -> Option<usize>
+fn next_child(store: &StoreWords, family: Family, owner: usize, from: usize) -> Option<usize>
     ghost children: { List ℕ }
-    requires store_len { length store.now ≡ buffer_length }
-    requires owns_children { OwnsChildren (columns store.now) family owner children }
+    requires { OwnsChildren (columns store.now) family owner children }
     ensures { result ≡ found_from (first_from from children) }
 {
     let count = number(store, COUNTS, family.table);
@@ -67,7 +64,7 @@ fn next_child(store: &[u32], family: Family, owner: usize, from: usize) -> Optio
 }
 
 // The first operation of a block whose number is not below `from`.
-pub fn next_op(store: &[u32], block: usize, from: usize) -> Option<usize>
+pub fn next_op(store: &StoreWords, block: usize, from: usize) -> Option<usize>
     requires arranged { Arranged store.now }
     requires block_bound { block < block_count (columns store.now) }
     ensures { result ≡ found_from (first_from from (ops_of (store_in store.now) block)) }
@@ -76,7 +73,7 @@ pub fn next_op(store: &[u32], block: usize, from: usize) -> Option<usize>
 }
 
 // The first block of a region whose number is not below `from`.
-pub fn next_block(store: &[u32], region: usize, from: usize) -> Option<usize>
+pub fn next_block(store: &StoreWords, region: usize, from: usize) -> Option<usize>
     requires arranged { Arranged store.now }
     requires region_bound { region < region_count (columns store.now) }
     ensures { result ≡ found_from (first_from from (blocks_of (store_in store.now) region)) }
@@ -85,7 +82,7 @@ pub fn next_block(store: &[u32], region: usize, from: usize) -> Option<usize>
 }
 
 // The operation around a block.
-pub fn op_around(store: &[u32], block: usize) -> usize
+pub fn op_around(store: &StoreWords, block: usize) -> usize
     requires arranged { Arranged store.now }
     requires block_bound { block < block_count (columns store.now) }
     ensures { result ≡ around (columns store.now) block }

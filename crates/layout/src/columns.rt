@@ -8,6 +8,9 @@ use crate::lists::{copy_at, fill_at, insert_at};
 // The buffer's length in words.
 pub const STORE_LENGTH: usize = 45664;
 
+// The buffer.
+pub type StoreWords = [u32; STORE_LENGTH];
+
 // How many there are of each thing: the words of the first column.
 pub const COUNTS: usize = 0;
 
@@ -181,8 +184,7 @@ fn base(column: usize) -> usize
 }
 
 // One word of a column.
-pub fn at(store: &[u32], column: usize, n: usize) -> u32
-    requires store_len { length store.now ≡ buffer_length }
+pub fn at(store: &StoreWords, column: usize, n: usize) -> u32
     requires column_lt_column_count { column < column_count }
     requires n_bound { n < column_size column }
     ensures { result ≡ Rattle.layout.specs.Columns.at (columns store.now) column n }
@@ -192,8 +194,7 @@ pub fn at(store: &[u32], column: usize, n: usize) -> u32
 }
 
 // The same word, as a number to count and to index with.
-pub fn number(store: &[u32], column: usize, n: usize) -> usize
-    requires store_len { length store.now ≡ buffer_length }
+pub fn number(store: &StoreWords, column: usize, n: usize) -> usize
     requires column_lt_column_count { column < column_count }
     requires n_bound { n < column_size column }
     ensures { result ≡ Rattle.layout.specs.Columns.at (columns store.now) column n }
@@ -202,8 +203,7 @@ pub fn number(store: &[u32], column: usize, n: usize) -> usize
 }
 
 // The words of a column from `a` up to `e`, which is not among them.
-pub fn words(store: &[u32], column: usize, a: usize, e: usize) -> &[u32]
-    requires store_len { length store.now ≡ buffer_length }
+pub fn words(store: &StoreWords, column: usize, a: usize, e: usize) -> &[u32]
     requires column_lt_column_count { column < column_count }
     requires a_le_e { a ≤ e }
     requires e_bound { e ≤ column_size column }
@@ -214,8 +214,7 @@ pub fn words(store: &[u32], column: usize, a: usize, e: usize) -> &[u32]
 }
 
 // Writes one word of a column.
-pub fn put(store: &mut [u32], column: usize, n: usize, v: u32)
-    requires store_len { length store.old ≡ buffer_length }
+pub fn put(store: &mut StoreWords, column: usize, n: usize, v: u32)
     requires column_lt_column_count { column < column_count }
     requires n_bound { n < column_size column }
     ensures { columns store.new ≡ write (columns store.old) column n v }
@@ -225,8 +224,7 @@ pub fn put(store: &mut [u32], column: usize, n: usize, v: u32)
 }
 
 // Writes a list over the words of a column, from word `n` on.
-pub fn put_all(store: &mut [u32], column: usize, n: usize, list: &[u32])
-    requires store_len { length store.old ≡ buffer_length }
+pub fn put_all(store: &mut StoreWords, column: usize, n: usize, list: &[u32])
     requires column_lt_column_count { column < column_count }
     requires list_bound { n + length list.now ≤ column_size column }
     ensures { columns store.new ≡ write_range (columns store.old) column n list.now }
@@ -236,8 +234,7 @@ pub fn put_all(store: &mut [u32], column: usize, n: usize, list: &[u32])
 }
 
 // Writes the word `v` over `count` words of a column, from word `n` on.
-pub fn put_same(store: &mut [u32], column: usize, n: usize, count: usize, v: u32)
-    requires store_len { length store.old ≡ buffer_length }
+pub fn put_same(store: &mut StoreWords, column: usize, n: usize, count: usize, v: u32)
     requires column_lt_column_count { column < column_count }
     requires count_bound { n + count ≤ column_size column }
     ensures { columns store.new ≡ write_range (columns store.old) column n (replicate count v) }
@@ -248,8 +245,7 @@ pub fn put_same(store: &mut [u32], column: usize, n: usize, count: usize, v: u32
 
 // Copies the words of a column from `a` up to `e` over those of the column `into`, from word `to` on. Where the two lie over one another, each
 // word is read before it is overwritten.
-pub fn copy(store: &mut [u32], into: usize, to: usize, column: usize, a: usize, e: usize)
-    requires store_len { length store.old ≡ buffer_length }
+pub fn copy(store: &mut StoreWords, into: usize, to: usize, column: usize, a: usize, e: usize)
     requires into_lt_column_count { into < column_count }
     requires column_lt_column_count { column < column_count }
     requires a_le_e { a ≤ e }
@@ -263,8 +259,7 @@ pub fn copy(store: &mut [u32], into: usize, to: usize, column: usize, a: usize, 
 }
 
 // Inserts a word at `a`: the words of a column from `a` up to `e` move one place on, and the word at `e` is overwritten.
-pub fn insert(store: &mut [u32], column: usize, a: usize, e: usize, v: u32)
-    requires store_len { length store.old ≡ buffer_length }
+pub fn insert(store: &mut StoreWords, column: usize, a: usize, e: usize, v: u32)
     requires column_lt_column_count { column < column_count }
     requires a_le_e { a ≤ e }
     requires e_bound { e < column_size column }

@@ -7,7 +7,7 @@ ghost use Rattle.layout.specs.Reading.{op_count, block_count};
 ghost use Rattle.layout.specs.Soundness.{CountsBounded, op_laid, block_laid, link_holds, op_linked, block_linked};
 ghost use Rattle.layout.specs.Families.{Linkable, child_linked, child_linked_by};
 
-use crate::columns::{COUNTS, at, number};
+use crate::columns::{COUNTS, StoreWords, at, number};
 use crate::families::{BLOCKS_IN_REGIONS, Family, OPS_IN_BLOCKS};
 
 // The link of child n is the number of the next child, or 0 from the last one, with which its owner's range ends.
@@ -26,8 +26,7 @@ fn link_holds(next: u32, link: u32, end: usize, n: usize) -> bool
 
 // The link of child n, whose word in the column of owners is given; a child without an owner has no link to test.
 #[inline(always)]
-fn child_linked(store: &[u32], family: Family, n: usize, word: usize, next: u32) -> bool
-    requires store_len { length store.now ≡ buffer_length }
+fn child_linked(store: &StoreWords, family: Family, n: usize, word: usize, next: u32) -> bool
     requires linkable { Linkable (columns store.now) family }
     requires n_bound { n < at (columns store.now) counts family.table }
     requires word_bound { word < column_size family.ends + family.shift }
@@ -42,9 +41,8 @@ fn child_linked(store: &[u32], family: Family, n: usize, word: usize, next: u32)
 
 // Each child is linked to the next of its owner. `firsts` has, for each word of an owner, the first child behind n with that word.
 #[inline(always)]
-fn children_linked(store: &[u32], family: Family) -> bool
-    requires store_len { length store.now ≡ buffer_length }
-    requires linkable { Linkable (columns store.now) family }
+fn children_linked(store: &StoreWords, family: Family) -> bool
+    requires { Linkable (columns store.now) family }
     ensures { result ≡ all_below (Rattle.layout.specs.Columns.at (columns store.now) counts family.table) (child_linked (columns store.now) family) }
 {
     let mut firsts: [u32; 257] = [0; 257];
@@ -60,7 +58,7 @@ fn children_linked(store: &[u32], family: Family) -> bool
 }
 
 // Each operation in a block is linked to the next.
-pub fn ops_linked(store: &[u32]) -> bool
+pub fn ops_linked(store: &StoreWords) -> bool
     requires counts_bounded { CountsBounded store.now }
     requires store_value { all_below (op_count (columns store.now)) (op_laid (columns store.now)) ≡ true }
     ensures { result ≡ all_below (op_count (columns store.now)) (op_linked (columns store.now)) }
@@ -69,7 +67,7 @@ pub fn ops_linked(store: &[u32]) -> bool
 }
 
 // Each block is linked to the next of its region.
-pub fn blocks_linked(store: &[u32]) -> bool
+pub fn blocks_linked(store: &StoreWords) -> bool
     requires counts_bounded { CountsBounded store.now }
     requires store_value { all_below (block_count (columns store.now)) (block_laid (columns store.now)) ≡ true }
     ensures { result ≡ all_below (block_count (columns store.now)) (block_linked (columns store.now)) }

@@ -5,10 +5,11 @@ ghost use Rattle.layout.specs.Reading.{block_count};
 ghost use Rattle.layout.specs.Soundness.{Arranged};
 
 use crate::children::next_op;
+use crate::columns::StoreWords;
 
 #[derive(Clone, Copy)]
 pub struct OpsIn<'a> {
-    store: &'a [u32],
+    store: &'a StoreWords,
     block: usize,
     from: usize,
     pub ghost arranged: { Arranged store.now },
@@ -21,7 +22,7 @@ impl<'a> OpsIn<'a> {
     ghost use Rattle.layout.specs.Reading.{store_in};
     ghost use Rattle.layout.specs.OpsLeft.{ops_left};
 
-    pub fn new(store: &'a [u32], block: usize) -> OpsIn<'a>
+    pub fn new(store: &'a StoreWords, block: usize) -> OpsIn<'a>
         requires arranged { Arranged store.now }
         requires block_bound { block < block_count (columns store.now) }
         ensures { ops_left result ≡ ops_of (store_in store.now) block }

@@ -6,7 +6,7 @@ ghost use Rattle.layout.specs.Reading.{slots_of, store_in};
 ghost use Rattle.layout.specs.Soundness.{Arranged};
 ghost use Rattle.layout.specs.Owners.{owner_of, count_column, owner_number, key_count};
 
-use crate::columns::{BLOCK_ATTRIBUTES, FIRST_BLOCK_SLOT, OP_ATTRIBUTES, number};
+use crate::columns::{BLOCK_ATTRIBUTES, FIRST_BLOCK_SLOT, OP_ATTRIBUTES, StoreWords, number};
 use crate::existing::{block_exists, op_exists};
 
 // What an attribute is set on.
@@ -16,8 +16,7 @@ pub enum Owner {
     Block(u32),
 }
 
-pub fn owner_exists(store: &[u32], owner: Owner) -> bool
-    requires { length store.now ≡ buffer_length }
+pub fn owner_exists(store: &StoreWords, owner: Owner) -> bool
     ensures { result ≡ owner_exists (store_in store.now) (owner_of owner) }
 {
     match owner {
@@ -57,7 +56,7 @@ pub fn first_slot(owner: Owner) -> usize
 }
 
 // How many keys the owner has.
-pub fn key_count(store: &[u32], owner: Owner) -> usize
+pub fn key_count(store: &StoreWords, owner: Owner) -> usize
     requires arranged { Arranged store.now }
     requires owner_value { owner_exists (store_in store.now) (owner_of owner) ≡ true }
     ensures { result ≡ key_count (columns store.now) (owner_of owner) }

@@ -11,14 +11,14 @@ use crate::columns::{
     BLOCK_REGION, BLOCKS, COUNTS, OP_ATTRIBUTES, OP_DEPTH, OP_OPERAND_END, OP_OPERAND_FIRST,
     OP_PARENT, OP_REGION_END, OP_REGION_FIRST, OP_RESULT_END, OP_RESULT_FIRST, OP_SUCCESSOR_END,
     OP_SUCCESSOR_FIRST, OPERANDS, OPS, REGION_BLOCK_END, REGION_BLOCK_FIRST, REGION_OP, REGIONS,
-    SUCCESSORS, VALUE_OWNER, VALUES, at, number,
+    SUCCESSORS, StoreWords, VALUE_OWNER, VALUES, at, number,
 };
 use crate::rows::{holds, is_tiled, owns};
 
 // Operation n may stand in block b: the operation around b has a smaller number and is one region less deep, and n lies in b's range of
 // operations.
 #[tactic(auto, unfolding(crate::specs::Soundness::placed, crate::specs::Reading::block_count, crate::specs::Reading::region_count, rules::specs::Lists::every))]
-fn placed_in(store: &[u32], n: usize, b: usize) -> bool
+fn placed_in(store: &StoreWords, n: usize, b: usize) -> bool
     requires counts_bounded { CountsBounded store.now }
     requires n_bound { n < 512 }
     ensures { result ≡ placed (columns store.now) n (some b) }
@@ -39,7 +39,7 @@ fn placed_in(store: &[u32], n: usize, b: usize) -> bool
 }
 
 // Operation n stands so in its parent block, or it has no parent and its depth is 0.
-fn is_placed(store: &[u32], n: usize) -> bool
+fn is_placed(store: &StoreWords, n: usize) -> bool
     requires counts_bounded { CountsBounded store.now }
     requires n_bound { n < 512 }
     ensures { result ≡ placed (columns store.now) n (parent_from (at (columns store.now) op_parent n)) }
@@ -52,7 +52,7 @@ fn is_placed(store: &[u32], n: usize) -> bool
 }
 
 // The regions in operation n's range are its own.
-fn regions_owned(store: &[u32], n: usize) -> bool
+fn regions_owned(store: &StoreWords, n: usize) -> bool
     requires counts_bounded { CountsBounded store.now }
     requires n_bound { n < 512 }
     ensures { result ≡ regions_owned (columns store.now) n }
@@ -64,7 +64,7 @@ fn regions_owned(store: &[u32], n: usize) -> bool
 }
 
 // The values in operation n's range are its results.
-fn results_owned(store: &[u32], n: usize) -> bool
+fn results_owned(store: &StoreWords, n: usize) -> bool
     requires counts_bounded { CountsBounded store.now }
     requires n_bound { n < 512 }
     ensures { result ≡ results_owned (columns store.now) n }
@@ -76,7 +76,7 @@ fn results_owned(store: &[u32], n: usize) -> bool
 }
 
 // The values in block m's range are its arguments.
-fn arguments_owned(store: &[u32], m: usize) -> bool
+fn arguments_owned(store: &StoreWords, m: usize) -> bool
     requires counts_bounded { CountsBounded store.now }
     requires m_bound { m < 256 }
     ensures { result ≡ arguments_owned (columns store.now) m }
@@ -89,7 +89,7 @@ fn arguments_owned(store: &[u32], m: usize) -> bool
 
 // Operation n's slices of the two shared lists begin where those of the operation before it end.
 #[tactic(auto, unfolding(crate::specs::Soundness::lists_tiled, crate::specs::Reading::operand_count, crate::specs::Reading::successor_count, rules::specs::Lists::every))]
-fn lists_tiled(store: &[u32], n: usize) -> bool
+fn lists_tiled(store: &StoreWords, n: usize) -> bool
     requires counts_bounded { CountsBounded store.now }
     requires n_bound { n < 512 }
     ensures { result ≡ lists_tiled (columns store.now) n }
@@ -104,7 +104,7 @@ fn lists_tiled(store: &[u32], n: usize) -> bool
 
 // Operation n's row is laid out.
 #[tactic(auto, unfolding(crate::specs::Soundness::op_laid, rules::specs::Lists::every))]
-pub fn op_laid(store: &[u32], n: usize) -> bool
+pub fn op_laid(store: &StoreWords, n: usize) -> bool
     requires counts_bounded { CountsBounded store.now }
     requires n_bound { n < 512 }
     ensures { result ≡ op_laid (columns store.now) n }
@@ -118,7 +118,7 @@ pub fn op_laid(store: &[u32], n: usize) -> bool
 
 // Block m's row is laid out.
 #[tactic(auto, unfolding(crate::specs::Soundness::block_laid, crate::specs::Reading::region_count, crate::specs::Reading::op_count, rules::specs::Lists::every))]
-pub fn block_laid(store: &[u32], m: usize) -> bool
+pub fn block_laid(store: &StoreWords, m: usize) -> bool
     requires counts_bounded { CountsBounded store.now }
     requires m_bound { m < 256 }
     ensures { result ≡ block_laid (columns store.now) m }
@@ -133,7 +133,7 @@ pub fn block_laid(store: &[u32], m: usize) -> bool
 
 // Region g's row is laid out.
 #[tactic(auto, unfolding(crate::specs::Soundness::region_laid, crate::specs::Reading::op_count, crate::specs::Reading::block_count, rules::specs::Lists::every))]
-pub fn region_laid(store: &[u32], g: usize) -> bool
+pub fn region_laid(store: &StoreWords, g: usize) -> bool
     requires counts_bounded { CountsBounded store.now }
     requires g_bound { g < 256 }
     ensures { result ≡ region_laid (columns store.now) g }
@@ -146,7 +146,7 @@ pub fn region_laid(store: &[u32], g: usize) -> bool
 
 // Value v lies in its owner's range.
 #[tactic(auto, unfolding(crate::specs::Soundness::value_laid, crate::specs::Soundness::in_owner, crate::specs::Reading::owner_from, crate::specs::Reading::op_count, crate::specs::Reading::block_count, rules::specs::Lists::every))]
-pub fn value_laid(store: &[u32], v: usize) -> bool
+pub fn value_laid(store: &StoreWords, v: usize) -> bool
     requires counts_bounded { CountsBounded store.now }
     requires v_bound { v < 2048 }
     ensures { result ≡ value_laid (columns store.now) v }

@@ -4,7 +4,7 @@ ghost use Rattle.layout.specs.Columns.{buffer_length, column_size, columns, at, 
 ghost use Rattle.layout.specs.Reading.{slice};
 ghost use Rattle.layout.specs.Soundness.{tiled, owned, owned_within};
 
-use crate::columns::{number, words};
+use crate::columns::{StoreWords, number, words};
 use crate::lists::all_are;
 
 // The range from `a` to `e` does not end before it begins, and none of its numbers is `n` or above.
@@ -24,8 +24,7 @@ pub fn within(a: usize, e: usize, n: usize) -> bool
 }
 
 // Each word of a column in the range from `a` to `e` is `w`.
-pub fn all_owned(store: &[u32], column: usize, a: usize, e: usize, w: u32) -> bool
-    requires store_len { length store.now ≡ buffer_length }
+pub fn all_owned(store: &StoreWords, column: usize, a: usize, e: usize, w: u32) -> bool
     requires column_lt_column_count { column < column_count }
     requires a_le_e { a ≤ e }
     requires e_bound { e ≤ column_size column }
@@ -35,8 +34,7 @@ pub fn all_owned(store: &[u32], column: usize, a: usize, e: usize, w: u32) -> bo
 }
 
 // The number `n` lies in the range of a row.
-pub fn holds(store: &[u32], first: usize, end: usize, row: usize, n: usize) -> bool
-    requires store_len { length store.now ≡ buffer_length }
+pub fn holds(store: &StoreWords, first: usize, end: usize, row: usize, n: usize) -> bool
     requires first_lt_column_count { first < column_count }
     requires end_lt_column_count { end < column_count }
     requires row_bound { row < column_size first }
@@ -47,8 +45,7 @@ pub fn holds(store: &[u32], first: usize, end: usize, row: usize, n: usize) -> b
 }
 
 // The range of a row has at most `most` numbers.
-pub fn at_most(store: &[u32], first: usize, end: usize, row: usize, most: usize) -> bool
-    requires store_len { length store.now ≡ buffer_length }
+pub fn at_most(store: &StoreWords, first: usize, end: usize, row: usize, most: usize) -> bool
     requires first_lt_column_count { first < column_count }
     requires end_lt_column_count { end < column_count }
     requires row_bound { row < column_size first }
@@ -62,8 +59,7 @@ pub fn at_most(store: &[u32], first: usize, end: usize, row: usize, most: usize)
 }
 
 // The words of a column in the range of a row.
-pub fn row_words(store: &[u32], first: usize, end: usize, row: usize, column: usize) -> &[u32]
-    requires store_len { length store.now ≡ buffer_length }
+pub fn row_words(store: &StoreWords, first: usize, end: usize, row: usize, column: usize) -> &[u32]
     requires first_lt_column_count { first < column_count }
     requires end_lt_column_count { end < column_count }
     requires column_lt_column_count { column < column_count }
@@ -83,8 +79,7 @@ pub fn row_words(store: &[u32], first: usize, end: usize, row: usize, column: us
 
 // The range from `a` to `e` is one of numbers below `total`, and each word of a column in it is `w`.
 #[tactic(auto, unfolding(crate::specs::Soundness::owned_within, rules::specs::Lists::every))]
-pub fn owns(store: &[u32], column: usize, a: usize, e: usize, total: usize, w: u32) -> bool
-    requires store_len { length store.now ≡ buffer_length }
+pub fn owns(store: &StoreWords, column: usize, a: usize, e: usize, total: usize, w: u32) -> bool
     requires column_lt_column_count { column < column_count }
     requires total_bound { total ≤ column_size column }
     ensures { result ≡ owned_within (columns store.now) column a e total w }
@@ -93,8 +88,7 @@ pub fn owns(store: &[u32], column: usize, a: usize, e: usize, total: usize, w: u
 }
 
 // Where the slice of a shared list ends that stands before operation n's; `column` has the ends.
-pub fn end_before(store: &[u32], column: usize, n: usize) -> usize
-    requires store_len { length store.now ≡ buffer_length }
+pub fn end_before(store: &StoreWords, column: usize, n: usize) -> usize
     requires column_lt_column_count { column < column_count }
     requires n_bound { n ≤ column_size column }
     ensures { result ≡ Rattle.layout.specs.Soundness.end_before (columns store.now) column n }
@@ -107,8 +101,7 @@ pub fn end_before(store: &[u32], column: usize, n: usize) -> usize
 
 // Operation n's slice of a shared list begins where the one before it ends, and is one of the first `total` words.
 #[tactic(auto, unfolding(crate::specs::Soundness::tiled, rules::specs::Lists::every))]
-pub fn is_tiled(store: &[u32], first: usize, end: usize, n: usize, total: usize) -> bool
-    requires store_len { length store.now ≡ buffer_length }
+pub fn is_tiled(store: &StoreWords, first: usize, end: usize, n: usize, total: usize) -> bool
     requires first_lt_column_count { first < column_count }
     requires end_lt_column_count { end < column_count }
     requires n_bound { n < column_size first }

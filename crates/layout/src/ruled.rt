@@ -11,7 +11,7 @@ use crate::columns::{
     BLOCK_ARGUMENT_END, BLOCK_ARGUMENT_FIRST, BLOCK_ATTRIBUTES, BLOCKS, COUNTS, OP_ATTRIBUTES,
     OP_DEPTH, OP_OPERAND_END, OP_OPERAND_FIRST, OP_PARENT, OP_REGION_END, OP_REGION_FIRST,
     OP_RESULT_END, OP_RESULT_FIRST, OP_SUCCESSOR_END, OP_SUCCESSOR_FIRST, OPS, SLOT_KEY, SLOT_KIND,
-    VALUES, at, number, words,
+    StoreWords, VALUES, at, number, words,
 };
 use crate::lists::all_below;
 use crate::owners::{Owner, first_slot};
@@ -19,8 +19,7 @@ use crate::rows::at_most;
 use crate::slices::{operands_of, successors_of};
 
 // The keys of `count` attribute slots, from slot `first` on, rise: each is above the one before it.
-fn keys_rise(store: &[u32], first: usize, count: usize) -> bool
-    requires store_len { length store.now ≡ buffer_length }
+fn keys_rise(store: &StoreWords, first: usize, count: usize) -> bool
     requires count_bound { count ≤ 8 }
     requires first_bound { first + 8 ≤ slot_count }
     ensures { result ≡ keys_rise (attributes_from (columns store.now) first count) }
@@ -34,8 +33,7 @@ fn keys_rise(store: &[u32], first: usize, count: usize) -> bool
 }
 
 // The attribute kinds of these slots are at most 63, as every kind is: with a flag in the same word, the word is below 128.
-fn kinds_fit(store: &[u32], first: usize, count: usize) -> bool
-    requires store_len { length store.now ≡ buffer_length }
+fn kinds_fit(store: &StoreWords, first: usize, count: usize) -> bool
     requires count_bound { count ≤ 8 }
     requires first_bound { first + 8 ≤ slot_count }
     ensures { result ≡ all (λ a. leb a.kind max_attribute_kind) (attributes_from (columns store.now) first count) }
@@ -44,8 +42,7 @@ fn kinds_fit(store: &[u32], first: usize, count: usize) -> bool
 }
 
 // The attributes in these slots keep the rules.
-fn attributes_hold(store: &[u32], first: usize, count: usize) -> bool
-    requires store_len { length store.now ≡ buffer_length }
+fn attributes_hold(store: &StoreWords, first: usize, count: usize) -> bool
     requires count_bound { count ≤ 8 }
     requires first_bound { first + 8 ≤ slot_count }
     ensures { result ≡ attributes_hold (attributes_from (columns store.now) first count) }
@@ -54,7 +51,7 @@ fn attributes_hold(store: &[u32], first: usize, count: usize) -> bool
 }
 
 // An operation's operands are values of the store.
-fn operands_exist(store: &[u32], n: usize) -> bool
+fn operands_exist(store: &StoreWords, n: usize) -> bool
     requires arranged { Arranged store.now }
     requires n_bound { n < op_count (columns store.now) }
     ensures { result ≡ all (λ v. ltb v (value_count (columns store.now))) (op_of (columns store.now) n).operands }
@@ -64,7 +61,7 @@ fn operands_exist(store: &[u32], n: usize) -> bool
 }
 
 // An operation's successors are blocks of the store.
-fn successors_exist(store: &[u32], n: usize) -> bool
+fn successors_exist(store: &StoreWords, n: usize) -> bool
     requires arranged { Arranged store.now }
     requires n_bound { n < op_count (columns store.now) }
     ensures { result ≡ all (λ b. ltb b (block_count (columns store.now))) (op_of (columns store.now) n).successors }
@@ -74,7 +71,7 @@ fn successors_exist(store: &[u32], n: usize) -> bool
 }
 
 // An operation keeps the rules.
-fn op_rules(store: &[u32], n: usize) -> bool
+fn op_rules(store: &StoreWords, n: usize) -> bool
     requires arranged { Arranged store.now }
     requires n_bound { n < op_count (columns store.now) }
     ensures { result ≡ op_rules (columns store.now) n }
@@ -105,7 +102,7 @@ fn op_rules(store: &[u32], n: usize) -> bool
 }
 
 // The block around a block has a smaller number, if there is one.
-fn block_after(store: &[u32], m: usize) -> bool
+fn block_after(store: &StoreWords, m: usize) -> bool
     requires arranged { Arranged store.now }
     requires m_bound { m < block_count (columns store.now) }
     ensures { result ≡ block_after m (parent_from (Rattle.layout.specs.Columns.at (columns store.now) op_parent (around (columns store.now) m))) }
@@ -114,7 +111,7 @@ fn block_after(store: &[u32], m: usize) -> bool
 }
 
 // A block keeps the rules.
-fn block_rules(store: &[u32], m: usize) -> bool
+fn block_rules(store: &StoreWords, m: usize) -> bool
     requires arranged { Arranged store.now }
     requires m_bound { m < block_count (columns store.now) }
     ensures { result ≡ block_rules (columns store.now) m }
@@ -131,7 +128,7 @@ fn block_rules(store: &[u32], m: usize) -> bool
 
 // Each operation keeps the rules. (One function for this and `blocks_hold`, with the test as a closure in the range's `all`, was tried: that the
 // closure may be called with each number stayed open.)
-fn ops_hold(store: &[u32]) -> bool
+fn ops_hold(store: &StoreWords) -> bool
     requires { Arranged store.now }
     ensures { result ≡ all_below (op_count (columns store.now)) (op_rules (columns store.now)) }
 {
@@ -145,7 +142,7 @@ fn ops_hold(store: &[u32]) -> bool
 }
 
 // Each block keeps the rules.
-fn blocks_hold(store: &[u32]) -> bool
+fn blocks_hold(store: &StoreWords) -> bool
     requires { Arranged store.now }
     ensures { result ≡ all_below (block_count (columns store.now)) (block_rules (columns store.now)) }
 {
@@ -159,7 +156,7 @@ fn blocks_hold(store: &[u32]) -> bool
 }
 
 // The store that the words are read as is sound.
-pub fn is_ruled(store: &[u32]) -> bool
+pub fn is_ruled(store: &StoreWords) -> bool
     requires { Arranged store.now }
     ensures { result ≡ sound (store_in store.now) }
 {

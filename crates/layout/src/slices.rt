@@ -7,12 +7,12 @@ ghost use Rattle.layout.specs.Soundness.{Arranged};
 
 use crate::columns::{
     OP_OPERAND_END, OP_OPERAND_FIRST, OP_SUCCESSOR_END, OP_SUCCESSOR_FIRST, OPERAND_WORDS,
-    SUCCESSOR_WORDS,
+    SUCCESSOR_WORDS, StoreWords,
 };
 use crate::rows::row_words;
 
 // The operands of an operation.
-pub fn operands_of(store: &[u32], n: usize) -> &[u32]
+pub fn operands_of(store: &StoreWords, n: usize) -> &[u32]
     requires arranged { Arranged store.now }
     requires n_bound { n < op_count (columns store.now) }
     ensures { result.now ≡ (op_at (store_in store.now) n).operands }
@@ -21,7 +21,7 @@ pub fn operands_of(store: &[u32], n: usize) -> &[u32]
 }
 
 // The successors of an operation.
-pub fn successors_of(store: &[u32], n: usize) -> &[u32]
+pub fn successors_of(store: &StoreWords, n: usize) -> &[u32]
     requires arranged { Arranged store.now }
     requires n_bound { n < op_count (columns store.now) }
     ensures { result.now ≡ (op_at (store_in store.now) n).successors }

@@ -3,18 +3,14 @@ ghost use Rattle.std.specs.Prelude.{◌≡◌};
 ghost use Rattle.layout.specs.Soundness.{sound_buffer};
 
 use crate::checks::laid_out;
-use crate::columns::STORE_LENGTH;
 use crate::ruled::is_ruled;
 
 // The buffer is of the right length, laid out, and sound by document 01's rules for what it is read as.
 pub fn is_sound(store: &[u32]) -> bool
     ensures { result ≡ sound_buffer store.now }
 {
-    if store.len() != STORE_LENGTH {
+    let Some(words) = store.as_array() else {
         return false;
-    }
-    if !laid_out(store) {
-        return false;
-    }
-    is_ruled(store)
+    };
+    laid_out(words) && is_ruled(words)
 }

@@ -7,3 +7,4 @@ pub mod Younger
 pub mod Reached
 pub mod Whole
 pub mod Marks
+pub mod Offering

@@ -5,13 +5,14 @@ use native.Mathlib.Omega.{arith}
 use mathlib.Core.Bool.{Bool, true, false, ◌&&◌}
 use mathlib.Core.List.{List}
 use mathlib.Core.Path.{◌≡◌, refl, sym, ap, ◌∙◌}
+use lib.ListN.{length}
 use borrow.Author.Tests.{leb-true, le-leb, eqb-true, eq-eqb, ne_eqb}
 use Rattle.rules.specs.Lists.{all_below}
 use Rattle.rules.specs.Marks.{max_marks, max_remembered}
 use Rattle.rules.proofs.Basics.Tests.{and_left, and_both, passed, every_of, all_below_of, clash}
-use Rattle.layout.specs.Columns.{Cols, columns, at, journal_counts}
+use Rattle.layout.specs.Columns.{Cols, columns, at, journal_counts, buffer_length}
 use Rattle.layout.specs.Soundness.{sound_buffer}
-use Rattle.layout.proofs.Scans.{same_tests}
+use Rattle.layout.proofs.Scans.{same_tests, stop}
 use Rattle.layout.proofs.Empty.{sound_facts}
 use Rattle.journal.specs.Journal.{replaced_in, journal_sound}
 use Rattle.journal.specs.Words.{mark_count, entry_count, journal_of, journaled_of, max_entries, row_holds, journal_holds, marks_hold_in, sound_lent}
@@ -102,6 +103,10 @@ module _ (b : List ℕ) where
   pub not_sound : sound_buffer b ≡ false → false ≡ sound_lent b
   unfolding sound_lent
   not_sound e = sym (ap (λ (t : Bool). t && marks_hold_in (columns b)) e)
+
+  pub long_unsound : (length b ≡ buffer_length → ⊥) → sound_lent b ≡ false
+  unfolding sound_buffer
+  long_unsound long = sym (not_sound (stop _ _ (ne_eqb (length b) buffer_length long)))
 
   pub lent_is : sound_buffer b ≡ true → sound_lent b ≡ marks_hold_in (columns b)
   unfolding sound_lent

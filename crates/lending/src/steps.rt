@@ -7,13 +7,13 @@ ghost use Rattle.lending.specs.Lending.{words_hold, CameBack, rows_hold_in};
 
 use crate::words::row_fits;
 use cutting::tables::cut_tables;
-use layout::columns::{COUNTS, ENTRIES, JOURNAL_COUNTS, MARK_PLACE, MARKS, number};
+use layout::columns::{COUNTS, ENTRIES, JOURNAL_COUNTS, MARK_PLACE, MARKS, StoreWords, number};
 use layout::sound::is_sound;
 use undoing::entries::undo_between;
 
 // From the row after it, whose place is `end`, to row i: the journal between them is undone, and the tables are cut.
 #[tactic(auto, using(crate::proofs::Step::going_back))]
-fn step_back(copy: &mut [u32], i: usize, end: usize) -> bool
+fn step_back(copy: &mut StoreWords, i: usize, end: usize) -> bool
     requires sound { IsSound copy.old }
     requires copy_bound { mark_count (columns copy.old) ≤ 8 }
     requires i_bound { i < 8 }
@@ -33,7 +33,7 @@ fn step_back(copy: &mut [u32], i: usize, end: usize) -> bool
 
 // All rows hold: each can be gone back to, from the youngest to the oldest, before which nothing is remembered.
 #[tactic(auto, using(crate::proofs::Marks::words_facts, crate::proofs::Reached::end_fits), unfolding(journal::specs::Words::mark_count, journal::specs::Words::entry_count))]
-pub fn rows_hold(copy: &mut [u32]) -> bool
+pub fn rows_hold(copy: &mut StoreWords) -> bool
     requires sound { IsSound copy.old }
     requires nonzero { 0 < mark_count (columns copy.old) }
     requires copy_value { words_hold (columns copy.old) ≡ true }

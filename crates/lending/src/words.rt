@@ -8,15 +8,14 @@ ghost use Rattle.lending.specs.Lending.{words_hold, row_fits};
 
 use layout::columns::{
     BLOCKS, COUNTS, ENTRIES, JOURNAL_COUNTS, MARK_COUNTS, MARK_NUMBER, MARK_PLACE, MARKS, OPS,
-    REGIONS, REPLACED, VALUES, at, number,
+    REGIONS, REPLACED, StoreWords, VALUES, at, number,
 };
 use marks::freeing::replaced_before;
 use marks::rows::row_of;
 
 // There are no more marks and entries than there is room for, and the replacements are counted and few.
 #[tactic(auto, unfolding(crate::specs::Lending::words_hold, rules::specs::Lists::every, journal::specs::Words::mark_count, journal::specs::Words::entry_count))]
-pub fn words_hold(store: &[u32]) -> bool
-    requires { length store.now ≡ buffer_length }
+pub fn words_hold(store: &StoreWords) -> bool
     ensures { result ≡ words_hold (columns store.now) }
 {
     let entries = number(store, JOURNAL_COUNTS, ENTRIES);
@@ -28,8 +27,7 @@ pub fn words_hold(store: &[u32]) -> bool
 }
 
 // Count k of row i is within that of the tables.
-fn count_fits(store: &[u32], i: usize, k: usize) -> bool
-    requires store_len { length store.now ≡ buffer_length }
+fn count_fits(store: &StoreWords, i: usize, k: usize) -> bool
     requires i_bound { i < 8 }
     requires k_bound { k < 8 }
     ensures { result ≡ leb (Rattle.layout.specs.Columns.at (columns store.now) mark_counts (8 * i + k)) (Rattle.layout.specs.Columns.at (columns store.now) counts k) }
@@ -39,9 +37,8 @@ fn count_fits(store: &[u32], i: usize, k: usize) -> bool
 
 // So are the counts of operations, blocks, regions and values.
 #[tactic(auto, using(crate::proofs::Fitting::within_is), unfolding(rules::specs::Lists::every))]
-fn counts_fit(store: &[u32], i: usize) -> bool
-    requires store_len { length store.now ≡ buffer_length }
-    requires i_bound { i < 8 }
+fn counts_fit(store: &StoreWords, i: usize) -> bool
+    requires { i < 8 }
     ensures { result ≡ counts_within (row_counts (columns store.now) i) (counts_of (store_in store.now)) }
 {
     count_fits(store, i, OPS)
@@ -53,8 +50,7 @@ fn counts_fit(store: &[u32], i: usize) -> bool
 // Row i has the number of a mark that no row before it has, and its place and counts are within those of the row after it, whose place is
 // `end` and to whose counts the tables are cut.
 #[tactic(auto, using(crate::proofs::Fitting::row_placed), unfolding(crate::specs::Lending::row_fits, rules::specs::Lists::every, journal::specs::Words::mark_count, marks::specs::Raw::row_found))]
-pub fn row_fits(store: &[u32], i: usize, end: usize) -> bool
-    requires store_len { length store.now ≡ buffer_length }
+pub fn row_fits(store: &StoreWords, i: usize, end: usize) -> bool
     requires store_bound { mark_count (columns store.now) ≤ 8 }
     requires i_bound { i < 8 }
     ensures { result ≡ row_fits (columns store.now) i end }

@@ -3,7 +3,7 @@ use Prim.Native.Nat.{ℕ, zero, suc, ◌+◌, ◌-◌, ◌*◌, ◌/◌, ◌%◌
 use native.Mathlib.Nat.{add-zero, pow-suc, not-suc-le-zero}
 use native.Mathlib.Omega.{arith}
 use mathlib.Core.Bool.{Bool, true, false, cond}
-use mathlib.Core.List.{List, [], ◌∷◌, ◌++◌, append_assoc, append-nil}
+use mathlib.Core.List.{List, [], ◌∷◌, ◌++◌, append_assoc}
 use mathlib.Core.Path.{◌≡◌, refl, sym, ap, ap₂, subst, ◌∙◌}
 use lib.Dec.{ltb}
 use lib.ListN.{length, set, take, drop, length-append}
@@ -12,8 +12,10 @@ use borrow.Author.Tests.{lt-ltb, le-ltb}
 use Rattle.rules.specs.Bytes.{digit, last_digits, digit_count, decimal}
 use Rattle.layout.specs.Columns.{pasted}
 use Rattle.layout.proofs.Pasted.{pasted_length}
-use Rattle.lines.specs.Wrote.{Wrote}
-use Rattle.lines.proofs.Joined.{pasted_none, within}
+use Rattle.std.specs.Borrow.{MutBor}
+use Rattle.lines.specs.Wrote.{HasRoom, Writes}
+use Rattle.lines.specs.declared.writing.LineWriter.{LineWriter}
+use Rattle.lines.proofs.Joined.{within}
 
 pub digits_length : (b k n : ℕ) → length (last_digits b k n) ≡ k
 unfolding last_digits
@@ -75,10 +77,17 @@ module _ (l : List ℕ) (at b count n : ℕ) where
         let g : Filling l at b count n out rest 0 = subst (λ (k : ℕ). Filling l at b count n out rest k) z f in
         g.stands ∙ ap₂ (λ (k : ℕ) (xs : List ℕ). pasted l k xs) (add-zero at) (sym g.digits)
 
-    pub filling_ends : (left : ℕ) → left ≡ 0 → Filling l at b count n out rest left → Wrote count l out at (last_digits b count n) (at + count)
-    filling_ends left z f =
-        let e = digits_length b count n in
-        record { written = all_filled left z f; behind = ap (λ (k : ℕ). at + k) (sym e); short = omega (arith, e) }
+-- none is left, and the writer goes on behind them
+module _ (a : LineWriter) (b count n : ℕ) (room : HasRoom count a) (lent : MutBor (List ℕ)) (same : lent.ghost_name ≡ a.lent.ghost_name) (rest left : ℕ) where
+  pub filling_ends : left ≡ 0 → Filling a.lent.now a.at b count n lent.now rest left → Writes count (last_digits b count n) a (record { lent = lent; at = a.at + count })
+  filling_ends z f =
+      let e = digits_length b count n in
+      let w = all_filled a.lent.now a.at b count n room lent.now rest left z f in
+      record {
+        same_reference = same;
+        long = ap length w ∙ pasted_length a.lent.now a.at (last_digits b count n) (omega (arith, e));
+        wrote = record { written = w; behind = ap (λ (k : ℕ). a.at + k) (sym e); short = omega (arith, e) };
+      }
 
 -- ---- how many there are
 
@@ -110,11 +119,10 @@ few_digits (suc k) n = go (ltb n 10) (few_digits k (n / 10))
     go true h = omega arith
     go false h = omega arith
 
-pub counted_digits : (n : ℕ) {count at r : ℕ} {before after : List ℕ}
-    → Wrote count before after at (last_digits 10 count n) r → count ≡ digit_count 10 n → Wrote 10 before after at (decimal n) r
+pub counted_digits : (n : ℕ) {count : ℕ} {a b : LineWriter} → Writes count (last_digits 10 count n) a b → count ≡ digit_count 10 n → Writes 10 (decimal n) a b
 unfolding decimal
-counted_digits n {count} {at} {r} {before} {after} w e =
-    within (subst (λ (k : ℕ). Wrote k before after at (last_digits 10 k n) r) e w) (few_digits 10 n)
+counted_digits n {count} {a} {b} w e =
+    within (subst (λ (k : ℕ). Writes k (last_digits 10 k n) a b) e w) (few_digits 10 n)
 
 pub at_most_ten : (n count : ℕ) → count ≡ digit_count 10 n → count ≤ 10
 at_most_ten n count e = omega (arith, few_digits 10 n)

@@ -1,13 +1,14 @@
 -- Bytes written one piece behind the other are written as one piece: what stands before and behind them is what was there. Assumes nothing.
-use Prim.Native.Nat.{ℕ, suc, ◌+◌, ◌≤◌, ◌<◌}
+use Prim.Native.Nat.{ℕ, ◌+◌, ◌≤◌}
 use native.Mathlib.Nat.{add-zero}
 use native.Mathlib.Omega.{arith}
-use mathlib.Core.List.{List, [], ◌∷◌, ◌++◌, append_assoc, append-nil}
+use mathlib.Core.List.{List, [], ◌++◌, append_assoc, append-nil}
 use mathlib.Core.Path.{◌≡◌, refl, sym, ap, ap₂, subst, ◌∙◌}
-use lib.ListN.{length, set, take, drop, length-append, take-append-drop}
-use lib.Seq.{take_at, drop-append-add, drop-drop, length-take-le, set_split, append_snoc}
+use lib.ListN.{length, take, drop, length-append, take-append-drop}
+use lib.Seq.{take_at, drop-append-add, drop-drop, length-take-le}
 use Rattle.layout.specs.Columns.{pasted}
-use Rattle.lines.specs.Wrote.{Wrote}
+use Rattle.lines.specs.Wrote.{Wrote, Writes, HasRoom}
+use Rattle.lines.specs.declared.writing.LineWriter.{LineWriter}
 
 -- what stands behind the first m entries
 drop_behind : (xs ys : List ℕ) (m n : ℕ) → length xs ≡ m → drop (m + n) (xs ++ ys) ≡ drop n ys
@@ -28,46 +29,70 @@ module _ (l : List ℕ) (at : ℕ) (xs ys : List ℕ) (room : at + length xs ≤
       ∙ ap (λ (a : List ℕ). a ++ drop (at + length (xs ++ ys)) l) (append_assoc (take at l) xs ys)
 
 -- one piece, and then one from its end on
-pub then : {m n at p r : ℕ} {before between after xs ys : List ℕ}
-    → Wrote m before between at xs p → Wrote n between after p ys r → at + m ≤ length before → Wrote (m + n) before after at (xs ++ ys) r
-then {m} {n} {at} {p} {r} {before} {between} {after} {xs} {ys} w v room =
-    let a : length xs ≤ m = w.short in
-    let b : length ys ≤ n = v.short in
-    let e : p ≡ at + length xs = w.behind in
-    let f : r ≡ p + length ys = v.behind in
+pub then : {m n : ℕ} {xs ys : List ℕ} {a b c : LineWriter} → Writes m xs a b → Writes n ys b c → HasRoom m a → Writes (m + n) (xs ++ ys) a c
+then {m} {n} {xs} {ys} {a} {b} {c} w v room =
+    let f : length xs ≤ m = w.wrote.short in
+    let g : length ys ≤ n = v.wrote.short in
+    let e : b.at ≡ a.at + length xs = w.wrote.behind in
+    let h : c.at ≡ b.at + length ys = v.wrote.behind in
     let long : length (xs ++ ys) ≡ length xs + length ys = length-append xs ys in
     record {
-      written =
-          v.written
-          ∙ ap₂ (λ (l : List ℕ) (k : ℕ). pasted l k ys) w.written e
-          ∙ pasted_twice before at xs ys (omega arith);
-      behind = omega arith;
-      short = omega arith;
+      same_reference = v.same_reference ∙ w.same_reference;
+      long = v.long ∙ w.long;
+      wrote =
+          record {
+            written =
+                v.wrote.written
+                ∙ ap₂ (λ (l : List ℕ) (k : ℕ). pasted l k ys) w.wrote.written e
+                ∙ pasted_twice a.lent.now a.at xs ys (omega arith);
+            behind = omega arith;
+            short = omega arith;
+          };
     }
 
 -- the same bytes, said in another way
-pub said : {m at r : ℕ} {before after xs ys : List ℕ} → Wrote m before after at xs r → xs ≡ ys → Wrote m before after at ys r
-said {m} {at} {r} {before} {after} w e = subst (λ (bytes : List ℕ). Wrote m before after at bytes r) e w
+pub said : {m : ℕ} {xs ys : List ℕ} {a b : LineWriter} → Writes m xs a b → xs ≡ ys → Writes m ys a b
+said {m} {xs} {ys} {a} {b} w e = subst (λ (bytes : List ℕ). Writes m bytes a b) e w
 
 -- within a larger number
-pub within : {m n at r : ℕ} {before after bytes : List ℕ} → Wrote m before after at bytes r → m ≤ n → Wrote n before after at bytes r
-within {m} {n} {at} {r} {before} {after} {bytes} w h =
-    let a : length bytes ≤ m = w.short in
-    record { written = w.written; behind = w.behind; short = omega arith }
+pub within : {m n : ℕ} {bytes : List ℕ} {a b : LineWriter} → Writes m bytes a b → m ≤ n → Writes n bytes a b
+within {m} {n} {bytes} {a} {b} w h =
+    let f : length bytes ≤ m = w.wrote.short in
+    record {
+      same_reference = w.same_reference;
+      long = w.long;
+      wrote = record { written = w.wrote.written; behind = w.wrote.behind; short = omega arith };
+    }
+
+-- and no more than they are
+pub exactly : {m : ℕ} {bytes : List ℕ} {a b : LineWriter} → Writes m bytes a b → Writes (length bytes) bytes a b
+exactly {m} {bytes} {a} {b} w =
+    record {
+      same_reference = w.same_reference;
+      long = w.long;
+      wrote = record { written = w.wrote.written; behind = w.wrote.behind; short = omega arith };
+    }
 
 -- nothing: every byte is as it was
-pub pasted_none : (l : List ℕ) (n : ℕ) → l ≡ pasted l n []
+pasted_none : (l : List ℕ) (n : ℕ) → l ≡ pasted l n []
 pasted_none l n =
     sym (take-append-drop n l)
     ∙ ap₂ (λ (xs : List ℕ) (k : ℕ). xs ++ drop k l) (sym (append-nil (take n l))) (sym (add-zero n))
 
-pub nothing : (most : ℕ) (l : List ℕ) (at : ℕ) → Wrote most l l at [] at
-nothing most l at = record { written = pasted_none l at; behind = sym (add-zero at); short = omega arith }
+pub nothing : (most : ℕ) (a : LineWriter) → Writes most [] a a
+nothing most a =
+    record {
+      same_reference = refl;
+      long = refl;
+      wrote = record { written = pasted_none a.lent.now a.at; behind = sym (add-zero a.at); short = omega arith };
+    }
 
--- one byte
-pub set_one : (l : List ℕ) (at b : ℕ) → at < length l → set l at b ≡ pasted l at (b ∷ [])
-set_one l at b h =
-    let e : suc at ≡ at + length (b ∷ []) = omega arith in
-    set_split l at b h
-    ∙ ap (λ (k : ℕ). take at l ++ b ∷ drop k l) e
-    ∙ sym (append_snoc (take at l) b (drop (at + length (b ∷ [])) l))
+-- what a writer that begins with the first of these bytes leaves of them
+pub from_start : {most r : ℕ} {bytes l k : List ℕ} {a b : LineWriter} → a.lent.now ≡ l → a.at ≡ 0 → b.lent.now ≡ k → r ≡ b.at
+    → Writes most bytes a b → Wrote most l k 0 bytes r
+from_start {most} {r} {bytes} {l} {k} e f g h w =
+    record {
+      written = sym g ∙ w.wrote.written ∙ ap₂ (λ (xs : List ℕ) (n : ℕ). pasted xs n bytes) e f;
+      behind = h ∙ w.wrote.behind ∙ ap (λ (n : ℕ). n + length bytes) f;
+      short = w.wrote.short;
+    }

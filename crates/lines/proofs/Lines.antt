@@ -1,17 +1,16 @@
 -- The pieces of each line, written one behind the other, are the rules' line: a text with its comma is computed, and a comma or a line feed stands behind each number. Assumes nothing.
-use Prim.Native.Nat.{ℕ, ◌*◌, ◌/◌, ◌%◌, ◌≤◌, ◌<◌}
-use native.Mathlib.Nat.{not-suc-le-zero, div-le_of_le-mul}
+use Prim.Native.Nat.{ℕ, ◌*◌, ◌/◌, ◌%◌, ◌≤◌}
+use native.Mathlib.Nat.{div-le_of_le-mul}
 use native.Mathlib.Omega.{arith}
 use mathlib.Core.Bool.{Bool, true, false, cond}
 use mathlib.Core.List.{List, [], ◌∷◌, ◌++◌, append_assoc}
-use mathlib.Core.Path.{◌≡◌, refl, sym, ap, ◌∙◌}
+use mathlib.Core.Path.{◌≡◌, refl, ap, ◌∙◌}
 use lib.Seq.{append_snoc}
-use borrow.Author.Tests.{eq-eqb, ne_eqb, lt-ltb, le-ltb}
 use lib.Dec.{eqb, ltb}
 use Rattle.rules.specs.Bytes.{text, comma, line_feed, decimal, hexadecimal}
 use Rattle.rules.specs.Fragments.{Sort}
 use Rattle.rules.specs.Comparison.{pair_of}
-use Rattle.rules.specs.Listings.{printed, refusal, equal_line, sort_text, unequal_line, hashes_line, rounded_up, nearest, per_cent, share_line}
+use Rattle.rules.specs.Listings.{printed, refusal, equal_line, sort_text, unequal_line, hashes_line, rounded_up, per_cent, share_line}
 
 -- a field and what ends it, behind other bytes
 fielded : (xs ys : List ℕ) (b : ℕ) (zs : List ℕ) → xs ++ (ys ++ (b ∷ [])) ++ zs ≡ xs ++ (ys ++ b ∷ zs)

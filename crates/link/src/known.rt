@@ -28,6 +28,7 @@ use crate::answers::{
     Entries, KeyAnswer, Outcome, RunAnswer, Sum, Verdict, of_done, of_entries, of_hash, of_key,
     of_made, of_run, of_verdict, owner, parent,
 };
+use crate::words::{array, array_mut};
 use calling::types::{Attribute, OpFields};
 use equivalence::comparison::{fragments_eq, operations_eq};
 use equivalence::types::Fragments;
@@ -46,7 +47,7 @@ pub extern "C" fn wz_known_is_allowed(store: &[u32], mapping: &[u32]) -> bool
     requires { IsSound store.now }
     ensures { result ≡ allowed (store_in store.now) (mapping_of mapping.now) }
 {
-    mapping::mapping::is_allowed(store, mapping)
+    mapping::mapping::is_allowed(array(store), mapping)
 }
 
 // The test of the marks and the journal of a store whose tables are known to be sound.
@@ -55,7 +56,7 @@ pub extern "C" fn wz_known_marks_are_sound(store: &[u32]) -> bool
     requires { IsSound store.now }
     ensures { result ≡ marks_hold_in (columns store.now) }
 {
-    lending::lent::marks_are_sound(store)
+    lending::lent::marks_are_sound(array(store))
 }
 
 // Tests a list of renamed types, and makes the index of it that the calls below are lent as `types`: it is as many of these words as the
@@ -92,7 +93,7 @@ pub extern "C" fn wz_known_entered(
     requires entered_by { EnteredBy (store_in store.now) (mapping_of mapping.now) paired }
     ensures { EntriesIn mapping.now (entries_mean result) }
 {
-    of_entries(entered(store, mapping, sort_from(sort), lhs, paired))
+    of_entries(entered(array(store), array(mapping), sort_from(sort), lhs, paired))
 }
 
 #[unsafe(no_mangle)]
@@ -124,7 +125,13 @@ pub extern "C" fn wz_known_new_operation(
         location,
         regions,
     };
-    of_made(remembering::adding_calls::new_operation(store, fields, types, operands, successors))
+    of_made(remembering::adding_calls::new_operation(
+        array_mut(store),
+        fields,
+        types,
+        operands,
+        successors,
+    ))
 }
 
 #[unsafe(no_mangle)]
@@ -143,7 +150,7 @@ pub extern "C" fn wz_known_new_block(
       types = types.now;
     }))) (outcome_means result) }
 {
-    of_made(remembering::adding_calls::new_block(store, region, label, location, types))
+    of_made(remembering::adding_calls::new_block(array_mut(store), region, label, location, types))
 }
 
 #[unsafe(no_mangle)]
@@ -160,7 +167,7 @@ pub extern "C" fn wz_known_set_attribute(
     ensures { DidMarked store.old store.new (build (set_attribute (owner_from blocks n) (attribute_from key kind content inherent))) (outcome_means result) }
 {
     of_done(remembering::attributes::set_attribute(
-        store,
+        array_mut(store),
         owner(blocks, n),
         Attribute {
             key,
@@ -176,7 +183,7 @@ pub extern "C" fn wz_known_set_operand(store: &mut [u32], n: u32, i: u32, v: u32
     requires { IsLent store.old }
     ensures { DidMarked store.old store.new (build (set_operand (record { operation = n; index = i; value = v }))) (outcome_means result) }
 {
-    of_done(remembering::operands::set_operand(store, n, i, v))
+    of_done(remembering::operands::set_operand(array_mut(store), n, i, v))
 }
 
 #[unsafe(no_mangle)]
@@ -184,7 +191,7 @@ pub extern "C" fn wz_known_set_mark(store: &mut [u32], mark: u32) -> Outcome
     requires { IsLent store.old }
     ensures { DidMarked store.old store.new (set_mark mark) (outcome_means result) }
 {
-    of_done(marks::setting::set_mark(store, mark))
+    of_done(marks::setting::set_mark(array_mut(store), mark))
 }
 
 #[unsafe(no_mangle)]
@@ -192,7 +199,7 @@ pub extern "C" fn wz_known_go_back(store: &mut [u32], mark: u32) -> Outcome
     requires { IsLent store.old }
     ensures { DidMarked store.old store.new (go_back mark) (outcome_means result) }
 {
-    of_done(returning::going::go_back(store, mark))
+    of_done(returning::going::go_back(array_mut(store), mark))
 }
 
 #[unsafe(no_mangle)]
@@ -207,7 +214,12 @@ pub extern "C" fn wz_known_clone_operation(
     requires mapping_value { allowed (store_in store.old) (mapping_of mapping.old) ≡ true }
     ensures { Cloned true store.old store.new mapping.old mapping.new n (parent_from placed block) (outcome_means result) }
 {
-    of_made(copying::cloning::clone_operation(store, n, parent(placed, block), mapping))
+    of_made(copying::cloning::clone_operation(
+        array_mut(store),
+        n,
+        parent(placed, block),
+        array_mut(mapping),
+    ))
 }
 
 #[unsafe(no_mangle)]
@@ -225,11 +237,11 @@ pub extern "C" fn wz_known_operation_eq(
     ensures { comparing.Answered true store.now (list_in types.now) mapping.old mapping.new (ignoring locations bits) op lhs rhs (verdict_means result) }
 {
     let terms = Terms {
-        store,
+        store: array(store),
         types,
         ignore: Ignore { locations, bits },
     };
-    of_verdict(operations_eq(&terms, mapping, lhs, rhs))
+    of_verdict(operations_eq(&terms, array_mut(mapping), lhs, rhs))
 }
 
 #[unsafe(no_mangle)]
@@ -244,7 +256,7 @@ pub extern "C" fn wz_known_operation_hash(
     ensures { hashed true (store_in store.now) (list_in types.now) (ignoring locations bits) op n ≡ sum_means result }
 {
     let terms = Terms {
-        store,
+        store: array(store),
         types,
         ignore: Ignore { locations, bits },
     };
@@ -266,7 +278,7 @@ pub extern "C" fn wz_known_basic_block_eq(
     ensures { comparing.Answered true store.now (list_in types.now) mapping.old mapping.new (ignoring locations bits) Rattle.rules.specs.Fragments.block lhs rhs (verdict_means result) }
 {
     let terms = Terms {
-        store,
+        store: array(store),
         types,
         ignore: Ignore { locations, bits },
     };
@@ -275,7 +287,7 @@ pub extern "C" fn wz_known_basic_block_eq(
         lhs,
         rhs,
     };
-    of_verdict(fragments_eq(&terms, mapping, of))
+    of_verdict(fragments_eq(&terms, array_mut(mapping), of))
 }
 
 #[unsafe(no_mangle)]
@@ -290,7 +302,7 @@ pub extern "C" fn wz_known_basic_block_hash(
     ensures { hashed true (store_in store.now) (list_in types.now) (ignoring locations bits) Rattle.rules.specs.Fragments.block n ≡ sum_means result }
 {
     let terms = Terms {
-        store,
+        store: array(store),
         types,
         ignore: Ignore { locations, bits },
     };
@@ -312,7 +324,7 @@ pub extern "C" fn wz_known_region_eq(
     ensures { comparing.Answered true store.now (list_in types.now) mapping.old mapping.new (ignoring locations bits) Rattle.rules.specs.Fragments.region lhs rhs (verdict_means result) }
 {
     let terms = Terms {
-        store,
+        store: array(store),
         types,
         ignore: Ignore { locations, bits },
     };
@@ -321,7 +333,7 @@ pub extern "C" fn wz_known_region_eq(
         lhs,
         rhs,
     };
-    of_verdict(fragments_eq(&terms, mapping, of))
+    of_verdict(fragments_eq(&terms, array_mut(mapping), of))
 }
 
 #[unsafe(no_mangle)]
@@ -336,7 +348,7 @@ pub extern "C" fn wz_known_region_hash(
     ensures { hashed true (store_in store.now) (list_in types.now) (ignoring locations bits) Rattle.rules.specs.Fragments.region n ≡ sum_means result }
 {
     let terms = Terms {
-        store,
+        store: array(store),
         types,
         ignore: Ignore { locations, bits },
     };
@@ -355,7 +367,14 @@ pub extern "C" fn wz_known_operation_key(
     requires { Readable store.now types.now }
     ensures { keys.Answered true store.now (list_in types.now) (ignoring locations bits) op n key.old key.new (key_answer_means result) }
 {
-    of_key(fragment_key(store, types, key, Sort::Op, n, Ignore { locations, bits }))
+    of_key(fragment_key(
+        array(store),
+        types,
+        key,
+        Sort::Op,
+        n,
+        Ignore { locations, bits },
+    ))
 }
 
 // How long the key will be, of an operation that exists.
@@ -372,7 +391,7 @@ pub extern "C" fn wz_known_operation_key_length(
     ensures { result ≡ length (Keys.key (renamed (list_in types.now) (store_in store.now)) (ignoring locations bits) op n) }
 {
     key_length(
-        store,
+        array(store),
         types,
         Sort::Op,
         n as usize,
@@ -393,7 +412,7 @@ pub extern "C" fn wz_known_basic_block_key(
     ensures { keys.Answered true store.now (list_in types.now) (ignoring locations bits) Rattle.rules.specs.Fragments.block n key.old key.new (key_answer_means result) }
 {
     of_key(fragment_key(
-        store,
+        array(store),
         types,
         key,
         Sort::Block,
@@ -416,7 +435,7 @@ pub extern "C" fn wz_known_basic_block_key_length(
     ensures { result ≡ length (Keys.key (renamed (list_in types.now) (store_in store.now)) (ignoring locations bits) Rattle.rules.specs.Fragments.block n) }
 {
     key_length(
-        store,
+        array(store),
         types,
         Sort::Block,
         n as usize,
@@ -437,7 +456,7 @@ pub extern "C" fn wz_known_region_key(
     ensures { keys.Answered true store.now (list_in types.now) (ignoring locations bits) Rattle.rules.specs.Fragments.region n key.old key.new (key_answer_means result) }
 {
     of_key(fragment_key(
-        store,
+        array(store),
         types,
         key,
         Sort::Region,
@@ -460,7 +479,7 @@ pub extern "C" fn wz_known_region_key_length(
     ensures { result ≡ length (Keys.key (renamed (list_in types.now) (store_in store.now)) (ignoring locations bits) Rattle.rules.specs.Fragments.region n) }
 {
     key_length(
-        store,
+        array(store),
         types,
         Sort::Region,
         n as usize,
@@ -482,7 +501,7 @@ pub extern "C" fn wz_known_repeated_run(
     ensures { repeated_run true (store_in store.now) (list_in types.now) (ignoring locations bits) block length ≡ run_means result }
 {
     let terms = Terms {
-        store,
+        store: array(store),
         types,
         ignore: Ignore { locations, bits },
     };

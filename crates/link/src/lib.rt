@@ -7,3 +7,4 @@ pub mod known;
 pub mod lengths;
 pub mod listings;
 pub mod offered;
+pub mod words;

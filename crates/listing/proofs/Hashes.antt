@@ -13,16 +13,17 @@ use Rattle.std.specs.Prelude as std
 use Rattle.layout.specs.declared.causes.Cause.{Cause}
 use Rattle.tally.specs.declared.types.Place.{Place}
 use Rattle.lines.specs.Parsing.{query_of}
-use Rattle.lines.specs.Wrote.{Wrote}
+use Rattle.lines.specs.Wrote.{Writes}
 use Rattle.lines.specs.Room.{hashes_room}
 use Rattle.lines.specs.declared.parsing.Query.{Query}
+use Rattle.lines.specs.declared.writing.LineWriter.{LineWriter}
 use Rattle.listing.specs.Progress.{progress_of}
-use Rattle.listing.specs.Asking.{outcome_of, Goes, Stepped}
+use Rattle.listing.specs.Asking.{LineResult, outcome_of, Goes, Stepped}
 use Rattle.lines.proofs.Joined.{within}
 
 -- what a `q` of `sums` results in
-abbrev pub Sums : List ℕ → List Place → Query → List ℕ → List ℕ → ℕ → std.Result ℕ Cause → Type 0
-Sums b tally q out out' at r = Stepped (line_does sums_program (progress_of b tally) (some (query_of q))) b tally out out' at r
+abbrev pub Sums : List ℕ → List Place → Query → LineWriter → LineWriter → LineResult → Type 0
+Sums b tally q out out' r = Stepped (line_does sums_program (progress_of b tally) (some (query_of q))) b tally out out' r
 
 module _ (b : List ℕ) (tally : List Place) (q : Query) where
   abbrev pub Left : std.Result ℕ Cause → Type 0
@@ -32,15 +33,15 @@ module _ (b : List ℕ) (tally : List Place) (q : Query) where
   Right r = Answered true b [] (ignore_of q.ignore) (sort_of q.sort) q.right r
 
   -- a right hash is asked for only where the left one is there, and is refused or not whatever is done first
-  pub left_stops : (out : List ℕ) (at : ℕ) {cause : Cause} → Left (std.Err cause) → Sums b tally q out out at (std.Err cause)
+  pub left_stops : (out : LineWriter) {cause : Cause} → Left (std.Err cause) → Sums b tally q out out (std.Err cause)
   unfolding line_does sums_program progress_of sums_answer hashed_of outcome_of Goes
-  left_stops out at l = record { bytes = []; does = rw l.told refl; goes = refl }
+  left_stops out l = record { bytes = []; does = rw l.told refl; goes = refl }
 
   module _ {v : ℕ} (l : Left (std.Ok v)) where
-    pub right_stops : (out : List ℕ) (at : ℕ) {cause : Cause} → Right (std.Err cause) → Sums b tally q out out at (std.Err cause)
+    pub right_stops : (out : LineWriter) {cause : Cause} → Right (std.Err cause) → Sums b tally q out out (std.Err cause)
     unfolding line_does sums_program progress_of sums_answer hashed_of outcome_of Goes
-    right_stops out at r = record { bytes = []; does = rw (l.told, r.told) refl; goes = refl }
+    right_stops out r = record { bytes = []; does = rw (l.told, r.told) refl; goes = refl }
 
-    pub sums_goes : {w : ℕ} → Right (std.Ok w) → (out out' : List ℕ) (at next : ℕ) → Wrote hashes_room out out' at (hashes_line v w) next → Sums b tally q out out' at (std.Ok next)
+    pub sums_goes : {w : ℕ} → Right (std.Ok w) → {out out' : LineWriter} → Writes hashes_room (hashes_line v w) out out' → Sums b tally q out out' (std.Ok tt)
     unfolding line_does sums_program progress_of sums_answer hashed_of outcome_of Goes
-    sums_goes {w} r out out' at next wrote = record { bytes = hashes_line v w; does = rw (l.told, r.told) refl; goes = within wrote (omega arith) }
+    sums_goes {w} r writes = record { bytes = hashes_line v w; does = rw (l.told, r.told) refl; goes = within writes (omega arith) }

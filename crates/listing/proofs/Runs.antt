@@ -7,7 +7,7 @@ use mathlib.Core.Bool.{true}
 use Rattle.std.specs.Prelude as std
 use mathlib.Core.List.{List, [], ◌∷◌, ◌++◌, append_assoc}
 use mathlib.Core.Path.{◌≡◌, refl, sym, ap, ap₂, subst, ◌∙◌}
-use lib.ListN.{length, drop, length-drop}
+use lib.ListN.{length, drop, length-append, length-drop}
 use lib.Seq.{drop-length}
 use Rattle.rules.specs.Store.{Store, empty_store}
 use Rattle.rules.specs.Marks.{unmarked}
@@ -25,9 +25,10 @@ use Rattle.tally.specs.declared.types.Place.{Place}
 use Rattle.layout.specs.Causes.{number_of}
 use Rattle.layout.specs.declared.causes.Cause.{Cause}
 use Rattle.lines.specs.Pieces.{pieces_from, PieceEnd}
-use Rattle.lines.specs.Wrote.{Wrote}
+use Rattle.lines.specs.Wrote.{Writes, HasRoom}
+use Rattle.lines.specs.declared.writing.LineWriter.{LineWriter}
 use Rattle.lines.specs.Room.{refusal_room, share_room}
-use Rattle.lines.proofs.Joined.{then, said, within, nothing}
+use Rattle.lines.proofs.Joined.{then, said, within, exactly, nothing}
 use Rattle.listing.specs.declared.types.Program.{Program}
 use Rattle.listing.specs.declared.types.Program.TheVariants.{Twins, Sums}
 use Rattle.listing.specs.Progress.{program_of, progress_of}
@@ -137,31 +138,31 @@ closing Sums store tally = refl
 -- ---- the loop
 
 -- a refusal, by the number of its cause
-pub numbered : {before after : List ℕ} {at r : ℕ} (n : ℕ) {k q : ℕ} → k ≡ q → Wrote refusal_room before after at (refusal n k) r → Wrote refusal_room before after at (refusal n q) r
-numbered {before} {after} {at} {r} n e w = subst (λ (x : ℕ). Wrote refusal_room before after at (refusal n x) r) e w
+pub numbered : {a b : LineWriter} (n : ℕ) {k q : ℕ} → k ≡ q → Writes refusal_room (refusal n k) a b → Writes refusal_room (refusal n q) a b
+numbered n e w = said w (ap (refusal n) e)
 
-module _ (p : Program) (listing : List ℕ) (from : ℕ) (before : List ℕ) where
-  pub record Running (store mapping : List ℕ) (tally : List Place) (out : List ℕ) (at n start : ℕ) : Type 0 where
+module _ (p : Program) (listing : List ℕ) (from : ℕ) (before : LineWriter) where
+  pub record Running (store mapping : List ℕ) (tally : List Place) (out : LineWriter) (n start : ℕ) : Type 0 where
     pub bare : Bare store
     pub empty : mapping ≡ empty_words
     pub bytes : List ℕ
-    pub wrote : Wrote (per_byte * start) before out 0 bytes at
+    pub writes : Writes (per_byte * start) bytes before out
     pub whole : prints_from p listing 2 from at_start ≡ bytes ++ prints_from p listing n start (progress_of store tally)
     pub store_left : leaves_from p listing from at_start ≡ leaves_from p listing start (progress_of store tally)
-    pub room : at + spare ≤ per_byte * start
+    pub room : length bytes + spare ≤ per_byte * start
     pub within : start ≤ length listing
     pub lines : n ≤ start
 
-module _ {p : Program} {listing : List ℕ} {from : ℕ} {before : List ℕ} (roomy : max_output ≤ length before) (short : length listing ≤ max_listing) where
+module _ {p : Program} {listing : List ℕ} {from : ℕ} {before : LineWriter} (roomy : HasRoom max_output before) (short : length listing ≤ max_listing) where
   pub running_starts : (store mapping : List ℕ) (tally : List Place) → Bare store → store_in store ≡ empty_store → mapping ≡ empty_words → tally_of tally ≡ no_tally
-      → second_line ≤ from → from ≤ length listing → Running p listing from before store mapping tally before 0 2 from
+      → second_line ≤ from → from ≤ length listing → Running p listing from before store mapping tally before 2 from
   unfolding progress_of at_start
   running_starts store mapping tally bare reads e none long h =
       record {
         bare = bare;
         empty = e;
         bytes = [];
-        wrote = nothing (per_byte * from) before 0;
+        writes = nothing (per_byte * from) before;
         whole = ap₂ (λ (s : Store) (t : rules.Tally). prints_from p listing 2 from (record { store = s; tally = t })) (sym reads) (sym none);
         store_left = ap₂ (λ (s : Store) (t : rules.Tally). leaves_from p listing from (record { store = s; tally = t })) (sym reads) (sym none);
         room = omega arith;
@@ -169,101 +170,99 @@ module _ {p : Program} {listing : List ℕ} {from : ℕ} {before : List ℕ} (ro
         lines = omega arith;
       }
 
-  module _ {store mapping : List ℕ} {tally : List Place} {out : List ℕ} {at n start : ℕ} (inv : Running p listing from before store mapping tally out at n start) where
-    pub has_room : at + spare ≤ length before
-    has_room = let a = inv.room in let b = inv.within in omega arith
+  module _ {store mapping : List ℕ} {tally : List Place} {out : LineWriter} {n start : ℕ} (inv : Running p listing from before store mapping tally out n start) where
+    all_fits : length inv.bytes + spare ≤ max_output
+    all_fits = omega (arith, inv.room, inv.within)
+
+    pub has_room : HasRoom spare out
+    has_room = omega (arith, all_fits, inv.writes.long, inv.writes.wrote.behind)
 
     pub few_lines : n ≤ max_listing
     few_lines = let a = inv.lines in let b = inv.within in omega arith
 
     -- what was printed, and then these bytes, are all
-    finished : (last : List ℕ) (most : ℕ) (after : List ℕ) (r : ℕ) → most ≤ step_room → Wrote most out after at last r → prints_from p listing n start (progress_of store tally) ≡ last
-        → Wrote max_output before after 0 (prints_from p listing 2 from at_start) r
-    finished last most after r m w e =
-        let a = inv.within in
-        let b = inv.room in
-        let c : at ≡ 0 + length inv.bytes = inv.wrote.behind in
-        let g : Wrote (length inv.bytes) before out 0 inv.bytes at = record { written = inv.wrote.written; behind = inv.wrote.behind; short = omega arith } in
-        within (said (then g w (omega (arith, has_room))) (sym (inv.whole ∙ ap (λ (xs : List ℕ). inv.bytes ++ xs) e))) (omega arith)
+    finished : (last : List ℕ) (most : ℕ) (after : LineWriter) → most ≤ step_room → Writes most last out after → prints_from p listing n start (progress_of store tally) ≡ last
+        → Writes max_output (prints_from p listing 2 from at_start) before after
+    finished last most after m w e =
+        let all = then (exactly inv.writes) w (omega (arith, all_fits)) in
+        within (said all (sym (inv.whole ∙ ap (λ (xs : List ℕ). inv.bytes ++ xs) e))) (omega (arith, all_fits))
 
-    pub ran : (last : List ℕ) (most : ℕ) (store' after : List ℕ) (r : ℕ) → store' ≡ store → most ≤ step_room → Wrote most out after at last r
+    pub ran : (last : List ℕ) (most : ℕ) (store' : List ℕ) (after : LineWriter) → store' ≡ store → most ≤ step_room → Writes most last out after
         → prints_from p listing n start (progress_of store tally) ≡ last → leaves_from p listing start (progress_of store tally) ≡ store_in store
-        → (mapping' : List ℕ) → mapping' ≡ empty_words → Ran p listing from store' mapping' before after r
-    ran last most store' after r s m w e f mapping' q =
+        → (mapping' : List ℕ) → mapping' ≡ empty_words → Ran p listing from store' mapping' before after
+    ran last most store' after s m w e f mapping' q =
         record {
-          wrote = finished last most after r m w e;
+          writes = finished last most after m w e;
           left = ap marked_in s ∙ bare_reads store inv.bare.sound inv.bare.unmarked ∙ ap unmarked (sym (inv.store_left ∙ f));
           sound = subst (λ (b : List ℕ). sound_lent b ≡ true) (sym s) (bare_lent store inv.bare.sound inv.bare.unmarked);
           empty = q;
         }
 
-    pub ran_out : (after : List ℕ) (r : ℕ) → length listing ≤ start → Wrote share_room out after at (closes p tally) r → Ran p listing from store mapping before after r
+    pub ran_out : (after : LineWriter) → length listing ≤ start → Writes share_room (closes p tally) out after → Ran p listing from store mapping before after
     unfolding progress_of
-    ran_out after r l w =
+    ran_out after l w =
         let a = inv.within in
         let e : start ≡ length listing = omega arith in
-        ran (closes p tally) share_room store after r refl (omega arith) w
+        ran (closes p tally) share_room store after refl (omega arith) w
         (closes_here p listing n start (progress_of store tally) e ∙ closing p store tally)
         (leaves_here p listing n start (progress_of store tally) e)
         mapping inv.empty
 
     module _ (e : ℕ) (end : PieceEnd listing start line_feed e) (l : start < length listing) where
-      pub ran_unended : (after : List ℕ) (r : ℕ) → e ≡ length listing → Wrote refusal_room out after at (refusal n 11) r → Ran p listing from store mapping before after r
+      pub ran_unended : (after : LineWriter) → e ≡ length listing → Writes refusal_room (refusal n 11) out after → Ran p listing from store mapping before after
       unfolding progress_of
-      ran_unended after r q w =
-          ran (refusal n 11) refusal_room store after r refl (omega arith) w
+      ran_unended after q w =
+          ran (refusal n 11) refusal_room store after refl (omega arith) w
           (unended p listing n start e end (progress_of store tally) l q)
           (nothing_more p listing n start e end (progress_of store tally) l q)
           mapping inv.empty
 
-      module _ (m : e ≡ length listing → ⊥) (store' : List ℕ) (tally' : List Place) (out' : List ℕ) where
+      module _ (m : e ≡ length listing → ⊥) (store' : List ℕ) (tally' : List Place) (out' : LineWriter) where
         ended : e < length listing
         ended = let w : e ≤ length listing = end.within in omega arith
 
-        module _ (k : Cause) (did : LineDoes p (slice listing start e) store store' tally tally' out out' at (std.Err k)) where
+        module _ (k : Cause) (did : LineDoes p (slice listing start e) store store' tally tally' out out' (std.Err k)) where
           stops_there : does (program_of p) (progress_of store tally) (slice listing start e) ≡ stops (number_of k)
           unfolding outcome_of
           stops_there = did.step.does
 
-          pub same_out : out' ≡ out
+          same_out : out' ≡ out
           unfolding Goes
           same_out = did.step.goes
 
-          pub ran_stopped : (mapping' after : List ℕ) (r : ℕ) → mapping' ≡ empty_words → Wrote refusal_room out' after at (refusal n (number_of k)) r → Ran p listing from store' mapping' before after r
+          pub refusal_fits : HasRoom refusal_room out'
+          refusal_fits = subst (HasRoom refusal_room) (sym same_out) (omega (arith, has_room))
+
+          pub ran_stopped : (mapping' : List ℕ) (after : LineWriter) → mapping' ≡ empty_words → Writes refusal_room (refusal n (number_of k)) out' after → Ran p listing from store' mapping' before after
           unfolding progress_of
-          ran_stopped mapping' after r q w =
-              ran (refusal n (number_of k)) refusal_room store' after r (did.unchanged k refl) (omega arith) (subst (λ (xs : List ℕ). Wrote refusal_room xs after at (refusal n (number_of k)) r) same_out w)
+          ran_stopped mapping' after q w =
+              ran (refusal n (number_of k)) refusal_room store' after (did.unchanged k refl) (omega arith) (subst (λ (x : LineWriter). Writes refusal_room (refusal n (number_of k)) x after) same_out w)
               (stops_here p listing n start e end (progress_of store tally) ended (number_of k) stops_there)
               (left_here_lem p listing n start e end (progress_of store tally) ended (number_of k) stops_there)
               mapping' q
 
-        module _ (next : ℕ) (did : LineDoes p (slice listing start e) store store' tally tally' out out' at (std.Ok next)) where
+        module _ (did : LineDoes p (slice listing start e) store store' tally tally' out out' (std.Ok tt)) where
           goes_there : does (program_of p) (progress_of store tally) (slice listing start e) ≡ prints did.step.bytes (progress_of store' tally')
           unfolding outcome_of
           goes_there = did.step.does
 
-          more : Wrote step_room out out' at did.step.bytes next
+          more : Writes step_room did.step.bytes out out'
           unfolding Goes
           more = did.step.goes
 
-          pub running_turn : (mapping' : List ℕ) → mapping' ≡ empty_words → Running p listing from before store' mapping' tally' out' next (n + 1) (e + 1)
+          pub running_turn : (mapping' : List ℕ) → mapping' ≡ empty_words → Running p listing from before store' mapping' tally' out' (n + 1) (e + 1)
           running_turn mapping' q =
               let a = inv.room in
-              let b = inv.within in
               let f : start ≤ e = end.behind in
-              let w = has_room in
-              let x : at ≡ 0 + length inv.bytes = inv.wrote.behind in
-              let y : next ≡ at + length did.step.bytes = more.behind in
               let z : length did.step.bytes + per_byte * start ≤ per_byte * (e + 1) = line_short p listing n start e end (progress_of store tally) ended did.step.bytes (progress_of store' tally') goes_there in
-              let g : Wrote (length inv.bytes) before out 0 inv.bytes at = record { written = inv.wrote.written; behind = inv.wrote.behind; short = omega arith } in
-              let h : Wrote (length did.step.bytes) out out' at did.step.bytes next = record { written = more.written; behind = more.behind; short = omega arith } in
+              let long : length (inv.bytes ++ did.step.bytes) ≡ length inv.bytes + length did.step.bytes = length-append inv.bytes did.step.bytes in
               let t = inv.lines in
               let i = ended in
               record {
                 bare = record { sound = did.sound; unmarked = did.marks ∙ inv.bare.unmarked };
                 empty = q;
                 bytes = inv.bytes ++ did.step.bytes;
-                wrote = within (then g h (omega arith)) (omega arith);
+                writes = within (then (exactly inv.writes) (exactly more) (omega (arith, all_fits))) (omega arith);
                 whole =
                     front inv.bytes did.step.bytes _
                     (inv.whole ∙ ap (λ (xs : List ℕ). inv.bytes ++ xs) (printed_on p listing n start e end (progress_of store tally) ended did.step.bytes (progress_of store' tally') goes_there));

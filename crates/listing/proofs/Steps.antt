@@ -19,6 +19,7 @@ use Rattle.layout.specs.declared.causes.Cause.{Cause}
 use Rattle.tally.specs.Tally.{tally_of}
 use Rattle.tally.specs.declared.types.Place.{Place}
 use Rattle.lines.specs.Reading.{one_byte}
+use Rattle.lines.specs.declared.writing.LineWriter.{LineWriter}
 use Rattle.listing.proofs.Letters.{no_letter, letter_is, other_letter}
 use Rattle.listing.specs.declared.types.Program.{Program}
 use Rattle.listing.specs.Progress.{program_of, progress_of}
@@ -29,12 +30,12 @@ use Rattle.lines.proofs.Joined.{nothing}
 
 -- ---- steps
 
-pub stopped : (o : LineOutcome) (store : List ℕ) (tally : List Place) (out : List ℕ) (at : ℕ) (k : Cause) → o ≡ stops (number_of k) → Stepped o store tally out out at (std.Err k)
+pub stopped : (o : LineOutcome) (store : List ℕ) (tally : List Place) (out : LineWriter) (k : Cause) → o ≡ stops (number_of k) → Stepped o store tally out out (std.Err k)
 unfolding outcome_of Goes
-stopped o store tally out at k e = record { bytes = []; does = e; goes = refl }
+stopped o store tally out k e = record { bytes = []; does = e; goes = refl }
 
-pub same_outcome : {o p : LineOutcome} {store : List ℕ} {tally : List Place} {before after : List ℕ} {at : ℕ} {r : LineResult} → o ≡ p
-    → Stepped p store tally before after at r → Stepped o store tally before after at r
+pub same_outcome : {o p : LineOutcome} {store : List ℕ} {tally : List Place} {before after : LineWriter} {r : LineResult} → o ≡ p
+    → Stepped p store tally before after r → Stepped o store tally before after r
 same_outcome e s = record { bytes = s.bytes; does = e ∙ s.does; goes = s.goes }
 
 -- ---- a line by its letter
@@ -74,12 +75,12 @@ module _ (p : rules.Program) (now : rules.Progress) (line : List ℕ) where
 
 -- ---- what the code does
 
-module _ (p : Program) (line store : List ℕ) (tally : List Place) (out : List ℕ) (at : ℕ) (sound : IsSound store) where
-  pub line_stopped : (k : Cause) → does (program_of p) (progress_of store tally) line ≡ stops (number_of k) → LineDoes p line store store tally tally out out at (std.Err k)
-  line_stopped k e = record { step = stopped _ store tally out at k e; sound = sound; marks = refl; unchanged = λ cause q. refl }
+module _ (p : Program) (line store : List ℕ) (tally : List Place) (out : LineWriter) (sound : IsSound store) where
+  pub line_stopped : (k : Cause) → does (program_of p) (progress_of store tally) line ≡ stops (number_of k) → LineDoes p line store store tally tally out out (std.Err k)
+  line_stopped k e = record { step = stopped _ store tally out k e; sound = sound; marks = refl; unchanged = λ cause q. refl }
 
-  pub line_asked : (tally' : List Place) (after : List ℕ) (r : LineResult) (o : LineOutcome) → does (program_of p) (progress_of store tally) line ≡ o
-      → Stepped o store tally' out after at r → LineDoes p line store store tally tally' out after at r
+  pub line_asked : (tally' : List Place) (after : LineWriter) (r : LineResult) (o : LineOutcome) → does (program_of p) (progress_of store tally) line ≡ o
+      → Stepped o store tally' out after r → LineDoes p line store store tally tally' out after r
   line_asked tally' after r o e s = record { step = same_outcome e s; sound = sound; marks = refl; unchanged = λ cause q. refl }
 
   module _ (exit : List ℕ) (meant : Option Line) (e : does (program_of p) (progress_of store tally) line ≡ line_does (program_of p) (progress_of store tally) meant) where
@@ -87,22 +88,19 @@ module _ (p : Program) (line store : List ℕ) (tally : List Place) (out : List 
     unfolding progress_of
     led r did = e ∙ did.does (program_of p) (tally_of tally)
 
-    pub line_refused : (k : Cause) → LineDid store exit meant (std.Err k) → LineDoes p line store exit tally tally out out at (std.Err k)
-    unfolding led_to cause_of
-    line_refused k did =
-        record {
-          step = stopped _ exit tally out at k (led (std.Err k) did);
-          sound = did.sound;
-          marks = did.marks;
-          unchanged = λ cause z. did.unchanged k refl;
-        }
-
-    pub line_built : LineDid store exit meant (std.Ok tt) → LineDoes p line store exit tally tally out out at (std.Ok at)
+    pub line_built : (r : std.Result (Unit {0}) Cause) → LineDid store exit meant r → LineDoes p line store exit tally tally out out r
     unfolding led_to cause_of outcome_of Goes
-    line_built did =
+    line_built (std.Ok u) did =
         record {
-          step = record { bytes = []; does = led (std.Ok tt) did; goes = nothing step_room out at };
+          step = record { bytes = []; does = led (std.Ok u) did; goes = nothing step_room out };
           sound = did.sound;
           marks = did.marks;
           unchanged = λ cause z. absurd (cc);
+        }
+    line_built (std.Err k) did =
+        record {
+          step = stopped _ exit tally out k (led (std.Err k) did);
+          sound = did.sound;
+          marks = did.marks;
+          unchanged = λ cause z. did.unchanged k refl;
         }

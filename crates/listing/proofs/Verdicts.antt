@@ -34,8 +34,9 @@ use Rattle.mapping.proofs.Unmapped.{empty_words_lem}
 use Rattle.tally.specs.Tally.{tally_of, Tallied}
 use Rattle.tally.specs.declared.types.Place.{Place}
 use Rattle.lines.specs.Parsing.{query_of}
-use Rattle.lines.specs.Wrote.{Wrote}
+use Rattle.lines.specs.Wrote.{Writes}
 use Rattle.lines.specs.declared.parsing.Query.{Query}
+use Rattle.lines.specs.declared.writing.LineWriter.{LineWriter}
 use Rattle.listing.specs.Progress.{progress_of}
 use Rattle.listing.specs.Asking.{verdict_line, answer_to, QueryCompared, step_room, outcome_of, Goes, Stepped}
 use Rattle.listing.proofs.Emptied.{empty_length}
@@ -113,9 +114,9 @@ module _ (b : List ℕ) (tally : List Place) (q : Query) where
   unfolding line_does twins_program progress_of answer_to
   twins_asks = refl
 
-  pub twins_stops : (left out : List ℕ) (at : ℕ) (cause : Cause) → QueryCompared b left q (std.Err cause) → Stepped asked b tally out out at (std.Err cause)
+  pub twins_stops : (left : List ℕ) (out : LineWriter) (cause : Cause) → QueryCompared b left q (std.Err cause) → Stepped asked b tally out out (std.Err cause)
   unfolding twins_answer compared_of outcome_of Goes
-  twins_stops left out at cause h = record { bytes = []; does = twins_asks ∙ ap (λ (x : Compared). twins_answer x (sort_of q.sort) q.right (progress_of b tally)) (sym h.same); goes = refl }
+  twins_stops left out cause h = record { bytes = []; does = twins_asks ∙ ap (λ (x : Compared). twins_answer x (sort_of q.sort) q.right (progress_of b tally)) (sym h.same); goes = refl }
 
   -- the line is printed, and the right fragment goes into the tally
   counted_as : (res : std.Result ℕ Unequal)
@@ -133,9 +134,9 @@ module _ (b : List ℕ) (tally : List Place) (q : Query) where
     unfolding progress_of
     prints_on = counted_as res ∙ ap (λ (t : rules.Tally). prints (verdict_line (answer_of res)) (record { store = store_in b; tally = t })) (sym m.reads)
 
-    pub twins_goes : (out out' : List ℕ) (at next : ℕ) → Wrote step_room out out' at (verdict_line (answer_of res)) next → Stepped asked b after out out' at (std.Ok next)
+    pub twins_goes : {out out' : LineWriter} → Writes step_room (verdict_line (answer_of res)) out out' → Stepped asked b after out out' (std.Ok tt)
     unfolding outcome_of Goes compared_of
-    twins_goes out out' at next w =
+    twins_goes w =
         record {
           bytes = verdict_line (answer_of res);
           does = twins_asks ∙ ap (λ (x : Compared). twins_answer x (sort_of q.sort) q.right (progress_of b tally)) (sym h.same) ∙ prints_on;

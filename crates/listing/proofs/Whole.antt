@@ -4,7 +4,7 @@ use native.Mathlib.Omega.{arith}
 use mathlib.Core.Bool.{Bool, true, false}
 use mathlib.Core.Option.{Option, none, some, none-ne-some}
 use mathlib.Core.List.{List, [], ◌∷◌}
-use mathlib.Core.Path.{◌≡◌, refl, sym, ap, ap₂, subst, ◌∙◌}
+use mathlib.Core.Path.{◌≡◌, refl, sym, ap, ap₂, subst, ◌∙◌, subst₂}
 use borrow.Author.Tests.{eq-eqb, ne_eqb}
 use lib.Dec.{eqb}
 use lib.ListN.{length}
@@ -19,15 +19,16 @@ use Rattle.layout.specs.Columns.{buffer_length}
 use Rattle.layout.specs.declared.causes.Cause.{Cause}
 use Rattle.layout.specs.declared.causes.Cause.TheVariants.{NotSound, BadMapping}
 use Rattle.lines.specs.Pieces.{pieces_from}
-use Rattle.lines.specs.Wrote.{Wrote}
+use Rattle.lines.specs.Wrote.{Writes}
+use Rattle.lines.specs.declared.writing.LineWriter.{LineWriter}
 use Rattle.lines.specs.Room.{refusal_room}
-use Rattle.lines.proofs.Joined.{said, within}
+use Rattle.lines.proofs.Joined.{said, within, from_start}
 use Rattle.mapping.specs.MappingWords.{mapping_length, empty_words}
 use Rattle.listing.specs.declared.types.Program.{Program}
 use Rattle.listing.specs.declared.types.Unprinted.TheVariants.{Refused, NoRoom}
 use Rattle.listing.specs.Progress.{program_of}
 use Rattle.listing.specs.Stepping.{second_line, Headed, Ran}
-use Rattle.listing.specs.Calls.{Buffers, buffer_tests, PrintsListing, told_of, Answered, buffers}
+use Rattle.listing.specs.Calls.{Buffers, buffer_tests, PrintsListing, told_of, Answered, buffers, Told}
 
 -- ---- the first line
 
@@ -37,12 +38,13 @@ module _ (p : Program) (listing store mapping out after : List ℕ) (n : ℕ) (k
   unfolding cause_of
   refused_for = sym h.same
 
-  pub first_refused : Wrote refusal_room out after 0 (refusal 1 (number_of k)) n → PrintsListing (program_of p) listing (buffers store mapping out) (buffers store mapping after) n
+  pub first_refused : {a b : LineWriter} → a.lent.now ≡ out → a.at ≡ 0 → b.lent.now ≡ after → n ≡ b.at → Writes refusal_room (refusal 1 (number_of k)) a b
+      → PrintsListing (program_of p) listing (buffers store mapping out) (buffers store mapping after) n
   unfolding buffers rules.listed unless
-  first_refused w =
+  first_refused e f g i w =
       let clash : listing_cause listing ≡ none → ⊥ = λ q. none-ne-some (number_of k) (sym q ∙ refused_for) in
       record {
-        wrote = within (said w (sym (ap (λ (c : Option ℕ). unless c (run (program_of p) 2 at_start (behind_first (cut_at line_feed listing).whole) (cut_at line_feed listing).rest)) refused_for))) (omega arith);
+        wrote = from_start e f g i (within (said w (sym (ap (λ (c : Option ℕ). unless c (run (program_of p) 2 at_start (behind_first (cut_at line_feed listing).whole) (cut_at line_feed listing).rest)) refused_for))) (omega arith));
         leaves =
             record {
               refused = λ cause q. (refl, refl);
@@ -53,7 +55,7 @@ module _ (p : Program) (listing store mapping out after : List ℕ) (n : ℕ) (k
       }
 
 -- behind an accepted one the lines run
-module _ (p : Program) (listing store mapping out store' mapping' out' : List ℕ) (n : ℕ) (h : Headed listing (std.Ok tt)) (ran : Ran p listing second_line store' mapping' out out' n) where
+module _ (p : Program) (listing store mapping out store' mapping' out' : List ℕ) (n : ℕ) (h : Headed listing (std.Ok tt)) {a b : LineWriter} (ran : Ran p listing second_line store' mapping' a b) where
   accepted : listing_cause listing ≡ none
   unfolding cause_of
   accepted = sym h.same
@@ -64,11 +66,11 @@ module _ (p : Program) (listing store mapping out store' mapping' out' : List �
       ap (λ (c : Option ℕ). unless c (run (program_of p) 2 at_start (behind_first (cut_at line_feed listing).whole) (cut_at line_feed listing).rest)) accepted
       ∙ ap₂ (λ (ls : List (List ℕ)) (rest : List ℕ). run (program_of p) 2 at_start ls rest) (h.begun refl).lines (h.begun refl).rest
 
-  pub all_ran : PrintsListing (program_of p) listing (buffers store mapping out) (buffers store' mapping' out') n
+  pub all_ran : a.lent.now ≡ out → a.at ≡ 0 → b.lent.now ≡ out' → n ≡ b.at → PrintsListing (program_of p) listing (buffers store mapping out) (buffers store' mapping' out') n
   unfolding buffers store_after
-  all_ran =
+  all_ran e f g i =
       record {
-        wrote = said ran.wrote (sym printed);
+        wrote = from_start e f g i (said ran.writes (sym printed));
         leaves =
             record {
               refused = λ cause q. absurd (none-ne-some cause (sym accepted ∙ q));
@@ -108,6 +110,11 @@ module _ (p : rules.Program) (listing store mapping out : List ℕ) where
       answered after n h pr = (right_lengths, h, pr)
 
 -- a mapping with no entry stays one
+-- words of the right lengths are the buffers'
+pub taken : (p : rules.Program) (listing : List ℕ) {w b e m : List ℕ} (out : List ℕ) (after : Buffers) (q : Told) → w ≡ b → e ≡ m
+    → Answered p listing (buffers w e out) after q → Answered p listing (buffers b m out) after q
+taken p listing out after q s t h = subst₂ (λ (x y : List ℕ). Answered p listing (buffers x y out) after q) s t h
+
 module _ (p : rules.Program) (listing store out store' mapping' out' : List ℕ) (n : ℕ) (pr : PrintsListing p listing (buffers store empty_words out) (buffers store' mapping' out') n) where
   still_none : (c : Option ℕ) → listing_cause listing ≡ c → mapping' ≡ empty_words
   unfolding buffers

@@ -13,9 +13,10 @@ use Rattle.mapping.specs.MappingWords.{empty_words}
 use Rattle.pairing.specs.Told.{compared_of}
 use Rattle.pairing.specs.declared.types.Unequal.{Unequal}
 use Rattle.tally.specs.declared.types.Place.{Place}
-use Rattle.lines.specs.Wrote.{Wrote}
+use Rattle.lines.specs.Wrote.{Writes}
 use Rattle.lines.specs.Room.{unequal_room}
 use Rattle.lines.specs.declared.parsing.Query.{Query}
+use Rattle.lines.specs.declared.writing.LineWriter.{LineWriter}
 use Rattle.listing.specs.Progress.{progress_of}
 
 -- ---- a comparison
@@ -41,20 +42,20 @@ pub record QueryCompared (store mapping : List ℕ) (q : Query) (r : std.Result 
 abbrev pub step_room : ℕ
 step_room = unequal_room
 
--- how many bytes are printed behind it, or the cause for which the line is refused
+-- it is done, or the cause for which the line is refused
 abbrev pub LineResult : Type 0
-LineResult = std.Result ℕ Cause
+LineResult = std.Result (Unit {0}) Cause
 
 unfoldable pub outcome_of : List ℕ → List Place → List ℕ → LineResult → LineOutcome
-outcome_of store tally bytes (std.Ok next) = prints bytes (progress_of store tally)
+outcome_of store tally bytes (std.Ok u) = prints bytes (progress_of store tally)
 outcome_of store tally bytes (std.Err cause) = stops (number_of cause)
 
-unfoldable pub Goes : List ℕ → List ℕ → ℕ → List ℕ → LineResult → Type 0
-Goes before after at bytes (std.Ok next) = Wrote step_room before after at bytes next
-Goes before after at bytes (std.Err cause) = after ≡ before
+unfoldable pub Goes : LineWriter → LineWriter → List ℕ → LineResult → Type 0
+Goes before after bytes (std.Ok u) = Writes step_room bytes before after
+Goes before after bytes (std.Err cause) = after ≡ before
 
--- of a step that leaves this store and this tally, where so many bytes were printed before
-pub record Stepped (outcome : LineOutcome) (store : List ℕ) (tally : List Place) (before after : List ℕ) (at : ℕ) (r : LineResult) : Type 0 where
+-- of a step that leaves this store and this tally
+pub record Stepped (outcome : LineOutcome) (store : List ℕ) (tally : List Place) (before after : LineWriter) (r : LineResult) : Type 0 where
   pub bytes : List ℕ
   pub does : outcome ≡ outcome_of store tally bytes r
-  pub goes : Goes before after at bytes r
+  pub goes : Goes before after bytes r

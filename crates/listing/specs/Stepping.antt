@@ -13,7 +13,8 @@ use Rattle.mapping.specs.MappingWords.{empty_words}
 use Rattle.tally.specs.Tally.{tally_of}
 use Rattle.tally.specs.declared.types.Place.{Place}
 use Rattle.lines.specs.Pieces.{pieces_from}
-use Rattle.lines.specs.Wrote.{Wrote}
+use Rattle.lines.specs.Wrote.{Writes}
+use Rattle.lines.specs.declared.writing.LineWriter.{LineWriter}
 use Rattle.listing.specs.declared.types.Program.{Program}
 use Rattle.listing.specs.declared.types.Program.TheVariants.{Twins, Sums}
 use Rattle.listing.specs.Asking.{LineResult, Stepped}
@@ -50,8 +51,8 @@ pub record Bare (store : List ℕ) : Type 0 where
   pub unmarked : mark_count (columns store) ≡ 0
 
 -- what the code does for a line, as what the rules' program does
-pub record LineDoes (p : Program) (line store store' : List ℕ) (tally tally' : List Place) (out out' : List ℕ) (at : ℕ) (r : LineResult) : Type 0 where
-  pub step : Stepped (does (program_of p) (progress_of store tally) line) store' tally' out out' at r
+pub record LineDoes (p : Program) (line store store' : List ℕ) (tally tally' : List Place) (out out' : LineWriter) (r : LineResult) : Type 0 where
+  pub step : Stepped (does (program_of p) (progress_of store tally) line) store' tally' out out' r
   pub sound : IsSound store'
   pub marks : mark_count (columns store') ≡ mark_count (columns store)
   pub unchanged : (cause : Cause) → r ≡ std.Err cause → store' ≡ store
@@ -59,8 +60,8 @@ pub record LineDoes (p : Program) (line store store' : List ℕ) (tally tally' :
 -- ---- the lines from a position on, at which the second line begins
 
 -- all that they print is written, and the store is what they leave
-pub record Ran (p : Program) (listing : List ℕ) (from : ℕ) (store mapping out out' : List ℕ) (r : ℕ) : Type 0 where
-  pub wrote : Wrote max_output out out' 0 (run (program_of p) 2 at_start (pieces_from line_feed listing from).whole (pieces_from line_feed listing from).rest) r
+pub record Ran (p : Program) (listing : List ℕ) (from : ℕ) (store mapping : List ℕ) (out out' : LineWriter) : Type 0 where
+  pub writes : Writes max_output (run (program_of p) 2 at_start (pieces_from line_feed listing from).whole (pieces_from line_feed listing from).rest) out out'
   pub left : marked_in store ≡ unmarked (leaves (program_of p) at_start (pieces_from line_feed listing from).whole).store
   pub sound : sound_lent store ≡ true
   pub empty : mapping ≡ empty_words

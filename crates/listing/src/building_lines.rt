@@ -9,12 +9,13 @@ use crate::header::MAX_LINE;
 use adding::blocks::new_block;
 use adding::operations::new_operation;
 use layout::causes::Cause;
+use layout::columns::StoreWords;
 use lines::parsing::{attribute_line, block_line, operand_line, read_lists, read_op_fields};
 use lines::reading::Fields;
 use setting::attributes::set_attribute;
 use setting::operands::set_operand;
 
-fn operation_does(store: &mut [u32], line: &mut Fields<'_>) -> Result<(), Cause>
+fn operation_does(store: &mut StoreWords, line: &mut Fields<'_>) -> Result<(), Cause>
     requires sound { IsSound store.old }
     requires line_len_bound { length line.old ≤ max_line + 1 }
     ensures { LineDid store.old store.new (wholly (operation_line line.old)) result }
@@ -38,7 +39,7 @@ fn operation_does(store: &mut [u32], line: &mut Fields<'_>) -> Result<(), Cause>
     Ok(())
 }
 
-fn block_does(store: &mut [u32], line: &mut Fields<'_>) -> Result<(), Cause>
+fn block_does(store: &mut StoreWords, line: &mut Fields<'_>) -> Result<(), Cause>
     requires sound { IsSound store.old }
     requires line_len_bound { length line.old ≤ max_line + 1 }
     ensures { LineDid store.old store.new (wholly (block_line line.old)) result }
@@ -52,7 +53,7 @@ fn block_does(store: &mut [u32], line: &mut Fields<'_>) -> Result<(), Cause>
     Ok(())
 }
 
-fn attribute_does(store: &mut [u32], line: &mut Fields<'_>) -> Result<(), Cause>
+fn attribute_does(store: &mut StoreWords, line: &mut Fields<'_>) -> Result<(), Cause>
     requires { IsSound store.old }
     ensures { LineDid store.old store.new (wholly (attribute_line line.old)) result }
 {
@@ -62,7 +63,7 @@ fn attribute_does(store: &mut [u32], line: &mut Fields<'_>) -> Result<(), Cause>
     set_attribute(store, read.owner, read.attribute)
 }
 
-fn operand_does(store: &mut [u32], line: &mut Fields<'_>) -> Result<(), Cause>
+fn operand_does(store: &mut StoreWords, line: &mut Fields<'_>) -> Result<(), Cause>
     requires { IsSound store.old }
     ensures { LineDid store.old store.new (wholly (operand_line line.old)) result }
 {
@@ -73,7 +74,7 @@ fn operand_does(store: &mut [u32], line: &mut Fields<'_>) -> Result<(), Cause>
 }
 
 // A line that builds, which is read behind its letter; any other letter is unknown.
-pub fn building_does(store: &mut [u32], letter: u8, line: &mut Fields<'_>) -> Result<(), Cause>
+pub fn building_does(store: &mut StoreWords, letter: u8, line: &mut Fields<'_>) -> Result<(), Cause>
     requires sound { IsSound store.old }
     requires line_len_bound { length line.old ≤ max_line + 1 }
     ensures { LineDid store.old store.new (building_line letter line.old) result }

@@ -25,28 +25,28 @@ pub fn twins(
 ) -> Result<usize, Unprinted>
     ensures { Answered twins_program listing.now (buffers store.old mapping.old out.old) (buffers store.new mapping.new out.new) (told_of result) }
 {
-    if store.len() != STORE {
+    let Some(words) = store.as_mut_array() else {
         return Err(Unprinted::Refused(Cause::NotSound));
-    }
-    if mapping.len() != MAPPING {
+    };
+    let Some(entries) = mapping.as_mut_array() else {
         return Err(Unprinted::Refused(Cause::BadMapping));
-    }
+    };
     if out.len() < ROOM {
         return Err(Unprinted::NoRoom);
     }
-    Ok(listed(Program::Twins, listing, store, mapping, out))
+    Ok(listed(Program::Twins, listing, words, entries, out))
 }
 
 // It compares nothing, and so is lent no mapping.
 pub fn sums(listing: &[u8], store: &mut [u32], out: &mut [u8]) -> Result<usize, Unprinted>
     ensures { Answered sums_program listing.now (buffers store.old empty_words out.old) (buffers store.new empty_words out.new) (told_of result) }
 {
-    if store.len() != STORE {
+    let Some(words) = store.as_mut_array() else {
         return Err(Unprinted::Refused(Cause::NotSound));
-    }
+    };
     if out.len() < ROOM {
         return Err(Unprinted::NoRoom);
     }
     let mut mapping = [NO_IMAGE; MAPPING];
-    Ok(listed(Program::Sums, listing, store, &mut mapping, out))
+    Ok(listed(Program::Sums, listing, words, &mut mapping, out))
 }

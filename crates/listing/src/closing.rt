@@ -1,24 +1,24 @@
 // What is printed behind the last line.
-ghost use Rattle.std.specs.Prelude.{◌+◌, ◌≤◌, length};
-ghost use Rattle.lines.specs.Wrote.{Wrote};
+ghost use Rattle.lines.specs.Wrote.{HasRoom, Writes};
 ghost use Rattle.lines.specs.Room.{share_room};
 ghost use Rattle.listing.specs.Stepping.{closes};
 
 use crate::types::Program;
 use lines::printing::put_share;
+use lines::writing::LineWriter;
 use tally::counting::counts;
 use tally::types::Tally;
 
 // `twins` prints the share, `sums` nothing.
-pub fn close(program: Program, tally: &Tally, out: &mut [u8], at: usize) -> usize
-    requires { at + share_room ≤ length out.old }
-    ensures { Wrote share_room out.old out.new at (closes program tally.now) result }
+pub fn close(program: Program, tally: &Tally, out: &mut LineWriter)
+    requires { HasRoom share_room out.old }
+    ensures { Writes share_room (closes program tally.now) out.old out.new }
 {
     match program {
         Program::Twins => {
             let counted = counts(tally);
-            put_share(out, at, counted.equal, counted.all)
+            put_share(out, counted.equal, counted.all);
         }
-        Program::Sums => at,
+        Program::Sums => {}
     }
 }

@@ -1,12 +1,12 @@
 // A `q` of `twins`: its fragments are compared, begun with an empty mapping, which is left empty.
 ghost use Rattle.std.proofs.Math.Option.{some};
-ghost use Rattle.std.specs.Prelude.{◌≡◌, ◌+◌, ◌≤◌, length};
+ghost use Rattle.std.specs.Prelude.{◌≡◌};
 ghost use Rattle.rules.specs.Listings.{twins_program, line_does};
 ghost use Rattle.layout.specs.Soundness.{IsSound};
 ghost use Rattle.mapping.specs.MappingWords.{empty_words};
 ghost use Rattle.pairing.specs.Told.{answer_of};
 ghost use Rattle.lines.specs.Parsing.{query_of};
-ghost use Rattle.lines.specs.Wrote.{Wrote};
+ghost use Rattle.lines.specs.Wrote.{HasRoom, Writes};
 ghost use Rattle.listing.specs.Progress.{progress_of};
 ghost use Rattle.listing.specs.Asking.{verdict_line, QueryCompared, Stepped, step_room};
 
@@ -15,8 +15,11 @@ use equivalence::types::{EqResult, Fragments};
 use fragments::terms::Terms;
 use fragments::types::Sort;
 use layout::causes::Cause;
+use layout::columns::StoreWords;
 use lines::parsing::Query;
 use lines::printing::{put_equal, put_unequal};
+use lines::writing::LineWriter;
+use mapping::mapping::MappingWords;
 use mapping::unmapping::unmap_entered;
 use pairing::answers::paired_of;
 use pairing::types::Unequal;
@@ -25,7 +28,7 @@ use tally::types::Tally;
 
 // Compares the fragments of a query. No type is renamed: no words of the store are lent as the index of a list. The mapping is empty before,
 // and what was entered is taken out again.
-fn compare(store: &[u32], mapping: &mut [u32], query: Query) -> Result<EqResult, Cause>
+fn compare(store: &StoreWords, mapping: &mut MappingWords, query: Query) -> Result<EqResult, Cause>
     requires sound { IsSound store.now }
     requires mapping_value { mapping.old ≡ empty_words }
     ensures { QueryCompared store.now mapping.new query result }
@@ -48,49 +51,34 @@ fn compare(store: &[u32], mapping: &mut [u32], query: Query) -> Result<EqResult,
 
 // The line of a comparison.
 #[tactic(auto, using(lines::proofs::Joined::within), unfolding(crate::specs::Asking::verdict_line, pairing::specs::Told::answer_of, fragments::specs::Sorts::sort_of))]
-fn put_verdict(out: &mut [u8], at: usize, res: EqResult) -> usize
-    requires { at + step_room ≤ length out.old }
-    ensures { Wrote step_room out.old out.new at (verdict_line (answer_of res)) result }
+fn put_verdict(out: &mut LineWriter, res: EqResult)
+    requires { HasRoom step_room out.old }
+    ensures { Writes step_room (verdict_line (answer_of res)) out.old out.new }
 {
     match res {
-        Ok(paired) => put_equal(out, at, paired),
-        Err(Unequal::FirstNEQOps(l, r, paired)) => put_unequal(out, at, Sort::Op, l, r, paired),
-        Err(Unequal::FirstNEQRegions(l, r, paired)) => put_unequal(
-            out,
-            at,
-            Sort::Region,
-            l,
-            r,
-            paired,
-        ),
-        Err(Unequal::FirstNEQBlocks(l, r, paired)) => put_unequal(
-            out,
-            at,
-            Sort::Block,
-            l,
-            r,
-            paired,
-        ),
+        Ok(paired) => put_equal(out, paired),
+        Err(Unequal::FirstNEQOps(l, r, paired)) => put_unequal(out, Sort::Op, l, r, paired),
+        Err(Unequal::FirstNEQRegions(l, r, paired)) => put_unequal(out, Sort::Region, l, r, paired),
+        Err(Unequal::FirstNEQBlocks(l, r, paired)) => put_unequal(out, Sort::Block, l, r, paired),
     }
 }
 
-// A `q` of `twins`: its line is printed behind the bytes up to `at`, and the operations inside its right fragment are counted.
+// A `q` of `twins`: its line is printed, and the operations inside its right fragment are counted.
 pub fn twins_does(
-    store: &[u32],
-    mapping: &mut [u32],
+    store: &StoreWords,
+    mapping: &mut MappingWords,
     tally: &mut Tally,
-    out: &mut [u8],
-    at: usize,
+    out: &mut LineWriter,
     query: Query,
-) -> Result<usize, Cause>
+) -> Result<(), Cause>
     requires sound { IsSound store.now }
     requires mapping_value { mapping.old ≡ empty_words }
-    requires step_room_in_bounds { at + step_room ≤ length out.old }
-    ensures stepped { Stepped (line_does twins_program (progress_of store.now tally.old) (some (query_of query))) store.now tally.new out.old out.new at result }
+    requires step_room_in_bounds { HasRoom step_room out.old }
+    ensures stepped { Stepped (line_does twins_program (progress_of store.now tally.old) (some (query_of query))) store.now tally.new out.old out.new result }
     ensures mapping_after { mapping.new ≡ empty_words }
 {
     let result = compare(store, mapping, query)?;
-    let next = put_verdict(out, at, result);
+    put_verdict(out, result);
     include_fragment(store, tally, query.sort, query.right, result.is_ok());
-    Ok(next)
+    Ok(())
 }

@@ -6,20 +6,18 @@ ghost use Rattle.layout.specs.Reading.{store_in};
 ghost use Rattle.mapping.specs.MappingWords.{mapping_length, empty_words};
 ghost use Rattle.listing.specs.Stepping.{Bare};
 
-use layout::columns::{COUNTS, put_same};
-use mapping::mapping::NO_IMAGE;
+use layout::columns::{COUNTS, StoreWords, put_same};
+use mapping::mapping::{MappingWords, NO_IMAGE};
 
 // A store is empty when its counts are 0, the number of set marks among them: no other word is read then, and so they stay as they are.
-pub fn empty_store(store: &mut [u32])
-    requires { length store.old ≡ buffer_length }
+pub fn empty_store(store: &mut StoreWords)
     ensures bare { Bare store.new }
     ensures store_after { store_in store.new ≡ empty_store }
 {
     put_same(store, COUNTS, 0, 8, 0);
 }
 
-pub fn empty_mapping(mapping: &mut [u32])
-    requires { length mapping.old ≡ mapping_length }
+pub fn empty_mapping(mapping: &mut MappingWords)
     ensures { mapping.new ≡ empty_words }
 {
     mapping.fill(NO_IMAGE);

@@ -6,12 +6,15 @@ ghost use Rattle.layout.specs.Reading.{store_in, consecutive};
 ghost use Rattle.layout.specs.Soundness.{Arranged};
 ghost use Rattle.mapping.specs.MappingWords.{mapping_length, mapping_of, image_allowed, unmapped, op_mapped, block_mapped, values_mapped};
 
-use layout::columns::{BLOCKS, COUNTS, OPS, VALUES, at};
+use layout::columns::{BLOCKS, COUNTS, OPS, StoreWords, VALUES, at};
 
 // The entry of a number that has no image.
 pub const NO_IMAGE: u32 = 4294967295;
 
 pub const MAPPING_LENGTH: usize = 2816;
+
+// The mapping.
+pub type MappingWords = [u32; MAPPING_LENGTH];
 
 // Where the entries of blocks and of operations begin, behind those of values.
 pub const BLOCK_ENTRIES: usize = 2048;
@@ -55,7 +58,7 @@ fn entries_allowed(count: u32, entries: &[u32]) -> bool
 
 // The mapping is of the right length, and each left number and image in it exists in the store.
 #[tactic(auto, using(crate::proofs::Entries::wrong_length, crate::proofs::Entries::allowed_is))]
-pub fn is_allowed(store: &[u32], mapping: &[u32]) -> bool
+pub fn is_allowed(store: &StoreWords, mapping: &[u32]) -> bool
     requires { Arranged store.now }
     ensures { result ≡ allowed (store_in store.now) (mapping_of mapping.now) }
 {
@@ -71,9 +74,8 @@ pub fn is_allowed(store: &[u32], mapping: &[u32]) -> bool
 
 // Maps operation l to r.
 #[tactic(auto, using(crate::proofs::Entering::op_entered))]
-pub fn map_op(mapping: &mut [u32], l: usize, r: u32)
-    requires mapping_len { length mapping.old ≡ mapping_length }
-    requires l_bound { l < 512 }
+pub fn map_op(mapping: &mut MappingWords, l: usize, r: u32)
+    requires { l < 512 }
     ensures { mapping_of mapping.new ≡ op_mapped (mapping_of mapping.old) l r }
 {
     mapping[OP_ENTRIES + l] = r;
@@ -81,17 +83,15 @@ pub fn map_op(mapping: &mut [u32], l: usize, r: u32)
 
 // Maps block l to r.
 #[tactic(auto, using(crate::proofs::Entering::block_entered))]
-pub fn map_block(mapping: &mut [u32], l: usize, r: u32)
-    requires mapping_len { length mapping.old ≡ mapping_length }
-    requires l_bound { l < 256 }
+pub fn map_block(mapping: &mut MappingWords, l: usize, r: u32)
+    requires { l < 256 }
     ensures { mapping_of mapping.new ≡ block_mapped (mapping_of mapping.old) l r }
 {
     mapping[BLOCK_ENTRIES + l] = r;
 }
 
 // Maps `count` values from l on to those from r on.
-pub fn map_values(mapping: &mut [u32], l: usize, r: u32, count: usize)
-    requires mapping_len { length mapping.old ≡ mapping_length }
+pub fn map_values(mapping: &mut MappingWords, l: usize, r: u32, count: usize)
     requires count_bound { l + count ≤ 2048 }
     requires count_bound_2 { r + count ≤ 2048 }
     ensures { mapping_of mapping.new ≡ values_mapped (mapping_of mapping.old) (consecutive l count) (consecutive r count) }

@@ -9,12 +9,12 @@ ghost use Rattle.layout.specs.Soundness.{IsSound};
 ghost use Rattle.mapping.specs.MappingWords.{mapping_length, mapping_of, empty_words};
 ghost use Rattle.mapping.specs.Unmapping.{whole_mapping, EntriesIn, blanked, OwnerAt, OwnValuesAt, OwnersAt, SeenOf, Searched, Widened};
 
-use crate::mapping::{BLOCK_ENTRIES, NO_IMAGE, OP_ENTRIES};
+use crate::mapping::{BLOCK_ENTRIES, MappingWords, NO_IMAGE, OP_ENTRIES};
 use crate::types::{Entries, Search};
 use fragments::types::Sort;
 use layout::columns::{
     BLOCK_ARGUMENT_END, BLOCK_ARGUMENT_FIRST, BLOCK_OP_FIRST, BLOCKS, COUNTS, OP_REGION_FIRST,
-    OP_RESULT_END, OP_RESULT_FIRST, OPS, REGION_BLOCK_FIRST, at, number,
+    OP_RESULT_END, OP_RESULT_FIRST, OPS, REGION_BLOCK_FIRST, StoreWords, at, number,
 };
 use std::ops::Range;
 
@@ -27,7 +27,7 @@ const BLOCKS_SEEN: usize = 16;
 const OPS_SEEN: usize = 64;
 
 // The values of the block or operation whose entry is word i of the mapping: from the first up to the end.
-fn own_values(store: &[u32], i: usize) -> Range<u32>
+fn own_values(store: &StoreWords, i: usize) -> Range<u32>
     requires sound { IsSound store.now }
     requires owner_at { OwnerAt (columns store.now) i }
     ensures { OwnValuesAt (columns store.now) i result.start result.end }
@@ -41,7 +41,7 @@ fn own_values(store: &[u32], i: usize) -> Range<u32>
 }
 
 // The search with the block or operation whose entry is word i.
-fn found(store: &[u32], search: Search, i: usize) -> Search
+fn found(store: &StoreWords, search: Search, i: usize) -> Search
     requires sound { IsSound store.now }
     requires owner_at { OwnerAt (columns store.now) i }
     requires i_bound { i < 2816 }
@@ -63,9 +63,8 @@ fn found(store: &[u32], search: Search, i: usize) -> Search
 }
 
 // The search with what these words of the mapping have.
-fn look(store: &[u32], mapping: &[u32], seen: Range<usize>, search: Search) -> Search
+fn look(store: &StoreWords, mapping: &MappingWords, seen: Range<usize>, search: Search) -> Search
     requires sound { IsSound store.now }
-    requires mapping_len { length mapping.now ≡ mapping_length }
     requires owners_at { OwnersAt (columns store.now) seen.start seen.end }
     requires searched { Searched (columns store.now) mapping.now seen.start search }
     ensures { Searched (columns store.now) mapping.now seen.end result }
@@ -83,8 +82,7 @@ fn look(store: &[u32], mapping: &[u32], seen: Range<usize>, search: Search) -> S
 }
 
 // A word of a row, or 0 where there is no such row: a number to begin with.
-fn guess(store: &[u32], column: usize, n: usize, rows: usize) -> usize
-    requires store_len { length store.now ≡ buffer_length }
+fn guess(store: &StoreWords, column: usize, n: usize, rows: usize) -> usize
     requires column_lt_column_count { column < column_count }
     requires rows_bound { rows ≤ column_size column }
 {
@@ -95,9 +93,7 @@ fn guess(store: &[u32], column: usize, n: usize, rows: usize) -> usize
 }
 
 // The smallest number that a block inside the fragment may have. One operation entered is the fragment itself.
-fn first_block(store: &[u32], sort: Sort, l: usize, paired: u32) -> usize
-    requires { length store.now ≡ buffer_length }
-{
+fn first_block(store: &StoreWords, sort: Sort, l: usize, paired: u32) -> usize {
     match sort {
         Sort::Op if paired < 2 => 256,
         Sort::Op => {
@@ -110,9 +106,7 @@ fn first_block(store: &[u32], sort: Sort, l: usize, paired: u32) -> usize
 }
 
 // The smallest number that an operation in the fragment may have, the first block of which is b.
-fn first_op(store: &[u32], sort: Sort, l: usize, b: usize) -> usize
-    requires { length store.now ≡ buffer_length }
-{
+fn first_op(store: &StoreWords, sort: Sort, l: usize, b: usize) -> usize {
     match sort {
         Sort::Op => l,
         Sort::Block => guess(store, BLOCK_OP_FIRST, l, 256),
@@ -132,9 +126,8 @@ fn seen(base: usize, count: usize, first: usize, most: usize) -> Range<usize>
 }
 
 // The search for what a comparison with this left fragment, which counts so many pairs, has made in an empty mapping.
-fn searched(store: &[u32], mapping: &[u32], sort: Sort, l: usize, paired: u32) -> Search
+fn searched(store: &StoreWords, mapping: &MappingWords, sort: Sort, l: usize, paired: u32) -> Search
     requires sound { IsSound store.now }
-    requires mapping_len { length mapping.now ≡ mapping_length }
     requires entered_by { EnteredBy (store_in store.now) (mapping_of mapping.now) paired }
     ensures { Searched (columns store.now) mapping.now 2816 result }
 {
@@ -169,9 +162,14 @@ fn everywhere() -> Entries
 }
 
 // Where these entries are.
-pub fn entered(store: &[u32], mapping: &[u32], sort: Sort, l: u32, paired: u32) -> Entries
+pub fn entered(
+    store: &StoreWords,
+    mapping: &MappingWords,
+    sort: Sort,
+    l: u32,
+    paired: u32,
+) -> Entries
     requires sound { IsSound store.now }
-    requires mapping_len { length mapping.now ≡ mapping_length }
     requires entered_by { EnteredBy (store_in store.now) (mapping_of mapping.now) paired }
     ensures { EntriesIn mapping.now result }
 {
@@ -186,7 +184,7 @@ pub fn entered(store: &[u32], mapping: &[u32], sort: Sort, l: u32, paired: u32) 
 }
 
 // Takes the entries out whose words these are.
-fn blank(mapping: &mut [u32], from: usize, end: usize)
+fn blank(mapping: &mut MappingWords, from: usize, end: usize)
     requires { end ≤ length mapping.old }
     ensures { mapping.new ≡ blanked mapping.old from end }
 {
@@ -197,9 +195,8 @@ fn blank(mapping: &mut [u32], from: usize, end: usize)
 
 // Empties a mapping whose entries are there.
 #[tactic(auto, using(crate::proofs::Blanked::blank_both))]
-pub fn unmap(mapping: &mut [u32], entries: Entries)
-    requires mapping_len { length mapping.old ≡ mapping_length }
-    requires entries_in { EntriesIn mapping.old entries }
+pub fn unmap(mapping: &mut MappingWords, entries: Entries)
+    requires { EntriesIn mapping.old entries }
     ensures { mapping.new ≡ empty_words }
 {
     blank(mapping, entries.value as usize, entries.end as usize);
@@ -207,9 +204,14 @@ pub fn unmap(mapping: &mut [u32], entries: Entries)
 }
 
 // Empties a mapping that was lent empty to a comparison with this left fragment, which counts so many pairs.
-pub fn unmap_entered(store: &[u32], mapping: &mut [u32], sort: Sort, l: u32, paired: u32)
+pub fn unmap_entered(
+    store: &StoreWords,
+    mapping: &mut MappingWords,
+    sort: Sort,
+    l: u32,
+    paired: u32,
+)
     requires sound { IsSound store.now }
-    requires mapping_len { length mapping.old ≡ mapping_length }
     requires entered_by { EnteredBy (store_in store.now) (mapping_of mapping.old) paired }
     ensures { mapping.new ≡ empty_words }
 {

@@ -7,13 +7,12 @@ ghost use Rattle.marks.specs.Raw.{first_entries, entries_back, places_back, free
 
 use layout::columns::{
     COUNTS, ENTRIES, JOURNAL_CONTENT, JOURNAL_COUNTS, JOURNAL_KEY, JOURNAL_KIND, JOURNAL_OWNER,
-    JOURNAL_SORT, MARK_PLACE, MARKS, REPLACED, at, copy, number, put, words,
+    JOURNAL_SORT, MARK_PLACE, MARKS, REPLACED, StoreWords, at, copy, number, put, words,
 };
 
 // How many of the first n entries are replacements.
-pub fn replaced_before(store: &[u32], n: usize) -> usize
-    requires store_len { length store.now ≡ buffer_length }
-    requires n_bound { n ≤ 2048 }
+pub fn replaced_before(store: &StoreWords, n: usize) -> usize
+    requires { n ≤ 2048 }
     ensures { result ≡ replaced_in (first_entries (columns store.now) n) }
 {
     words(store, JOURNAL_SORT, 0, n)
@@ -24,8 +23,7 @@ pub fn replaced_before(store: &[u32], n: usize) -> usize
 
 // Moves the entries from n on to the journal's beginning.
 #[tactic(auto, unfolding(crate::specs::Raw::entries_back, crate::specs::Raw::copied, journal::specs::Words::entry_count))]
-fn move_entries(store: &mut [u32], n: usize)
-    requires store_len { length store.old ≡ buffer_length }
+fn move_entries(store: &mut StoreWords, n: usize)
     requires n_bound { n ≤ entry_count (columns store.old) }
     requires store_bound { entry_count (columns store.old) ≤ 2048 }
     ensures { columns store.new ≡ entries_back (columns store.old) n }
@@ -40,8 +38,7 @@ fn move_entries(store: &mut [u32], n: usize)
 
 // Lowers each mark's place by n.
 #[tactic(auto, unfolding(journal::specs::Words::mark_count))]
-fn place_back(store: &mut [u32], n: u32)
-    requires store_len { length store.old ≡ buffer_length }
+fn place_back(store: &mut StoreWords, n: u32)
     requires store_bound { mark_count (columns store.old) ≤ 8 }
     requires set_from { SetFrom (columns store.old) n }
     ensures { columns store.new ≡ places_back (columns store.old) n }
@@ -55,9 +52,8 @@ fn place_back(store: &mut [u32], n: u32)
 
 // Frees the journal before entry n.
 #[tactic(auto, unfolding(crate::specs::Raw::freed_before, journal::specs::Words::entry_count))]
-fn free_before(store: &mut [u32], n: usize)
-    requires store_len { length store.old ≡ buffer_length }
-    requires freeable { Freeable (columns store.old) n }
+fn free_before(store: &mut StoreWords, n: usize)
+    requires { Freeable (columns store.old) n }
     ensures { columns store.new ≡ freed_before (columns store.old) n }
 {
     let entries = number(store, JOURNAL_COUNTS, ENTRIES);
@@ -71,9 +67,8 @@ fn free_before(store: &mut [u32], n: usize)
 
 // Frees the journal before the oldest mark.
 #[tactic(auto, unfolding(crate::specs::Raw::freed_words))]
-pub fn free(store: &mut [u32])
-    requires store_len { length store.old ≡ buffer_length }
-    requires freeable { Freeable (columns store.old) (Rattle.layout.specs.Columns.at (columns store.old) mark_place 0) }
+pub fn free(store: &mut StoreWords)
+    requires { Freeable (columns store.old) (Rattle.layout.specs.Columns.at (columns store.old) mark_place 0) }
     ensures { columns store.new ≡ freed_words (columns store.old) }
 {
     let first = number(store, MARK_PLACE, 0);

@@ -5,15 +5,14 @@ ghost use Rattle.journal.specs.Words.{mark_count};
 ghost use Rattle.marks.specs.Raw.{row_found, row_taken, mark_taken, row_added};
 
 use layout::columns::{
-    COUNTS, ENTRIES, JOURNAL_COUNTS, MARK_COUNTS, MARK_NUMBER, MARK_PLACE, MARKS, at, copy, number,
-    put, words,
+    COUNTS, ENTRIES, JOURNAL_COUNTS, MARK_COUNTS, MARK_NUMBER, MARK_PLACE, MARKS, StoreWords, at,
+    copy, number, put, words,
 };
 
 // The row of the set mark with this number.
 #[tactic(auto, unfolding(journal::specs::Words::mark_count))]
-pub fn row_of(store: &[u32], mark: u32) -> Option<usize>
-    requires store_len { length store.now ≡ buffer_length }
-    requires store_bound { mark_count (columns store.now) ≤ 8 }
+pub fn row_of(store: &StoreWords, mark: u32) -> Option<usize>
+    requires { mark_count (columns store.now) ≤ 8 }
     ensures { result ≡ row_found (columns store.now) mark }
 {
     let count = number(store, COUNTS, MARKS);
@@ -24,8 +23,7 @@ pub fn row_of(store: &[u32], mark: u32) -> Option<usize>
 
 // Takes row i out: the rows behind it move one down.
 #[tactic(auto, unfolding(crate::specs::Raw::row_taken, crate::specs::Raw::copied, journal::specs::Words::mark_count))]
-pub fn take_row(store: &mut [u32], i: usize)
-    requires store_len { length store.old ≡ buffer_length }
+pub fn take_row(store: &mut StoreWords, i: usize)
     requires store_bound { mark_count (columns store.old) ≤ 8 }
     requires i_bound { i < mark_count (columns store.old) }
     ensures { columns store.new ≡ row_taken (columns store.old) i }
@@ -39,9 +37,8 @@ pub fn take_row(store: &mut [u32], i: usize)
 
 // Takes the mark's row out, if it is set.
 #[tactic(auto, using(crate::proofs::Chosen::row_there), unfolding(crate::specs::Raw::mark_taken, crate::specs::Raw::row_found, journal::specs::Words::mark_count))]
-pub fn take_mark(store: &mut [u32], mark: u32)
-    requires store_len { length store.old ≡ buffer_length }
-    requires store_bound { mark_count (columns store.old) ≤ 8 }
+pub fn take_mark(store: &mut StoreWords, mark: u32)
+    requires { mark_count (columns store.old) ≤ 8 }
     ensures { columns store.new ≡ mark_taken (columns store.old) mark }
 {
     if let Some(row) = row_of(store, mark) {
@@ -51,9 +48,8 @@ pub fn take_mark(store: &mut [u32], mark: u32)
 
 // Appends a row that names the present: the counts as they are, and a place behind the whole journal.
 #[tactic(auto, unfolding(crate::specs::Raw::row_added, crate::specs::Raw::copied, journal::specs::Words::mark_count, journal::specs::Words::entry_count))]
-pub fn add_row(store: &mut [u32], mark: u32)
-    requires store_len { length store.old ≡ buffer_length }
-    requires store_bound { mark_count (columns store.old) < 8 }
+pub fn add_row(store: &mut StoreWords, mark: u32)
+    requires { mark_count (columns store.old) < 8 }
     ensures { columns store.new ≡ row_added (columns store.old) mark }
 {
     let count = number(store, COUNTS, MARKS);

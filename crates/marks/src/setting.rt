@@ -9,12 +9,11 @@ ghost use Rattle.marks.specs.Doing.{IsLent, DidMarked};
 use crate::freeing::free;
 use crate::rows::{add_row, take_mark};
 use layout::causes::Cause;
-use layout::columns::{COUNTS, ENTRIES, JOURNAL_COUNTS, MARKS, REPLACED, at, put};
+use layout::columns::{COUNTS, ENTRIES, JOURNAL_COUNTS, MARKS, REPLACED, StoreWords, at, put};
 
 // Without a mark the journal's words may be anything: it begins with no entry.
 #[tactic(auto, unfolding(crate::specs::Raw::begun, journal::specs::Words::mark_count))]
-fn begin(store: &mut [u32])
-    requires { length store.old ≡ buffer_length }
+fn begin(store: &mut StoreWords)
     ensures { columns store.new ≡ begun (columns store.old) }
 {
     if at(store, COUNTS, MARKS) == 0 {
@@ -25,7 +24,7 @@ fn begin(store: &mut [u32])
 
 // Writes what the accepted call writes: the mark's old row goes, a new one comes, and what is before the oldest mark is freed.
 #[tactic(auto, using(crate::proofs::SetMark::stays_lent), unfolding(crate::specs::Raw::with_mark))]
-fn put_mark(store: &mut [u32], mark: u32)
+fn put_mark(store: &mut StoreWords, mark: u32)
     requires lent { IsLent store.old }
     requires mark_value { is_mark mark ≡ true }
     ensures { columns store.new ≡ with_mark (columns store.old) mark }
@@ -38,7 +37,7 @@ fn put_mark(store: &mut [u32], mark: u32)
 
 // The call, on a lent buffer.
 #[tactic(auto, using(crate::proofs::SetMark::is_mark_lem))]
-pub fn set_mark(store: &mut [u32], mark: u32) -> Result<(), Cause>
+pub fn set_mark(store: &mut StoreWords, mark: u32) -> Result<(), Cause>
     requires { IsLent store.old }
     ensures { DidMarked store.old store.new (set_mark mark) (done_of result) }
 {

@@ -12,9 +12,10 @@ ghost use Rattle.numbering.specs.Parts.{HoldsNothing};
 use crate::words::Name;
 use fragments::rows::op_regions;
 use fragments::types::Sort;
+use layout::columns::StoreWords;
 
 // Whether the fragment is an operation without regions.
-pub fn holds_nothing(store: &[u32], sort: Sort, n: usize) -> bool
+pub fn holds_nothing(store: &StoreWords, sort: Sort, n: usize) -> bool
     requires sound { IsSound store.now }
     requires n_value { exists (store_in store.now) (sort_of sort) n ≡ true }
     ensures { HoldsNothing (store_in store.now) (sort_of sort) n result }

@@ -11,7 +11,7 @@ ghost use Rattle.numbering.specs.Words.{numbers_length, define_at, with_run, Nam
 ghost use Rattle.numbering.specs.Numbered.{Numbers, DefinitionsFit};
 
 use fragments::rows::{block_row, op_row};
-use layout::columns::{VALUE_OWNER, number};
+use layout::columns::{StoreWords, VALUE_OWNER, number};
 
 // How many words there are, all 0 at the start. First come those of owners, by the owner's code in the column of owners: an operation's at
 // even places, a block's at odd ones. The odd places from BLOCK_NUMBERS on are for the blocks' own numbers.
@@ -59,7 +59,7 @@ fn define_run(numbers: &mut WalkNumbers, place: usize, counter: usize, first: us
 }
 
 // Record that an operation's results are defined within the fragment.
-pub fn define_op(store: &[u32], numbers: &mut WalkNumbers, n: usize)
+pub fn define_op(store: &StoreWords, numbers: &mut WalkNumbers, n: usize)
     requires sound { IsSound store.now }
     requires n_bound { n < op_count (columns store.now) }
     requires definitions_fit { DefinitionsFit (store_in store.now) (shell (of_op n) ∷ []) numbers.old }
@@ -70,7 +70,7 @@ pub fn define_op(store: &[u32], numbers: &mut WalkNumbers, n: usize)
 }
 
 // Record that a block and its arguments are.
-pub fn define_block(store: &[u32], numbers: &mut WalkNumbers, b: usize)
+pub fn define_block(store: &StoreWords, numbers: &mut WalkNumbers, b: usize)
     requires sound { IsSound store.now }
     requires b_bound { b < block_count (columns store.now) }
     requires definitions_fit { DefinitionsFit (store_in store.now) (shell (of_block b) ∷ []) numbers.old }
@@ -93,7 +93,7 @@ fn name_by(word: u16, n: u32) -> Name
 }
 
 // How a use of value v is named.
-pub fn value_name(store: &[u32], numbers: &WalkNumbers, v: u32) -> Name
+pub fn value_name(store: &StoreWords, numbers: &WalkNumbers, v: u32) -> Name
     requires sound { IsSound store.now }
     requires v_bound { v < value_count (columns store.now) }
     ensures { NamesValue (store_in store.now) numbers.now v result }

@@ -8,11 +8,10 @@ ghost use Rattle.pairing.specs.Slots.{same_kept};
 
 use fragments::ignoring::Ignore;
 use fragments::kept_slots::KeptSlots;
-use layout::columns::{SLOT_CONTENT, SLOT_KEY, SLOT_KIND, at};
+use layout::columns::{SLOT_CONTENT, SLOT_KEY, SLOT_KIND, StoreWords, at};
 
 // The attributes at two slots are equal. Kinds and flags are compared at once: they share a word.
-fn attribute_eq(store: &[u32], l: usize, r: usize) -> bool
-    requires store_len { length store.now ≡ buffer_length }
+fn attribute_eq(store: &StoreWords, l: usize, r: usize) -> bool
     requires l_lt_slot_count { l < slot_count }
     requires r_lt_slot_count { r < slot_count }
     ensures { result ≡ same_attribute (attribute_at (columns store.now) l) (attribute_at (columns store.now) r) }
@@ -25,14 +24,13 @@ fn attribute_eq(store: &[u32], l: usize, r: usize) -> bool
 // Compare the attributes of two runs of slots, without the ignored ones: those from `l` up to `lend`, and those from `r` up to `rend`.
 // (No `zip`: which of the two ends first decides the answer.)
 pub fn attributes_eq(
-    store: &[u32],
+    store: &StoreWords,
     ignore: Ignore,
     l: usize,
     lend: usize,
     r: usize,
     rend: usize,
 ) -> bool
-    requires store_len { length store.now ≡ buffer_length }
     requires lend_le_slot_count { lend ≤ slot_count }
     requires l_le_lend { l ≤ lend }
     requires rend_le_slot_count { rend ≤ slot_count }

@@ -13,9 +13,9 @@ ghost use Rattle.fragments.specs.Terms.{store_read};
 ghost use Rattle.mapping.specs.MappingWords.{mapping_length, mapping_of, same_operand, same_successor, names_agree};
 
 use fragments::terms::Terms;
-use layout::columns::{VALUE_TYPE, at};
+use layout::columns::{StoreWords, VALUE_TYPE, at};
 use layout::slices::{operands_of, successors_of};
-use mapping::mapping::{BLOCK_ENTRIES, NO_IMAGE};
+use mapping::mapping::{BLOCK_ENTRIES, MappingWords, NO_IMAGE};
 use renaming::lookup::same_type;
 
 // The image of number n, whose entry is at i, or n itself if it is not mapped.
@@ -30,10 +30,9 @@ pub fn image_at(mapping: &[u32], i: usize, n: u32) -> u32
 
 // If an operand is mapped, its image must match. Otherwise, it must be identical (e.g. a free/external value shared by both sides). The
 // present types of both must be the same.
-fn value_agrees(store: &[u32], types: &[u32], mapping: &[u32], l: u32, r: u32) -> bool
+fn value_agrees(store: &StoreWords, types: &[u32], mapping: &MappingWords, l: u32, r: u32) -> bool
     requires arranged { Arranged store.now }
     requires index { IsIndex types.now }
-    requires mapping_len { length mapping.now ≡ mapping_length }
     requires l_bound { l < value_count (columns store.now) }
     requires r_bound { r < value_count (columns store.now) }
     ensures { result ≡ same_operand (renamed (list_in types.now) (store_in store.now)) (mapping_of mapping.now) l r }
@@ -48,19 +47,23 @@ fn value_agrees(store: &[u32], types: &[u32], mapping: &[u32], l: u32, r: u32) -
 
 // If a successor is mapped, its image must match. Otherwise, it must be identical (e.g. a free/external block shared by both sides).
 #[tactic(auto, using(crate::proofs::Pairs::block_image), unfolding(mapping::specs::MappingWords::same_successor))]
-fn block_agrees(mapping: &[u32], l: u32, r: u32) -> bool
-    requires mapping_len { length mapping.now ≡ mapping_length }
-    requires l_bound { l < 256 }
+fn block_agrees(mapping: &MappingWords, l: u32, r: u32) -> bool
+    requires { l < 256 }
     ensures { result ≡ same_successor (mapping_of mapping.now) l r }
 {
     image_at(mapping, BLOCK_ENTRIES + l as usize, l) == r
 }
 
 // Each pair of two lists of operands agrees, up to the shorter end.
-pub fn operands_agree(store: &[u32], types: &[u32], mapping: &[u32], l: &[u32], r: &[u32]) -> bool
+pub fn operands_agree(
+    store: &StoreWords,
+    types: &[u32],
+    mapping: &MappingWords,
+    l: &[u32],
+    r: &[u32],
+) -> bool
     requires arranged { Arranged store.now }
     requires index { IsIndex types.now }
-    requires mapping_len { length mapping.now ≡ mapping_length }
     requires l_value { all (λ v. ltb v (value_count (columns store.now))) l.now ≡ true }
     requires r_value { all (λ v. ltb v (value_count (columns store.now))) r.now ≡ true }
     ensures { result ≡ all_pairs (same_operand (renamed (list_in types.now) (store_in store.now)) (mapping_of mapping.now)) l.now r.now }
@@ -71,17 +74,15 @@ pub fn operands_agree(store: &[u32], types: &[u32], mapping: &[u32], l: &[u32], 
 }
 
 // Each pair of two lists of successors agrees, up to the shorter end.
-pub fn successors_agree(mapping: &[u32], l: &[u32], r: &[u32]) -> bool
-    requires mapping_len { length mapping.now ≡ mapping_length }
-    requires l_value { all (λ b. ltb b 256) l.now ≡ true }
+pub fn successors_agree(mapping: &MappingWords, l: &[u32], r: &[u32]) -> bool
+    requires { all (λ b. ltb b 256) l.now ≡ true }
     ensures { result ≡ all_pairs (same_successor (mapping_of mapping.now)) l.now r.now }
 {
     l.iter().zip(r).all(|(l, r)| block_agrees(mapping, *l, *r))
 }
 
 // The operands and the successors of two operations agree.
-pub fn names_agree(terms: &Terms, mapping: &[u32], lhs: usize, rhs: usize) -> bool
-    requires mapping_len { length mapping.now ≡ mapping_length }
+pub fn names_agree(terms: &Terms, mapping: &MappingWords, lhs: usize, rhs: usize) -> bool
     requires lhs_bound { lhs < op_count (columns terms.now.store.now) }
     requires rhs_bound { rhs < op_count (columns terms.now.store.now) }
     ensures { result ≡ names_agree (renamed (list_in terms.now.types.now) (store_read terms.now)) (mapping_of mapping.now) lhs rhs }

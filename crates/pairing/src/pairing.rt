@@ -13,11 +13,10 @@ use crate::shells::{op_shells_eq, rows_eq};
 use crate::types::{EqResult, Pair, Unequal};
 use fragments::rows::{block_row, op_row};
 use fragments::terms::Terms;
-use mapping::mapping::{map_block, map_op, map_values};
+use mapping::mapping::{MappingWords, map_block, map_op, map_values};
 
 // Check that the two have the same shape and map `lhs -> rhs`.
-pub fn op_eq_map(terms: &Terms, mapping: &mut [u32], pair: Pair, paired: u32) -> EqResult
-    requires mapping_len { length mapping.old ≡ mapping_length }
+pub fn op_eq_map(terms: &Terms, mapping: &mut MappingWords, pair: Pair, paired: u32) -> EqResult
     requires lhs_bound { pair.lhs < op_count (columns terms.now.store.now) }
     requires rhs_bound { pair.rhs < op_count (columns terms.now.store.now) }
     requires paired_le_max_paired { paired ≤ max_paired }
@@ -37,8 +36,7 @@ pub fn op_eq_map(terms: &Terms, mapping: &mut [u32], pair: Pair, paired: u32) ->
 
 // Check that the two have the same shape and map `lhs -> rhs`. This and `op_eq_map` differ in each of their calls, so that one function for
 // both would have a trait for the four of them, and be no plainer.
-pub fn block_eq_map(terms: &Terms, mapping: &mut [u32], pair: Pair, paired: u32) -> EqResult
-    requires mapping_len { length mapping.old ≡ mapping_length }
+pub fn block_eq_map(terms: &Terms, mapping: &mut MappingWords, pair: Pair, paired: u32) -> EqResult
     requires lhs_bound { pair.lhs < block_count (columns terms.now.store.now) }
     requires rhs_bound { pair.rhs < block_count (columns terms.now.store.now) }
     requires paired_le_max_paired { paired ≤ max_paired }

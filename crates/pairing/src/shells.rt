@@ -20,7 +20,7 @@ use fragments::ignoring::Ignore;
 use fragments::rows::op_head;
 use fragments::terms::Terms;
 use fragments::types::{Head, Row};
-use layout::columns::{VALUE_TYPE, words};
+use layout::columns::{StoreWords, VALUE_TYPE, words};
 use renaming::lookup::types_eq;
 
 // Two operations have the same kind, and as many regions, successors and operands: the derived `==`, in the rules' words.
@@ -40,9 +40,8 @@ fn locations_eq(ignore: Ignore, l: u32, r: u32) -> bool
 }
 
 // The types of a row's values, as the store has them.
-fn types_of(store: &[u32], row: Row) -> &[u32]
-    requires store_len { length store.now ≡ buffer_length }
-    requires row_fits { RowFits (columns store.now) row }
+fn types_of(store: &StoreWords, row: Row) -> &[u32]
+    requires { RowFits (columns store.now) row }
     ensures { result.now ≡ row_types (columns store.now) row }
 {
     words(store, VALUE_TYPE, row.value, row.value + row.values)
@@ -57,8 +56,7 @@ fn same_types(l: &[u32], r: &[u32]) -> bool
 }
 
 // The values of two rows have the same present types.
-fn row_types_eq(store: &[u32], types: &[u32], l: Row, r: Row) -> bool
-    requires store_len { length store.now ≡ buffer_length }
+fn row_types_eq(store: &StoreWords, types: &[u32], l: Row, r: Row) -> bool
     requires index { IsIndex types.now }
     requires row_fits { RowFits (columns store.now) l }
     requires row_fits_2 { RowFits (columns store.now) r }
@@ -84,8 +82,7 @@ fn no_attributes(l: Row, r: Row) -> bool
 
 // Types and attributes are equal at first sight: the types as the store has them are, and there are no attributes.
 #[tactic(auto, unfolding(crate::specs::Rows::same_plainly))]
-fn plainly_eq(store: &[u32], l: Row, r: Row) -> bool
-    requires store_len { length store.now ≡ buffer_length }
+fn plainly_eq(store: &StoreWords, l: Row, r: Row) -> bool
     requires row_fits { RowFits (columns store.now) l }
     requires row_fits_2 { RowFits (columns store.now) r }
     ensures { result ≡ same_plainly (columns store.now) l r }
@@ -96,8 +93,7 @@ fn plainly_eq(store: &[u32], l: Row, r: Row) -> bool
 // Types and attributes are equal. This is called by `rows_eq` and by `op_shells_eq`: were there one call, the look-ups and the loop over
 // attributes would become a part of everything around them, and slow it down.
 #[tactic(auto, unfolding(crate::specs::Rows::same_closely, rules::specs::Lists::every))]
-fn closely_eq(store: &[u32], types: &[u32], ignore: Ignore, l: Row, r: Row) -> bool
-    requires store_len { length store.now ≡ buffer_length }
+fn closely_eq(store: &StoreWords, types: &[u32], ignore: Ignore, l: Row, r: Row) -> bool
     requires index { IsIndex types.now }
     requires row_fits { RowFits (columns store.now) l }
     requires row_fits_2 { RowFits (columns store.now) r }
@@ -110,8 +106,7 @@ fn closely_eq(store: &[u32], types: &[u32], ignore: Ignore, l: Row, r: Row) -> b
 
 // What operations and blocks have in common is equal, and this is all that is compared of two blocks.
 #[tactic(auto, using(crate::proofs::Alike::rows_unlike, crate::proofs::Alike::rows_plain, crate::proofs::Alike::rows_left))]
-pub fn rows_eq(store: &[u32], types: &[u32], ignore: Ignore, l: Row, r: Row) -> bool
-    requires store_len { length store.now ≡ buffer_length }
+pub fn rows_eq(store: &StoreWords, types: &[u32], ignore: Ignore, l: Row, r: Row) -> bool
     requires index { IsIndex types.now }
     requires row_fits { RowFits (columns store.now) l }
     requires row_fits_2 { RowFits (columns store.now) r }

@@ -22,15 +22,16 @@ use Rattle.calling.proofs.Facts.{shaped}
 use Rattle.journal.specs.Journal as rules
 use Rattle.journal.specs.Journal.{entries_for, is_replaced, replaced_in}
 use Rattle.journal.specs.Words.{entry_from, entry_at, mark_count, entry_count, max_entries, journal_of, row_at, rows_of, journaled_of, marked_in}
+use Rattle.journal.specs.Entries.{words_of, entry_of, counts_as}
+use Rattle.journal.specs.declared.entries.Entry.{Entry}
+use Rattle.journal.specs.declared.entries.Entry.TheVariants as Entries
 use Rattle.journal.proofs.Rows.{facts}
 use Rattle.journal.proofs.Replaced.{replaced_append}
 use Rattle.marks.specs.Doing.{IsLent, DidMarked}
 use Rattle.marks.proofs.Tables.{TablesKept, store_kept, sound_kept}
 use Rattle.marks.proofs.Lent.{lent_facts}
 use Rattle.marks.proofs.Holding.{journal_set}
-use Rattle.remembering.specs.declared.entries.Entry.{Entry}
-use Rattle.remembering.specs.declared.entries.Entry.TheVariants as Entries
-use Rattle.remembering.specs.Raw.{words_of, entry_of, counts_as, replaced_count, entry_put, with_entry}
+use Rattle.remembering.specs.Raw.{replaced_count, entry_put, with_entry}
 use Rattle.remembering.proofs.Lent.{held_counted, journal_length}
 use Rattle.remembering.proofs.Kept.{Kept}
 use Rattle.remembering.proofs.Done.{remembered_behind, journal_room, marked_work}

@@ -26,10 +26,11 @@ use Rattle.setting.proofs.Owners.{reachable, attributes_read, key_test}
 use Rattle.setting.proofs.Placed.{attribute_done}
 use Rattle.journal.specs.Journal.{Entry, attribute_was, key_was_none, attribute_or, entries_for}
 use Rattle.journal.specs.Words.{entry_from, mark_count, entry_count, max_entries, marked_in}
+use Rattle.journal.specs.Entries.{words_of, entry_of}
+use Rattle.journal.specs.declared.entries.Entry as words
 use Rattle.marks.specs.Doing.{IsLent, DidMarked}
 use Rattle.marks.proofs.Lent.{lent_facts}
-use Rattle.remembering.specs.declared.entries.Entry as words
-use Rattle.remembering.specs.Raw.{words_of, entry_of, replaced_count, with_entry, attribute_entry, key_entry}
+use Rattle.remembering.specs.Raw.{replaced_count, with_entry, attribute_entry, key_entry}
 use Rattle.remembering.proofs.Remembered.{entry_room, remembered_call}
 
 -- ---- where an attribute goes

@@ -20,9 +20,10 @@ use Rattle.setting.proofs.OperandCauses.{there_operand}
 use Rattle.setting.proofs.OperandDone.{operand_done}
 use Rattle.journal.specs.Journal.{operand_was, entries_for}
 use Rattle.journal.specs.Words.{entry_from, mark_count, entry_count, max_entries}
+use Rattle.journal.specs.Entries.{words_of, entry_of}
 use Rattle.marks.specs.Doing.{IsLent, DidMarked}
 use Rattle.marks.proofs.Lent.{lent_facts}
-use Rattle.remembering.specs.Raw.{words_of, entry_of, replaced_count, with_entry, operand_entry}
+use Rattle.remembering.specs.Raw.{replaced_count, with_entry, operand_entry}
 use Rattle.remembering.proofs.Room.{one_fits}
 use Rattle.remembering.proofs.Remembered.{entry_room, remembered_call}
 

@@ -1,41 +1,14 @@
 -- Entries of the journal as words: what each call that sets remembers, and what is written.
-use Rattle.std.specs.Prelude.{ℕ, ◌+◌, List, [], ◌∷◌}
+use Rattle.std.specs.Prelude.{ℕ, ◌+◌}
 use Rattle.rules.specs.Store.{Owner}
 use Rattle.layout.specs.Columns.{Cols, at, write, op_operand_first, operand_words, slot_key, slot_kind, slot_content, journal_counts, journal_sort, journal_owner, journal_key, journal_kind, journal_content}
 use Rattle.layout.specs.Reading.{owner_code}
-use Rattle.journal.specs.Journal as rules
-use Rattle.journal.specs.Words.{entry_from, entry_count}
-use Rattle.remembering.specs.declared.entries.Entry.{Entry}
-use Rattle.remembering.specs.declared.entries.Entry.TheVariants as Entries
-
--- an entry in words, as the journal has it: its sort, whom it tells of, and how that was
-pub record EntryWords : Type 0 where
-  pub sort : ℕ
-  pub owner : ℕ
-  pub key : ℕ
-  pub kind : ℕ
-  pub content : ℕ
-
-unfoldable pub words_of : Entry → EntryWords
-words_of (Entries.OperandWas operation index value) = record { sort = 0; owner = operation; key = index; kind = value; content = 0 }
-words_of (Entries.AttributeWas owner key kind content) = record { sort = 1; owner = owner; key = key; kind = kind; content = content }
-words_of (Entries.KeyWasNone owner key) = record { sort = 2; owner = owner; key = key; kind = 0; content = 0 }
-
-unfoldable pub listed : EntryWords → List ℕ
-listed e = e.sort ∷ e.owner ∷ e.key ∷ e.kind ∷ e.content ∷ []
-
--- what an entry of the code is read as
-unfoldable pub entry_of : Entry → rules.Entry
-unfolding words_of
-entry_of e = entry_from (words_of e).sort (words_of e).owner (words_of e).key (words_of e).kind (words_of e).content
+use Rattle.journal.specs.Words.{entry_count}
+use Rattle.journal.specs.Entries.{words_of, counts_as}
+use Rattle.journal.specs.declared.entries.Entry.{Entry}
+use Rattle.journal.specs.declared.entries.Entry.TheVariants as Entries
 
 -- ---- what is written
-
--- an operand or an attribute as it was is one replacement, a new key none
-unfoldable pub counts_as : Entry → ℕ
-counts_as (Entries.OperandWas operation index value) = 1
-counts_as (Entries.AttributeWas owner key kind content) = 1
-counts_as (Entries.KeyWasNone owner key) = 0
 
 -- how many of the entries are replacements
 unfoldable pub replaced_count : Cols → ℕ

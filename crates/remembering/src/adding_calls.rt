@@ -6,10 +6,11 @@ ghost use Rattle.marks.specs.Doing.{IsLent, DidMarked};
 
 use calling::types::OpFields;
 use layout::causes::Cause;
+use layout::columns::StoreWords;
 
 #[tactic(auto, using(marks::proofs::Lent::lent_facts))]
 pub fn new_operation(
-    store: &mut [u32],
+    store: &mut StoreWords,
     fields: OpFields,
     types: &[u32],
     operands: &[u32],
@@ -23,7 +24,7 @@ pub fn new_operation(
 
 #[tactic(auto, using(marks::proofs::Lent::lent_facts))]
 pub fn new_block(
-    store: &mut [u32],
+    store: &mut StoreWords,
     region: u32,
     label: u32,
     location: u32,

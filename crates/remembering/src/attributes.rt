@@ -13,10 +13,11 @@ ghost use Rattle.journal.specs.Words.{mark_count};
 ghost use Rattle.marks.specs.Doing.{IsLent, DidMarked};
 ghost use Rattle.remembering.specs.Raw.{attribute_entry, key_entry};
 
-use crate::entries::{Entry, is_full, remember};
+use crate::entries::{is_full, remember};
 use calling::types::{Attribute, Owner};
+use journal::entries::Entry;
 use layout::causes::Cause;
-use layout::columns::{COUNTS, MARKS, SLOT_CONTENT, SLOT_KEY, SLOT_KIND, at};
+use layout::columns::{COUNTS, MARKS, SLOT_CONTENT, SLOT_KEY, SLOT_KIND, StoreWords, at};
 use setting::attributes::{AttributePlace, place_for, put_added, put_replaced};
 
 // The owner as a word: twice its number, and one more for a block.
@@ -33,8 +34,7 @@ fn owner_code(owner: Owner) -> u32
 
 // The owner's attribute at a slot as it is.
 #[tactic(auto, unfolding(crate::specs::Raw::attribute_entry))]
-fn attribute_was(store: &[u32], owner: Owner, slot: usize) -> Entry
-    requires store_len { length store.now ≡ buffer_length }
+fn attribute_was(store: &StoreWords, owner: Owner, slot: usize) -> Entry
     requires owner_bound { owner_number (owner_of owner) < 512 }
     requires slot_lt_slot_count { slot < slot_count }
     ensures { result ≡ attribute_entry (columns store.now) (owner_of owner) slot }
@@ -64,7 +64,7 @@ fn key_was_none(owner: Owner, key: u32) -> Entry
 // Replaces the attribute at a slot, and remembers what it was, if that can be.
 #[tactic(auto, using(marks::proofs::Lent::lent_facts))]
 fn replace_attribute(
-    store: &mut [u32],
+    store: &mut StoreWords,
     owner: Owner,
     slot: usize,
     attribute: Attribute,
@@ -86,7 +86,7 @@ fn replace_attribute(
 
 // Inserts an attribute at a slot, and remembers that its key is new.
 #[tactic(auto, using(marks::proofs::Lent::lent_facts))]
-fn add_attribute(store: &mut [u32], owner: Owner, slot: usize, attribute: Attribute)
+fn add_attribute(store: &mut StoreWords, owner: Owner, slot: usize, attribute: Attribute)
     requires lent { IsLent store.old }
     requires nonzero { 0 < mark_count (columns store.old) }
     requires clear { first_failed (tests (store_in store.old) (set_attribute (owner_of owner) (attribute_of attribute))) ≡ none }
@@ -100,7 +100,11 @@ fn add_attribute(store: &mut [u32], owner: Owner, slot: usize, attribute: Attrib
 
 // The call, on a lent buffer.
 #[tactic(auto, using(marks::proofs::Lent::lent_facts), unfolding(journal::specs::Words::mark_count))]
-pub fn set_attribute(store: &mut [u32], owner: Owner, attribute: Attribute) -> Result<(), Cause>
+pub fn set_attribute(
+    store: &mut StoreWords,
+    owner: Owner,
+    attribute: Attribute,
+) -> Result<(), Cause>
     requires { IsLent store.old }
     ensures { DidMarked store.old store.new (build (set_attribute (owner_of owner) (attribute_of attribute))) (done_of result) }
 {

@@ -10,15 +10,15 @@ ghost use Rattle.journal.specs.Words.{mark_count};
 ghost use Rattle.marks.specs.Doing.{IsLent, DidMarked};
 ghost use Rattle.remembering.specs.Raw.{operand_entry};
 
-use crate::entries::{Entry, is_full, remember};
+use crate::entries::{is_full, remember};
+use journal::entries::Entry;
 use layout::causes::Cause;
-use layout::columns::{COUNTS, MARKS, OP_OPERAND_FIRST, OPERAND_WORDS, at, number};
+use layout::columns::{COUNTS, MARKS, OP_OPERAND_FIRST, OPERAND_WORDS, StoreWords, at, number};
 use setting::operands::{operand_cause, put_operand};
 
 // Operand i of operation n as it is.
 #[tactic(auto, unfolding(crate::specs::Raw::operand_entry))]
-fn operand_was(store: &[u32], n: u32, i: u32) -> Entry
-    requires store_len { length store.now ≡ buffer_length }
+fn operand_was(store: &StoreWords, n: u32, i: u32) -> Entry
     requires n_bound { n < 512 }
     requires i_bound { Rattle.layout.specs.Columns.at (columns store.now) op_operand_first n + i < 2048 }
     ensures { result ≡ operand_entry (columns store.now) n i }
@@ -34,7 +34,7 @@ fn operand_was(store: &[u32], n: u32, i: u32) -> Entry
 
 // Replaces an operand that no test refuses, and remembers what it was, if that can be.
 #[tactic(auto, using(marks::proofs::Lent::lent_facts))]
-fn replace_operand(store: &mut [u32], n: u32, i: u32, v: u32) -> Result<(), Cause>
+fn replace_operand(store: &mut StoreWords, n: u32, i: u32, v: u32) -> Result<(), Cause>
     requires lent { IsLent store.old }
     requires nonzero { 0 < mark_count (columns store.old) }
     requires v_value { first_failed (tests (store_in store.old) (set_operand (record { operation = n; index = i; value = v }))) ≡ none }
@@ -51,7 +51,7 @@ fn replace_operand(store: &mut [u32], n: u32, i: u32, v: u32) -> Result<(), Caus
 
 // The call, on a lent buffer.
 #[tactic(auto, using(marks::proofs::Lent::lent_facts), unfolding(journal::specs::Words::mark_count))]
-pub fn set_operand(store: &mut [u32], n: u32, i: u32, v: u32) -> Result<(), Cause>
+pub fn set_operand(store: &mut StoreWords, n: u32, i: u32, v: u32) -> Result<(), Cause>
     requires { IsLent store.old }
     ensures { DidMarked store.old store.new (build (set_operand (record { operation = n; index = i; value = v }))) (done_of result) }
 {

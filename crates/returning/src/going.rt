@@ -9,16 +9,17 @@ ghost use Rattle.returning.specs.Returning.{forgotten, PutBack};
 
 use cutting::tables::cut_tables;
 use layout::causes::Cause;
-use layout::columns::{COUNTS, ENTRIES, JOURNAL_COUNTS, MARK_PLACE, MARKS, REPLACED, number, put};
+use layout::columns::{
+    COUNTS, ENTRIES, JOURNAL_COUNTS, MARK_PLACE, MARKS, REPLACED, StoreWords, number, put,
+};
 use marks::freeing::replaced_before;
 use marks::rows::row_of;
 use undoing::entries::undo_between;
 
 // The journal ends at entry n: those behind it are forgotten, and the replacements among them.
 #[tactic(auto, unfolding(crate::specs::Returning::forgotten))]
-fn forget_from(store: &mut [u32], n: usize)
-    requires store_len { length store.old ≡ buffer_length }
-    requires n_le_max_entries { n ≤ max_entries }
+fn forget_from(store: &mut StoreWords, n: usize)
+    requires { n ≤ max_entries }
     ensures { columns store.new ≡ forgotten (columns store.old) n }
 {
     let replaced = replaced_before(store, n);
@@ -28,7 +29,7 @@ fn forget_from(store: &mut [u32], n: usize)
 
 // What the accepted call does.
 #[tactic(auto, using(marks::proofs::Lent::lent_facts, crate::proofs::Undone::place_low))]
-fn put_back(store: &mut [u32], row: usize)
+fn put_back(store: &mut StoreWords, row: usize)
     requires lent { IsLent store.old }
     requires row_bound { row < mark_count (columns store.old) }
     ensures { PutBack store.old store.new row }
@@ -43,7 +44,7 @@ fn put_back(store: &mut [u32], row: usize)
 
 // The call, on a lent buffer.
 #[tactic(auto, using(marks::proofs::Lent::lent_facts, marks::proofs::Chosen::row_there))]
-pub fn go_back(store: &mut [u32], mark: u32) -> Result<(), Cause>
+pub fn go_back(store: &mut StoreWords, mark: u32) -> Result<(), Cause>
     requires { IsLent store.old }
     ensures { DidMarked store.old store.new (go_back mark) (done_of result) }
 {

@@ -11,12 +11,13 @@ use crate::types::Starts;
 use fragments::ignoring::Ignore;
 use fragments::terms::Terms;
 use layout::causes::Cause;
-use lending::lent::is_sound;
+use layout::columns::StoreWords;
+use lending::lent::sound_words;
 use renaming::indexing::{INDEX_LENGTH, index_types};
 
 // Search a block of a sound store, with the list of types tested and indexed first.
 fn indexed_runs(
-    store: &[u32],
+    store: &StoreWords,
     types: &[u32],
     block: u32,
     length: u32,
@@ -46,16 +47,16 @@ pub fn repeated_run(
 ) -> Result<Option<Starts>, Cause>
     ensures { Answered (sound_lent store.now) store.now types.now (ignore_of ignore) block length result }
 {
-    if !is_sound(store) {
+    let Some(words) = sound_words(store) else {
         return Err(Cause::NotSound);
-    }
+    };
     if types.is_empty() {
         let terms = Terms {
-            store,
+            store: words,
             types,
             ignore,
         };
         return block_runs(&terms, block, length);
     }
-    indexed_runs(store, types, block, length, ignore)
+    indexed_runs(words, types, block, length, ignore)
 }

@@ -13,6 +13,7 @@ use crate::types::TwoRuns;
 use equivalence::regions::op_eq_mapped;
 use fragments::terms::Terms;
 use fragments::types::Sort;
+use mapping::mapping::MappingWords;
 use mapping::unmapping::unmap_entered;
 use pairing::answers::paired_of;
 use pairing::pairing::op_eq_map;
@@ -27,8 +28,7 @@ fn run_of(ops: &[u32], n: usize, i: usize) -> &[u32]
 }
 
 // Pass 2: the operations of both runs and their results are mapped.
-fn pair_runs(terms: &Terms, mapping: &mut [u32], ops: &[u32], two: TwoRuns) -> EqResult
-    requires mapping_len { length mapping.old ≡ mapping_length }
+fn pair_runs(terms: &Terms, mapping: &mut MappingWords, ops: &[u32], two: TwoRuns) -> EqResult
     requires runs_in { RunsIn terms.now.store.now ops.now two }
     requires paired_fits { PairedFits (pair_walk (store_read terms.now) (options_in terms.now) ops.now two (state_of mapping.old 0)) }
     ensures { Told (pair_walk (store_read terms.now) (options_in terms.now) ops.now two (state_of mapping.old 0)) result mapping.new }
@@ -49,12 +49,11 @@ fn pair_runs(terms: &Terms, mapping: &mut [u32], ops: &[u32], two: TwoRuns) -> E
 // Pass 3: operations that are mapped are compared by their uses and nested regions.
 fn check_runs(
     terms: &Terms,
-    mapping: &mut [u32],
+    mapping: &mut MappingWords,
     ops: &[u32],
     two: TwoRuns,
     paired: u32,
 ) -> EqResult
-    requires mapping_len { length mapping.old ≡ mapping_length }
     requires runs_in { RunsIn terms.now.store.now ops.now two }
     requires paired_fits { PairedFits (check_walk (store_read terms.now) (options_in terms.now) ops.now two (state_of mapping.old paired)) }
     ensures { Told (check_walk (store_read terms.now) (options_in terms.now) ops.now two (state_of mapping.old paired)) result mapping.new }
@@ -73,9 +72,8 @@ fn check_runs(
 }
 
 // Both passes.
-fn compare_runs(terms: &Terms, mapping: &mut [u32], ops: &[u32], two: TwoRuns) -> EqResult
-    requires mapping_len { length mapping.old ≡ mapping_length }
-    requires runs_in { RunsIn terms.now.store.now ops.now two }
+fn compare_runs(terms: &Terms, mapping: &mut MappingWords, ops: &[u32], two: TwoRuns) -> EqResult
+    requires { RunsIn terms.now.store.now ops.now two }
     ensures { Told (runs_walk (store_read terms.now) (options_in terms.now) ops.now two (state_of mapping.old 0)) result mapping.new }
 {
     let paired = pair_runs(terms, mapping, ops, two)?;
@@ -83,7 +81,7 @@ fn compare_runs(terms: &Terms, mapping: &mut [u32], ops: &[u32], two: TwoRuns) -
 }
 
 // The two runs are equal. The mapping is empty before, and what was entered is taken out again.
-pub fn same_runs(terms: &Terms, mapping: &mut [u32], ops: &[u32], two: TwoRuns) -> bool
+pub fn same_runs(terms: &Terms, mapping: &mut MappingWords, ops: &[u32], two: TwoRuns) -> bool
     requires mapping_value { mapping.old ≡ empty_words }
     requires runs_in { RunsIn terms.now.store.now ops.now two }
     ensures value { result ≡ same_runs (under (options_in terms.now) (store_read terms.now)) (ignore_of terms.now.ignore) two.runs.block two.runs.n two.left two.right }

@@ -15,10 +15,11 @@ use crate::comparing::same_runs;
 use crate::types::{Runs, Starts, TwoRuns};
 use crate::uses::first_uses_may_agree;
 use fragments::terms::Terms;
+use mapping::mapping::MappingWords;
 use windows::chains::Chains;
 
 // The two runs are equal. Where the operands of their first operations tell that they are not, they are not compared.
-fn equal_runs(terms: &Terms, mapping: &mut [u32], ops: &[u32], two: TwoRuns) -> bool
+fn equal_runs(terms: &Terms, mapping: &mut MappingWords, ops: &[u32], two: TwoRuns) -> bool
     requires mapping_value { mapping.old ≡ empty_words }
     requires runs_in { RunsIn terms.now.store.now ops.now two }
     ensures value { result ≡ same_runs (under (options_in terms.now) (store_read terms.now)) (ignore_of terms.now.ignore) two.runs.block two.runs.n two.left two.right }
@@ -34,7 +35,7 @@ fn equal_runs(terms: &Terms, mapping: &mut [u32], ops: &[u32], two: TwoRuns) -> 
 // bucket: no index is counted.)
 fn left_start(
     terms: &Terms,
-    mapping: &mut [u32],
+    mapping: &mut MappingWords,
     ops: &[u32],
     sums: &[u64],
     chains: &Chains,
@@ -68,7 +69,7 @@ fn left_start(
 // The first two equal runs. A right start smaller than the length has no left one.
 pub fn first_run(
     terms: &Terms,
-    mapping: &mut [u32],
+    mapping: &mut MappingWords,
     ops: &[u32],
     sums: &[u64],
     chains: &Chains,

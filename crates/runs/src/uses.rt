@@ -11,12 +11,12 @@ ghost use Rattle.layout.specs.Soundness.{IsSound};
 ghost use Rattle.runs.specs.Walked.{RunsIn, left_results};
 
 use crate::types::TwoRuns;
-use layout::columns::{VALUE_OWNER, at};
+use layout::columns::{StoreWords, VALUE_OWNER, at};
 use layout::slices::operands_of;
 
 // The value may be a result of an operation of the left run: its owner is an operation whose number is neither below the run's first one nor
 // above its last. A block's operations stand by rising number.
-fn may_define(store: &[u32], ops: &[u32], two: TwoRuns, value: u32) -> bool
+fn may_define(store: &StoreWords, ops: &[u32], two: TwoRuns, value: u32) -> bool
     requires sound { IsSound store.now }
     requires runs_in { RunsIn store.now ops.now two }
     requires value_bound { value < value_count (columns store.now) }
@@ -30,7 +30,7 @@ fn may_define(store: &[u32], ops: &[u32], two: TwoRuns, value: u32) -> bool
 
 // The first operations' operands may agree: each left one is the right one, or may be a result of the left run. If not, the runs are not equal,
 // whatever types are renamed and whatever is ignored. Operands that are not as many are left to the comparison.
-pub fn first_uses_may_agree(store: &[u32], ops: &[u32], two: TwoRuns) -> bool
+pub fn first_uses_may_agree(store: &StoreWords, ops: &[u32], two: TwoRuns) -> bool
     requires sound { IsSound store.now }
     requires runs_in { RunsIn store.now ops.now two }
     ensures { (types : List ℕ) (ig : Ignore) → result ≡ false → same_runs (renamed types (store_in store.now)) ig two.runs.block two.runs.n two.left two.right ≡ false }

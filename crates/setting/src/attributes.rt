@@ -14,7 +14,8 @@ ghost use Rattle.calling.specs.Doing.{Did};
 use calling::types::{Attribute, Owner};
 use layout::causes::Cause;
 use layout::columns::{
-    ATTRIBUTES, COUNTS, SLOT_CONTENT, SLOT_KEY, SLOT_KIND, at, insert, number, put, words,
+    ATTRIBUTES, COUNTS, SLOT_CONTENT, SLOT_KEY, SLOT_KIND, StoreWords, at, insert, number, put,
+    words,
 };
 use layout::kinds::kind_code;
 use layout::owners::{count_column, first_slot, key_count, owner_exists, owner_number};
@@ -27,8 +28,7 @@ pub enum AttributePlace {
 }
 
 // Of `count` slots from `first` on, the first whose key is not below this one; the slot behind them if there is none.
-fn slot_from(store: &[u32], first: usize, count: usize, key: u32) -> usize
-    requires store_len { length store.now ≡ buffer_length }
+fn slot_from(store: &StoreWords, first: usize, count: usize, key: u32) -> usize
     requires count_bound { count ≤ 8 }
     requires first_bound { first + 8 ≤ slot_count }
     ensures { result ≡ seek (columns store.now) key first count }
@@ -40,7 +40,7 @@ fn slot_from(store: &[u32], first: usize, count: usize, key: u32) -> usize
 
 // The owner's slot where the key belongs.
 #[tactic(auto, using(crate::proofs::Owners::reachable), unfolding(crate::specs::Raw::slot_for))]
-pub fn slot_for(store: &[u32], owner: Owner, key: u32) -> usize
+pub fn slot_for(store: &StoreWords, owner: Owner, key: u32) -> usize
     requires sound { IsSound store.now }
     requires owner_value { owner_exists (store_in store.now) (owner_of owner) ≡ true }
     ensures { result ≡ slot_for (columns store.now) (owner_of owner) key }
@@ -50,7 +50,7 @@ pub fn slot_for(store: &[u32], owner: Owner, key: u32) -> usize
 
 // The owner has the key already: it stands at `slot`, where it belongs.
 #[tactic(auto, using(crate::proofs::Owners::reachable), unfolding(crate::specs::Raw::key_there))]
-pub fn key_there(store: &[u32], owner: Owner, slot: usize, key: u32) -> bool
+pub fn key_there(store: &StoreWords, owner: Owner, slot: usize, key: u32) -> bool
     requires sound { IsSound store.now }
     requires owner_value { owner_exists (store_in store.now) (owner_of owner) ≡ true }
     requires slot_value { slot ≡ slot_for (columns store.now) (owner_of owner) key }
@@ -60,7 +60,11 @@ pub fn key_there(store: &[u32], owner: Owner, slot: usize, key: u32) -> bool
 }
 
 // Where the attribute goes, or the cause for which the call is refused, by the tests of document 01 in their order.
-pub fn place_for(store: &[u32], owner: Owner, attribute: Attribute) -> Result<AttributePlace, Cause>
+pub fn place_for(
+    store: &StoreWords,
+    owner: Owner,
+    attribute: Attribute,
+) -> Result<AttributePlace, Cause>
     requires { IsSound store.now }
     ensures refused { cause_of result ≡ first_failed (tests (store_in store.now) (set_attribute (owner_of owner) (attribute_of attribute))) }
     ensures placed { IfOk result (λ place. place ≡ place_for (columns store.now) (owner_of owner) attribute.key) }
@@ -85,8 +89,7 @@ pub fn place_for(store: &[u32], owner: Owner, attribute: Attribute) -> Result<At
 }
 
 // Replaces the attribute at a slot, where its key stands already.
-pub fn put_replaced(store: &mut [u32], slot: usize, attribute: Attribute)
-    requires store_len { length store.old ≡ buffer_length }
+pub fn put_replaced(store: &mut StoreWords, slot: usize, attribute: Attribute)
     requires slot_lt_slot_count { slot < slot_count }
     requires kind_le_max_attribute_kind { attribute.kind ≤ max_attribute_kind }
     ensures { columns store.new ≡ replaced (columns store.old) slot (attribute_of attribute) }
@@ -97,7 +100,7 @@ pub fn put_replaced(store: &mut [u32], slot: usize, attribute: Attribute)
 }
 
 // Inserts an attribute at a slot: the owner's attributes from there on move one slot on, and both counts that it adds to are written.
-pub fn put_added(store: &mut [u32], owner: Owner, slot: usize, attribute: Attribute)
+pub fn put_added(store: &mut StoreWords, owner: Owner, slot: usize, attribute: Attribute)
     requires arranged { Arranged store.old }
     requires owner_value { owner_exists (store_in store.old) (owner_of owner) ≡ true }
     requires slot_bound { slot ≤ slots_of (owner_of owner) + key_count (columns store.old) (owner_of owner) }
@@ -122,7 +125,11 @@ pub fn put_added(store: &mut [u32], owner: Owner, slot: usize, attribute: Attrib
 }
 
 // The call, on a sound buffer.
-pub fn set_attribute(store: &mut [u32], owner: Owner, attribute: Attribute) -> Result<(), Cause>
+pub fn set_attribute(
+    store: &mut StoreWords,
+    owner: Owner,
+    attribute: Attribute,
+) -> Result<(), Cause>
     requires { IsSound store.old }
     ensures { Did store.old store.new (set_attribute (owner_of owner) (attribute_of attribute)) (done_of result) }
 {

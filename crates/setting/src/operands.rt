@@ -10,11 +10,13 @@ ghost use Rattle.calling.specs.Types.{done_of};
 ghost use Rattle.calling.specs.Doing.{Did};
 
 use layout::causes::Cause;
-use layout::columns::{OP_OPERAND_END, OP_OPERAND_FIRST, OPERAND_WORDS, at, number, put};
+use layout::columns::{
+    OP_OPERAND_END, OP_OPERAND_FIRST, OPERAND_WORDS, StoreWords, at, number, put,
+};
 use layout::existing::{op_exists, value_exists};
 
 // The cause for which the call is refused, if there is one.
-pub fn operand_cause(store: &[u32], n: u32, i: u32, v: u32) -> Result<(), Cause>
+pub fn operand_cause(store: &StoreWords, n: u32, i: u32, v: u32) -> Result<(), Cause>
     requires { IsSound store.now }
     ensures { cause_of result ≡ first_failed (tests (store_in store.now) (set_operand (record { operation = n; index = i; value = v }))) }
 {
@@ -29,8 +31,7 @@ pub fn operand_cause(store: &[u32], n: u32, i: u32, v: u32) -> Result<(), Cause>
 }
 
 // Operand i of operation n becomes value v.
-pub fn put_operand(store: &mut [u32], n: u32, i: u32, v: u32)
-    requires store_len { length store.old ≡ buffer_length }
+pub fn put_operand(store: &mut StoreWords, n: u32, i: u32, v: u32)
     requires n_bound { n < 512 }
     requires i_bound { Rattle.layout.specs.Columns.at (columns store.old) op_operand_first n + i < 2048 }
     ensures { columns store.new ≡ with_operand (columns store.old) n i v }
@@ -40,7 +41,7 @@ pub fn put_operand(store: &mut [u32], n: u32, i: u32, v: u32)
 }
 
 // The call, on a sound buffer.
-pub fn set_operand(store: &mut [u32], n: u32, i: u32, v: u32) -> Result<(), Cause>
+pub fn set_operand(store: &mut StoreWords, n: u32, i: u32, v: u32) -> Result<(), Cause>
     requires { IsSound store.old }
     ensures { Did store.old store.new (set_operand (record { operation = n; index = i; value = v })) (done_of result) }
 {

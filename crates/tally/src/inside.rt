@@ -12,7 +12,7 @@ use crate::counting::include;
 use crate::types::Tally;
 use fragments::order::BlocksIn;
 use fragments::types::{Blocks, Sort};
-use layout::columns::{OP_REGION_END, OP_REGION_FIRST, number};
+use layout::columns::{OP_REGION_END, OP_REGION_FIRST, StoreWords, number};
 use layout::ops_in::OpsIn;
 
 // A walk enters at most 33 regions, one in another.
@@ -21,7 +21,7 @@ const LEVELS: u32 = 33;
 // A walk through right fragments of a sound store, found equal or not.
 #[derive(Clone, Copy)]
 struct Walk<'a> {
-    store: &'a [u32],
+    store: &'a StoreWords,
     found: bool,
     ghost sound: { IsSound store.now },
 }
@@ -68,7 +68,7 @@ impl<'a> Walk<'a> {
 }
 
 // The operations inside a right fragment, found equal or not.
-pub fn include_fragment(store: &[u32], tally: &mut Tally, sort: Sort, n: u32, found: bool)
+pub fn include_fragment(store: &StoreWords, tally: &mut Tally, sort: Sort, n: u32, found: bool)
     requires sound { IsSound store.now }
     requires n_value { exists (store_in store.now) (sort_of sort) n ≡ true }
     ensures { Tallied (store_in store.now) (sort_of sort) n found tally.old tally.new }

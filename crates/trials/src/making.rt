@@ -1,6 +1,7 @@
 // The lines that make a listing and what must be printed for it.
 use crate::text::{byte_at, next, put_byte_if_room, put_decimal_if_room};
 use lines::reading::Fields;
+use lines::writing::LineWriter;
 use std::io;
 use std::ops::Range;
 
@@ -22,38 +23,29 @@ pub fn unknown(rt: &impl Print, case: CaseLengths, line: &[u8]) -> io::Result<Ca
 }
 
 // A byte of a line in one of its turns: `#` stands for the number of the turn, and `/` for a line feed.
-fn put_made(to: &mut [u8], at: usize, byte: u8, turn: u32) -> usize {
+fn put_made(to: &mut LineWriter, byte: u8, turn: u32) {
     match byte {
-        b'#' => put_decimal_if_room(to, at, turn),
-        b'/' => put_byte_if_room(to, at, b'\n'),
-        _ => put_byte_if_room(to, at, byte),
+        b'#' => put_decimal_if_room(to, turn),
+        b'/' => put_byte_if_room(to, b'\n'),
+        _ => put_byte_if_room(to, byte),
     }
-}
-
-fn put_turn(to: &mut [u8], at: usize, text: &[u8], turn: u32) -> usize {
-    let mut behind = at;
-    for byte in text {
-        behind = put_made(to, behind, *byte, turn);
-    }
-    behind
 }
 
 // A line in one of its turns, with its line feed if it is a whole one.
-fn put_line(to: &mut [u8], at: usize, text: &[u8], turn: u32, whole: bool) -> usize {
-    let behind = put_turn(to, at, text, turn);
-    if whole {
-        return put_byte_if_room(to, behind, b'\n');
+fn put_line(to: &mut LineWriter, text: &[u8], turn: u32, whole: bool) {
+    for byte in text {
+        put_made(to, *byte, turn);
     }
-    behind
+    if whole {
+        put_byte_if_room(to, b'\n');
+    }
 }
 
 // A line in all its turns.
-fn put_turns(to: &mut [u8], at: usize, text: &[u8], turns: Range<u32>, whole: bool) -> usize {
-    let mut behind = at;
+fn put_turns(to: &mut LineWriter, text: &[u8], turns: Range<u32>, whole: bool) {
     for turn in turns {
-        behind = put_line(to, behind, text, turn, whole);
+        put_line(to, text, turn, whole);
     }
-    behind
 }
 
 // A line in all its turns, behind the listing or behind what must be printed.
@@ -68,10 +60,14 @@ fn with_line(
     let text = &line[next(line, 0)..];
     let mut made = case;
     if mark == b'>' {
-        made.wanted = put_turns(wanted, case.wanted, text, turns, true);
-        return made;
+        let mut to = LineWriter::behind(wanted, case.wanted);
+        put_turns(&mut to, text, turns, true);
+        made.wanted = to.length();
+    } else {
+        let mut to = LineWriter::behind(listing, case.listing);
+        put_turns(&mut to, text, turns, mark == b'<');
+        made.listing = to.length();
     }
-    made.listing = put_turns(listing, case.listing, text, turns, mark == b'<');
     made
 }
 
@@ -117,7 +113,9 @@ pub fn with_byte(
     let Some(n) = Fields::new(&line[next(line, 0)..]).number() else {
         return unknown(rt, case, line);
     };
+    let mut to = LineWriter::behind(listing, case.listing);
+    put_byte_if_room(&mut to, (n % 256) as u8);
     let mut made = case;
-    made.listing = put_byte_if_room(listing, case.listing, (n % 256) as u8);
+    made.listing = to.length();
     Ok(made)
 }

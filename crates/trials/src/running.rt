@@ -1,8 +1,8 @@
 // A case file, line by line.
 use crate::judging::judged;
 use crate::making::{CaseLengths, unknown, with_byte, with_text, with_turns};
-use crate::text::{byte_at, next};
-use lines::writing::put_text;
+use crate::text::{byte_at, next, put_text_if_room};
+use lines::writing::LineWriter;
 use listing::calls::ROOM;
 use programs::failing::Failure;
 use programs::input::read_to_end;
@@ -17,10 +17,9 @@ const LISTING: usize = 66000;
 
 // A name that finds no room is dropped.
 fn put_name(name: &mut [u8], text: &[u8]) -> usize {
-    if text.len() <= name.len() {
-        return put_text(name, 0, text);
-    }
-    0
+    let mut to = LineWriter::new(name);
+    put_text_if_room(&mut to, text);
+    to.length()
 }
 
 // A case begins with what its group has kept.

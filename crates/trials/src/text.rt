@@ -1,22 +1,27 @@
-// Writing into a buffer and reading from it, at any position: what finds no room is dropped, and behind the end there is a 0.
+// Writing where there is room, and reading at any position: what finds no room is dropped, and behind the end there is a 0.
 ghost use Rattle.std.specs.Prelude.{ℕ, ◌≡◌, ◌<◌, ◌≤◌, length, take};
+
+use lines::writing::LineWriter;
 
 // The most digits of a number within 32 bits.
 const DIGITS: usize = 10;
 
-pub fn put_byte_if_room(to: &mut [u8], at: usize, byte: u8) -> usize {
-    if at < to.len() {
-        to[at] = byte;
-        return at + 1;
+pub fn put_byte_if_room(to: &mut LineWriter, byte: u8) {
+    if to.has_room(1) {
+        to.put_byte(byte);
     }
-    at
 }
 
-pub fn put_decimal_if_room(to: &mut [u8], at: usize, n: u32) -> usize {
-    if at < to.len() && to.len() - at >= DIGITS {
-        return lines::writing::put_decimal(to, at, n);
+pub fn put_text_if_room(to: &mut LineWriter, text: &[u8]) {
+    if to.has_room(text.len()) {
+        to.put_text(text);
     }
-    at
+}
+
+pub fn put_decimal_if_room(to: &mut LineWriter, n: u32) {
+    if to.has_room(DIGITS) {
+        to.put_decimal(n);
+    }
 }
 
 // `n`, or the number of bytes where that is less.

@@ -7,5 +7,4 @@ pub mod Taken
 pub mod TakenRead
 pub mod Told
 pub mod KeyGone
-pub mod EntryRead
 pub mod Newest

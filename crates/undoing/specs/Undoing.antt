@@ -3,18 +3,8 @@ use Rattle.std.specs.Prelude.{ℕ, Bool, true, false, List, ◌≡◌}
 use Rattle.layout.specs.Columns.{columns}
 use Rattle.layout.specs.Reading.{store_in}
 use Rattle.layout.specs.Soundness.{IsSound}
-use Rattle.layout.specs.Owners.{owner_of}
-use Rattle.calling.specs.Types.{attribute_of}
 use Rattle.calling.specs.Doing.{Behind}
-use Rattle.journal.specs.Journal.{Entry, operand_was, attribute_was, key_was_none, undone, undone_all, undoable, undoable_all}
-use Rattle.undoing.specs.declared.entries.Entry as Entries
-use Rattle.undoing.specs.declared.entries.Entry.TheVariants as Sorts
-
--- what an entry of the code stands for
-unfoldable pub entry_of : Entries.Entry → Entry
-entry_of (Sorts.OperandWas n i v) = operand_was n i v
-entry_of (Sorts.AttributeWas w a) = attribute_was (owner_of w) (attribute_of a)
-entry_of (Sorts.KeyWasNone w k) = key_was_none (owner_of w) k
+use Rattle.journal.specs.Journal.{Entry, undone, undone_all, undoable, undoable_all}
 
 -- an entry is undone where that can be done, and told whether it was; else no word has changed
 pub record Undid (entry exit : List ℕ) (e : Entry) (q : Bool) : Type 0 where

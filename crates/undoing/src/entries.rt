@@ -1,46 +1,22 @@
 // Undoing entries of the journal, where that can be done.
-ghost use Rattle.std.specs.Prelude.{◌≡◌, ◌<◌, ◌≤◌, drop, length};
-ghost use Rattle.layout.specs.Columns.{buffer_length, columns};
+ghost use Rattle.std.specs.Prelude.{◌≡◌, ◌<◌, ◌≤◌, drop};
+ghost use Rattle.layout.specs.Columns.{columns};
 ghost use Rattle.layout.specs.Reading.{store_in, owner_from, attribute_read, tabulate};
 ghost use Rattle.layout.specs.Soundness.{IsSound};
 ghost use Rattle.layout.specs.Owners.{owner_of};
 ghost use Rattle.calling.specs.Types.{attribute_of};
 ghost use Rattle.journal.specs.Journal.{operand_was, attribute_was, key_was_none, undoable};
 ghost use Rattle.journal.specs.Words.{entry_at, max_entries};
-ghost use Rattle.undoing.specs.Undoing.{entry_of, Undid, UndidAll};
+ghost use Rattle.undoing.specs.Undoing.{Undid, UndidAll};
 
 use crate::removing::remove_key;
 use calling::types::{Attribute, Owner};
-use layout::columns::{
-    JOURNAL_CONTENT, JOURNAL_KEY, JOURNAL_KIND, JOURNAL_OWNER, JOURNAL_SORT, at,
-};
+use journal::entries::{Entry, entry_at};
+use layout::columns::StoreWords;
 use layout::kinds::{inherent_from, kind_from};
 use layout::owners::owner_exists;
 use setting::attributes::{key_there, set_attribute, slot_for};
 use setting::operands::set_operand;
-
-// The words for the sorts of entries that tell of a replacement.
-const OPERAND_WAS: u32 = 0;
-
-const ATTRIBUTE_WAS: u32 = 1;
-
-// An entry of the journal: an operand as it was, an attribute as it was, or a key that was not there.
-#[derive(Clone, Copy)]
-enum Entry {
-    OperandWas {
-        operation: u32,
-        index: u32,
-        value: u32,
-    },
-    AttributeWas {
-        owner: Owner,
-        attribute: Attribute,
-    },
-    KeyWasNone {
-        owner: Owner,
-        key: u32,
-    },
-}
 
 // The owner that a code stands for: twice its number, and one more for a block.
 #[tactic(auto, unfolding(layout::specs::Reading::owner_from, layout::specs::Owners::owner_of))]
@@ -66,35 +42,8 @@ fn attribute_from(key: u32, word: u32, content: u32) -> Attribute
     }
 }
 
-// Entry i of the journal.
-fn entry_at(store: &[u32], i: usize) -> Entry
-    requires store_len { length store.now ≡ buffer_length }
-    requires i_lt_max_entries { i < max_entries }
-    ensures { entry_of result ≡ entry_at (columns store.now) i }
-{
-    let owner = at(store, JOURNAL_OWNER, i);
-    let key = at(store, JOURNAL_KEY, i);
-    let word = at(store, JOURNAL_KIND, i);
-    let content = at(store, JOURNAL_CONTENT, i);
-    match at(store, JOURNAL_SORT, i) {
-        OPERAND_WAS => Entry::OperandWas {
-            operation: owner,
-            index: key,
-            value: word,
-        },
-        ATTRIBUTE_WAS => Entry::AttributeWas {
-            owner: owner_from(owner),
-            attribute: attribute_from(key, word, content),
-        },
-        _ => Entry::KeyWasNone {
-            owner: owner_from(owner),
-            key,
-        },
-    }
-}
-
 // The owner exists and has the key: so it can be taken out.
-fn has_key(store: &[u32], owner: Owner, key: u32) -> bool
+fn has_key(store: &StoreWords, owner: Owner, key: u32) -> bool
     requires { IsSound store.now }
     ensures { result ≡ undoable (key_was_none (owner_of owner) key) (store_in store.now) }
 {
@@ -102,7 +51,7 @@ fn has_key(store: &[u32], owner: Owner, key: u32) -> bool
 }
 
 // Operand i of operation n becomes value v again.
-fn undo_operand(store: &mut [u32], n: u32, i: u32, v: u32) -> bool
+fn undo_operand(store: &mut StoreWords, n: u32, i: u32, v: u32) -> bool
     requires { IsSound store.old }
     ensures { Undid store.old store.new (operand_was n i v) result }
 {
@@ -110,7 +59,7 @@ fn undo_operand(store: &mut [u32], n: u32, i: u32, v: u32) -> bool
 }
 
 // The owner's attribute of this key becomes this one again.
-fn undo_attribute(store: &mut [u32], owner: Owner, attribute: Attribute) -> bool
+fn undo_attribute(store: &mut StoreWords, owner: Owner, attribute: Attribute) -> bool
     requires { IsSound store.old }
     ensures { Undid store.old store.new (attribute_was (owner_of owner) (attribute_of attribute)) result }
 {
@@ -118,7 +67,7 @@ fn undo_attribute(store: &mut [u32], owner: Owner, attribute: Attribute) -> bool
 }
 
 // The owner's attribute of this key is taken out.
-fn undo_new_key(store: &mut [u32], owner: Owner, key: u32) -> bool
+fn undo_new_key(store: &mut StoreWords, owner: Owner, key: u32) -> bool
     requires { IsSound store.old }
     ensures { Undid store.old store.new (key_was_none (owner_of owner) key) result }
 {
@@ -131,7 +80,7 @@ fn undo_new_key(store: &mut [u32], owner: Owner, key: u32) -> bool
 }
 
 // Entry i of the journal.
-pub fn undo_entry(store: &mut [u32], i: usize) -> bool
+pub fn undo_entry(store: &mut StoreWords, i: usize) -> bool
     requires sound { IsSound store.old }
     requires i_lt_max_entries { i < max_entries }
     ensures { Undid store.old store.new (entry_at (columns store.old) i) result }
@@ -142,13 +91,18 @@ pub fn undo_entry(store: &mut [u32], i: usize) -> bool
             index,
             value,
         } => undo_operand(store, operation, index, value),
-        Entry::AttributeWas { owner, attribute } => undo_attribute(store, owner, attribute),
-        Entry::KeyWasNone { owner, key } => undo_new_key(store, owner, key),
+        Entry::AttributeWas {
+            owner,
+            key,
+            kind,
+            content,
+        } => undo_attribute(store, owner_from(owner), attribute_from(key, kind, content)),
+        Entry::KeyWasNone { owner, key } => undo_new_key(store, owner_from(owner), key),
     }
 }
 
 // The entries from `place` on up to `end`, the newest first, up to the first that can't be undone.
-pub fn undo_between(store: &mut [u32], place: usize, end: usize) -> bool
+pub fn undo_between(store: &mut StoreWords, place: usize, end: usize) -> bool
     requires sound { IsSound store.old }
     requires place_le_end { place ≤ end }
     requires end_le_max_entries { end ≤ max_entries }

@@ -8,12 +8,14 @@ ghost use Rattle.layout.specs.Owners.{owner_of, key_count};
 ghost use Rattle.undoing.specs.Raw.{without_slot};
 
 use calling::types::Owner;
-use layout::columns::{ATTRIBUTES, COUNTS, SLOT_CONTENT, SLOT_KEY, SLOT_KIND, copy, number, put};
+use layout::columns::{
+    ATTRIBUTES, COUNTS, SLOT_CONTENT, SLOT_KEY, SLOT_KIND, StoreWords, copy, number, put,
+};
 use layout::owners::{count_column, first_slot, key_count, owner_number};
 
 // Takes the attribute at one of its owner's slots out: those behind it move one slot down, and both counts that it was in are written.
 #[tactic(auto, using(crate::proofs::Counted::owner_kept), unfolding(crate::specs::Raw::without_slot, crate::specs::Raw::removed, layout::specs::Reading::attribute_count))]
-pub fn remove_key(store: &mut [u32], owner: Owner, slot: usize)
+pub fn remove_key(store: &mut StoreWords, owner: Owner, slot: usize)
     requires sound { IsSound store.old }
     requires owner_value { owner_exists (store_in store.old) (owner_of owner) ≡ true }
     requires owner_bound { slots_of (owner_of owner) ≤ slot }

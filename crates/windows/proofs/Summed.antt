@@ -1,8 +1,7 @@
 -- Hashes made one by one are those of the whole list, and a window of hashes is the hashes of a run. Assumes nothing.
-use Rattle.std.proofs.Common.{◌≡◌, ℕ, zero, suc, ◌+◌, ◌-◌, ◌<◌, ◌≤◌, true, ltb, List, [], ◌∷◌, ◌++◌, map, length, get_or, take, drop, set, sym, refl, ap, ◌∙◌, ap₂, add-one, arith, length-set, get_or-set_other, take-suc, get_or-set_same, take-suc-set, ltb-true}
+use Rattle.std.proofs.Common.{◌≡◌, ℕ, zero, suc, ◌+◌, ◌<◌, ◌≤◌, true, ltb, List, [], ◌∷◌, ◌++◌, map, length, get_or, take, drop, set, sym, refl, ap, ◌∙◌, arith, length-set, get_or-set_other, get_or-set_same, ltb-true}
 use native.Mathlib.Decide.{ℕ_discrete}
 use lib.ListN.{length-map}
-use lib.Seq.{take-length}
 use Rattle.rules.specs.Lists.{all}
 use Rattle.rules.specs.Store.{Store}
 use Rattle.rules.specs.Runs.{run_of, shell_hash, weighted, window_sum}

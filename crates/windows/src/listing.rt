@@ -6,13 +6,15 @@ ghost use Rattle.layout.specs.Reading.{block_count, store_in};
 ghost use Rattle.layout.specs.Soundness.{IsSound};
 ghost use Rattle.windows.specs.Windows.{Lists, block_ops};
 
+use layout::columns::StoreWords;
 use layout::ops_in::OpsIn;
 
 // Room for the operations of any block: as many as a store has.
 pub const BLOCK_OPS: usize = 512;
 
-// Writes the numbers of a block's operations, by rising number, to the begin of `ops`, and tells how many there are.
-pub fn ops_in(store: &[u32], b: usize, ops: &mut [u32]) -> usize
+// Writes the numbers of a block's operations, by rising number, to the begin of `ops`, and tells how many there are: this count is what is
+// counted by hand.
+pub fn ops_in(store: &StoreWords, b: usize, ops: &mut [u32]) -> usize
     requires sound { IsSound store.now }
     requires b_bound { b < block_count (columns store.now) }
     requires ops_len { length ops.old ≡ block_ops }

@@ -30,7 +30,6 @@ put_block-requires c =
     let new : NewBlock = record { region = a.region; label = a.label; location = a.location; types = a.types.now } in
     let f = fits_block b c.requires new (sym (c.in_ok-block_cause.ensures a.label a.location)) in
     record {
-      store_len = c.requires.sized;
       region_bound = omega (arith, f.named, (laid b c.requires).counts.regions);
       store_bound = f.room.blocks;
       types_bound = f.room.values;
@@ -41,5 +40,5 @@ unfolding cause_of made_of block_count
 returns c =
     let a = c.args in
     let new : NewBlock = record { region = a.region; label = a.label; location = a.location; types = a.types.now } in
-    block_done a.store.now c.requires c.put_block.new.store c.put_block.auto.store _ new
+    block_done a.store.now c.requires c.put_block.new.store omega arith _ new
     (sym (c.in_ok-block_cause.ensures a.label a.location)) c.put_block.ensures (ap made c.at-m.ensures)

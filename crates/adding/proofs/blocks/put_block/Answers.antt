@@ -28,7 +28,7 @@ put_values-requires c =
     let e : value_count (columns c.place_block.new.store) ≡ value_count (columns a.store.now)
     = ap value_count there ∙ counts_placed (columns a.store.now)
     (record { region = a.region; label = a.label; location = a.location; types = a.types.now }) 3 in
-    record { store_len = omega arith; types_bound = omega arith }
+    omega arith
 
 pub returns : goal.returns
 unfolding with_block with_values owner_code block_count

@@ -1,4 +1,5 @@
 -- `new_operation` meets its contract: it refuses by the first test that fails, or writes what the rules say. Assumes nothing.
+use native.Mathlib.Omega.{arith}
 use mathlib.Core.Path.{◌≡◌, sym, ap}
 use Rattle.std.proofs.Common.{rules}
 use Rattle.std.specs.Prelude as std
@@ -31,6 +32,6 @@ pub returns : goal.returns
 unfolding cause_of made_of op_count
 returns c =
     let a = c.args in
-    operation_done a.store.now c.requires c.put_operation.new.store c.put_operation.auto.store _
+    operation_done a.store.now c.requires c.put_operation.new.store omega arith _
     (operation_of a.fields a.types.now a.operands.now a.successors.now)
     (sym c.in_ok-operation_cause.ensures) c.put_operation.ensures (ap made c.at-n.ensures)

@@ -9,7 +9,6 @@ use Rattle.adding.proofs.operations.put_op.Goals as goal
 pub place_op-requires : goal.place_op-requires
 unfolding op_count
 place_op-requires c = record {
-  store_len = omega (arith, c.requires.arranged.sized, c.put_op_row.auto.store);
   parent_below = parent_below_lem c.args.store.now c.requires.arranged (parent_of c.args.fields.parent) c.requires.parent_value;
   n_bound = omega (arith, c.requires.op_room.ops, c.number-n.ensures);
 }

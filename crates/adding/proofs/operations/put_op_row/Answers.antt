@@ -1,8 +1,7 @@
 -- `put_op_row` meets its contract: the thirteen words of the row are written one after the other. Assumes nothing.
-use Prim.Native.Nat.{ℕ, ◌<◌}
+use Prim.Native.Nat.{ℕ}
 use native.Mathlib.Omega.{arith}
 use mathlib.Core.Path.{refl}
-use lib.ListN.{length}
 use Rattle.layout.specs.Columns.{Cols, columns, op_kind}
 use Rattle.adding.proofs.RowWritten.{Writing, row_turn, row_done}
 use Rattle.adding.proofs.operations.put_op_row.Goals as goal

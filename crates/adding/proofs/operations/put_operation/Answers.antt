@@ -5,7 +5,7 @@ use native.Mathlib.Omega.{arith}
 use mathlib.Core.Path.{◌≡◌, sym, ap, ap₂, subst, ◌∙◌}
 use lib.ListN.{length}
 use Rattle.rules.specs.Building.{NewOperation}
-use Rattle.layout.specs.Columns.{Cols, columns, at, write, buffer_length}
+use Rattle.layout.specs.Columns.{Cols, columns, at, write}
 use Rattle.layout.specs.Reading.{op_count, region_count, value_count, owner_code}
 use Rattle.calling.specs.Types.{operation_of}
 use Rattle.adding.specs.Raw.{op_written, with_regions, with_values, with_values_by, with_slice, with_operation}
@@ -22,9 +22,8 @@ put_regions-requires c =
     let new : NewOperation = operation_of c.args.fields c.args.types.now c.args.operands.now c.args.successors.now in
     let few : c.number-n.result < 512 = omega (arith, c.requires.op_room.ops, c.number-n.ensures) in
     let layer₀ : Cols = op_written cols new.kind new.parent new.location new.regions (length new.types) (length new.operands) (length new.successors) in
-    let long₀ : length c.put_op.new.store ≡ buffer_length = omega (arith, c.requires.arranged.sized, c.put_op.auto.store) in
     let made₀ : columns c.put_op.new.store ≡ layer₀ = c.put_op.ensures in
-    record { store_len = long₀; n_bound = few; regions_bound = subst (λ (X : Cols). region_count X + new.regions ≤ 256) (sym made₀) (r₁ cols new (columns_shaped c.args.store.now c.requires.arranged.sized) c.requires.op_room) }
+    record { n_bound = few; regions_bound = subst (λ (X : Cols). region_count X + new.regions ≤ 256) (sym made₀) (r₁ cols new (columns_shaped c.args.store.now c.requires.arranged.sized) c.requires.op_room) }
 
 pub put_values-requires : goal.put_values-requires
 unfolding op_written op_count
@@ -33,11 +32,9 @@ put_values-requires c =
     let new : NewOperation = operation_of c.args.fields c.args.types.now c.args.operands.now c.args.successors.now in
     let layer₀ : Cols = op_written cols new.kind new.parent new.location new.regions (length new.types) (length new.operands) (length new.successors) in
     let layer₁ : Cols = with_regions layer₀ (op_count cols) new.regions in
-    let long₀ : length c.put_op.new.store ≡ buffer_length = omega (arith, c.requires.arranged.sized, c.put_op.auto.store) in
     let made₀ : columns c.put_op.new.store ≡ layer₀ = c.put_op.ensures in
-    let long₁ : length c.put_regions.new.store ≡ buffer_length = omega (arith, long₀, c.put_regions.auto.store) in
     let made₁ : columns c.put_regions.new.store ≡ layer₁ = c.put_regions.ensures ∙ ap₂ (λ (X : Cols) (k : ℕ). with_regions X k new.regions) made₀ c.number-n.ensures in
-    record { store_len = long₁; types_bound = subst (λ (X : Cols). value_count X + length new.types ≤ 2048) (sym made₁) (r₂ cols new (columns_shaped c.args.store.now c.requires.arranged.sized) c.requires.op_room) }
+    subst (λ (X : Cols). value_count X + length new.types ≤ 2048) (sym made₁) (r₂ cols new (columns_shaped c.args.store.now c.requires.arranged.sized) c.requires.op_room)
 
 pub put_slice-requires : goal.put_slice-requires
 unfolding op_written op_count with_values owner_code
@@ -47,14 +44,11 @@ put_slice-requires c =
     let layer₀ : Cols = op_written cols new.kind new.parent new.location new.regions (length new.types) (length new.operands) (length new.successors) in
     let layer₁ : Cols = with_regions layer₀ (op_count cols) new.regions in
     let layer₂ : Cols = with_values_by layer₁ (2 * op_count cols) new.types in
-    let long₀ : length c.put_op.new.store ≡ buffer_length = omega (arith, c.requires.arranged.sized, c.put_op.auto.store) in
     let made₀ : columns c.put_op.new.store ≡ layer₀ = c.put_op.ensures in
-    let long₁ : length c.put_regions.new.store ≡ buffer_length = omega (arith, long₀, c.put_regions.auto.store) in
     let made₁ : columns c.put_regions.new.store ≡ layer₁ = c.put_regions.ensures ∙ ap₂ (λ (X : Cols) (k : ℕ). with_regions X k new.regions) made₀ c.number-n.ensures in
-    let long₂ : length c.put_values.new.store ≡ buffer_length = omega (arith, long₁, c.put_values.auto.store) in
     let made₂ : columns c.put_values.new.store ≡ layer₂ = c.put_values.ensures ∙ ap₂ (λ (X : Cols) (k : ℕ). with_values_by X (2 * k) new.types) made₁ c.number-n.ensures in
     let room = subst (λ (X : Cols). at X 0 4 + length new.operands ≤ 2048) (sym made₂) (r₃ cols new (columns_shaped c.args.store.now c.requires.arranged.sized) c.requires.op_room) in
-    record { store_len = long₂; column_lt_column_count = omega arith; word_bound = omega arith; list_bound = room; column_bound = omega arith }
+    record { column_lt_column_count = omega arith; word_bound = omega arith; list_bound = room; column_bound = omega arith }
 
 pub put_slice-requires-2 : goal.put_slice-requires-2
 unfolding op_written op_count with_values owner_code
@@ -65,16 +59,12 @@ put_slice-requires-2 c =
     let layer₁ : Cols = with_regions layer₀ (op_count cols) new.regions in
     let layer₂ : Cols = with_values_by layer₁ (2 * op_count cols) new.types in
     let layer₃ : Cols = with_slice layer₂ 27 4 new.operands in
-    let long₀ : length c.put_op.new.store ≡ buffer_length = omega (arith, c.requires.arranged.sized, c.put_op.auto.store) in
     let made₀ : columns c.put_op.new.store ≡ layer₀ = c.put_op.ensures in
-    let long₁ : length c.put_regions.new.store ≡ buffer_length = omega (arith, long₀, c.put_regions.auto.store) in
     let made₁ : columns c.put_regions.new.store ≡ layer₁ = c.put_regions.ensures ∙ ap₂ (λ (X : Cols) (k : ℕ). with_regions X k new.regions) made₀ c.number-n.ensures in
-    let long₂ : length c.put_values.new.store ≡ buffer_length = omega (arith, long₁, c.put_values.auto.store) in
     let made₂ : columns c.put_values.new.store ≡ layer₂ = c.put_values.ensures ∙ ap₂ (λ (X : Cols) (k : ℕ). with_values_by X (2 * k) new.types) made₁ c.number-n.ensures in
-    let long₃ : length c.put_slice.new.store ≡ buffer_length = omega (arith, long₂, c.put_slice.auto.store) in
     let made₃ : columns c.put_slice.new.store ≡ layer₃ = c.put_slice.ensures ∙ ap (λ (X : Cols). with_slice X 27 4 new.operands) made₂ in
     let room = subst (λ (X : Cols). at X 0 5 + length new.successors ≤ 512) (sym made₃) (r₄ cols new (columns_shaped c.args.store.now c.requires.arranged.sized) c.requires.op_room) in
-    record { store_len = long₃; column_lt_column_count = omega arith; word_bound = omega arith; list_bound = room; column_bound = omega arith }
+    record { column_lt_column_count = omega arith; word_bound = omega arith; list_bound = room; column_bound = omega arith }
 
 pub returns : goal.returns
 unfolding with_operation op_count with_values owner_code

@@ -1,9 +1,7 @@
 -- `put_row` meets its contract: after each turn one word more of the row is in its column. Assumes nothing.
-use mathlib.Core.Path.{◌≡◌}
-use lib.ListN.{length}
 use Rattle.layout.specs.Columns.{columns}
 use Rattle.adding.proofs.RowWritten.{Writing}
 use Rattle.adding.proofs.writes.put_row.Given as goal
 
 abbrev pub invariant-loop-j : goal.invariant-loop-j
-invariant-loop-j l = (length l.store ≡ length l.initial.store) × Writing (columns l.initial.store) l.first l.n l.row (columns l.store) l.j
+invariant-loop-j l = Writing (columns l.initial.store) l.first l.n l.row (columns l.store) l.j

@@ -1,22 +1,27 @@
 -- `new_operation` meets its contract: by the soundness check, and by the call on a lent buffer. Assumes nothing.
-use mathlib.Core.Path.{refl, sym, ◌∙◌}
+use mathlib.Core.Path.{◌≡◌, ap}
+use Rattle.std.proofs.Common.{rules}
+use Rattle.std.specs.Prelude as std
+use Rattle.layout.specs.declared.causes.Cause.TheVariants as causes
 use Rattle.calling.specs.Types.{made_of}
-use Rattle.marks.proofs.Answering.{turned_down, taken_up}
+use Rattle.marks.proofs.Answering.{turned_down}
+use Rattle.lending.proofs.Offering.{not_given, given, taken_up}
 use Rattle.building.proofs.calls.new_operation.Goals as goal
 
-pub returns-then-not-is_sound : goal.returns-then-not-is_sound
+pub returns-in_err-words : goal.returns-in_err-words
 unfolding made_of
-returns-then-not-is_sound c =
-    let a = c.args in
-    turned_down a.store.now _ _ (sym c.is_sound.ensures ∙ c.if-not-is_sound.true) refl
+returns-in_err-words c =
+    let none : c.sound_words_mut.result ≡ std.None = search rules in
+    let told : c.from_residual.result ≡ std.Err causes.NotSound = search rules in
+    turned_down c.args.store.now _ _ (not_given c.args.store.now c.sound_words_mut.ensures.cases none) (ap made_of told)
 
 pub new_operation-requires : goal.new_operation-requires
-new_operation-requires c = sym c.is_sound.ensures ∙ c.if-not-is_sound.false
+new_operation-requires c =
+    let some : c.sound_words_mut.result ≡ std.Some c.in_ok-words.words = search rules in
+    (given c.args.store.now c.sound_words_mut.ensures.cases some).1
 
 pub returns : goal.returns
 returns c =
-    let a = c.args in
-    taken_up a.store.now
-    _ _ _
-    (sym c.is_sound.ensures ∙ c.if-not-is_sound.false)
-    c.new_operation.ensures
+    let some : c.sound_words_mut.result ≡ std.Some c.in_ok-words.words = search rules in
+    let w = given c.args.store.now c.sound_words_mut.ensures.cases some in
+    taken_up w.0 _ _ _ w.1 c.new_operation.ensures

@@ -1,25 +1,30 @@
 -- `set_attribute` meets its contract: by the soundness check, and by the call on a lent buffer. Assumes nothing.
-use mathlib.Core.Path.{refl, sym, ◌∙◌}
+use mathlib.Core.Path.{◌≡◌, ap}
+use Rattle.std.proofs.Common.{rules}
+use Rattle.std.specs.Prelude as std
 use Rattle.rules.specs.Building.{set_attribute}
 use Rattle.rules.specs.Marks.{build}
+use Rattle.layout.specs.declared.causes.Cause.TheVariants as causes
 use Rattle.layout.specs.Owners.{owner_of}
 use Rattle.calling.specs.Types.{done_of, attribute_of}
-use Rattle.marks.proofs.Answering.{turned_down, taken_up}
+use Rattle.marks.proofs.Answering.{turned_down}
+use Rattle.lending.proofs.Offering.{not_given, given, taken_up}
 use Rattle.building.proofs.calls.set_attribute.Goals as goal
 
-pub returns-then-not-is_sound : goal.returns-then-not-is_sound
+pub returns-in_err-words : goal.returns-in_err-words
 unfolding done_of
-returns-then-not-is_sound c =
-    let a = c.args in
-    turned_down a.store.now (build (set_attribute (owner_of a.owner) (attribute_of a.attribute))) _
-    (sym c.is_sound.ensures ∙ c.if-not-is_sound.true) refl
+returns-in_err-words c =
+    let none : c.sound_words_mut.result ≡ std.None = search rules in
+    let told : c.from_residual.result ≡ std.Err causes.NotSound = search rules in
+    turned_down c.args.store.now (build (set_attribute (owner_of c.args.owner) (attribute_of c.args.attribute))) _ (not_given c.args.store.now c.sound_words_mut.ensures.cases none) (ap done_of told)
 
 pub set_attribute-requires : goal.set_attribute-requires
-set_attribute-requires c = sym c.is_sound.ensures ∙ c.if-not-is_sound.false
+set_attribute-requires c =
+    let some : c.sound_words_mut.result ≡ std.Some c.in_ok-words.words = search rules in
+    (given c.args.store.now c.sound_words_mut.ensures.cases some).1
 
 pub returns : goal.returns
 returns c =
-    let a = c.args in
-    taken_up a.store.now
-    (build (set_attribute (owner_of a.owner) (attribute_of a.attribute))) _ _ (sym c.is_sound.ensures ∙ c.if-not-is_sound.false)
-    c.set_attribute.ensures
+    let some : c.sound_words_mut.result ≡ std.Some c.in_ok-words.words = search rules in
+    let w = given c.args.store.now c.sound_words_mut.ensures.cases some in
+    taken_up w.0 (build (set_attribute (owner_of c.args.owner) (attribute_of c.args.attribute))) _ _ w.1 c.set_attribute.ensures

@@ -10,9 +10,6 @@ use Rattle.copying.proofs.Deciding.{refused_by}
 use Rattle.copying.proofs.cloning.clone_operation.Goals as goal
 use Rattle.copying.proofs.cloning.clone_operation.Goals.{then-not-op_exists-via-then-not-op_exists, then-not-op_exists-via-else-not-op_exists+then-not-parent_exists}
 
-pub op_exists-requires : goal.op_exists-requires
-op_exists-requires c = (lent_facts _ c.requires.lent).tables.sized
-
 pub parent_exists-requires : goal.parent_exists-requires
 parent_exists-requires c = (lent_facts _ c.requires.lent).tables
 

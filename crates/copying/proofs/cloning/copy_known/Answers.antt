@@ -10,7 +10,6 @@ use Rattle.layout.specs.declared.causes.Cause.{Cause}
 use Rattle.copying.specs.Cloned.{Cloned}
 use Rattle.layout.specs.Reading.{op_count, store_in}
 use Rattle.calling.specs.Types.{parent_of, made_of}
-use Rattle.mapping.proofs.Entries.{allowed_long}
 use Rattle.marks.proofs.Lent.{lent_facts}
 use Rattle.copying.specs.Steps.{AreSteps}
 use Rattle.copying.proofs.Refusing.{clear_totals, totals_anywhere}
@@ -25,20 +24,14 @@ unfolding AreSteps
 invariant_of-original c =
     record { sound = (lent_facts _ c.requires.lent).tables; exists = c.requires.n_bound; are_steps = c.as_slice-steps.ensures ∙ c.list_steps-walk.ensures }
 
-pub at-copy-requires-clause-store_len : goal.at-copy-requires-clause-store_len
-at-copy-requires-clause-store_len c = (lent_facts _ c.requires.lent).tables.sized
-
-pub enter_copies-requires-clause-totals_hold : goal.enter_copies-requires-clause-totals_hold
+pub enter_copies-requires : goal.enter_copies-requires
 unfolding cause_of
-enter_copies-requires-clause-totals_hold c =
+enter_copies-requires c =
     let a = c.args in
     let b = a.store.now in
     let clear : first_failed (copy_tests (store_in b) a.n (parent_of a.parent)) ≡ none = sym c.copy_cause.ensures ∙ ap cause_of c.in_ok-copy_cause.was in
     totals_anywhere b (lent_facts _ c.requires.lent).tables a.n c.requires.n_bound none (parent_of a.parent)
     ∙ clear_totals (store_in b) a.n (parent_of a.parent) clear
-
-pub enter_copies-requires-clause-mapping_len : goal.enter_copies-requires-clause-mapping_len
-enter_copies-requires-clause-mapping_len c = allowed_long (store_in c.args.store.now) c.args.mapping.now c.requires.mapping_value
 
 pub write_copies-requires-clause-sound : goal.write_copies-requires-clause-sound
 write_copies-requires-clause-sound c = (lent_facts _ c.requires.lent).tables
@@ -46,11 +39,6 @@ write_copies-requires-clause-sound c = (lent_facts _ c.requires.lent).tables
 pub write_copies-requires-clause-passed : goal.write_copies-requires-clause-passed
 unfolding cause_of
 write_copies-requires-clause-passed c = sym c.copy_cause.ensures ∙ ap cause_of c.in_ok-copy_cause.was
-
-pub write_copies-requires-clause-mapping_len : goal.write_copies-requires-clause-mapping_len
-write_copies-requires-clause-mapping_len c =
-    let a = c.args in
-    c.enter_copies.auto.mapping ∙ allowed_long (store_in a.store.now) a.mapping.now c.requires.mapping_value
 
 pub returns-in_err-copy_cause : goal.returns-in_err-copy_cause
 unfolding cause_of made_of

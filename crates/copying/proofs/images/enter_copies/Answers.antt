@@ -17,10 +17,10 @@ loop-step-init c =
     let C : Cols = columns c.args.original.now.store.now in
     let S : Store = store_in c.args.original.now.store.now in
     let n : ℕ = c.args.original.now.n in
-    entering_begun S n (facts S c.args.original.now.sound.ruled) (op_exists_lem C n ∙ lt-ltb n (op_count C) c.args.original.now.exists) c.requires.totals_hold
+    entering_begun S n (facts S c.args.original.now.sound.ruled) (op_exists_lem C n ∙ lt-ltb n (op_count C) c.args.original.now.exists) c.requires
     (c.number.ensures ∙ sym (ops_length C), c.number-2.ensures ∙ sym (blocks_length C), c.number-3.ensures ∙ sym (values_length C))
     c.fill.new.self
-    (emptied c.args.mapping.now c.fill.new.self c.requires.mapping_len (c.fill.ensures.after (λ y e. e)))
+    (emptied c.args.mapping.now c.fill.new.self c.told-mapping (c.fill.ensures.after (λ y e. e)))
 
 pub enter_step-next-requires-clause-there : goal.enter_step-next-requires-clause-there
 enter_step-next-requires-clause-there c =

@@ -14,9 +14,9 @@ use Rattle.copying.proofs.images.enter_step.Goals as goal
 
 -- ---- an operation
 
-pub map_op-requires-clause-l_bound : goal.map_op-requires-clause-l_bound
+pub map_op-requires : goal.map_op-requires
 unfolding StepThere
-map_op-requires-clause-l_bound c =
+map_op-requires c =
     let there : c.in-OpShell.m < op_count (columns c.args.store.now) = subst (StepThere (columns c.args.store.now)) c.in-OpShell.is c.requires.there in
     omega (arith, (laid_facts (columns c.args.store.now) c.requires.sound.laid).counts.ops)
 
@@ -51,9 +51,9 @@ returns-in-OpShell-clause-counted c =
 
 -- ---- a block
 
-pub map_block-requires-clause-l_bound : goal.map_block-requires-clause-l_bound
+pub map_block-requires : goal.map_block-requires
 unfolding StepThere
-map_block-requires-clause-l_bound c =
+map_block-requires c =
     let there : c.in-BlockShell.b < block_count (columns c.args.store.now) = subst (StepThere (columns c.args.store.now)) c.in-BlockShell.is c.requires.there in
     omega (arith, (laid_facts (columns c.args.store.now) c.requires.sound.laid).counts.blocks)
 

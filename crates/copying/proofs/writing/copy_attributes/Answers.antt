@@ -28,9 +28,9 @@ overflow_add-first_slot c =
     let k = known ((goal.at.overflow_add-first_slot c).In-loop-i) in
     record { fits = omega (arith, k.from_slot, c.first_slot.ensures) }
 
-pub attribute_at-attribute-requires-clause-slot_bound : goal.attribute_at-attribute-requires-clause-slot_bound
-attribute_at-attribute-requires-clause-slot_bound c =
-    let k = known ((goal.at.attribute_at-attribute-requires-clause-slot_bound c).In-loop-i) in
+pub attribute_at-attribute-requires : goal.attribute_at-attribute-requires
+attribute_at-attribute-requires c =
+    let k = known ((goal.at.attribute_at-attribute-requires c).In-loop-i) in
     omega (arith, k.from_slot, c.first_slot.ensures)
 
 pub overflow_add-first_slot-in-loop-i : goal.overflow_add-first_slot-in-loop-i
@@ -69,9 +69,9 @@ loop-i-preserved c =
     let slot : c.first_slot-in-loop-i.result + m.i ≡ slots_of to + m.i = ap (λ (x : ℕ). x + m.i) c.first_slot-in-loop-i.ensures in
     let d = c.put_added.new.store in (
       again a from to r.arranged r.from_exists r.to_exists r.apart r.held r.room m.store m.i low m.invariant.0 m.invariant.1
-          d c.put_added.auto.store (c.first_slot-in-loop-i.result + m.i) slot (attribute_of c.attribute_at-attribute.result) e c.put_added.ensures,
+          d (omega arith) (c.first_slot-in-loop-i.result + m.i) slot (attribute_of c.attribute_at-attribute.result) e c.put_added.ensures,
       total_again a from to r.arranged r.from_exists r.to_exists r.apart r.held r.room m.store m.i low m.invariant.0 m.invariant.1
-          d c.put_added.auto.store (c.first_slot-in-loop-i.result + m.i) slot (attribute_of c.attribute_at-attribute.result) e c.put_added.ensures,
+          d (omega arith) (c.first_slot-in-loop-i.result + m.i) slot (attribute_of c.attribute_at-attribute.result) e c.put_added.ensures,
     )
 
 pub returns : goal.returns

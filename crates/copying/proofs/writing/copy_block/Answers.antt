@@ -113,7 +113,7 @@ copy_attributes-requires c =
     let a = c.args.store.now in
     let r = c.requires in
     let b = c.put_block.new.store in
-    let w = block_row_wrote a r.arranged c.args.mapping.now c.args.b r.b_bound r.ready (taken ((goal.at.copy_attributes-requires c).After-at-location)) b c.put_block.auto.store c.put_block.ensures in
+    let w = block_row_wrote a r.arranged c.args.mapping.now c.args.b r.b_bound r.ready (taken ((goal.at.copy_attributes-requires c).After-at-location)) b (omega arith) c.put_block.ensures in
     let set = block_set a r.arranged (mapping_of c.args.mapping.now) c.args.b r.b_bound r.ready b w c.at-copy.result c.at-copy.ensures in
     record {
       arranged = w.arranged;
@@ -131,6 +131,6 @@ returns c =
     let a = c.args.store.now in
     let r = c.requires in
     let b = c.put_block.new.store in
-    let w = block_row_wrote a r.arranged c.args.mapping.now c.args.b r.b_bound r.ready (taken ((goal.at.returns c).After-at-location)) b c.put_block.auto.store c.put_block.ensures in
+    let w = block_row_wrote a r.arranged c.args.mapping.now c.args.b r.b_bound r.ready (taken ((goal.at.returns c).After-at-location)) b (omega arith) c.put_block.ensures in
     block_done a r.arranged (mapping_of c.args.mapping.now) c.args.b r.b_bound r.ready b w c.at-copy.result c.at-copy.ensures
     c.copy_attributes.new.store c.copy_attributes.ensures

@@ -45,11 +45,11 @@ types_of-results-requires-clause-room c = results_few c.args.store.now c.require
 
 pub images_of-uses-requires-clause-names_bound : goal.images_of-uses-requires-clause-names_bound
 images_of-uses-requires-clause-names_bound c =
-    λ k l. omega (arith, named_low 2048 c.operands_of.result.now (ap (all (λ (v : ℕ). ltb v 2048)) c.operands_of.ensures ∙ c.requires.ready.values_named) k l, c.requires.mapping_len)
+    λ k l. omega (arith, named_low 2048 c.operands_of.result.now (ap (all (λ (v : ℕ). ltb v 2048)) c.operands_of.ensures ∙ c.requires.ready.values_named) k l, c.told-mapping)
 
 pub images_of-targets-requires-clause-names_bound : goal.images_of-targets-requires-clause-names_bound
 images_of-targets-requires-clause-names_bound c =
-    λ k l. omega (arith, named_low 256 c.successors_of.result.now (ap (all (λ (v : ℕ). ltb v 256)) c.successors_of.ensures ∙ c.requires.ready.blocks_named) k l, c.requires.mapping_len)
+    λ k l. omega (arith, named_low 256 c.successors_of.result.now (ap (all (λ (v : ℕ). ltb v 256)) c.successors_of.ensures ∙ c.requires.ready.blocks_named) k l, c.told-mapping)
 
 pub at-requires-clause-n_bound : goal.at-requires-clause-n_bound
 at-requires-clause-n_bound c = op_low c.args.store.now c.requires.arranged c.args.m c.requires.m_bound c.requires.ready
@@ -74,7 +74,7 @@ pub put_operation-requires-clause-op_room : goal.put_operation-requires-clause-o
 put_operation-requires-clause-op_room c =
     let a = c.args.store.now in
     let r = c.requires in
-    op_asked_room a r.arranged c.args.mapping.now r.mapping_len c.args.parent c.args.m r.m_bound r.ready (taken ((goal.at.put_operation-requires-clause-op_room c).After-at-4))
+    op_asked_room a r.arranged c.args.mapping.now c.told-mapping c.args.parent c.args.m r.m_bound r.ready (taken ((goal.at.put_operation-requires-clause-op_room c).After-at-4))
 
 pub overflow_cast-m : goal.overflow_cast-m
 overflow_cast-m c = record { fits = omega (arith, op_low c.args.store.now c.requires.arranged c.args.m c.requires.m_bound c.requires.ready) }
@@ -86,7 +86,7 @@ copy_attributes-requires c =
     let r = c.requires in
     let b = c.put_operation.new.store in
     let w =
-    op_row_wrote a r.arranged c.args.mapping.now r.mapping_len c.args.parent c.args.m r.m_bound r.ready (taken ((goal.at.copy_attributes-requires c).After-at-4)) b c.put_operation.auto.store
+    op_row_wrote a r.arranged c.args.mapping.now c.told-mapping c.args.parent c.args.m r.m_bound r.ready (taken ((goal.at.copy_attributes-requires c).After-at-4)) b (omega arith)
     c.put_operation.ensures r.parent_value
     in
     let set = op_set a r.arranged c.args.m r.m_bound r.ready (mapping_of c.args.mapping.now) (parent_of c.args.parent) b w c.at-copy.result c.at-copy.ensures in
@@ -107,7 +107,7 @@ returns c =
     let r = c.requires in
     let b = c.put_operation.new.store in
     let w =
-    op_row_wrote a r.arranged c.args.mapping.now r.mapping_len c.args.parent c.args.m r.m_bound r.ready (taken ((goal.at.returns c).After-at-4)) b c.put_operation.auto.store
+    op_row_wrote a r.arranged c.args.mapping.now c.told-mapping c.args.parent c.args.m r.m_bound r.ready (taken ((goal.at.returns c).After-at-4)) b (omega arith)
     c.put_operation.ensures r.parent_value
     in
     op_done a r.arranged c.args.m r.m_bound r.ready (mapping_of c.args.mapping.now) (parent_of c.args.parent) b w c.at-copy.result c.at-copy.ensures

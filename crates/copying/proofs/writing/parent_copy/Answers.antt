@@ -35,11 +35,11 @@ few c =
     omega (arith, b, h.counts.blocks)
 
 pub image_at-requires : goal.image_at-requires
-image_at-requires c = omega (arith, few ((goal.at.image_at-requires c).In_ok-b), c.requires.mapping_len)
+image_at-requires c = omega (arith, few ((goal.at.image_at-requires c).In_ok-b), c.told-mapping)
 
 pub returns : goal.returns
 unfolding parent_of
 returns c =
     let e : at (columns c.args.store.now) op_parent c.args.m ≡ suc c.in_ok-b.b = omega (arith, c.at.ensures, c.in_ok-b.ensures) in
-    ap {B = Option ℕ} some (c.image_at.ensures ∙ block_image c.args.mapping.now c.requires.mapping_len c.in_ok-b.b (few ((goal.at.returns c).In_ok-b)))
+    ap {B = Option ℕ} some (c.image_at.ensures ∙ block_image c.args.mapping.now c.told-mapping c.in_ok-b.b (few ((goal.at.returns c).In_ok-b)))
     ∙ parent_some (columns c.args.store.now) (mapping_of c.args.mapping.now) c.args.n (parent_of c.args.parent) c.args.m c.requires.m_bound c.if-m-n.false c.in_ok-b.b e

@@ -16,14 +16,14 @@ at-m-requires-clause-n_bound c =
 pub image_at-copy-requires : goal.image_at-copy-requires
 image_at-copy-requires c =
     let h = laid_facts (columns c.args.store.now) c.requires.arranged.laid in
-    omega (arith, around_low (columns c.args.store.now) h (mapping_of c.args.mapping.now) c.args.r c.requires.r_bound, h.counts.ops, c.at-m.ensures, c.requires.mapping_len)
+    omega (arith, around_low (columns c.args.store.now) h (mapping_of c.args.mapping.now) c.args.r c.requires.r_bound, h.counts.ops, c.at-m.ensures, c.told-mapping)
 
 pub at-requires-clause-n_bound : goal.at-requires-clause-n_bound
 at-requires-clause-n_bound c =
     let h = laid_facts (columns c.args.store.now) c.requires.arranged.laid in
     let M = mapping_of c.args.mapping.now in
     let low : c.at-m.result < 512 = omega (arith, around_low (columns c.args.store.now) h M c.args.r c.requires.r_bound, h.counts.ops, c.at-m.ensures) in
-    let e = c.image_at-copy.ensures ∙ op_image c.args.mapping.now c.requires.mapping_len c.at-m.result low
+    let e = c.image_at-copy.ensures ∙ op_image c.args.mapping.now c.told-mapping c.at-m.result low
     ∙ ap (image M.ops) (c.at-m.ensures ∙ sym (around_read (columns c.args.store.now) h M c.args.r c.requires.r_bound)) in
     omega (arith, e, c.requires.copy_bound, h.counts.ops)
 
@@ -43,7 +43,7 @@ overflow_add-result c =
     let h = laid_facts (columns c.args.store.now) c.requires.arranged.laid in
     let M = mapping_of c.args.mapping.now in
     let low : c.at-m.result < 512 = omega (arith, around_low (columns c.args.store.now) h M c.args.r c.requires.r_bound, h.counts.ops, c.at-m.ensures) in
-    let e = c.image_at-copy.ensures ∙ op_image c.args.mapping.now c.requires.mapping_len c.at-m.result low
+    let e = c.image_at-copy.ensures ∙ op_image c.args.mapping.now c.told-mapping c.at-m.result low
     ∙ ap (image M.ops) (c.at-m.ensures ∙ sym (around_read (columns c.args.store.now) h M c.args.r c.requires.r_bound)) in
     let k : c.image_at-copy.result < op_count (columns c.args.store.now) = omega (arith, e, c.requires.copy_bound) in
     record {
@@ -56,7 +56,7 @@ returns c =
     let h = laid_facts (columns c.args.store.now) c.requires.arranged.laid in
     let M = mapping_of c.args.mapping.now in
     let low : c.at-m.result < 512 = omega (arith, around_low (columns c.args.store.now) h M c.args.r c.requires.r_bound, h.counts.ops, c.at-m.ensures) in
-    let e = c.image_at-copy.ensures ∙ op_image c.args.mapping.now c.requires.mapping_len c.at-m.result low ∙ ap (image M.ops) c.at-m.ensures in
+    let e = c.image_at-copy.ensures ∙ op_image c.args.mapping.now c.told-mapping c.at-m.result low ∙ ap (image M.ops) c.at-m.ensures in
     ap₂ (λ (x y : ℕ). x + (c.args.r - y))
     (c.at.ensures ∙ ap (at (columns c.args.store.now) op_region_first) e)
     (c.at-2.ensures ∙ ap (at (columns c.args.store.now) op_region_first) c.at-m.ensures)

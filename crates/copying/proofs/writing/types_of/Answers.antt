@@ -9,7 +9,7 @@ use Rattle.copying.proofs.writing.types_of.Goals.{After-words-types}
 -- the list has room for them
 room : (c : After-words-types) → length c.words-types.result.now ≤ length c.args.into.now
 room c =
-    let shape : length (columns c.args.store.now value_type) ≡ 2048 = columns_shaped c.args.store.now c.requires.store_len value_type in
+    let shape : length (columns c.args.store.now value_type) ≡ 2048 = columns_shaped c.args.store.now c.told-store value_type in
     let top : c.number-2.result ≤ length (columns c.args.store.now value_type) = omega (arith, shape, c.number-2.ensures, c.requires.fits) in
     let long = ap length c.words-types.ensures ∙ slice_length (columns c.args.store.now value_type) c.number.result c.number-2.result top in
     omega (arith, long, c.number.ensures, c.number-2.ensures, c.requires.room)

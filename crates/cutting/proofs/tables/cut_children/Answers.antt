@@ -23,10 +23,9 @@ owners_kept C D E owners links ends count vs al ae d e i =
 pub end_children-requires : goal.end_children-requires
 end_children-requires c =
     let a = c.args in
-    let f = c.requires.children_fit in
+    let f = c.requires in
     let n = c.number-count.ensures in
     record {
-      store_len = c.put_same.auto.store ∙ c.cut_links.auto.store ∙ c.requires.store_len;
       owners_lt_column_count = f.owners_in;
       ends_lt_column_count = f.ends_in;
       ends_value = f.ends_apart;

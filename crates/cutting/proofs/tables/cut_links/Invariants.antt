@@ -1,7 +1,5 @@
 -- `cut_links` meets its contract: after each turn one link more is that of the children that stay. Assumes nothing.
 use Prim.Native.Nat.{ℕ}
-use mathlib.Core.Path.{◌≡◌}
-use lib.ListN.{length}
 use Rattle.layout.specs.Columns.{columns, at}
 use Rattle.cutting.specs.Cutting.{link_cut}
 use Rattle.cutting.proofs.Written.{Filled}
@@ -9,4 +7,4 @@ use Rattle.cutting.proofs.tables.cut_links.Given as goal
 
 abbrev pub invariant-loop-i : goal.invariant-loop-i
 invariant-loop-i l =
-    (length l.store ≡ length l.initial.store) × Filled (columns l.initial.store) l.links (λ (j : ℕ). link_cut l.count (at (columns l.initial.store) l.links j)) l.count (columns l.store) l.i
+    Filled (columns l.initial.store) l.links (λ (j : ℕ). link_cut l.count (at (columns l.initial.store) l.links j)) l.count (columns l.store) l.i

@@ -1,4 +1,5 @@
 -- `cut_tables` meets its contract: the counts are those of the row, none above what there was, so what is left names owners within bounds. Assumes nothing.
+use native.Mathlib.Omega.{arith}
 use mathlib.Core.Path.{ap, subst, sym, ◌∙◌}
 use Rattle.layout.specs.Columns.{columns}
 use Rattle.layout.specs.Reading.{store_of}
@@ -14,19 +15,13 @@ use Rattle.cutting.proofs.tables.cut_tables.Goals as goal
 pub cut_children-requires : goal.cut_children-requires
 cut_children-requires c =
     let C = columns c.args.store.now in
-    record {
-      store_len = c.take_counts.auto.store ∙ c.requires.sound.sized;
-      children_fit = ops_fit C c.args.row (columns_shaped _ c.requires.sound.sized) (laid_facts C c.requires.sound.laid) c.requires.store_value c.take_counts.ensures;
-    }
+    ops_fit C c.args.row (columns_shaped _ c.requires.sound.sized) (laid_facts C c.requires.sound.laid) c.requires.store_value c.take_counts.ensures
 
 pub cut_children-requires-2 : goal.cut_children-requires-2
 unfolding ops_cut
 cut_children-requires-2 c =
     let C = columns c.args.store.now in
-    record {
-      store_len = c.cut_children.auto.store ∙ c.take_counts.auto.store ∙ c.requires.sound.sized;
-      children_fit = blocks_fit C c.args.row (columns_shaped _ c.requires.sound.sized) (laid_facts C c.requires.sound.laid) c.requires.store_value (c.cut_children.ensures ∙ ap ops_cut c.take_counts.ensures);
-    }
+    blocks_fit C c.args.row (columns_shaped _ c.requires.sound.sized) (laid_facts C c.requires.sound.laid) c.requires.store_value (c.cut_children.ensures ∙ ap ops_cut c.take_counts.ensures)
 
 pub returns : goal.returns
 unfolding tables_cut ops_cut blocks_cut
@@ -39,6 +34,6 @@ returns c =
     let cut = c.cut_children-2.ensures ∙ ap blocks_cut (c.cut_children.ensures ∙ ap ops_cut c.take_counts.ensures) in
     record {
       store_after = ap store_of cut ∙ tables_read C row shaped laid c.requires.store_value;
-      store_after_2 = tables_sound C row shaped laid c.requires.store_value _ (c.cut_children-2.auto.store ∙ c.cut_children.auto.store ∙ c.take_counts.auto.store ∙ long) cut;
+      store_after_2 = tables_sound C row shaped laid c.requires.store_value _ (omega arith) cut;
       marks_kept = subst (MarksKept C) (sym cut) (cut_marks C row shaped);
     }

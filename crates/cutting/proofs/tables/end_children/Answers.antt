@@ -1,19 +1,18 @@
 -- `end_children` meets its contract: after each turn one child more is seen. Assumes nothing.
 use native.Mathlib.Omega.{arith}
-use mathlib.Core.Path.{refl, ◌∙◌}
+use mathlib.Core.Path.{◌∙◌}
 use Rattle.layout.specs.Columns.{columns}
 use Rattle.cutting.proofs.Written.{ending_starts, ending_word, ending_turn}
 use Rattle.cutting.proofs.tables.end_children.Goals as goal
 
 pub loop-i-init : goal.loop-i-init
-loop-i-init c = let a = c.args in (refl, ending_starts (columns a.store.now) a.family.owners a.family.ends a.family.shift a.count)
+loop-i-init c = let a = c.args in ending_starts (columns a.store.now) a.family.owners a.family.ends a.family.shift a.count
 
 pub end_child-requires : goal.end_child-requires
 end_child-requires c =
     let l = c.loop-i in
-    let word = c.number-word.ensures ∙ ending_word l.invariant.1 c.requires.ends_value in
+    let word = c.number-word.ensures ∙ ending_word l.invariant c.requires.ends_value in
     record {
-      store_len = l.invariant.0 ∙ c.requires.store_len;
       ends_lt_column_count = c.requires.ends_lt_column_count;
       word_bound = omega (arith, word, c.requires.by_index l.i c.loop-i-test.true);
       n_bound = omega (arith, c.loop-i-test.true, c.requires.count_bound_2);
@@ -21,7 +20,5 @@ end_child-requires c =
 
 pub loop-i-preserved : goal.loop-i-preserved
 loop-i-preserved c =
-    let l = c.loop-i in (
-      c.end_child.auto.store ∙ l.invariant.0,
-      ending_turn l.invariant.1 _ c.loop-i-test.true (c.number-word.ensures ∙ ending_word l.invariant.1 c.requires.ends_value) c.end_child.ensures,
-    )
+    let l = c.loop-i in
+    ending_turn l.invariant _ c.loop-i-test.true (c.number-word.ensures ∙ ending_word l.invariant c.requires.ends_value) c.end_child.ensures

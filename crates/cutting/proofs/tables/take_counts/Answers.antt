@@ -16,7 +16,7 @@ unfolding counts_taken at
 returns c =
     let C = columns c.args.store.now in
     let row = c.args.row in
-    let shaped = columns_shaped c.args.store.now c.requires.store_len in
+    let shaped = columns_shaped c.args.store.now c.told-store in
     let many : length (slice (C mark_counts) (8 * row) (8 * row + 7)) ≡ 7 =
     slice_length (C mark_counts) (8 * row) (8 * row + 7) (omega (arith, shaped mark_counts)) ∙ (let e : 8 * row + 7 - 8 * row ≡ 7 = omega arith in e) in
     c.copy.ensures

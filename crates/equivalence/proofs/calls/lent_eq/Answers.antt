@@ -2,8 +2,12 @@
 use Prim.Native.Nat.{ℕ}
 use mathlib.Core.Bool.{true}
 use mathlib.Core.List.{List}
-use mathlib.Core.Path.{◌≡◌, subst, sym, ◌∙◌}
-use Rattle.layout.specs.Soundness.{IsSound}
+use mathlib.Core.Path.{◌≡◌, refl, sym, ap, subst, ◌∙◌}
+use Rattle.rules.specs.Fragments.{Sort}
+use Rattle.rules.specs.Shells.{Ignore}
+use Rattle.rules.specs.Answers.{Compared}
+use Rattle.layout.specs.Reading.{store_in}
+use Rattle.mapping.proofs.Entries.{wrong_length}
 use Rattle.journal.specs.Words.{sound_lent}
 use Rattle.marks.proofs.Lent.{lent_facts}
 use Rattle.fragments.specs.Ignoring.{ignore_of}
@@ -15,62 +19,75 @@ use Rattle.equivalence.specs.Calls.{Answered}
 use Rattle.equivalence.proofs.Answering.{unsound, unallowed, as_found, no_types}
 use Rattle.equivalence.proofs.calls.lent_eq.Goals as goal
 
-pub returns-then-not-is_sound : goal.returns-then-not-is_sound
+pub returns-in_default : goal.returns-in_default
 unfolding compared_of
-returns-then-not-is_sound c =
+returns-in_default c =
     let a = c.args in
-    unsound a.store.now a.types.now a.mapping.now (ignore_of a.ignore) (sort_of a.of.sort) a.of.lhs a.of.rhs _
-    (sym c.is_sound.ensures ∙ c.if-not-is_sound.true)
+    unsound a.store.now a.types.now a.mapping.now (ignore_of a.ignore) (sort_of a.of.sort) a.of.lhs a.of.rhs _ c.in_default.ensures
+
+pub returns-in_default-as_mut_array : goal.returns-in_default-as_mut_array
+unfolding compared_of
+returns-in_default-as_mut_array c =
+    let a = c.args in
+    unallowed a.store.now a.types.now a.mapping.now (ignore_of a.ignore) (sort_of a.of.sort) a.of.lhs a.of.rhs _ c.in-Some.ensures.1
+    (wrong_length (store_in a.store.now) a.mapping.now c.in_default-as_mut_array.ensures.cases)
+
+-- what is found to be sound, of a mapping of the right length, is what was lent
+found : (b words types m entries z : List ℕ) (ig : Ignore) (f : Sort) (l r : ℕ) {q : Compared} → (words ≡ b) × (sound_lent b ≡ true) → entries ≡ m
+    → Answered true words types entries z ig f l r q → Answered (sound_lent b) b types m z ig f l r q
+found b words types m entries z ig f l r {q} w same h =
+    as_found b types m ig f l r _ w.1
+    (subst (λ (x : List ℕ). Answered true x types m z ig f l r q) w.0
+    (subst (λ (x : List ℕ). Answered true words types x z ig f l r q) same h))
 
 pub is_allowed-requires : goal.is_allowed-requires
 is_allowed-requires c =
-    let lent : sound_lent c.args.store.now ≡ true = sym c.is_sound.ensures ∙ c.if-not-is_sound.false in
-    let sound : IsSound c.args.store.now = (lent_facts c.args.store.now lent).tables in
-    let h = sound in
+    let w = c.in-Some.ensures in
+    let h = (lent_facts _ (ap sound_lent w.0 ∙ w.1)).tables in
     record { sized = h.sized; laid = h.laid }
 
 pub returns-then-not-is_allowed : goal.returns-then-not-is_allowed
 unfolding compared_of
 returns-then-not-is_allowed c =
-    let lent : sound_lent c.args.store.now ≡ true = sym c.is_sound.ensures ∙ c.if-not-is_sound.false in
     let a = c.args in
-    unallowed a.store.now a.types.now a.mapping.now (ignore_of a.ignore) (sort_of a.of.sort) a.of.lhs a.of.rhs _ lent
-    (sym c.is_allowed.ensures ∙ c.if-not-is_allowed.true)
+    let w = c.in-Some.ensures in
+    let z = c.in-Some-as_mut_array.entries.now in
+    found a.store.now c.in-Some.words.now a.types.now a.mapping.now z z (ignore_of a.ignore) (sort_of a.of.sort) a.of.lhs a.of.rhs w
+    c.in-Some-as_mut_array.ensures.cases.same
+    (unallowed c.in-Some.words.now a.types.now z (ignore_of a.ignore) (sort_of a.of.sort) a.of.lhs a.of.rhs true refl
+    (sym c.is_allowed.ensures ∙ c.if-not-is_allowed.true))
 
 pub invariant_of-terms : goal.invariant_of-terms
 invariant_of-terms c =
-    let lent : sound_lent c.args.store.now ≡ true = sym c.is_sound.ensures ∙ c.if-not-is_sound.false in
-    let sound : IsSound c.args.store.now = (lent_facts c.args.store.now lent).tables in
-    let a = c.args in
-    record { readable = record { sound = sound; indexed = (no_types a.types.now (search (rules, tests, c.is_empty.ensures))).0 } }
+    let w = c.in-Some.ensures in
+    record {
+      readable = record {
+        sound = (lent_facts _ (ap sound_lent w.0 ∙ w.1)).tables;
+        indexed = (no_types c.args.types.now (search (rules, tests, c.is_empty.ensures))).0;
+      };
+    }
 
 pub fragments_eq-requires : goal.fragments_eq-requires
 fragments_eq-requires c = sym c.is_allowed.ensures ∙ c.if-not-is_allowed.false
 
-pub shape_of-mapping-then-is_empty : goal.shape_of-mapping-then-is_empty
-shape_of-mapping-then-is_empty c = c.fragments_eq.auto.mapping
-
 pub returns-then-is_empty : goal.returns-then-is_empty
 returns-then-is_empty c =
-    let lent : sound_lent c.args.store.now ≡ true = sym c.is_sound.ensures ∙ c.if-not-is_sound.false in
-    let r = c.fragments_eq in
     let a = c.args in
-    as_found a.store.now a.types.now a.mapping.now (ignore_of a.ignore) (sort_of a.of.sort) a.of.lhs a.of.rhs _ lent
-    (subst (λ (types : List ℕ). Answered true a.store.now types a.mapping.now r.new.mapping (ignore_of a.ignore) (sort_of a.of.sort) a.of.lhs a.of.rhs (compared_of r.result))
+    let r = c.fragments_eq in
+    let words = c.in-Some.words.now in
+    let z = c.in-Some-as_mut_array.entries.now in
+    found a.store.now words a.types.now a.mapping.now z r.new.mapping (ignore_of a.ignore) (sort_of a.of.sort) a.of.lhs a.of.rhs c.in-Some.ensures
+    c.in-Some-as_mut_array.ensures.cases.same
+    (subst (λ (types : List ℕ). Answered true words types z r.new.mapping (ignore_of a.ignore) (sort_of a.of.sort) a.of.lhs a.of.rhs (compared_of r.result))
     (no_types a.types.now (search (rules, tests, c.is_empty.ensures))).1 r.ensures)
 
 pub indexed_eq-requires : goal.indexed_eq-requires
 indexed_eq-requires c =
-    let lent : sound_lent c.args.store.now ≡ true = sym c.is_sound.ensures ∙ c.if-not-is_sound.false in
-    let sound : IsSound c.args.store.now = (lent_facts c.args.store.now lent).tables in
-    record { sound = sound; mapping_value = sym c.is_allowed.ensures ∙ c.if-not-is_allowed.false }
-
-pub shape_of-mapping : goal.shape_of-mapping
-shape_of-mapping c = c.indexed_eq.auto.mapping
+    let w = c.in-Some.ensures in
+    record { sound = (lent_facts _ (ap sound_lent w.0 ∙ w.1)).tables; mapping_value = sym c.is_allowed.ensures ∙ c.if-not-is_allowed.false }
 
 pub returns : goal.returns
 returns c =
-    let lent : sound_lent c.args.store.now ≡ true = sym c.is_sound.ensures ∙ c.if-not-is_sound.false in
     let a = c.args in
-    as_found a.store.now a.types.now a.mapping.now (ignore_of a.ignore) (sort_of a.of.sort) a.of.lhs a.of.rhs _ lent
-    c.indexed_eq.ensures
+    found a.store.now c.in-Some.words.now a.types.now a.mapping.now c.in-Some-as_mut_array.entries.now c.indexed_eq.new.mapping (ignore_of a.ignore)
+    (sort_of a.of.sort) a.of.lhs a.of.rhs c.in-Some.ensures c.in-Some-as_mut_array.ensures.cases.same c.indexed_eq.ensures

@@ -10,7 +10,6 @@ use Rattle.fragments.specs.Sorts.{sort_of}
 use Rattle.pairing.specs.Told.{compared_of}
 use Rattle.equivalence.specs.Calls.{Answered}
 use Rattle.equivalence.proofs.Answering.{tests_passed, tests_failed, pair_exists, refused_pair, walked}
-use Rattle.mapping.proofs.Entries.{allowed_long}
 use Rattle.equivalence.proofs.comparison.fragments_eq.Goals as goal
 
 pub returns-in_err-both_exist : goal.returns-in_err-both_exist
@@ -23,9 +22,6 @@ returns-in_err-both_exist c =
     subst (λ q. Answered true b (list_in a.terms.now.types.now) a.mapping.now a.mapping.now (ignore_of a.terms.now.ignore) f a.of.lhs a.of.rhs (compared_of q)) (sym failed)
     (refused_pair b (list_in a.terms.now.types.now) a.mapping.now (ignore_of a.terms.now.ignore) f a.of.lhs a.of.rhs c.requires (index_holds _ c.args.terms.now.readable.indexed) _
     (tests_failed (store_in b) f a.of.lhs a.of.rhs _ c.both_exist.ensures c.in_err-both_exist.was))
-
-pub walk_eq-requires-clause-mapping_len : goal.walk_eq-requires-clause-mapping_len
-walk_eq-requires-clause-mapping_len c = allowed_long (store_in c.args.terms.now.store.now) c.args.mapping.now c.requires
 
 pub walk_eq-requires-clause-lhs_value : goal.walk_eq-requires-clause-lhs_value
 walk_eq-requires-clause-lhs_value c =

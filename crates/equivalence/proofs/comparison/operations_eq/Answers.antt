@@ -25,7 +25,6 @@ use Rattle.equivalence.specs.Calls.{Answered}
 use Rattle.equivalence.specs.Walked.{op_walk}
 use Rattle.equivalence.proofs.Telling.{told_ended}
 use Rattle.equivalence.proofs.Answering.{tests_passed, tests_failed, pair_exists, refused_pair, walked, few_walk, op_walk_lem}
-use Rattle.mapping.proofs.Entries.{allowed_long}
 use Rattle.equivalence.proofs.comparison.operations_eq.Goals as goal
 use Rattle.equivalence.proofs.comparison.operations_eq.Goals.{In_ok-both_exist}
 
@@ -77,9 +76,6 @@ returns-then-at c =
     c.args.terms.now.readable.sound (Err (FirstNEQOps a.lhs a.rhs 0)) m
     (tests_passed S op a.lhs a.rhs _ c.both_exist.ensures c.in_ok-both_exist.was)
     (subst (λ (w : Walk). Told w (Err (FirstNEQOps a.lhs a.rhs 0)) m) (sym (op_walk_lem S o a.lhs a.rhs st)) told)
-
-pub ops_eq-requires-clause-mapping_len : goal.ops_eq-requires-clause-mapping_len
-ops_eq-requires-clause-mapping_len c = allowed_long (store_in c.args.terms.now.store.now) c.args.mapping.now c.requires
 
 pub ops_eq-requires-clause-lhs_bound : goal.ops_eq-requires-clause-lhs_bound
 ops_eq-requires-clause-lhs_bound c = there (columns c.args.terms.now.store.now) op c.args.lhs (both ((goal.at.ops_eq-requires-clause-lhs_bound c).In_ok-both_exist)).0

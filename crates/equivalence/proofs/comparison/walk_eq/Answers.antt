@@ -24,7 +24,6 @@ ops_eq-requires c =
     let er = subst (λ x. exists (store_in b) (sort_of x) a.of.rhs ≡ true) sort c.requires.rhs_value in
     let few = few_walk (store_in b) c.args.terms.now.readable.sound.ruled (options_in a.terms.now) op a.of.lhs a.of.rhs el a.mapping.now in
     record {
-      mapping_len = c.requires.mapping_len;
       lhs_bound = there (columns b) op a.of.lhs el;
       rhs_bound = there (columns b) op a.of.rhs er;
       paired_fits = few;
@@ -41,7 +40,6 @@ blocks_eq-requires c =
     let er = subst (λ x. exists (store_in b) (sort_of x) a.of.rhs ≡ true) sort c.requires.rhs_value in
     let few = few_walk (store_in b) c.args.terms.now.readable.sound.ruled o block a.of.lhs a.of.rhs el a.mapping.now in
     record {
-      mapping_len = c.requires.mapping_len;
       lists_exist = (there (columns b) block a.of.lhs el, there (columns b) block a.of.rhs er);
       paired_fits = subst (λ (w : Walk). PairedFits w) (block_walk (store_in b) o a.of.lhs a.of.rhs (state_of a.mapping.now 0)) few;
     }
@@ -57,7 +55,6 @@ region_eq-requires c =
     let er = subst (λ x. exists (store_in b) (sort_of x) a.of.rhs ≡ true) sort c.requires.rhs_value in
     let few = few_walk (store_in b) c.args.terms.now.readable.sound.ruled o region a.of.lhs a.of.rhs el a.mapping.now in
     record {
-      mapping_len = c.requires.mapping_len;
       lhs_bound = there (columns b) region a.of.lhs el;
       rhs_bound = there (columns b) region a.of.rhs er;
       paired_fits = subst (λ (w : Walk). PairedFits w) (region_walk_lem (store_in b) o a.of.lhs a.of.rhs (state_of a.mapping.now 0)) few;

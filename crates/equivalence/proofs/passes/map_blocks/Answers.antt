@@ -2,7 +2,7 @@
 use Prim.Native.Nat.{ℕ}
 use Rattle.std.proofs.Common.{rules}
 use mathlib.Core.Logic.{inl, inr}
-use mathlib.Core.Path.{refl, ap, ◌∙◌}
+use mathlib.Core.Path.{ap, ◌∙◌}
 use Rattle.rules.specs.Store.{Store}
 use Rattle.rules.specs.Comparison.{State, Pair, Walk, pairwise, pair_blocks, pass1}
 use Rattle.rules.proofs.Walking.Paired.{grows_pair_blocks}
@@ -39,7 +39,7 @@ pair_comes : (c : In-Some-Some)
     (pass1_walk (store_in c.args.terms.now.store.now) (options_in c.args.terms.now) c.args.lists (state_of c.args.mapping.now c.args.paired))
     (state_of c.loop-lhs.mapping c.loop-lhs.count) c.in-Some-Some.lhs c.in-Some-Some.rhs
 pair_comes c =
-    turn (zips (store_in c.args.terms.now.store.now) (options_in c.args.terms.now) (pair_of_lists c.args.lists)) c.loop-lhs.invariant.3
+    turn (zips (store_in c.args.terms.now.store.now) (options_in c.args.terms.now) (pair_of_lists c.args.lists)) c.loop-lhs.invariant.2
     c.in-Some-Some.ensures.steps c.in-Some-Some.ensures'.steps
 
 pub loop-lhs-init : goal.loop-lhs-init
@@ -48,7 +48,6 @@ loop-lhs-init c =
     let S = store_in c.args.terms.now.store.now in (
       _,
       _,
-      refl,
       rest_begins _ (lefts S c.args.lists) (rights S c.args.lists) _ _ c.args.mapping.now c.args.paired
           (c.new-ls.ensures ∙ ap (block_list S) c.left.ensures) (c.new-rs.ensures ∙ ap (block_list S) c.right.ensures),
     )
@@ -64,7 +63,7 @@ block_eq_map-requires-clause-rhs_bound c = block_in_lem _ (right_of c.args.lists
 
 pub block_eq_map-requires-clause-paired_le_max_paired : goal.block_eq_map-requires-clause-paired_le_max_paired
 block_eq_map-requires-clause-paired_le_max_paired c =
-    rest_fits (zips (store_in c.args.terms.now.store.now) (options_in c.args.terms.now) (pair_of_lists c.args.lists)) c.loop-lhs.invariant.3 c.requires.paired_fits
+    rest_fits (zips (store_in c.args.terms.now.store.now) (options_in c.args.terms.now) (pair_of_lists c.args.lists)) c.loop-lhs.invariant.2 c.requires.paired_fits
 
 pub returns-in_err-count-in-Some-Some : goal.returns-in_err-count-in-Some-Some
 returns-in_err-count-in-Some-Some c =
@@ -77,18 +76,17 @@ loop-lhs-preserved c =
     let t = pair_comes ((goal.at.loop-lhs-preserved c).In-Some-Some) in (
       _,
       _,
-      c.block_eq_map.auto.mapping ∙ c.loop-lhs.invariant.2,
       turn_rest (zips (store_in c.args.terms.now.store.now) (options_in c.args.terms.now) (pair_of_lists c.args.lists)) t _ _ c.block_eq_map.ensures c.in_ok-count-in-Some-Some.was,
     )
 
 pub returns-in-None-None : goal.returns-in-None-None
 returns-in-None-None c =
-    pairwise_ends (step (store_in c.args.terms.now.store.now) (options_in c.args.terms.now)) (pair_of_lists c.args.lists) c.loop-lhs.invariant.3
+    pairwise_ends (step (store_in c.args.terms.now.store.now) (options_in c.args.terms.now)) (pair_of_lists c.args.lists) c.loop-lhs.invariant.2
     (none_next blocks_left c.loop-lhs.ls c.next.new.self _ c.next.ensures.steps c.in-None-None.is-0) (none_next blocks_left c.loop-lhs.rs c.next-in-loop-lhs.new.self _ c.next-in-loop-lhs.ensures.steps c.in-None-None.is-1)
 
 pub returns-in-Some-None : goal.returns-in-Some-None
 returns-in-Some-None c =
-    uneven_ends (step (store_in c.args.terms.now.store.now) (options_in c.args.terms.now)) (pair_of_lists c.args.lists) c.loop-lhs.invariant.3 _
+    uneven_ends (step (store_in c.args.terms.now.store.now) (options_in c.args.terms.now)) (pair_of_lists c.args.lists) c.loop-lhs.invariant.2 _
     (ap (λ (u : Unequal). answer_of (Err u)) c.lengths_neq.ensures ∙ named_neq c.args.lists c.loop-lhs.count)
     (elim c.in-Some-None-1.branch [
       | in-Some+in-None-1 w ↦ inl (

@@ -1,6 +1,4 @@
 -- `map_blocks` meets its contract: what is left to pair, from the words as they are, is the whole from the words as they were. Assumes nothing.
-use mathlib.Core.Path.{◌≡◌}
-use lib.ListN.{length}
 use Rattle.rules.specs.Comparison.{pairwise, pair_blocks}
 use Rattle.layout.specs.Reading.{store_in}
 use Rattle.fragments.specs.BlocksLeft.{blocks_left}
@@ -15,7 +13,6 @@ abbrev pub invariant-loop-lhs : goal.invariant-loop-lhs
 invariant-loop-lhs l =
     (goal.iterator-loop-lhs).can_next l.ls
     × (goal.iterator-loop-lhs).is_finite l.ls
-    × (length l.mapping ≡ length l.initial.mapping)
     × Rest (pairwise (pair_blocks (under (options_in l.terms) (store_in l.terms.store.now)) (options_in l.terms).ignore) (pair_of_lists l.lists))
     (lefts (store_in l.terms.store.now) l.lists) (rights (store_in l.terms.store.now) l.lists) (blocks_left l.ls) (blocks_left l.rs)
     (pass1_walk (store_in l.terms.store.now) (options_in l.terms) l.lists (state_of l.initial.mapping l.paired)) l.mapping l.count

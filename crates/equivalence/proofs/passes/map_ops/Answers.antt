@@ -1,5 +1,5 @@
 -- `map_ops` meets its contract: what is left to pair, from the words as they are, is the whole from the words as they were. Assumes nothing.
-use mathlib.Core.Path.{refl, ap, ◌∙◌}
+use mathlib.Core.Path.{ap, ◌∙◌}
 use Rattle.std.proofs.Common.{rules}
 use Rattle.rules.specs.Store.{Store, ops_of}
 use Rattle.rules.specs.Fragments.{block}
@@ -28,7 +28,7 @@ pair_comes : (c : In-Some)
     (lefts (store_in c.args.terms.now.store.now) c.args.lists) (rights (store_in c.args.terms.now.store.now) c.args.lists) (blocks_left c.next.new.self.a) (blocks_left c.next.new.self.b)
     (pass2_walk (store_in c.args.terms.now.store.now) (options_in c.args.terms.now) c.args.lists (state_of c.args.mapping.now c.args.paired))
     (state_of c.loop-lhs.mapping c.loop-lhs.count) c.in-Some.lhs c.in-Some.rhs
-pair_comes c = turn (zips (store_in c.args.terms.now.store.now) (options_in c.args.terms.now)) c.loop-lhs.invariant.3 c.in-Some.ensures.steps.0 c.in-Some.ensures.steps.1
+pair_comes c = turn (zips (store_in c.args.terms.now.store.now) (options_in c.args.terms.now)) c.loop-lhs.invariant.2 c.in-Some.ensures.steps.0 c.in-Some.ensures.steps.1
 
 pub loop-lhs-init : goal.loop-lhs-init
 unfolding pass2 renamed ops_of
@@ -38,7 +38,6 @@ loop-lhs-init c =
     let zipped = c.zip-lhs-items.ensures in (
       _,
       _,
-      refl,
       rest_begins _ (lefts S c.args.lists) (rights S c.args.lists) _ _ c.args.mapping.now c.args.paired
           ((λ i. blocks_left (given i).a) ∙ ap blocks_left zipped.first ∙ c.new-ls.ensures ∙ ap (block_list S) c.left.ensures)
           ((λ i. blocks_left (given i).b) ∙ ap blocks_left zipped.second ∙ c.new-rs.ensures ∙ ap (block_list S) c.right.ensures),
@@ -65,11 +64,10 @@ pub loop-lhs-preserved : goal.loop-lhs-preserved
 loop-lhs-preserved c = (
   _,
   _,
-  c.map_ops_in.auto.mapping ∙ c.loop-lhs.invariant.2,
   turn_rest (zips (store_in c.args.terms.now.store.now) (options_in c.args.terms.now)) (pair_comes ((goal.at.loop-lhs-preserved c).In-Some)) _ _ c.map_ops_in.ensures c.in_ok-count.was,
 )
 
 pub returns : goal.returns
 returns c =
-    each_ends (pairs_walk (store_in c.args.terms.now.store.now) (options_in c.args.terms.now)) c.loop-lhs.invariant.3
+    each_ends (pairs_walk (store_in c.args.terms.now.store.now) (options_in c.args.terms.now)) c.loop-lhs.invariant.2
     (over_next blocks_left blocks_left c.loop-lhs.lhs-iterator.a c.loop-lhs.lhs-iterator.b c.in-None.ensures.steps)

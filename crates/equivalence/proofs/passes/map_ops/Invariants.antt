@@ -1,6 +1,4 @@
 -- `map_ops` meets its contract: what is left to pair, from the words as they are, is the whole from the words as they were. Assumes nothing.
-use mathlib.Core.Path.{◌≡◌}
-use lib.ListN.{length}
 use Rattle.rules.specs.Comparison.{each_pair}
 use Rattle.layout.specs.Reading.{store_in}
 use Rattle.fragments.specs.BlocksLeft.{blocks_left}
@@ -14,7 +12,6 @@ abbrev pub invariant-loop-lhs : goal.invariant-loop-lhs
 invariant-loop-lhs l =
     (goal.iterator-loop-lhs).can_next l.lhs-iterator
     × (goal.iterator-loop-lhs).is_finite l.lhs-iterator
-    × (length l.mapping ≡ length l.initial.mapping)
     × Rest (each_pair (pairs_walk (store_in l.terms.store.now) (options_in l.terms)))
     (lefts (store_in l.terms.store.now) l.fn.lists) (rights (store_in l.terms.store.now) l.fn.lists) (blocks_left l.lhs-iterator.a) (blocks_left l.lhs-iterator.b)
     (pass2_walk (store_in l.terms.store.now) (options_in l.terms) l.fn.lists (state_of l.initial.mapping l.paired)) l.mapping l.count

@@ -3,7 +3,7 @@ use Prim.Native.Nat.{ℕ}
 use native.Mathlib.Omega.{arith}
 use Rattle.std.proofs.Common.{rules}
 use mathlib.Core.Logic.{inl, inr}
-use mathlib.Core.Path.{refl, ◌∙◌}
+use mathlib.Core.Path.{refl}
 use Rattle.rules.specs.Store.{Store, ops_of}
 use Rattle.rules.specs.Fragments.{block}
 use Rattle.rules.specs.Comparison.{State, Pair, Walk, pair_of, pairwise, pair_ops}
@@ -36,7 +36,7 @@ pair_comes : (c : In-Some-Some)
     (pairs_walk (store_in c.args.terms.now.store.now) (options_in c.args.terms.now) c.args.pair.lhs c.args.pair.rhs (state_of c.args.mapping.now c.args.paired))
     (state_of c.loop-lhs.mapping c.loop-lhs.count) c.in-Some-Some.lhs c.in-Some-Some.rhs
 pair_comes c =
-    turn (zips (store_in c.args.terms.now.store.now) (options_in c.args.terms.now) (pair_of block c.args.pair.lhs c.args.pair.rhs)) c.loop-lhs.invariant.3
+    turn (zips (store_in c.args.terms.now.store.now) (options_in c.args.terms.now) (pair_of block c.args.pair.lhs c.args.pair.rhs)) c.loop-lhs.invariant.2
     c.in-Some-Some.ensures.steps c.in-Some-Some.ensures'.steps
 
 pub op_eq_map-requires-clause-lhs_bound : goal.op_eq_map-requires-clause-lhs_bound
@@ -47,7 +47,7 @@ op_eq_map-requires-clause-rhs_bound c = op_in_lem _ c.args.pair.rhs _ (pair_come
 
 pub op_eq_map-requires-clause-paired_le_max_paired : goal.op_eq_map-requires-clause-paired_le_max_paired
 op_eq_map-requires-clause-paired_le_max_paired c =
-    rest_fits (zips (store_in c.args.terms.now.store.now) (options_in c.args.terms.now) (pair_of block c.args.pair.lhs c.args.pair.rhs)) c.loop-lhs.invariant.3 c.requires.paired_fits
+    rest_fits (zips (store_in c.args.terms.now.store.now) (options_in c.args.terms.now) (pair_of block c.args.pair.lhs c.args.pair.rhs)) c.loop-lhs.invariant.2 c.requires.paired_fits
 
 pub returns-in_err-count-in-Some-Some : goal.returns-in_err-count-in-Some-Some
 returns-in_err-count-in-Some-Some c =
@@ -60,13 +60,12 @@ loop-lhs-preserved c =
     let t = pair_comes ((goal.at.loop-lhs-preserved c).In-Some-Some) in (
       _,
       _,
-      c.op_eq_map.auto.mapping ∙ c.loop-lhs.invariant.2,
       turn_rest (zips (store_in c.args.terms.now.store.now) (options_in c.args.terms.now) (pair_of block c.args.pair.lhs c.args.pair.rhs)) t _ _ c.op_eq_map.ensures c.in_ok-count-in-Some-Some.was,
     )
 
 pub returns-in-None-None : goal.returns-in-None-None
 returns-in-None-None c =
-    pairwise_ends (step (store_in c.args.terms.now.store.now) (options_in c.args.terms.now)) (pair_of block c.args.pair.lhs c.args.pair.rhs) c.loop-lhs.invariant.3
+    pairwise_ends (step (store_in c.args.terms.now.store.now) (options_in c.args.terms.now)) (pair_of block c.args.pair.lhs c.args.pair.rhs) c.loop-lhs.invariant.2
     (none_next ops_left c.loop-lhs.ls c.next.new.self _ c.next.ensures.steps c.in-None-None.is-0) (none_next ops_left c.loop-lhs.rs c.next-in-loop-lhs.new.self _ c.next-in-loop-lhs.ensures.steps c.in-None-None.is-1)
 
 pub overflow_cast-result : goal.overflow_cast-result
@@ -82,7 +81,7 @@ overflow_cast-result-in-Some-None c =
 pub returns-in-Some-None : goal.returns-in-Some-None
 unfolding answer_of
 returns-in-Some-None c =
-    uneven_ends (step (store_in c.args.terms.now.store.now) (options_in c.args.terms.now)) (pair_of block c.args.pair.lhs c.args.pair.rhs) c.loop-lhs.invariant.3 _ refl
+    uneven_ends (step (store_in c.args.terms.now.store.now) (options_in c.args.terms.now)) (pair_of block c.args.pair.lhs c.args.pair.rhs) c.loop-lhs.invariant.2 _ refl
     (elim c.in-Some-None-1.branch [
       | in-Some+in-None-1 w ↦ inl (
         some_next ops_left c.loop-lhs.ls c.next.new.self _ c.next.ensures.steps (search rules),

@@ -1,6 +1,4 @@
 -- `map_ops_in` meets its contract: what is left to pair, from the words as they are, is the whole from the words as they were. Assumes nothing.
-use mathlib.Core.Path.{◌≡◌}
-use lib.ListN.{length}
 use Rattle.rules.specs.Store.{ops_of}
 use Rattle.rules.specs.Fragments.{block}
 use Rattle.rules.specs.Comparison.{pair_of, pairwise, pair_ops}
@@ -17,7 +15,6 @@ abbrev pub invariant-loop-lhs : goal.invariant-loop-lhs
 invariant-loop-lhs l =
     (goal.iterator-loop-lhs).can_next l.ls
     × (goal.iterator-loop-lhs).is_finite l.ls
-    × (length l.mapping ≡ length l.initial.mapping)
     × Rest
     (pairwise (pair_ops (under (options_in l.terms) (store_in l.terms.store.now)) (options_in l.terms).ignore) (pair_of block l.pair.lhs l.pair.rhs))
     (ops_of (store_in l.terms.store.now) l.pair.lhs) (ops_of (store_in l.terms.store.now) l.pair.rhs) (ops_left l.ls) (ops_left l.rs)

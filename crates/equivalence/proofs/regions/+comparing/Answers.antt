@@ -5,7 +5,7 @@ use Prim.Native.Nat.{ℕ, ◌+◌, ◌*◌, ◌<◌}
 use native.Mathlib.Omega.{arith}
 use mathlib.Core.Bool.{true}
 use mathlib.Core.Logic.{inl, inr}
-use mathlib.Core.Path.{◌≡◌, refl, sym, ap, ap₂, subst, ◌∙◌}
+use mathlib.Core.Path.{◌≡◌, sym, ap, ap₂, subst, ◌∙◌}
 use borrow.Author.Tests.{lt-ltb}
 use lib.ListN.{length, get_or}
 use Rattle.std.proofs.Common.{rules, ⊎_elim}
@@ -79,7 +79,7 @@ blocks_come : (t : ℕ) (c : blocks_eq-In-Some t)
     (rights (store_in c.args.terms.now.store.now) c.args.lists) (state_of c.map_ops.new.mapping c.in_ok-count.count))
     (state_of c.loop-lhs.mapping c.loop-lhs.count) c.in-Some.lhs c.in-Some.rhs
 blocks_come t c =
-    turn (blocks_zips (store_in c.args.terms.now.store.now) (options_in c.args.terms.now)) c.loop-lhs.invariant.3 c.in-Some.ensures.steps.0 c.in-Some.ensures.steps.1
+    turn (blocks_zips (store_in c.args.terms.now.store.now) (options_in c.args.terms.now)) c.loop-lhs.invariant.2 c.in-Some.ensures.steps.0 c.in-Some.ensures.steps.1
 
 pub blocks_eq-check_ops_in-requires : goal.blocks_eq-check_ops_in-requires
 blocks_eq-check_ops_in-requires t c =
@@ -88,17 +88,13 @@ blocks_eq-check_ops_in-requires t c =
     let l = left_of c.args.lists in
     let r = right_of c.args.lists in
     let here = blocks_come t (at.In-Some) in
-    let long_now : length c.loop-lhs.mapping ≡ length c.args.mapping.now = c.loop-lhs.invariant.2 ∙ c.map_ops.auto.mapping ∙ c.map_blocks.auto.mapping in
     let same : below S (op_around S c.in-Some.lhs) ≡ below S (around_list S l) = block_around S l c.in-Some.lhs here.l_in in
     let falls : 4 * below S (op_around S c.in-Some.lhs) < 4 * below S (around_list S l) + 1 = omega arith in
     let fits = subst (λ (v : Walk). PairedFits v) (third t (at.In-Some)) c.requires.paired_fits in (
       subst (λ (j : ℕ). 4 * below S (op_around S c.in-Some.lhs) < j) c.decreases falls,
       (
-        long_now ∙ c.requires.mapping_len,
-        (
-          block_in_lem _ l _ c.requires.lists_exist.0 here.l_in,
-          (block_in_lem _ r _ c.requires.lists_exist.1 here.r_in, step_fits (blocks_zips S (options_in c.args.terms.now)) here fits),
-        ),
+        block_in_lem _ l _ c.requires.lists_exist.0 here.l_in,
+        (block_in_lem _ r _ c.requires.lists_exist.1 here.r_in, step_fits (blocks_zips S (options_in c.args.terms.now)) here fits),
       ),
     )
 
@@ -114,7 +110,6 @@ blocks_eq-loop-lhs-preserved t c =
     let at = goal.at.blocks_eq-loop-lhs-preserved t c in (
       _,
       _,
-      c.check_ops_in.auto.mapping ∙ c.loop-lhs.invariant.2,
       turn_rest (blocks_zips (store_in c.args.terms.now.store.now) (options_in c.args.terms.now)) (blocks_come t (at.In-Some)) _ _ c.check_ops_in.ensures c.in_ok-count-2.was,
     )
 
@@ -123,7 +118,7 @@ blocks_eq-returns t c =
     subst (λ (v : Walk). Told v (Ok c.loop-lhs.count) c.loop-lhs.mapping)
     (sym (third_starts (store_in c.args.terms.now.store.now) (options_in c.args.terms.now) c.args.lists (state_of c.args.mapping.now c.args.paired) c.map_blocks.new.mapping
     c.in_ok-entered.was c.map_blocks.ensures c.map_ops.new.mapping c.in_ok-count.was c.map_ops.ensures))
-    (each_ends (ops_walk (store_in c.args.terms.now.store.now) (options_in c.args.terms.now)) c.loop-lhs.invariant.3
+    (each_ends (ops_walk (store_in c.args.terms.now.store.now) (options_in c.args.terms.now)) c.loop-lhs.invariant.2
     (over_next blocks_left blocks_left c.loop-lhs.lhs-iterator.a c.loop-lhs.lhs-iterator.b c.in-None.ensures.steps))
 
 -- ---- the operations of two blocks
@@ -134,7 +129,7 @@ ops_come : (t : ℕ) (c : check_ops_in-In-Some t)
     (ops_walk (store_in c.args.terms.now.store.now) (options_in c.args.terms.now) c.args.pair.lhs c.args.pair.rhs (state_of c.args.mapping.now c.args.paired))
     (state_of c.loop-lhs.mapping c.loop-lhs.count) c.in-Some.lhs c.in-Some.rhs
 ops_come t c =
-    turn (ops_zips (store_in c.args.terms.now.store.now) (options_in c.args.terms.now)) c.loop-lhs.invariant.3 c.in-Some.ensures.steps.0 c.in-Some.ensures.steps.1
+    turn (ops_zips (store_in c.args.terms.now.store.now) (options_in c.args.terms.now)) c.loop-lhs.invariant.2 c.in-Some.ensures.steps.0 c.in-Some.ensures.steps.1
 
 pub check_ops_in-loop-lhs-init : goal.check_ops_in-loop-lhs-init
 unfolding ops_walk
@@ -143,7 +138,6 @@ check_ops_in-loop-lhs-init t c =
     let zipped = c.zip-lhs-items.ensures in (
       _,
       _,
-      refl,
       rest_begins _ (ops_of (store_in c.args.terms.now.store.now) c.args.pair.lhs) (ops_of (store_in c.args.terms.now.store.now) c.args.pair.rhs) _ _ c.args.mapping.now c.args.paired
           ((λ i. ops_left (given i).a) ∙ ap ops_left zipped.first ∙ c.new.ensures)
           ((λ i. ops_left (given i).b) ∙ ap ops_left zipped.second ∙ c.new-2.ensures),
@@ -158,11 +152,8 @@ check_ops_in-op_eq_mapped-requires t c =
     let falls : 4 * below S c.in-Some.lhs + 3 < 4 * below S (op_around S c.args.pair.lhs) = omega arith in (
       subst (λ (j : ℕ). 4 * below S c.in-Some.lhs + 3 < j) c.decreases falls,
       (
-        c.loop-lhs.invariant.2 ∙ c.requires.mapping_len,
-        (
-          op_in_lem _ c.args.pair.lhs _ here.l_in,
-          (op_in_lem _ c.args.pair.rhs _ here.r_in, step_fits (ops_zips S (options_in c.args.terms.now)) here c.requires.paired_fits),
-        ),
+        op_in_lem _ c.args.pair.lhs _ here.l_in,
+        (op_in_lem _ c.args.pair.rhs _ here.r_in, step_fits (ops_zips S (options_in c.args.terms.now)) here c.requires.paired_fits),
       ),
     )
 
@@ -175,14 +166,13 @@ pub check_ops_in-loop-lhs-preserved : goal.check_ops_in-loop-lhs-preserved
 check_ops_in-loop-lhs-preserved t c = (
   _,
   _,
-  c.op_eq_mapped.auto.mapping ∙ c.loop-lhs.invariant.2,
   turn_rest (ops_zips (store_in c.args.terms.now.store.now) (options_in c.args.terms.now))
       (ops_come t ((goal.at.check_ops_in-loop-lhs-preserved t c).In-Some)) _ _ c.op_eq_mapped.ensures c.in_ok-count.was,
 )
 
 pub check_ops_in-returns : goal.check_ops_in-returns
 check_ops_in-returns t c =
-    each_ends (op_walk (store_in c.args.terms.now.store.now) (options_in c.args.terms.now)) c.loop-lhs.invariant.3
+    each_ends (op_walk (store_in c.args.terms.now.store.now) (options_in c.args.terms.now)) c.loop-lhs.invariant.2
     (over_next ops_left ops_left c.loop-lhs.lhs-iterator.a c.loop-lhs.lhs-iterator.b c.in-None.ensures.steps)
 
 -- ---- two operations that are paired
@@ -195,7 +185,7 @@ regions_come : (t : ℕ) (c : op_eq_mapped-In-Some t)
     (state_of c.loop-l.mapping c.loop-l.count) c.in-Some.l c.in-Some.r
 regions_come t c =
     let s = c.in-Some.ensures.steps in
-    turn (regions_zips (store_in c.args.terms.now.store.now) (options_in c.args.terms.now)) c.loop-l.invariant.3
+    turn (regions_zips (store_in c.args.terms.now.store.now) (options_in c.args.terms.now)) c.loop-l.invariant.2
     (range_next _ _ _ _ _ (omega (arith, s.0)) (omega (arith, s.0)) (omega (arith, s.0)) (omega (arith, s.0)))
     (range_next _ _ _ _ _ (omega (arith, s.1)) (omega (arith, s.1)) (omega (arith, s.1)) (omega (arith, s.1)))
 
@@ -238,7 +228,6 @@ op_eq_mapped-loop-l-init t c =
     (sym c.names_agree.ensures ∙ c.if-not-names_agree.false) in (
       _,
       _,
-      refl,
       rw begun
           (rest_begins _ (regions_of S c.args.pair.lhs) (regions_of S c.args.pair.rhs) _ _ c.args.mapping.now c.args.paired
           ((λ i. range (given i).a.start (given i).a.end) ∙ (λ i. range (zipped.first i).start (zipped.first i).end) ∙ ap₂ range c.number.ensures c.number-2.ensures
@@ -257,11 +246,8 @@ op_eq_mapped-region_eq-requires t c =
     let falls : 4 * below S (get_or S.regions l 0) + 2 < 4 * below S c.args.pair.lhs + 3 = omega arith in (
       subst (λ (j : ℕ). 4 * below S (get_or S.regions l 0) + 2 < j) c.decreases falls,
       (
-        c.loop-l.invariant.2 ∙ c.requires.mapping_len,
-        (
-          region_in _ c.args.pair.lhs l here.l_in,
-          (region_in _ c.args.pair.rhs _ here.r_in, step_fits (regions_zips S (options_in c.args.terms.now)) here c.requires.paired_fits),
-        ),
+        region_in _ c.args.pair.lhs l here.l_in,
+        (region_in _ c.args.pair.rhs _ here.r_in, step_fits (regions_zips S (options_in c.args.terms.now)) here c.requires.paired_fits),
       ),
     )
 
@@ -274,14 +260,13 @@ pub op_eq_mapped-loop-l-preserved : goal.op_eq_mapped-loop-l-preserved
 op_eq_mapped-loop-l-preserved t c = (
   _,
   _,
-  c.region_eq.auto.mapping ∙ c.loop-l.invariant.2,
   turn_rest (regions_zips (store_in c.args.terms.now.store.now) (options_in c.args.terms.now))
       (regions_come t ((goal.at.op_eq_mapped-loop-l-preserved t c).In-Some)) _ _ c.region_eq.ensures c.in_ok-count.was,
 )
 
 pub op_eq_mapped-returns : goal.op_eq_mapped-returns
 op_eq_mapped-returns t c =
-    each_ends (region_walk (store_in c.args.terms.now.store.now) (options_in c.args.terms.now)) c.loop-l.invariant.3
+    each_ends (region_walk (store_in c.args.terms.now.store.now) (options_in c.args.terms.now)) c.loop-l.invariant.2
     (⊎_elim (λ h. inl (range_empty _ _ (omega (arith, h.1)))) (λ h. inr (range_empty _ _ (omega (arith, h.1)))) c.in-None.ensures.steps)
 
 -- ---- two regions
@@ -297,11 +282,8 @@ region_eq-blocks_eq-requires t c =
     let same_lists = region_lists S o c.args.terms.now.readable.sound.ruled a.pair.lhs a.pair.rhs e (state_of a.mapping.now a.paired) in
     let falls : 4 * below S (get_or S.regions a.pair.lhs 0) + 1 < 4 * below S (get_or S.regions a.pair.lhs 0) + 2 = omega arith in (
       subst (λ (j : ℕ). 4 * below S (get_or S.regions a.pair.lhs 0) + 1 < j) c.decreases falls,
-      (c.requires.mapping_len, ((c.requires.lhs_bound, c.requires.rhs_bound), subst (λ (w : Walk). PairedFits w) same_lists c.requires.paired_fits)),
+      ((c.requires.lhs_bound, c.requires.rhs_bound), subst (λ (w : Walk). PairedFits w) same_lists c.requires.paired_fits),
     )
-
-pub region_eq-shape_of-mapping : goal.region_eq-shape_of-mapping
-region_eq-shape_of-mapping t c = c.blocks_eq.auto.mapping
 
 pub region_eq-returns : goal.region_eq-returns
 unfolding region_exists

@@ -1,8 +1,7 @@
 -- The four calls that go round meet their contracts together: the number of operations below falls at each round, and each loop's rest,
 -- from the words as they are, is the whole from the words as they were. Assumes nothing.
 use Prim.Native.Nat.{◌+◌, ◌*◌}
-use mathlib.Core.Path.{◌≡◌}
-use lib.ListN.{length, get_or}
+use lib.ListN.{get_or}
 use Rattle.rules.specs.Store.{op_around, ops_of, regions_of}
 use Rattle.rules.specs.Comparison.{each_pair}
 use Rattle.layout.specs.Reading.{store_in}
@@ -21,7 +20,6 @@ abbrev pub invariant-blocks_eq-loop-lhs : goal.invariant-blocks_eq-loop-lhs
 invariant-blocks_eq-loop-lhs l =
     (goal.iterator-blocks_eq-loop-lhs).can_next l.lhs-iterator
     × (goal.iterator-blocks_eq-loop-lhs).is_finite l.lhs-iterator
-    × (length l.mapping ≡ length l.initial.mapping)
     × Rest (each_pair (ops_walk (store_in l.terms.store.now) (options_in l.terms))) (lefts (store_in l.terms.store.now) l.fn.lists) (rights (store_in l.terms.store.now) l.fn.lists)
     (blocks_left l.lhs-iterator.a) (blocks_left l.lhs-iterator.b)
     (each_pair (ops_walk (store_in l.terms.store.now) (options_in l.terms)) (lefts (store_in l.terms.store.now) l.fn.lists) (rights (store_in l.terms.store.now) l.fn.lists) (state_of l.initial.mapping l.initial.count))
@@ -35,7 +33,6 @@ abbrev pub invariant-check_ops_in-loop-lhs : goal.invariant-check_ops_in-loop-lh
 invariant-check_ops_in-loop-lhs l =
     (goal.iterator-check_ops_in-loop-lhs).can_next l.lhs-iterator
     × (goal.iterator-check_ops_in-loop-lhs).is_finite l.lhs-iterator
-    × (length l.mapping ≡ length l.initial.mapping)
     × Rest (each_pair (op_walk (store_in l.terms.store.now) (options_in l.terms))) (ops_of (store_in l.terms.store.now) l.fn.pair.lhs) (ops_of (store_in l.terms.store.now) l.fn.pair.rhs)
     (ops_left l.lhs-iterator.a) (ops_left l.lhs-iterator.b)
     (ops_walk (store_in l.terms.store.now) (options_in l.terms) l.fn.pair.lhs l.fn.pair.rhs (state_of l.initial.mapping l.fn.paired))
@@ -49,7 +46,6 @@ abbrev pub invariant-op_eq_mapped-loop-l : goal.invariant-op_eq_mapped-loop-l
 invariant-op_eq_mapped-loop-l l =
     (goal.iterator-op_eq_mapped-loop-l).can_next l.l-iterator
     × (goal.iterator-op_eq_mapped-loop-l).is_finite l.l-iterator
-    × (length l.mapping ≡ length l.initial.mapping)
     × Rest (each_pair (region_walk (store_in l.terms.store.now) (options_in l.terms))) (regions_of (store_in l.terms.store.now) l.fn.pair.lhs) (regions_of (store_in l.terms.store.now) l.fn.pair.rhs)
     (range l.l-iterator.a.start l.l-iterator.a.end) (range l.l-iterator.b.start l.l-iterator.b.end)
     (op_walk (store_in l.terms.store.now) (options_in l.terms) l.fn.pair.lhs l.fn.pair.rhs (state_of l.initial.mapping l.fn.paired))

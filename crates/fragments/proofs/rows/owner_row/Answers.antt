@@ -17,7 +17,6 @@ pub at-requires : goal.at-requires
 at-requires c =
     let own = fits ((goal.at.at-requires c).Start) in
     record {
-      store_len = c.requires.sound.sized;
       column_lt_column_count = rw c.own_columns-own.ensures own.location;
       n_bound = rw (c.own_columns-own.ensures, c.owner_number-n.ensures) own.in_location;
     }
@@ -26,7 +25,6 @@ pub number-requires : goal.number-requires
 number-requires c =
     let own = fits ((goal.at.number-requires c).Start) in
     record {
-      store_len = c.requires.sound.sized;
       column_lt_column_count = rw c.own_columns-own.ensures own.first;
       n_bound = rw (c.own_columns-own.ensures, c.owner_number-n.ensures) own.in_first;
     }
@@ -35,7 +33,6 @@ pub span-requires : goal.span-requires
 span-requires c =
     let own = fits ((goal.at.span-requires c).Start) in
     record {
-      store_len = c.requires.sound.sized;
       first_lt_column_count = rw c.own_columns-own.ensures own.first;
       end_lt_column_count = rw c.own_columns-own.ensures own.end;
       n_bound = rw (c.own_columns-own.ensures, c.owner_number-n.ensures) own.in_first;

@@ -11,7 +11,7 @@ use Rattle.fragments.proofs.sizes.levels_left.Goals as goal
 pub at-requires : goal.at-requires
 at-requires c =
     let h = laid_facts (columns c.args.store.now) c.requires.sound.laid in
-    record { store_len = c.requires.sound.sized; column_lt_column_count = omega arith; n_bound = omega (arith, h.counts.ops) }
+    record { column_lt_column_count = omega arith; n_bound = omega (arith, h.counts.ops) }
 
 pub overflow_sub-result : goal.overflow_sub-result
 overflow_sub-result c =

@@ -13,7 +13,7 @@ use Rattle.fragments.proofs.sizes.region_size.Goals as goal
 pub number-around-requires : goal.number-around-requires
 number-around-requires c =
     let h = laid_facts (columns c.args.store.now) c.requires.sound.laid in
-    record { store_len = c.requires.sound.sized; column_lt_column_count = omega arith; n_bound = omega (arith, h.counts.regions) }
+    record { column_lt_column_count = omega arith; n_bound = omega (arith, h.counts.regions) }
 
 pub levels_left-requires : goal.levels_left-requires
 levels_left-requires c =

@@ -19,7 +19,6 @@ use Rattle.hashing.proofs.alone.hash_alone.Goals as goal
 pub at-requires : goal.at-requires
 at-requires c =
     record {
-      store_len = c.args.terms.now.readable.sound.sized;
       column_lt_column_count = omega arith;
       n_bound = omega (arith, (laid_facts (columns c.args.terms.now.store.now) c.args.terms.now.readable.sound.laid).counts.ops, c.requires.n_bound);
     }

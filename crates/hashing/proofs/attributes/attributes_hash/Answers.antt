@@ -25,7 +25,7 @@ loop-slot-init c = refl
 pub feed_attribute-requires : goal.feed_attribute-requires
 feed_attribute-requires c =
     let here = slot_in_run (columns c.args.store.now) (ignore_of c.args.ignore) c.args.first c.args.end _ (comes_mem _ _ _ _ (slot_comes ((goal.at.feed_attribute-requires c).In-Some))) in
-    record { store_len = c.requires.store_len; slot_lt_slot_count = omega (arith, here.1, c.requires.end_le_slot_count) }
+    omega (arith, here.1, c.requires.end_le_slot_count)
 
 pub loop-slot-preserved : goal.loop-slot-preserved
 loop-slot-preserved c =

@@ -9,7 +9,6 @@ use Rattle.hashing.proofs.shells.hash_head.Goals as goal
 pub at-kind-requires : goal.at-kind-requires
 at-kind-requires c =
     record {
-      store_len = c.requires.sound.sized;
       column_lt_column_count = omega arith;
       n_bound = omega (arith, (laid_facts (columns c.args.store.now) c.requires.sound.laid).counts.ops, c.requires.n_bound);
     }

@@ -17,14 +17,14 @@ use Rattle.key_bytes.proofs.attributes.put_kept.Goals as goal
 pub loop-slot-init : goal.loop-slot-init
 loop-slot-init c = (_, _, none_put (slot_bytes (columns c.args.store.now)) _)
 
-pub put_slot-requires-clause-slot_lt_slot_count : goal.put_slot-requires-clause-slot_lt_slot_count
-put_slot-requires-clause-slot_lt_slot_count c =
+pub put_slot-requires : goal.put_slot-requires
+put_slot-requires c =
     let a = c.args in
     let turn =
     item_comes slots_left _ _ _ _ (ap slots_left c.into_iter-slot-iterator.ensures.into_iter_gives ∙ c.new-slot-items.ensures)
     c.loop-slot.yielded_by c.next.new.self _ _ c.in-Some.is c.next.ensures.steps in
     let run = slot_in_run (columns a.store.now) (ignore_of a.ignore) a.first a.end c.in-Some.slot (comes_mem _ _ _ _ turn) in
-    omega (arith, run.1, c.requires.end_le_slot_count)
+    omega (arith, run.1, c.requires)
 
 pub loop-slot-preserved : goal.loop-slot-preserved
 loop-slot-preserved c =

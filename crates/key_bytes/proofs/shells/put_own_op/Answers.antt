@@ -16,7 +16,6 @@ pub at-requires : goal.at-requires
 at-requires c =
     let h = c.args.terms.now.readable.sound in
     record {
-      store_len = h.sized;
       column_lt_column_count = omega arith;
       n_bound = omega (arith, (laid_facts (columns c.args.terms.now.store.now) h.laid).counts.ops, c.requires.n_bound);
     }

@@ -25,7 +25,6 @@ sum_of-requires c =
     let C = columns c.args.store.now in
     let k = counts_facts C c.requires.counts_bounded.counted in
     record {
-      store_len = c.requires.counts_bounded.sized;
       column_lt_column_count = omega arith;
       n_bound = omega (arith, k.ops);
       i_value = all_below_of c.number-ops.result _ (λ i l. le-leb (at C op_attributes i) 8 (op_keys C c.requires.store_value i (omega arith)));
@@ -37,7 +36,6 @@ sum_of-requires-2 c =
     let C = columns c.args.store.now in
     let k = counts_facts C c.requires.counts_bounded.counted in
     record {
-      store_len = c.requires.counts_bounded.sized;
       column_lt_column_count = omega arith;
       n_bound = omega (arith, k.blocks);
       i_value = all_below_of c.number-blocks.result _ (λ i l. le-leb (at C block_attributes i) 8 (block_keys_lem C c.requires.store_value_2 i (omega arith)));

@@ -4,4 +4,4 @@ use Rattle.layout.proofs.Following.{region_owns}
 use Rattle.layout.proofs.children.next_block.Goals as goal
 
 pub next_child-requires : goal.next_child-requires
-next_child-requires c = (c.requires.arranged.sized, region_owns _ (laid_facts _ c.requires.arranged.laid) c.args.region c.requires.region_bound)
+next_child-requires c = region_owns _ (laid_facts _ c.requires.arranged.laid) c.args.region c.requires.region_bound

@@ -12,12 +12,12 @@ overflow_sub-from g c =
 pub number-requires-clause-n_bound : goal.number-requires-clause-n_bound
 number-requires-clause-n_bound g c =
     let f = behind_facts _ _ _ _ c.args.from (sym c.is_behind.ensures ∙ c.if-is_behind.true) in
-    omega (arith, f.exists, c.number-count.ensures, c.requires.1.linked)
+    omega (arith, f.exists, c.number-count.ensures, c.requires.linked)
 
 pub returns-then-is_behind : goal.returns-then-is_behind
 returns-then-is_behind g c =
-    by_link c.requires.1.children c.args.from c.number-count.ensures c.is_behind.ensures c.if-is_behind.true c.number.ensures c.linked.ensures
+    by_link c.requires.children c.args.from c.number-count.ensures c.is_behind.ensures c.if-is_behind.true c.number.ensures c.linked.ensures
 
 pub returns : goal.returns
 returns g c =
-    by_search c.requires.1.children c.args.from c.number-2.ensures c.max-start.ensures c.number-end.ensures c.first_at.ensures
+    by_search c.requires.children c.args.from c.number-2.ensures c.max-start.ensures c.number-end.ensures c.first_at.ensures

@@ -4,4 +4,4 @@ use Rattle.layout.proofs.Following.{block_owns}
 use Rattle.layout.proofs.children.next_op.Goals as goal
 
 pub next_child-requires : goal.next_child-requires
-next_child-requires c = (c.requires.arranged.sized, block_owns _ (laid_facts _ c.requires.arranged.laid) c.args.block c.requires.block_bound)
+next_child-requires c = block_owns _ (laid_facts _ c.requires.arranged.laid) c.args.block c.requires.block_bound

@@ -8,13 +8,12 @@ use Rattle.layout.proofs.children.op_around.Goals as goal
 pub number-requires : goal.number-requires
 number-requires c =
     let h = laid_facts (columns c.args.store.now) c.requires.arranged.laid in
-    record { store_len = c.requires.arranged.sized; column_lt_column_count = omega arith; n_bound = omega (arith, h.counts.blocks) }
+    record { column_lt_column_count = omega arith; n_bound = omega (arith, h.counts.blocks) }
 
 pub number-requires-2 : goal.number-requires-2
 number-requires-2 c =
     let h = laid_facts (columns c.args.store.now) c.requires.arranged.laid in
     record {
-      store_len = c.requires.arranged.sized;
       column_lt_column_count = omega arith;
       n_bound = omega (arith, h.counts.regions, (h.block c.args.block c.requires.block_bound).region_in, c.number.ensures);
     }

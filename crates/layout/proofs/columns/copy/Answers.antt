@@ -35,10 +35,10 @@ returns c =
     let many : (c.base-from.result + a.e) - from ≡ a.e - a.a = omega arith in
     let read : take (a.e - a.a) (drop from b) ≡ xs =
     ap (λ (k : ℕ). take (a.e - a.a) (drop (k + a.a) b)) c.base-from.ensures ∙ sym (slice_columns b a.column a.a a.e c.requires.e_bound) in
-    let n : length xs ≡ a.e - a.a = slice_length (columns b a.column) a.a a.e (omega (arith, columns_shaped b c.requires.store_len a.column)) in
+    let n : length xs ≡ a.e - a.a = slice_length (columns b a.column) a.a a.e (omega (arith, columns_shaped b c.told-store a.column)) in
     ap columns
     (c.copy_within.ensures.after
     ∙ ap (λ (k : ℕ). paste b (c.base-behind.result + a.to) (drop from b) k) many
     ∙ ap₂ (λ (ys : List ℕ) (k : ℕ). take (c.base-behind.result + a.to) b ++ ys ++ drop (c.base-behind.result + a.to + k) b) read (sym n)
     ∙ ap (λ (k : ℕ). pasted b (k + a.to) xs) c.base-behind.ensures)
-    ∙ columns_run b c.requires.store_len a.into a.to xs (omega (arith, n))
+    ∙ columns_run b c.told-store a.into a.to xs (omega (arith, n))

@@ -23,9 +23,9 @@ returns c =
     let e : take (a.e - a.a) (drop (base a.column + a.a) a.store.now) ≡ slice xs a.a a.e =
     sym (slice_columns a.store.now a.column a.a a.e (omega arith)) in
     let n : length (slice xs a.a a.e) ≡ a.e - a.a =
-    slice_length xs a.a a.e (omega (arith, columns_shaped a.store.now c.requires.store_len a.column)) in
+    slice_length xs a.a a.e (omega (arith, columns_shaped a.store.now c.told-store a.column)) in
     ap columns
     (c.insert_at.ensures
     ∙ ap (λ (k : ℕ). pasted a.store.now (k + a.a) (a.v ∷ take (a.e - a.a) (drop (k + a.a) a.store.now))) c.base.ensures
     ∙ ap (λ (l : List ℕ). pasted a.store.now (base a.column + a.a) (a.v ∷ l)) e)
-    ∙ columns_run a.store.now c.requires.store_len a.column a.a (a.v ∷ slice xs a.a a.e) (omega arith)
+    ∙ columns_run a.store.now c.told-store a.column a.a (a.v ∷ slice xs a.a a.e) (omega arith)

@@ -18,4 +18,4 @@ returns c =
     ap columns
     (c.copy_at.ensures
     ∙ ap (λ (k : ℕ). pasted a.store.now (k + a.n) a.list.now) c.base.ensures)
-    ∙ columns_run a.store.now c.requires.store_len a.column a.n a.list.now c.requires.list_bound
+    ∙ columns_run a.store.now c.told-store a.column a.n a.list.now c.requires.list_bound

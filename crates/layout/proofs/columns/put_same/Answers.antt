@@ -19,5 +19,5 @@ returns c =
     ap columns
     (c.fill_at.ensures
     ∙ ap (λ (k : ℕ). pasted a.store.now (k + a.n) (replicate a.count a.v)) c.base.ensures)
-    ∙ columns_run a.store.now c.requires.store_len a.column a.n (replicate a.count a.v)
+    ∙ columns_run a.store.now c.told-store a.column a.n (replicate a.count a.v)
     (subst (λ (k : ℕ). a.n + k ≤ column_size a.column) (sym (length-replicate a.count a.v)) c.requires.count_bound)

@@ -9,7 +9,7 @@ use Rattle.layout.proofs.Going.{going_starts, going_tested, going_fails, going_o
 use Rattle.layout.proofs.links.children_linked.Goals as goal
 
 pub loop-n-init : goal.loop-n-init
-loop-n-init c = going_starts c.requires.linkable.few c.requires.linkable.words c.number-count.ensures refl (zeros 257)
+loop-n-init c = going_starts c.requires.few c.requires.words c.number-count.ensures refl (zeros 257)
 
 pub returns-then-not-child_linked : goal.returns-then-not-child_linked
 unfolding child_linked

@@ -6,8 +6,8 @@ use Rattle.layout.proofs.Laid.{counts_facts}
 use Rattle.layout.proofs.Sorts.{ops_linkable, ops_linked_lem}
 use Rattle.layout.proofs.links.ops_linked.Goals as goal
 
-pub children_linked-requires-clause-linkable : goal.children_linked-requires-clause-linkable
-children_linked-requires-clause-linkable c =
+pub children_linked-requires : goal.children_linked-requires
+children_linked-requires c =
     let cols = columns c.args.store.now in
     ops_linkable cols (counts_facts cols c.requires.counts_bounded.counted) c.requires.store_value
 

@@ -11,7 +11,7 @@ number-requires c =
     let a = c.args in
     let C = columns a.store.now in
     let w = owner_of a.owner in
-    let rest = count_reached C w (owner_reached C w (laid_facts C c.requires.arranged.laid) (owner_in_lem C w c.requires.owner_value)) _ _ c.count_column.ensures c.owner_number.ensures in record { store_len = c.requires.arranged.sized; column_lt_column_count = rest.0; n_bound = rest.1 }
+    let rest = count_reached C w (owner_reached C w (laid_facts C c.requires.arranged.laid) (owner_in_lem C w c.requires.owner_value)) _ _ c.count_column.ensures c.owner_number.ensures in record { column_lt_column_count = rest.0; n_bound = rest.1 }
 
 pub returns : goal.returns
 unfolding key_count

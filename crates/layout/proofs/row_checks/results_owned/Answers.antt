@@ -9,13 +9,12 @@ use Rattle.layout.proofs.row_checks.results_owned.Goals as goal
 
 pub number-total-requires : goal.number-total-requires
 number-total-requires c =
-    record { store_len = search rules; column_lt_column_count = search rules; n_bound = search rules }
+    record { column_lt_column_count = search rules; n_bound = search rules }
 
 pub owns-requires : goal.owns-requires
 unfolding value_count
 owns-requires c =
     record {
-      store_len = omega (arith, (counts_facts (columns c.args.store.now) c.requires.counts_bounded.counted).values);
       column_lt_column_count = omega (arith, (counts_facts (columns c.args.store.now) c.requires.counts_bounded.counted).values);
       total_bound = omega (arith, (counts_facts (columns c.args.store.now) c.requires.counts_bounded.counted).values);
     }

@@ -14,4 +14,4 @@ returns c =
     c.all_are.ensures
     ∙ ap (all (λ (x : ℕ). eqb x a.w)) c.words.ensures
     ∙ owned_slice (columns a.store.now) a.column a.a a.e a.w
-    (subst (λ (n : ℕ). a.e ≤ n) (sym (columns_shaped a.store.now c.requires.store_len a.column)) c.requires.e_bound)
+    (subst (λ (n : ℕ). a.e ≤ n) (sym (columns_shaped a.store.now c.told-store a.column)) c.requires.e_bound)

@@ -14,7 +14,6 @@ number-requires c =
     let h = laid_facts C c.requires.arranged.laid in
     let o = (h.region (at C block_region c.args.m) (h.block c.args.m c.requires.m_bound).region_in).op_in in
     record {
-      store_len = c.requires.arranged.sized;
       column_lt_column_count = omega arith;
       n_bound = omega (arith, h.counts.ops, c.op_around.ensures);
     }

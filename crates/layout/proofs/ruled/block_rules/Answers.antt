@@ -20,7 +20,6 @@ at_most-requires c =
     let h = laid_facts (columns c.args.store.now) c.requires.arranged.laid in
     let a = (h.block c.args.m c.requires.m_bound).arguments.range in
     record {
-      store_len = c.requires.arranged.sized;
       first_lt_column_count = omega arith;
       end_lt_column_count = omega arith;
       row_bound = omega (arith, h.counts.blocks);
@@ -40,7 +39,7 @@ overflow_cast-m c =
 pub number-requires : goal.number-requires
 number-requires c =
     let h = laid_facts (columns c.args.store.now) c.requires.arranged.laid in
-    record { store_len = c.requires.arranged.sized; column_lt_column_count = omega arith; n_bound = omega (arith, h.counts.blocks) }
+    record { column_lt_column_count = omega arith; n_bound = omega (arith, h.counts.blocks) }
 
 pub attributes_hold-requires : goal.attributes_hold-requires
 unfolding slots_of owner_of
@@ -48,7 +47,6 @@ attributes_hold-requires c =
     let h = laid_facts (columns c.args.store.now) c.requires.arranged.laid in
     let first : c.first_slot-first.result ≡ first_block_slot + 8 * c.args.m = c.first_slot-first.ensures in
     record {
-      store_len = c.requires.arranged.sized;
       count_bound = omega (arith, c.number.ensures, (h.block c.args.m c.requires.m_bound).keys);
       first_bound = omega (arith, h.counts.blocks);
     }

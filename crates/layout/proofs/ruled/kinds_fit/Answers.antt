@@ -14,4 +14,4 @@ returns c =
     let C = columns c.args.store.now in
     c.all_below.ensures
     ∙ ap (all (λ (x : ℕ). ltb x 128)) c.words.ensures
-    ∙ kinds_slice C c.args.first c.args.count (omega (arith, columns_shaped c.args.store.now c.requires.store_len slot_kind))
+    ∙ kinds_slice C c.args.first c.args.count (omega (arith, columns_shaped c.args.store.now c.told-store slot_kind))

@@ -23,7 +23,7 @@ pub number-requires : goal.number-requires
 number-requires c =
     let laid : Laid (columns c.args.store.now) = laid_facts _ c.requires.arranged.laid in
     let low : c.args.n < 512 = omega (arith, laid.counts.ops, c.requires.n_bound) in
-    record { store_len = c.requires.arranged.sized; column_lt_column_count = omega arith; n_bound = low }
+    record { column_lt_column_count = omega arith; n_bound = low }
 
 pub returns-then-number-gt32 : goal.returns-then-number-gt32
 unfolding op_rules
@@ -35,7 +35,6 @@ at_most-requires c =
     let row : OpLaid (columns c.args.store.now) c.args.n = laid.op c.args.n c.requires.n_bound in
     let low : c.args.n < 512 = omega (arith, laid.counts.ops, c.requires.n_bound) in
     record {
-      store_len = c.requires.arranged.sized;
       first_lt_column_count = omega arith;
       end_lt_column_count = omega arith;
       row_bound = low;
@@ -53,7 +52,6 @@ at_most-requires-2 c =
     let row : OpLaid (columns c.args.store.now) c.args.n = laid.op c.args.n c.requires.n_bound in
     let low : c.args.n < 512 = omega (arith, laid.counts.ops, c.requires.n_bound) in
     record {
-      store_len = c.requires.arranged.sized;
       first_lt_column_count = omega arith;
       end_lt_column_count = omega arith;
       row_bound = low;
@@ -71,7 +69,6 @@ at_most-requires-3 c =
     let row : OpLaid (columns c.args.store.now) c.args.n = laid.op c.args.n c.requires.n_bound in
     let low : c.args.n < 512 = omega (arith, laid.counts.ops, c.requires.n_bound) in
     record {
-      store_len = c.requires.arranged.sized;
       first_lt_column_count = omega arith;
       end_lt_column_count = omega arith;
       row_bound = low;
@@ -89,7 +86,6 @@ at_most-requires-4 c =
     let row : OpLaid (columns c.args.store.now) c.args.n = laid.op c.args.n c.requires.n_bound in
     let low : c.args.n < 512 = omega (arith, laid.counts.ops, c.requires.n_bound) in
     record {
-      store_len = c.requires.arranged.sized;
       first_lt_column_count = omega arith;
       end_lt_column_count = omega arith;
       row_bound = low;
@@ -111,7 +107,7 @@ pub number-requires-2 : goal.number-requires-2
 number-requires-2 c =
     let laid : Laid (columns c.args.store.now) = laid_facts _ c.requires.arranged.laid in
     let low : c.args.n < 512 = omega (arith, laid.counts.ops, c.requires.n_bound) in
-    record { store_len = c.requires.arranged.sized; column_lt_column_count = omega arith; n_bound = low }
+    record { column_lt_column_count = omega arith; n_bound = low }
 
 pub attributes_hold-requires : goal.attributes_hold-requires
 unfolding slots_of owner_of
@@ -121,7 +117,6 @@ attributes_hold-requires c =
     let low : c.args.n < 512 = omega (arith, laid.counts.ops, c.requires.n_bound) in
     let first : c.first_slot-first.result ≡ 8 * c.args.n = c.first_slot-first.ensures in
     record {
-      store_len = c.requires.arranged.sized;
       count_bound = omega (arith, c.number-2.ensures, row.keys);
       first_bound = omega (arith, low);
     }

@@ -13,7 +13,6 @@ row_words-requires c =
     let h = laid_facts (columns c.args.store.now) c.requires.arranged.laid in
     let r = (h.op c.args.n c.requires.n_bound).successors.range in
     record {
-      store_len = c.requires.arranged.sized;
       first_lt_column_count = omega arith;
       end_lt_column_count = omega arith;
       column_lt_column_count = omega arith;

@@ -1,7 +1,7 @@
 -- `rows_hold` meets its contract: each turn goes back by one row, and the oldest one's place is left to test. Assumes nothing.
 use Prim.Native.Nat.{ℕ, suc, ◌-◌}
 use native.Mathlib.Omega.{arith}
-use mathlib.Core.Path.{◌≡◌, refl, sym, subst, subst₂, ◌∙◌}
+use mathlib.Core.Path.{◌≡◌, sym, subst, subst₂, ◌∙◌}
 use Rattle.layout.specs.Columns.{columns}
 use Rattle.journal.specs.Words.{mark_count, entry_count}
 use Rattle.lending.proofs.Reached.{Reached, reach_starts, step_on}
@@ -13,7 +13,7 @@ pub loop-i-init : goal.loop-i-init
 unfolding mark_count entry_count
 loop-i-init c =
     let C = columns c.args.copy.now in
-    record { long = refl; sound = c.requires.sound; reached = subst₂ (λ (i end : ℕ). Reached C C i end) (sym c.number-i.ensures) (sym c.number-end.ensures) (reach_starts C) }
+    record { sound = c.requires.sound; reached = subst₂ (λ (i end : ℕ). Reached C C i end) (sym c.number-i.ensures) (sym c.number-end.ensures) (reach_starts C) }
 
 pub returns-then-not-step_back : goal.returns-then-not-step_back
 returns-then-not-step_back c =
@@ -32,7 +32,6 @@ loop-i-preserved c =
     let came = c.step_back.ensures in
     let yes = c.if-not-step_back.false in
     record {
-      long = c.step_back.auto.copy ∙ c.loop-i.invariant.long;
       sound = came.sound yes;
       reached =
           step_on C c.requires.nonzero D i c.loop-i.end (subst (λ (k : ℕ). Reached C D k c.loop-i.end) e c.loop-i.invariant.reached)

@@ -1,6 +1,4 @@
 -- `rows_hold` meets its contract: each turn goes back by one row, and the oldest one's place is left to test. Assumes nothing.
-use mathlib.Core.Path.{◌≡◌}
-use lib.ListN.{length}
 use Rattle.layout.specs.Columns.{columns}
 use Rattle.layout.specs.Soundness.{IsSound}
 use Rattle.lending.proofs.Reached.{Reached}
@@ -9,7 +7,6 @@ use Rattle.lending.proofs.steps.rows_hold.Given as goal
 abbrev pub invariant-loop-i : goal.invariant-loop-i
 invariant-loop-i l =
     record {
-      long : length l.copy ≡ length l.initial.copy;
       sound : IsSound l.copy;
       reached : Reached (columns l.initial.copy) (columns l.copy) l.i l.end;
     }

@@ -6,4 +6,4 @@ use Rattle.lines.proofs.printing.put_equal.Goals as goal
 
 pub returns : goal.returns
 returns c =
-    said (then c.put_text-last.ensures c.put_last.ensures (omega arith)) (equal_line_lem c.args.paired)
+    said (then c.put_text.ensures c.put_last.ensures (omega arith)) (equal_line_lem c.args.paired)

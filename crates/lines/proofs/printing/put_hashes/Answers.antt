@@ -7,6 +7,6 @@ use Rattle.lines.proofs.printing.put_hashes.Goals as goal
 pub returns : goal.returns
 returns c =
     let a = c.args in
-    let two = then c.put_hexadecimal-parted.ensures c.put_byte-right.ensures (omega arith) in
-    let three = then two c.put_hexadecimal-end.ensures (omega arith) in
-    said (then three c.put_byte.ensures (omega arith)) (hashes_line_lem a.l a.r)
+    let two = then c.put_hexadecimal.ensures c.put_byte.ensures (omega arith) in
+    let three = then two c.put_hexadecimal-2.ensures (omega arith) in
+    said (then three c.put_byte-2.ensures (omega arith)) (hashes_line_lem a.l a.r)

@@ -7,5 +7,5 @@ use Rattle.lines.proofs.printing.put_refusal.Goals as goal
 pub returns : goal.returns
 returns c =
     let a = c.args in
-    let fields = then c.put_text-fields.ensures c.put_field-last.ensures (omega arith) in
+    let fields = then c.put_text.ensures c.put_field.ensures (omega arith) in
     said (then fields c.put_last.ensures (omega arith)) (refusal_line a.line a.cause)

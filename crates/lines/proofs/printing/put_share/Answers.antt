@@ -8,4 +8,4 @@ pub returns : goal.returns
 returns c =
     let a = c.args in
     let line = share_line_lem a.equal a.all c.per_cent-share.result c.per_cent-share.ensures in
-    said (then c.put_text-last.ensures c.put_last.ensures (omega arith)) line
+    said (then c.put_text.ensures c.put_last.ensures (omega arith)) line

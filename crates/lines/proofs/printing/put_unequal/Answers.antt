@@ -8,6 +8,6 @@ use Rattle.lines.proofs.printing.put_unequal.Goals as goal
 pub returns : goal.returns
 returns c =
     let a = c.args in
-    let two = then c.put_sort-left.ensures c.put_field-right.ensures (omega arith) in
-    let three = then two c.put_field-last.ensures (omega arith) in
+    let two = then c.put_sort.ensures c.put_field.ensures (omega arith) in
+    let three = then two c.put_field-2.ensures (omega arith) in
     said (then three c.put_last.ensures (omega arith)) (unequal_line_lem (sort_of a.sort) a.l a.r a.paired)

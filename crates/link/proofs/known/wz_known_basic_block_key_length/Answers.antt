@@ -1,4 +1,5 @@
 -- `wz_known_basic_block_key_length` meets its contract: it is `key_length` at its sort. Assumes nothing.
+use mathlib.Core.Path.{sym}
 use Rattle.fragments.specs.Ignoring.{ignore_of}
 use Rattle.link.specs.Codes.{ignoring}
 use Rattle.fragments.specs.Sorts.{sort_of}
@@ -12,4 +13,4 @@ key_length-requires c =
 
 pub returns : goal.returns
 unfolding ignoring ignore_of sort_of
-returns c = c.key_length.ensures
+returns c = rw (sym c.array.ensures) c.key_length.ensures

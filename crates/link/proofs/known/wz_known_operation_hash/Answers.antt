@@ -1,4 +1,5 @@
 -- `wz_known_operation_hash` meets its contract: the answer's numbers stand for it. Assumes nothing.
+use mathlib.Core.Path.{sym}
 use Rattle.fragments.specs.Ignoring.{ignore_of}
 use Rattle.link.specs.Codes.{ignoring}
 use Rattle.fragments.specs.Sorts.{sort_of}
@@ -6,4 +7,4 @@ use Rattle.link.proofs.known.wz_known_operation_hash.Goals as goal
 
 pub returns : goal.returns
 unfolding ignoring ignore_of sort_of
-returns c = rw c.of_hash.ensures c.fragment_hash.ensures.told
+returns c = rw (c.of_hash.ensures, sym c.array.ensures) c.fragment_hash.ensures.told

@@ -1,4 +1,5 @@
 -- `wz_known_region_key` meets its contract: the answer's numbers stand for it. Assumes nothing.
+use mathlib.Core.Path.{sym}
 use Rattle.fragments.specs.Ignoring.{ignore_of}
 use Rattle.link.specs.Codes.{ignoring}
 use Rattle.fragments.specs.Sorts.{sort_of}
@@ -6,4 +7,4 @@ use Rattle.link.proofs.known.wz_known_region_key.Goals as goal
 
 pub returns : goal.returns
 unfolding ignoring ignore_of sort_of
-returns c = rw c.of_key.ensures c.fragment_key.ensures
+returns c = rw (c.of_key.ensures, sym c.array.ensures) c.fragment_key.ensures

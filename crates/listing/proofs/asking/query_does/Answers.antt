@@ -15,8 +15,8 @@ returns-in_default c =
     let a = c.args in
     let store = a.store.now in
     let tally = a.tally.now in
-    let bad = ap (λ l. line_does (program_of a.progress.program) (progress_of store tally) (told (option_map query_of l))) c.in_default.is in
-    record { stepped = stopped _ store tally a.out.now a.progress.at BadLine bad; mapping_after = c.requires.mapping_value }
+    let bad = ap (λ l. line_does (program_of a.program) (progress_of store tally) (told (option_map query_of l))) c.in_default.is in
+    record { stepped = stopped _ store tally a.out.now BadLine bad; mapping_after = c.requires.mapping_value }
 
 pub returns-in-Twins : goal.returns-in-Twins
 unfolding program_of

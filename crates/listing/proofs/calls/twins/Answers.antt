@@ -1,43 +1,39 @@
 -- `twins` meets its contract: it tests the lent buffers, and then the listing is printed. Assumes nothing.
+use mathlib.Core.Path.{refl, ap, ◌∙◌}
+use lib.ListN.{length}
 use Rattle.rules.specs.Listings.{twins_program}
 use Rattle.listing.specs.Progress.{program_of}
-use Rattle.listing.proofs.Whole.{wrong_store, wrong_mapping, no_room_lem, answered}
+use Rattle.listing.proofs.Whole.{wrong_store, wrong_mapping, no_room_lem, answered, taken}
 use Rattle.listing.proofs.calls.twins.Goals as goal
 
-pub returns-then-store-ne-STORE : goal.returns-then-store-ne-STORE
-returns-then-store-ne-STORE c =
+pub returns-in_default : goal.returns-in_default
+returns-in_default c =
     let a = c.args in
-    let listing = a.listing.now in
-    let store = a.store.now in
-    let mapping = a.mapping.now in
-    let out = a.out.now in
-    wrong_store twins_program listing store mapping out c.if-store-ne-STORE.true
+    wrong_store twins_program a.listing.now a.store.now a.mapping.now a.out.now c.in_default.ensures.cases
 
-pub returns-then-mapping-ne-MAPPING : goal.returns-then-mapping-ne-MAPPING
-returns-then-mapping-ne-MAPPING c =
+pub returns-in_default-as_mut_array : goal.returns-in_default-as_mut_array
+returns-in_default-as_mut_array c =
     let a = c.args in
-    let listing = a.listing.now in
-    let store = a.store.now in
-    let mapping = a.mapping.now in
-    let out = a.out.now in
-    wrong_mapping twins_program listing store mapping out c.if-store-ne-STORE.false c.if-mapping-ne-MAPPING.true
+    let w = c.in-Some.ensures.cases in
+    taken twins_program a.listing.now a.out.now _ _ w.same refl
+    (wrong_mapping twins_program a.listing.now c.in-Some.words.now a.mapping.now a.out.now (ap length w.same ∙ w.long)
+    c.in_default-as_mut_array.ensures.cases)
 
 pub returns-then-out-lt-ROOM : goal.returns-then-out-lt-ROOM
 returns-then-out-lt-ROOM c =
     let a = c.args in
-    let listing = a.listing.now in
-    let store = a.store.now in
-    let mapping = a.mapping.now in
-    let out = a.out.now in
-    no_room_lem twins_program listing store mapping out c.if-store-ne-STORE.false c.if-mapping-ne-MAPPING.false c.if-out-lt-ROOM.true
+    let w = c.in-Some.ensures.cases in
+    let e = c.in-Some-as_mut_array.ensures.cases in
+    taken twins_program a.listing.now a.out.now _ _ w.same e.same
+    (no_room_lem twins_program a.listing.now c.in-Some.words.now c.in-Some-as_mut_array.entries.now a.out.now (ap length w.same ∙ w.long)
+    (ap length e.same ∙ e.long) c.if-out-lt-ROOM.true)
 
 pub returns : goal.returns
 unfolding program_of
 returns c =
     let a = c.args in
-    let listing = a.listing.now in
-    let store = a.store.now in
-    let mapping = a.mapping.now in
-    let out = a.out.now in
-    let lent = answered twins_program listing store mapping out c.if-store-ne-STORE.false c.if-mapping-ne-MAPPING.false in
-    lent _ _ c.if-out-lt-ROOM.false c.listed.ensures
+    let w = c.in-Some.ensures.cases in
+    let e = c.in-Some-as_mut_array.ensures.cases in
+    taken twins_program a.listing.now a.out.now _ _ w.same e.same
+    (answered twins_program a.listing.now c.in-Some.words.now c.in-Some-as_mut_array.entries.now a.out.now (ap length w.same ∙ w.long)
+    (ap length e.same ∙ e.long) _ _ c.if-out-lt-ROOM.false c.listed.ensures)

@@ -2,7 +2,7 @@
 use Prim.Native.Nat.{ℕ}
 use mathlib.Core.Path.{ap₂, subst}
 use Rattle.rules.specs.Listings.{per_cent, share, share_line}
-use Rattle.lines.specs.Wrote.{Wrote}
+use Rattle.lines.specs.Wrote.{Writes}
 use Rattle.lines.specs.Room.{share_room}
 use Rattle.listing.specs.Stepping.{closes}
 use Rattle.lines.proofs.Joined.{nothing}
@@ -20,8 +20,8 @@ returns-in-Twins c =
     let a = c.args in
     let line = c.put_share in
     let cents = ap₂ per_cent told.equal told.all in
-    rw c.in-Twins.is (subst (λ (cent : ℕ). Wrote share_room a.out.now line.new.out a.at (share_line cent) line.result) cents line.ensures)
+    rw c.in-Twins.is (subst (λ (cent : ℕ). Writes share_room (share_line cent) a.out.now line.new.out) cents line.ensures)
 
 pub returns-in-Sums : goal.returns-in-Sums
 unfolding closes
-returns-in-Sums c = rw c.in-Sums.is (nothing share_room _ _)
+returns-in-Sums c = rw c.in-Sums.is (nothing share_room _)

@@ -12,7 +12,7 @@ use Rattle.mapping.specs.MappingWords.{mapping_of}
 use Rattle.pairing.specs.Told.{compared_of}
 use Rattle.equivalence.specs.Calls.{Answered}
 use Rattle.equivalence.proofs.AfterEmpty.{answered_entered}
-use Rattle.listing.proofs.Verdicts.{entries_allowed_lem, as_many, compares, refuses}
+use Rattle.listing.proofs.Verdicts.{entries_allowed_lem, compares, refuses}
 use Rattle.listing.proofs.comparing.compare.Goals as goal
 
 -- as a list that is empty
@@ -41,7 +41,6 @@ unmap_entered-requires c =
     let by = entered r.sound r.mapping_value (unlisted c.in_ok-result.ensures) in
     record {
       sound = r.sound;
-      mapping_len = as_many a.mapping.now after r.mapping_value c.fragments_eq.auto.mapping;
       entered_by = subst (λ (n : ℕ). EnteredBy (store_in a.store.now) (mapping_of after) n) (sym c.paired_of.ensures) by;
     }
 

@@ -13,10 +13,10 @@ returns-in_err-result c =
     let a = c.args in
     let told = c.in_err-result.ensures in
     let p = err_from_is_err_and c.from_residual.result c.from_residual.ensures.1 in
-    rw (p.1, p.2) (record { stepped = twins_stops a.store.now a.tally.now a.query _ a.out.now a.at _ told; mapping_after = told.empty })
+    rw (p.1, p.2) (record { stepped = twins_stops a.store.now a.tally.now a.query _ a.out.now _ told; mapping_after = told.empty })
 
-pub put_verdict-next-requires : goal.put_verdict-next-requires
-put_verdict-next-requires c = c.requires.step_room_in_bounds
+pub put_verdict-requires : goal.put_verdict-requires
+put_verdict-requires c = c.requires.step_room_in_bounds
 
 pub include_fragment-requires : goal.include_fragment-requires
 include_fragment-requires c = record { sound = c.requires.sound; n_value = right_exists c.args.store.now _ c.args.query _ c.in_ok-result.ensures }
@@ -24,8 +24,7 @@ include_fragment-requires c = record { sound = c.requires.sound; n_value = right
 pub returns : goal.returns
 returns c =
     let a = c.args in
-    let put = c.put_verdict-next in
     let told = c.in_ok-result.ensures in
     let after = c.include_fragment.new.tally in
     let counted = subst (λ (t : Bool). Tallied (store_in a.store.now) (sort_of a.query.sort) a.query.right t a.tally.now after) c.is_ok.ensures.value c.include_fragment.ensures in
-    record { stepped = twins_goes a.store.now a.tally.now a.query after _ _ told counted a.out.now put.new.out a.at put.result put.ensures; mapping_after = told.empty }
+    record { stepped = twins_goes a.store.now a.tally.now a.query after _ _ told counted c.put_verdict.ensures; mapping_after = told.empty }

@@ -1,7 +1,9 @@
 -- `listed` meets its contract: a refused first line is all that is printed; behind any other the lines run on an empty store. Assumes
 -- nothing.
 use native.Mathlib.Omega.{arith}
-use mathlib.Core.Path.{refl}
+use mathlib.Core.Path.{refl, ap}
+use lib.ListN.{length}
+use Rattle.std.proofs.Common.{rules}
 use Rattle.listing.proofs.Runs.{numbered}
 use Rattle.listing.proofs.Whole.{first_refused, all_ran}
 use Rattle.listing.proofs.running.listed.Goals as goal
@@ -12,8 +14,9 @@ returns-in-Err c =
     let listing = a.listing.now in
     let store = a.store.now in
     let mapping = a.mapping.now in
-    let out = a.out.now in
-    first_refused a.program listing store mapping out _ _ _ c.in-Err.ensures (numbered 1 c.number.ensures c.put_refusal.ensures)
+    let lent = a.lent.now in
+    first_refused a.program listing store mapping lent _ _ _ c.in-Err.ensures c.new-out.ensures.lent c.new-out.ensures.at (search rules) c.length.ensures
+    (numbered 1 c.number.ensures c.put_refusal.ensures)
 
 pub run-requires : goal.run-requires
 run-requires c =
@@ -25,7 +28,7 @@ run-requires c =
       second_line_le_from = omega arith;
       from_in_bounds = b.long;
       listing_len_bound = b.short;
-      max_output_in_bounds = c.requires.max_output_in_bounds;
+      max_output_in_bounds = omega (arith, c.requires, c.new-out.ensures.at, ap length c.new-out.ensures.lent);
     }
 
 pub returns : goal.returns
@@ -34,5 +37,5 @@ returns c =
     let listing = a.listing.now in
     let store = a.store.now in
     let mapping = a.mapping.now in
-    let out = a.out.now in
-    all_ran a.program listing store mapping out _ _ _ _ c.in_default.ensures c.run.ensures
+    let lent = a.lent.now in
+    all_ran a.program listing store mapping lent _ _ _ _ c.in_default.ensures c.run.ensures c.new-out.ensures.lent c.new-out.ensures.at (search rules) c.length-2.ensures

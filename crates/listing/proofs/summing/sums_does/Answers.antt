@@ -21,17 +21,16 @@ pub returns-in_err-left : goal.returns-in_err-left
 returns-in_err-left c =
     let a = c.args in
     let p = err_from_is_err_and c.from_residual.result c.from_residual.ensures.1 in
-    rw (p.1, p.2) (λ tally. left_stops a.store.now tally a.query a.out.now a.at (unlisted c.in_err-left.ensures))
+    rw (p.1, p.2) (λ tally. left_stops a.store.now tally a.query a.out.now (unlisted c.in_err-left.ensures))
 
 pub returns-in_err-right : goal.returns-in_err-right
 returns-in_err-right c =
     let a = c.args in
     let p = err_from_is_err_and c.from_residual-in_err-right.result c.from_residual-in_err-right.ensures.1 in
-    rw (p.1, p.2) (λ tally. right_stops a.store.now tally a.query (unlisted c.in_ok-left.ensures) a.out.now a.at (unlisted c.in_err-right.ensures))
+    rw (p.1, p.2) (λ tally. right_stops a.store.now tally a.query (unlisted c.in_ok-left.ensures) a.out.now (unlisted c.in_err-right.ensures))
 
 pub returns : goal.returns
 returns c =
     let a = c.args in
-    let put = c.put_hashes in
     λ tally.
-    sums_goes a.store.now tally a.query (unlisted c.in_ok-left.ensures) (unlisted c.in_ok-right.ensures) a.out.now put.new.out a.at put.result put.ensures
+    sums_goes a.store.now tally a.query (unlisted c.in_ok-left.ensures) (unlisted c.in_ok-right.ensures) c.put_hashes.ensures

@@ -1,6 +1,6 @@
 -- `map_values` meets its contract: what is left to enter, entered in the words as they are, is the whole entered in the words as they
 -- were. Assumes nothing.
-use Rattle.std.proofs.Common.{◌+◌, ◌-◌, sym, ◌∙◌, arith, length-set}
+use Rattle.std.proofs.Common.{◌+◌, ◌-◌, sym, ◌∙◌, arith}
 use Rattle.mapping.specs.MappingWords.{mapping_of}
 use Rattle.mapping.proofs.Entering.{value_next, values_over}
 use Rattle.mapping.proofs.mapping.map_values.Goals as goal
@@ -8,13 +8,11 @@ use Rattle.mapping.proofs.mapping.map_values.Goals as goal
 pub loop-i-preserved : goal.loop-i-preserved
 loop-i-preserved c =
     let a = c.args in
-    let x = c.loop-i in (
-      length-set x.mapping (a.l + x.i) (a.r + x.i) ∙ x.invariant.0,
-      x.invariant.1 ∙ value_next x.mapping a.l a.r x.i a.count (omega arith) (omega arith),
-    )
+    let x = c.loop-i in
+    x.invariant ∙ value_next x.mapping a.l a.r x.i a.count (omega arith) (omega arith)
 
 pub returns : goal.returns
 returns c =
     let a = c.args in
     let x = c.loop-i in
-    sym (x.invariant.1 ∙ values_over (mapping_of x.mapping) (a.l + x.i) (a.r + x.i) (a.count - x.i) (omega arith))
+    sym (x.invariant ∙ values_over (mapping_of x.mapping) (a.l + x.i) (a.r + x.i) (a.count - x.i) (omega arith))

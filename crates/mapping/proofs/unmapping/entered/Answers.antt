@@ -9,13 +9,13 @@ use Rattle.mapping.proofs.unmapping.entered.Goals as goal
 
 pub returns-then-paired-gt-FEW : goal.returns-then-paired-gt-FEW
 returns-then-paired-gt-FEW c =
-    subst (EntriesIn c.args.mapping.now) (sym c.everywhere.ensures) (whole c.args.mapping.now c.requires.mapping_len)
+    subst (EntriesIn c.args.mapping.now) (sym c.everywhere.ensures) (whole c.args.mapping.now c.told-mapping)
 
 pub returns-then-search-gt0 : goal.returns-then-search-gt0
 returns-then-search-gt0 c =
-    subst (EntriesIn c.args.mapping.now) (sym c.everywhere-then-search-gt0.ensures) (whole c.args.mapping.now c.requires.mapping_len)
+    subst (EntriesIn c.args.mapping.now) (sym c.everywhere-then-search-gt0.ensures) (whole c.args.mapping.now c.told-mapping)
 
 pub returns : goal.returns
 returns c =
-    at_last (columns c.args.store.now) (laid_facts _ c.requires.sound.laid) c.args.mapping.now c.requires.mapping_len 2816 c.searched-search.result
+    at_last (columns c.args.store.now) (laid_facts _ c.requires.sound.laid) c.args.mapping.now c.told-mapping 2816 c.searched-search.result
     c.searched-search.ensures (omega (arith, c.if-search-gt0.false))

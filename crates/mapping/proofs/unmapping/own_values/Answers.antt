@@ -16,14 +16,14 @@ at-requires-2 c =
     let cols : Cols = columns c.args.store.now in
     let laid : Laid cols = laid_facts cols c.requires.sound.laid in
     let op_small : 2304 ≤ c.args.i → c.args.i - 2304 < 512 = λ l. omega (arith, laid.counts.ops, c.requires.owner_at.op l) in
-    record { store_len = c.requires.sound.sized; column_lt_column_count = omega arith; n_bound = op_small (omega arith) }
+    record { column_lt_column_count = omega arith; n_bound = op_small (omega arith) }
 
 pub at-requires-3 : goal.at-requires-3
 at-requires-3 c =
     let cols : Cols = columns c.args.store.now in
     let laid : Laid cols = laid_facts cols c.requires.sound.laid in
     let op_small : 2304 ≤ c.args.i → c.args.i - 2304 < 512 = λ l. omega (arith, laid.counts.ops, c.requires.owner_at.op l) in
-    record { store_len = c.requires.sound.sized; column_lt_column_count = omega arith; n_bound = op_small (omega arith) }
+    record { column_lt_column_count = omega arith; n_bound = op_small (omega arith) }
 
 pub returns : goal.returns
 returns c =

@@ -1,6 +1,5 @@
 -- `free_before` meets its contract: what it counts with is read before anything is written. Assumes nothing.
 use Prim.Native.Nat.{◌≤◌}
-use native.Mathlib.Omega.{arith}
 use mathlib.Core.Path.{sym, subst}
 use Rattle.layout.specs.Columns.{Cols, at, write_range}
 use Rattle.journal.specs.Words.{mark_count}
@@ -12,5 +11,5 @@ unfolding mark_count entries_back copied write_range at
 place_back-requires c =
     let a = c.args in
     let rest = subst (λ (X : Cols). (mark_count X ≤ 8) × SetFrom X a.n) (sym c.move_entries.ensures)
-    (c.requires.freeable.few, c.requires.freeable.later) in
-    record { store_len = omega arith; store_bound = rest.0; set_from = rest.1 }
+    (c.requires.few, c.requires.later) in
+    record { store_bound = rest.0; set_from = rest.1 }

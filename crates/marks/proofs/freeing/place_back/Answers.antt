@@ -16,8 +16,8 @@ overflow_sub-place c =
     let C = columns a.store.now in
     let low : i < mark_count C = omega (arith, c.number-count.ensures, c.loop-i-test.true) in
     let e : c.at-place.result ≡ at C 35 i =
-    c.at-place.ensures ∙ ap (λ (X : Cols). at X 35 i) c.loop-i.invariant.so_far
-    ∙ lower_word C a.n (columns_shaped a.store.now c.requires.store_len) c.requires.store_bound i low in
+    c.at-place.ensures ∙ ap (λ (X : Cols). at X 35 i) c.loop-i.invariant
+    ∙ lower_word C a.n (columns_shaped a.store.now c.told-store) c.requires.store_bound i low in
     omega (arith, c.requires.set_from i low)
 
 pub loop-i-preserved : goal.loop-i-preserved
@@ -26,20 +26,16 @@ loop-i-preserved c =
     let a = c.args in
     let i = c.loop-i.i in
     let C = columns a.store.now in
-    let e = c.loop-i.invariant.so_far in
-    record {
-      long = c.put.auto.store ∙ c.loop-i.invariant.long;
-      so_far =
-          c.put.ensures
-          ∙ ap₂ (λ (X : Cols) (x : ℕ). write X 35 i (x - a.n)) e (c.at-place.ensures ∙ ap (λ (X : Cols). at X 35 i) e)
-          ∙ lower_turn C a.n (columns_shaped a.store.now c.requires.store_len) c.requires.store_bound i
-          (omega (arith, c.number-count.ensures, c.loop-i-test.true));
-    }
+    let e = c.loop-i.invariant in
+    c.put.ensures
+    ∙ ap₂ (λ (X : Cols) (x : ℕ). write X 35 i (x - a.n)) e (c.at-place.ensures ∙ ap (λ (X : Cols). at X 35 i) e)
+    ∙ lower_turn C a.n (columns_shaped a.store.now c.told-store) c.requires.store_bound i
+    (omega (arith, c.number-count.ensures, c.loop-i-test.true))
 
 pub returns : goal.returns
 unfolding mark_count
 returns c =
     let a = c.args in
-    c.loop-i.invariant.so_far
-    ∙ lower_ends (columns a.store.now) a.n (columns_shaped a.store.now c.requires.store_len) c.requires.store_bound c.loop-i.i
+    c.loop-i.invariant
+    ∙ lower_ends (columns a.store.now) a.n (columns_shaped a.store.now c.told-store) c.requires.store_bound c.loop-i.i
     (omega (arith, c.number-count.ensures, c.loop-i.auto.i-end, c.loop-i-test.false))

@@ -1,9 +1,8 @@
 -- `place_back` meets its contract: each turn lowers one place. Assumes nothing.
 use mathlib.Core.Path.{◌≡◌}
-use lib.ListN.{length}
 use Rattle.layout.specs.Columns.{columns}
 use Rattle.marks.proofs.Lowered.{lowering}
 use Rattle.marks.proofs.freeing.place_back.Given as goal
 
 abbrev pub invariant-loop-i : goal.invariant-loop-i
-invariant-loop-i l = record { long : length l.store ≡ length l.initial.store; so_far : columns l.store ≡ lowering (columns l.initial.store) l.n l.i }
+invariant-loop-i l = columns l.store ≡ lowering (columns l.initial.store) l.n l.i

@@ -18,4 +18,4 @@ returns c =
     let C = columns c.args.store.now in
     count_from_yields_List c.filter.result c.count.result c.count.ensures.ran
     (YieldsList-from_filter _ (λ (x : ℕ). ltb x 2) (YieldsList-from_slice c.words.result.now cc) (cc) (λ x b q j. search (rules, tests)))
-    ∙ counted C c.args.n c.words.result.now (c.words.ensures ∙ first_words C journal_sort c.args.n (omega (arith, columns_shaped c.args.store.now c.requires.store_len journal_sort)))
+    ∙ counted C c.args.n c.words.result.now (c.words.ensures ∙ first_words C journal_sort c.args.n (omega (arith, columns_shaped c.args.store.now c.told-store journal_sort)))

@@ -23,4 +23,4 @@ returns c =
     position_from_yields_List (λ (x : ℕ). eqb x k) _ _ c.position.result c.position.ensures.ran (YieldsList-from_slice c.words.result.now cc) (λ x b q j. search (rules, tests))
     ∙ position_row C k c.words.result.now
     (c.words.ensures ∙ ap (slice (C mark_number) 0) c.number-count.ensures
-    ∙ first_words C mark_number (mark_count C) (omega (arith, columns_shaped c.args.store.now c.requires.store_len mark_number)))
+    ∙ first_words C mark_number (mark_count C) (omega (arith, columns_shaped c.args.store.now c.told-store mark_number)))

@@ -25,4 +25,4 @@ unfolding done_of
 returns c =
     let a = c.args in
     mark_done a.store.now (lent_facts a.store.now c.requires) a.mark (is_mark_lem a.mark (omega arith) (omega arith)) c.put_mark.new.store
-    c.put_mark.auto.store c.put_mark.ensures
+    omega arith c.put_mark.ensures

@@ -11,7 +11,7 @@ use Rattle.numbering.proofs.words.value_name.Goals as goal
 pub number-owner-requires : goal.number-owner-requires
 number-owner-requires c =
     let few = value_low _ c.requires.sound _ c.requires.v_bound in
-    record { store_len = c.requires.sound.sized; column_lt_column_count = omega arith; n_bound = omega (arith, few) }
+    record { column_lt_column_count = omega arith; n_bound = omega (arith, few) }
 
 pub offset_bounds-numbers-owner : goal.offset_bounds-numbers-owner
 offset_bounds-numbers-owner c =

@@ -23,8 +23,8 @@ pub operands_agree-requires-clause-r_value : goal.operands_agree-requires-clause
 operands_agree-requires-clause-r_value c =
     read_below _ _ _ c.operands_of-r.ensures (operands_below c.args.terms.now.store.now c.args.terms.now.readable.sound c.args.rhs c.requires.rhs_bound)
 
-pub successors_agree-requires-clause-l_value : goal.successors_agree-requires-clause-l_value
-successors_agree-requires-clause-l_value c =
+pub successors_agree-requires : goal.successors_agree-requires
+successors_agree-requires c =
     read_below _ _ _ c.successors_of.ensures (successors_below c.args.terms.now.store.now c.args.terms.now.readable.sound c.args.lhs c.requires.lhs_bound)
 
 pub returns-then-operands_agree : goal.returns-then-operands_agree

@@ -12,7 +12,7 @@ all-requires-clause-callable c =
     let xs = c.args.l.now in
     let ys = c.args.r.now in
     serves_from_places (YieldsList-from_zip (YieldsList-from_slice xs (cc)) (YieldsList-from_slice ys (cc))) (λ x q k. search rules)
-    (λ x k l e. let small : x.0.now < 256 = ltb-true _ _ (subst (λ (z : ℕ × ℕ). ltb z.0 256 ≡ true) (sym e) (left_passes _ xs ys c.requires.l_value k _ l)) in search rules)
+    (λ x k l e. let small : x.0.now < 256 = ltb-true _ _ (subst (λ (z : ℕ × ℕ). ltb z.0 256 ≡ true) (sym e) (left_passes _ xs ys c.requires k _ l)) in search rules)
 
 pub returns : goal.returns
 returns c =

@@ -27,8 +27,8 @@ returns-then-not-rows_eq c =
     blocks_unlike (store_in a.terms.now.store.now) rule a.pair.lhs a.pair.rhs a.mapping.now a.paired
     (block_shells_lem rule c.block_row-l.ensures c.block_row-r.ensures ∙ sym c.rows_eq.ensures ∙ c.if-not-rows_eq.true)
 
-pub map_block-requires-clause-l_bound : goal.map_block-requires-clause-l_bound
-map_block-requires-clause-l_bound c = omega (arith, (laid_facts (columns c.args.terms.now.store.now) c.args.terms.now.readable.sound.laid).counts.blocks)
+pub map_block-requires : goal.map_block-requires
+map_block-requires c = omega (arith, (laid_facts (columns c.args.terms.now.store.now) c.args.terms.now.readable.sound.laid).counts.blocks)
 
 pub map_values-requires-clause-count_bound_2 : goal.map_values-requires-clause-count_bound_2
 map_values-requires-clause-count_bound_2 c =

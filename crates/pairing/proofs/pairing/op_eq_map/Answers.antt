@@ -26,8 +26,8 @@ returns-then-not-op_shells_eq c =
     ops_unlike (store_in a.terms.now.store.now) rule a.pair.lhs a.pair.rhs a.mapping.now a.paired
     (sym c.op_shells_eq.ensures ∙ c.if-not-op_shells_eq.true)
 
-pub map_op-requires-clause-l_bound : goal.map_op-requires-clause-l_bound
-map_op-requires-clause-l_bound c = omega (arith, (laid_facts (columns c.args.terms.now.store.now) c.args.terms.now.readable.sound.laid).counts.ops)
+pub map_op-requires : goal.map_op-requires
+map_op-requires c = omega (arith, (laid_facts (columns c.args.terms.now.store.now) c.args.terms.now.readable.sound.laid).counts.ops)
 
 pub map_values-requires-clause-count_bound_2 : goal.map_values-requires-clause-count_bound_2
 map_values-requires-clause-count_bound_2 c =

@@ -1,4 +1,5 @@
 -- `add_attribute` meets its contract: the attribute is inserted, and that its key is new is remembered. Assumes nothing.
+use native.Mathlib.Omega.{arith}
 use mathlib.Core.Path.{ap, ◌∙◌}
 use Rattle.rules.specs.Building.{set_attribute}
 use Rattle.layout.specs.Columns.{columns}
@@ -42,8 +43,8 @@ remember-requires c =
     let k = adds_new (columns b) w x _ c.requires.slot_value in
     let rest = attribute_room_lem b h w x c.requires.nonzero p.clear
     (new_fits b h c.requires.nonzero (set_attribute w x) (key_replaced b t w p.owner x _ k)) (key_entry w x.key)
-    (key_entry_lem b t w p.owner x k) c.put_added.new.store c.put_added.auto.store (c.put_added.ensures ∙ p.written) in
-    record { store_len = rest.0; store_bound = rest.1.0; store_bound_2 = rest.1.1 }
+    (key_entry_lem b t w p.owner x k) c.put_added.new.store omega arith (c.put_added.ensures ∙ p.written) in
+    record { store_bound = rest.1.0; store_bound_2 = rest.1.1 }
 
 pub returns : goal.returns
 unfolding PlaceMeans attribute_of
@@ -59,6 +60,6 @@ returns c =
     attribute_remembered b h w x c.requires.nonzero p.clear
     (new_fits b h c.requires.nonzero (set_attribute w x) (key_replaced b t w p.owner x _ k))
     (key_entry w x.key) (key_entry_lem b t w p.owner x k)
-    c.put_added.new.store c.put_added.auto.store (c.put_added.ensures ∙ p.written)
-    c.remember.new.store c.remember.auto.store (c.remember.ensures
+    c.put_added.new.store omega arith (c.put_added.ensures ∙ p.written)
+    c.remember.new.store omega arith (c.remember.ensures
     ∙ ap (with_entry (columns c.put_added.new.store)) c.key_was_none-was.ensures)

@@ -1,4 +1,5 @@
 -- `replace_attribute` meets its contract: it is refused where no replacement more can be remembered, and else written and remembered. Assumes nothing.
+use native.Mathlib.Omega.{arith}
 use mathlib.Core.Path.{refl, sym, ap, ◌∙◌}
 use Rattle.rules.specs.Building.{set_attribute}
 use Rattle.layout.specs.Columns.{columns}
@@ -38,7 +39,7 @@ attribute_was-was-requires c =
     let w = owner_of a.owner in
     let x = attribute_of a.attribute in
     let p = told b t w x c.requires.clear _ c.requires.slot_value in
-    record { store_len = t.sized; owner_bound = owner_small b t w (owner_there b t w x p.clear); slot_lt_slot_count = p.reached }
+    record { owner_bound = owner_small b t w (owner_there b t w x p.clear); slot_lt_slot_count = p.reached }
 
 pub put_replaced-requires : goal.put_replaced-requires
 unfolding PlaceMeans attribute_of
@@ -47,7 +48,7 @@ put_replaced-requires c =
     let b = a.store.now in
     let t = (lent_facts b c.requires.lent).tables in
     let p = told b t (owner_of a.owner) (attribute_of a.attribute) c.requires.clear _ c.requires.slot_value in
-    record { store_len = t.sized; slot_lt_slot_count = p.reached; kind_le_max_attribute_kind = p.fits }
+    record { slot_lt_slot_count = p.reached; kind_le_max_attribute_kind = p.fits }
 
 pub remember-requires : goal.remember-requires
 unfolding PlaceMeans attribute_of
@@ -62,9 +63,9 @@ remember-requires c =
     let k = replaces_there (columns b) w x _ c.requires.slot_value in
     let rest = attribute_room_lem b h w x c.requires.nonzero p.clear
     (one_fits b h c.requires.nonzero (set_attribute w x) (sym c.is_full.ensures ∙ c.if-is_full.false)) (attribute_entry (columns b) w a.slot)
-    (attribute_entry_lem b t w (owner_there b t w x p.clear) x a.slot k.0 k.1) c.put_replaced.new.store c.put_replaced.auto.store
+    (attribute_entry_lem b t w (owner_there b t w x p.clear) x a.slot k.0 k.1) c.put_replaced.new.store omega arith
     (c.put_replaced.ensures ∙ p.written) in
-    record { store_len = rest.0; store_bound = rest.1.0; store_bound_2 = rest.1.1 }
+    record { store_bound = rest.1.0; store_bound_2 = rest.1.1 }
 
 pub returns : goal.returns
 unfolding PlaceMeans attribute_of done_of
@@ -80,6 +81,6 @@ returns c =
     attribute_remembered b h w x c.requires.nonzero p.clear
     (one_fits b h c.requires.nonzero (set_attribute w x) (sym c.is_full.ensures ∙ c.if-is_full.false))
     (attribute_entry (columns b) w a.slot) (attribute_entry_lem b t w (owner_there b t w x p.clear) x a.slot k.0 k.1)
-    c.put_replaced.new.store c.put_replaced.auto.store (c.put_replaced.ensures ∙ p.written)
-    c.remember.new.store c.remember.auto.store (c.remember.ensures
+    c.put_replaced.new.store omega arith (c.put_replaced.ensures ∙ p.written)
+    c.remember.new.store omega arith (c.remember.ensures
     ∙ ap (with_entry (columns c.put_replaced.new.store)) c.attribute_was-was.ensures)

@@ -6,15 +6,16 @@ use lib.ListN.{length}
 use Rattle.rules.specs.Lists.{all_below}
 use Rattle.layout.specs.Columns.{journal_sort}
 use Rattle.journal.specs.Words.{max_entries}
+use Rattle.journal.specs.Entries.{listed}
 use Rattle.adding.specs.Raw.{with_row}
 use Rattle.adding.proofs.RowWritten.{row_fits_lem}
-use Rattle.remembering.specs.Raw.{listed, entry_put}
+use Rattle.remembering.specs.Raw.{entry_put}
 use Rattle.remembering.proofs.entries.put_entry.Goals as goal
 
 pub put_row-requires-clause-by_index : goal.put_row-requires-clause-by_index
 unfolding listed all_below
 put_row-requires-clause-by_index c =
-    λ j l. row_fits_lem journal_sort 5 max_entries c.args.n refl c.requires.n_lt_max_entries j (omega (arith, ap length c.words.ensures))
+    λ j l. row_fits_lem journal_sort 5 max_entries c.args.n refl c.requires j (omega (arith, ap length c.words.ensures))
 
 pub returns : goal.returns
 unfolding entry_put listed with_row

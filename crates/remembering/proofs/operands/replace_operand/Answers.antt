@@ -1,4 +1,5 @@
 -- `replace_operand` meets its contract: it is refused where no replacement more can be remembered, and else written and remembered. Assumes nothing.
+use native.Mathlib.Omega.{arith}
 use mathlib.Core.Path.{refl, sym, ap, ◌∙◌}
 use Rattle.rules.specs.Building.{set_operand}
 use Rattle.rules.specs.Marks.{replaces}
@@ -26,22 +27,22 @@ operand_was-was-requires c =
     let a = c.args in
     let t = (lent_facts a.store.now c.requires.lent).tables in
     let rest = operand_reached a.store.now t a.n a.i a.v c.requires.v_value in
-    record { store_len = t.sized; n_bound = rest.0; i_bound = rest.1 }
+    record { n_bound = rest.0; i_bound = rest.1 }
 
 pub put_operand-requires : goal.put_operand-requires
 put_operand-requires c =
     let a = c.args in
     let t = (lent_facts a.store.now c.requires.lent).tables in
     let rest = operand_reached a.store.now t a.n a.i a.v c.requires.v_value in
-    record { store_len = t.sized; n_bound = rest.0; i_bound = rest.1 }
+    record { n_bound = rest.0; i_bound = rest.1 }
 
 pub remember-requires : goal.remember-requires
 remember-requires c =
     let a = c.args in
     let full = sym c.is_full.ensures ∙ c.if-is_full.false in
     let rest = operand_room_lem a.store.now c.requires.lent a.n a.i a.v c.requires.nonzero c.requires.v_value full c.put_operand.new.store
-    c.put_operand.auto.store c.put_operand.ensures in
-    record { store_len = rest.0; store_bound = rest.1.0; store_bound_2 = rest.1.1 }
+    omega arith c.put_operand.ensures in
+    record { store_bound = rest.1.0; store_bound_2 = rest.1.1 }
 
 pub returns : goal.returns
 unfolding done_of
@@ -49,6 +50,6 @@ returns c =
     let a = c.args in
     let full = sym c.is_full.ensures ∙ c.if-is_full.false in
     operand_remembered a.store.now c.requires.lent a.n a.i a.v c.requires.nonzero c.requires.v_value full c.put_operand.new.store
-    c.put_operand.auto.store c.put_operand.ensures
-    c.remember.new.store c.remember.auto.store (c.remember.ensures
+    omega arith c.put_operand.ensures
+    c.remember.new.store omega arith (c.remember.ensures
     ∙ ap (with_entry (columns c.put_operand.new.store)) c.operand_was-was.ensures)

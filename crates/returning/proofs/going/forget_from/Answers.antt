@@ -15,4 +15,4 @@ most C n = omega (arith, filter_most is_replaced (first_entries C n), length_tab
 
 pub overflow_cast-replaced : goal.overflow_cast-replaced
 overflow_cast-replaced c =
-    omega (arith, c.replaced_before-replaced.ensures, most (columns c.args.store.now) c.args.n, c.requires.n_le_max_entries)
+    omega (arith, c.replaced_before-replaced.ensures, most (columns c.args.store.now) c.args.n, c.requires)

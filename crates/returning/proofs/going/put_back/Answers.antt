@@ -1,4 +1,5 @@
 -- `put_back` meets its contract: all behind the mark can be undone, and then the tables can be cut. Assumes nothing.
+use native.Mathlib.Omega.{arith}
 use Prim.Native.Nat.{◌+◌}
 use mathlib.Core.Path.{ap, ◌∙◌}
 use Rattle.layout.specs.Columns.{Cols, columns, write}
@@ -30,5 +31,5 @@ returns c =
     let d = undid b h row c.requires.row_bound _ _ c.number-place.ensures c.number-entries.ensures u _ c.undo_between.ensures in
     went_back b h row c.requires.row_bound u _ d t c.cut_tables.ensures.store_after c.cut_tables.ensures.store_after_2
     c.cut_tables.ensures.marks_kept c.put.new.store
-    (c.put.auto.store ∙ c.forget_from.auto.store ∙ c.cut_tables.auto.store ∙ c.undo_between.auto.store)
+    (omega arith)
     (c.put.ensures ∙ ap (λ (X : Cols). write X 0 7 (row + 1)) (c.forget_from.ensures ∙ ap (forgotten (columns t)) c.number-place.ensures))

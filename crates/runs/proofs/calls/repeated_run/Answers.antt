@@ -5,7 +5,6 @@ use Rattle.std.proofs.Common.{rules}
 use mathlib.Core.Bool.{true}
 use mathlib.Core.List.{List, []}
 use mathlib.Core.Path.{◌≡◌, sym, ap, subst, ◌∙◌}
-use Rattle.layout.specs.Soundness.{IsSound}
 use Rattle.journal.specs.Words.{sound_lent}
 use Rattle.marks.proofs.Lent.{lent_facts}
 use Rattle.renaming.specs.Index.{list_in, IsIndex}
@@ -16,30 +15,39 @@ use Rattle.runs.specs.Calls.{Answered}
 use Rattle.runs.proofs.Answering.{unsound, as_found}
 use Rattle.runs.proofs.calls.repeated_run.Goals as goal
 
-pub returns-then-not-is_sound : goal.returns-then-not-is_sound
-returns-then-not-is_sound c =
+pub returns-in_default : goal.returns-in_default
+returns-in_default c =
     let a = c.args in
-    unsound a.store.now a.types.now (ignore_of a.ignore) a.block a.length _ (sym c.is_sound.ensures ∙ c.if-not-is_sound.true)
+    unsound a.store.now a.types.now (ignore_of a.ignore) a.block a.length _ c.in_default.ensures
 
 pub invariant_of-terms : goal.invariant_of-terms
 invariant_of-terms c =
-    let lent : sound_lent c.args.store.now ≡ true = sym c.is_sound.ensures ∙ c.if-not-is_sound.false in
-    let sound : IsSound c.args.store.now = (lent_facts c.args.store.now lent).tables in
+    let w = c.in-Some.ensures in
     let few : length c.args.types.now ≡ 0 = search rules in
-    record { readable = record { sound = sound; indexed = subst IsIndex (sym (no_children c.args.types.now few)) no_words_lem } }
+    record {
+      readable = record {
+        sound = (lent_facts _ (ap sound_lent w.0 ∙ w.1)).tables;
+        indexed = subst IsIndex (sym (no_children c.args.types.now few)) no_words_lem;
+      };
+    }
 
 pub returns-then-is_empty : goal.returns-then-is_empty
 returns-then-is_empty c =
-    let lent : sound_lent c.args.store.now ≡ true = sym c.is_sound.ensures ∙ c.if-not-is_sound.false in
+    let w = c.in-Some.ensures in
     let a = c.args in
     let few : length a.types.now ≡ 0 = search rules in
     let none : a.types.now ≡ [] = no_children a.types.now few in
-    as_found a.store.now a.types.now (ignore_of a.ignore) a.block a.length _ lent
-    (subst (λ (types : List ℕ). Answered true a.store.now types (ignore_of a.ignore) a.block a.length c.block_runs.result)
-    (ap list_in none ∙ no_list ∙ sym none) c.block_runs.ensures)
+    as_found a.store.now a.types.now (ignore_of a.ignore) a.block a.length _ w.1
+    (subst (λ (x : List ℕ). Answered true x a.types.now (ignore_of a.ignore) a.block a.length c.block_runs.result) w.0
+    (subst (λ (types : List ℕ). Answered true c.in-Some.words.now types (ignore_of a.ignore) a.block a.length c.block_runs.result)
+    (ap list_in none ∙ no_list ∙ sym none) c.block_runs.ensures))
 
 pub indexed_runs-requires : goal.indexed_runs-requires
-indexed_runs-requires c =
-    let lent : sound_lent c.args.store.now ≡ true = sym c.is_sound.ensures ∙ c.if-not-is_sound.false in
-    let sound : IsSound c.args.store.now = (lent_facts c.args.store.now lent).tables in
-    sound
+indexed_runs-requires c = let w = c.in-Some.ensures in (lent_facts _ (ap sound_lent w.0 ∙ w.1)).tables
+
+pub returns : goal.returns
+returns c =
+    let w = c.in-Some.ensures in
+    let a = c.args in
+    as_found a.store.now a.types.now (ignore_of a.ignore) a.block a.length _ w.1
+    (subst (λ (x : List ℕ). Answered true x a.types.now (ignore_of a.ignore) a.block a.length c.indexed_runs.result) w.0 c.indexed_runs.ensures)

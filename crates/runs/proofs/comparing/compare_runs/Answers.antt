@@ -23,7 +23,7 @@ second c = check_walk (store_in c.args.terms.now.store.now) (options_in c.args.t
 
 fits : (c : Start) → PairedFits (first c >>= second c)
 unfolding runs_walk
-fits c = walk_fits (options_in c.args.terms.now) c.args.terms.now.readable.sound c.requires.runs_in c.args.mapping.now
+fits c = walk_fits (options_in c.args.terms.now) c.args.terms.now.readable.sound c.requires c.args.mapping.now
 
 -- pass 2 hands on words and count to pass 3
 next : (c : In_ok-paired) → first ((goal.at.In_ok-paired c).Start) >>= second ((goal.at.In_ok-paired c).Start) ≡ second ((goal.at.In_ok-paired c).Start) (state_of c.pair_runs.new.mapping c.in_ok-paired.paired)

@@ -12,14 +12,7 @@ use Rattle.runs.proofs.Compared.{runs_told, runs_unmap}
 use Rattle.runs.proofs.comparing.same_runs.Goals as goal
 
 pub compare_runs-result-requires : goal.compare_runs-result-requires
-unfolding empty_words
-compare_runs-result-requires c =
-    let empty_long : length c.args.mapping.now ≡ mapping_length =
-    ap length c.requires.mapping_value ∙ length-replicate mapping_length no_image in
-    record {
-      mapping_len = empty_long;
-      runs_in = c.requires.runs_in;
-    }
+compare_runs-result-requires c = c.requires.runs_in
 
 pub unmap_entered-requires : goal.unmap_entered-requires
 unfolding empty_words
@@ -31,7 +24,6 @@ unmap_entered-requires c =
     let many : c.paired_of.result ≡ paired_in (answer_of q.result) = c.paired_of.ensures in
     record {
       sound = c.args.terms.now.readable.sound;
-      mapping_len = q.auto.mapping ∙ empty_long;
       entered_by = subst (λ (n : _). EnteredBy (store_in c.args.terms.now.store.now) (mapping_of q.new.mapping) n) (sym many) (runs_unmap rule c.args.terms.now.readable.sound c.requires.runs_in c.requires.mapping_value q.result q.new.mapping q.ensures);
     }
 

@@ -14,4 +14,4 @@ pub at-requires : goal.at-requires
 at-requires c =
     let a = c.args in
     let r = reachable a.store.now c.requires.sound (owner_of a.owner) c.requires.owner_value in
-    record { store_len = c.requires.sound.sized; column_lt_column_count = omega arith; n_bound = omega arith }
+    record { column_lt_column_count = omega arith; n_bound = omega arith }

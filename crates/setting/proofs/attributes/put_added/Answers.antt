@@ -20,24 +20,24 @@ pub insert-requires : goal.insert-requires
 insert-requires c =
     let a = c.args in
     let r = reached a.store.now c.requires.arranged (owner_of a.owner) c.requires.owner_value in
-    record { store_len = omega (arith, c.requires.arranged.sized); column_lt_column_count = omega arith; a_le_e = omega arith; e_bound = omega arith }
+    record { column_lt_column_count = omega arith; a_le_e = omega arith; e_bound = omega arith }
 
 pub insert-requires-2 : goal.insert-requires-2
 insert-requires-2 c =
     let a = c.args in
     let r = reached a.store.now c.requires.arranged (owner_of a.owner) c.requires.owner_value in
-    record { store_len = omega (arith, c.requires.arranged.sized); column_lt_column_count = omega arith; a_le_e = omega arith; e_bound = omega arith }
+    record { column_lt_column_count = omega arith; a_le_e = omega arith; e_bound = omega arith }
 
 pub insert-requires-3 : goal.insert-requires-3
 insert-requires-3 c =
     let a = c.args in
     let r = reached a.store.now c.requires.arranged (owner_of a.owner) c.requires.owner_value in
-    record { store_len = omega (arith, c.requires.arranged.sized); column_lt_column_count = omega arith; a_le_e = omega arith; e_bound = omega arith }
+    record { column_lt_column_count = omega arith; a_le_e = omega arith; e_bound = omega arith }
 
 pub put-requires : goal.put-requires
 put-requires c =
     let a = c.args in
-    let rest = count_reached (columns a.store.now) (owner_of a.owner) (reached a.store.now c.requires.arranged (owner_of a.owner) c.requires.owner_value) _ _ c.count_column.ensures c.owner_number.ensures in record { store_len = omega (arith, c.requires.arranged.sized); column_lt_column_count = rest.0; n_bound = rest.1 }
+    let rest = count_reached (columns a.store.now) (owner_of a.owner) (reached a.store.now c.requires.arranged (owner_of a.owner) c.requires.owner_value) _ _ c.count_column.ensures c.owner_number.ensures in record { column_lt_column_count = rest.0; n_bound = rest.1 }
 
 pub overflow_add-total : goal.overflow_add-total
 unfolding attribute_count

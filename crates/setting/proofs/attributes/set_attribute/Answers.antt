@@ -1,4 +1,5 @@
 -- `set_attribute` meets its contract: it is refused by the first test that fails and writes nothing, or all pass and what is written at the slot is what the call writes. Assumes nothing.
+use native.Mathlib.Omega.{arith}
 use mathlib.Core.Path.{◌≡◌, sym, ap, ◌∙◌}
 use Rattle.std.proofs.Common.{rules}
 use Rattle.std.specs.Prelude as std
@@ -23,7 +24,7 @@ unfolding PlaceMeans attribute_of cause_of
 put_replaced-requires c =
     let a = c.args in
     let p = told a.store.now c.requires (owner_of a.owner) (attribute_of a.attribute) (sym c.in_ok-slot.ensures.refused) _ (sym c.in-Replaces.is ∙ c.in_ok-slot.ensures.placed) in
-    record { store_len = c.requires.sized; slot_lt_slot_count = p.reached; kind_le_max_attribute_kind = p.fits }
+    record { slot_lt_slot_count = p.reached; kind_le_max_attribute_kind = p.fits }
 
 pub put_added-requires : goal.put_added-requires
 unfolding PlaceMeans attribute_of cause_of
@@ -40,7 +41,7 @@ returns-in-Replaces c =
     let t = attribute_of a.attribute in
     let clear = sym c.in_ok-slot.ensures.refused in
     let p = told a.store.now c.requires w t clear _ (sym c.in-Replaces.is ∙ c.in_ok-slot.ensures.placed) in
-    attribute_done a.store.now c.requires w t clear c.put_replaced.new.store c.put_replaced.auto.store
+    attribute_done a.store.now c.requires w t clear c.put_replaced.new.store omega arith
     (c.put_replaced.ensures ∙ p.written)
 
 pub returns-in-Adds : goal.returns-in-Adds
@@ -51,5 +52,5 @@ returns-in-Adds c =
     let t = attribute_of a.attribute in
     let clear = sym c.in_ok-slot.ensures.refused in
     let p = told a.store.now c.requires w t clear _ (sym c.in-Adds.is ∙ c.in_ok-slot.ensures.placed) in
-    attribute_done a.store.now c.requires w t clear c.put_added.new.store c.put_added.auto.store
+    attribute_done a.store.now c.requires w t clear c.put_added.new.store omega arith
     (c.put_added.ensures ∙ p.written)

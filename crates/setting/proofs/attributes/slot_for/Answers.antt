@@ -8,4 +8,4 @@ pub slot_from-requires : goal.slot_from-requires
 slot_from-requires c =
     let a = c.args in
     let r = reachable a.store.now c.requires.sound (owner_of a.owner) c.requires.owner_value in
-    record { store_len = c.requires.sound.sized; count_bound = omega arith; first_bound = omega arith }
+    record { count_bound = omega arith; first_bound = omega arith }

@@ -25,7 +25,7 @@ returns c =
     let counted = count_from_yields_List c.take_while.result c.count.result c.count.ensures.ran (YieldsList-from_take_while _ (λ k. ltb k a.key) (YieldsList-from_slice keys cc) c.take_while.ensures.closure c.take_while.ensures.done (λ x b q k. search (rules, tests))) in
     let found = counted ∙ length-prefix_len (λ k. ltb k a.key) keys ∙ ap (prefix_len (λ k. ltb k a.key)) c.words-keys.ensures in
     let few : a.first + a.count - a.first ≡ a.count = omega arith in
-    let long : length (columns a.store.now slot_key) ≡ slot_count = columns_shaped a.store.now c.requires.store_len slot_key in
+    let long : length (columns a.store.now slot_key) ≡ slot_count = columns_shaped a.store.now c.told-store slot_key in
     let past : a.first + a.count ≤ length (columns a.store.now slot_key) = omega arith in
     ap (λ (n : ℕ). a.first + n) (found ∙ ap (λ (n : ℕ). prefix_len (λ k. ltb k a.key) (take n (drop a.first (columns a.store.now slot_key)))) few)
     ∙ seek_past (columns a.store.now) a.key a.first a.count past

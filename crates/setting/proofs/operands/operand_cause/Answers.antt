@@ -23,7 +23,7 @@ at-first-requires c =
     let C = columns a.store.now in
     let l : a.n < op_count C = op_in_lem C a.n (sym c.op_exists.ensures ∙ c.if-not-op_exists.false) in
     let few : op_count C ≤ 512 = (laid a.store.now c.requires).counts.ops in
-    record { store_len = c.requires.sized; column_lt_column_count = omega arith; n_bound = omega arith }
+    record { column_lt_column_count = omega arith; n_bound = omega arith }
 
 pub at-requires : goal.at-requires
 at-requires c =
@@ -31,7 +31,7 @@ at-requires c =
     let C = columns a.store.now in
     let l : a.n < op_count C = op_in_lem C a.n (sym c.op_exists.ensures ∙ c.if-not-op_exists.false) in
     let few : op_count C ≤ 512 = (laid a.store.now c.requires).counts.ops in
-    record { store_len = c.requires.sized; column_lt_column_count = omega arith; n_bound = omega arith }
+    record { column_lt_column_count = omega arith; n_bound = omega arith }
 
 pub overflow_sub-at : goal.overflow_sub-at
 overflow_sub-at c =

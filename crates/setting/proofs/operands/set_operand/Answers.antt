@@ -1,4 +1,5 @@
 -- `set_operand` meets its contract: it refuses by the first test that fails, and else writes the operand. Assumes nothing.
+use native.Mathlib.Omega.{arith}
 use mathlib.Core.Path.{◌≡◌, sym, ap}
 use Rattle.std.proofs.Common.{rules}
 use Rattle.std.specs.Prelude as std
@@ -22,10 +23,10 @@ unfolding cause_of
 put_operand-requires c =
     let a = c.args in
     let reached = operand_reached a.store.now c.requires a.n a.i a.v (sym c.in_ok-operand_cause.ensures) in
-    record { store_len = c.requires.sized; n_bound = reached.0; i_bound = reached.1 }
+    record { n_bound = reached.0; i_bound = reached.1 }
 
 pub returns : goal.returns
 unfolding cause_of done_of
 returns c =
     let a = c.args in
-    operand_done a.store.now c.requires a.n a.i a.v (sym c.in_ok-operand_cause.ensures) c.put_operand.new.store c.put_operand.auto.store c.put_operand.ensures
+    operand_done a.store.now c.requires a.n a.i a.v (sym c.in_ok-operand_cause.ensures) c.put_operand.new.store omega arith c.put_operand.ensures

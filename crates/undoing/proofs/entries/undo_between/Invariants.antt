@@ -1,8 +1,7 @@
 -- `undo_between` meets its contract: each turn undoes the newest entry that is left, or stops. Assumes nothing.
 use Prim.Native.Nat.{◌≤◌}
 use mathlib.Core.Bool.{true}
-use mathlib.Core.Path.{◌≡◌}
-use lib.ListN.{length, drop}
+use lib.ListN.{drop}
 use Rattle.layout.specs.Columns.{columns}
 use Rattle.layout.specs.Reading.{tabulate}
 use Rattle.journal.specs.Words.{entry_at}
@@ -13,6 +12,5 @@ abbrev pub invariant-loop-i : goal.invariant-loop-i
 invariant-loop-i l =
     record {
       so_far : UndidAll l.initial.store l.store (drop l.i (tabulate l.end (entry_at (columns l.initial.store)))) true;
-      long : length l.store ≡ length l.initial.store;
       low : l.place ≤ l.i;
     }

@@ -1,4 +1,5 @@
 -- `undo_new_key` meets its contract: where the key is there, its slot is taken out. Assumes nothing.
+use native.Mathlib.Omega.{arith}
 use mathlib.Core.Path.{sym, ap, subst, ◌∙◌}
 use Prim.Native.Nat.{ℕ, ◌+◌, ◌<◌, ◌≤◌}
 use Rattle.layout.specs.Columns.{columns}
@@ -30,5 +31,5 @@ pub returns : goal.returns
 returns c =
     let a = c.args in
     let w = owner_of a.owner in
-    key_undid a.store.now c.requires w a.key (sym c.has_key.ensures ∙ c.if-not-has_key.false) c.remove_key.new.store c.remove_key.auto.store
+    key_undid a.store.now c.requires w a.key (sym c.has_key.ensures ∙ c.if-not-has_key.false) c.remove_key.new.store omega arith
     (c.remove_key.ensures ∙ ap (without_slot (columns a.store.now) w) c.slot_for-slot.ensures)

@@ -13,7 +13,6 @@ use Rattle.windows.proofs.shells.shell_hash.Goals as goal
 pub at-kind-requires : goal.at-kind-requires
 at-kind-requires c =
     record {
-      store_len = c.args.terms.now.readable.sound.sized;
       column_lt_column_count = omega arith;
       n_bound = omega (arith, (laid_facts (columns c.args.terms.now.store.now) c.args.terms.now.readable.sound.laid).counts.ops, c.requires.n_bound);
     }

@@ -1,13 +1,10 @@
--- `is_sound` meets its contract: the tables first, and without a mark nothing else. Assumes nothing.
+-- `are_sound` meets its contract: the tables first, and without a mark nothing else. Assumes nothing.
 use mathlib.Core.Path.{sym, ◌∙◌}
 use borrow.Author.Tests.{eq-eqb}
 use Rattle.layout.proofs.Empty.{sound_facts}
 use Rattle.journal.specs.Words.{mark_count}
 use Rattle.lending.proofs.Marks.{not_sound, lent_is, lent_bare}
-use Rattle.lending.proofs.lent.is_sound.Goals as goal
-
-pub at-requires-clause-store_len : goal.at-requires-clause-store_len
-at-requires-clause-store_len c = (sound_facts c.args.store.now (sym c.is_sound.ensures ∙ c.if-is_sound.true)).sized
+use Rattle.lending.proofs.lent.are_sound.Goals as goal
 
 pub returns-then-at-eq0 : goal.returns-then-at-eq0
 unfolding mark_count

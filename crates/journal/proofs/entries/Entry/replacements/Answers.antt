@@ -1,7 +1,7 @@
 -- `replacements` meets its contract, case by case. Assumes nothing.
 use mathlib.Core.Path.{refl}
-use Rattle.remembering.specs.Raw.{counts_as}
-use Rattle.remembering.proofs.entries.Entry.replacements.Goals as goal
+use Rattle.journal.specs.Entries.{counts_as}
+use Rattle.journal.proofs.entries.Entry.replacements.Goals as goal
 
 pub returns-in-OperandWas-clause-value : goal.returns-in-OperandWas-clause-value
 unfolding counts_as

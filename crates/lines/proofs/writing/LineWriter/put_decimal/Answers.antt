@@ -1,7 +1,7 @@
 -- `put_decimal` meets its contract: it writes as many digits as the number has. Assumes nothing.
 use native.Mathlib.Omega.{arith}
 use Rattle.lines.proofs.Digits.{counted_digits, at_most_ten}
-use Rattle.lines.proofs.writing.put_decimal.Goals as goal
+use Rattle.lines.proofs.writing.LineWriter.put_decimal.Goals as goal
 
 pub put_digits-requires : goal.put_digits-requires
 put_digits-requires c =

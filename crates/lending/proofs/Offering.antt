@@ -1,0 +1,38 @@
+-- An offered call that changes a buffer takes its words, if they are as many as a store has: what it does to these it does to the buffer.
+-- Assumes nothing.
+use Prim.Native.Nat.{ℕ}
+use mathlib.Core.Bool.{true, false}
+use mathlib.Core.List.{List}
+use mathlib.Core.Path.{◌≡◌, ap, subst, ◌∙◌}
+use lib.ListN.{length}
+use denote.Ref.{MutBor}
+use Rattle.std.specs.Prelude as std
+use Rattle.std.specs.Prelude.{MatchOption}
+use Rattle.std.specs.Array.{IsWholeChunk}
+use Rattle.rules.specs.Building.{Built}
+use Rattle.rules.specs.Marks.{MarkedCall}
+use Rattle.layout.specs.Columns.{buffer_length}
+use Rattle.journal.specs.Words.{sound_lent}
+use Rattle.marks.specs.Doing.{DidMarked, Answered}
+use Rattle.marks.proofs.Answering as words
+use Rattle.lending.proofs.Marks.{long_unsound}
+
+-- sound words are of the right length, and so they are an array
+pub sound_cases : (b : List ℕ) (r : std.Option (MutBor (List ℕ)))
+    → MatchOption r (length b ≡ buffer_length → ⊥) (λ w. IsWholeChunk b w.now buffer_length) → sound_lent b ≡ true
+    → MatchOption r (sound_lent b ≡ false) (λ w. (w.now ≡ b) × (sound_lent b ≡ true))
+sound_cases b std.None long h = long_unsound b long
+sound_cases b (std.Some w) same h = (same.same, h)
+
+module _ (b : List ℕ) {r : std.Option (MutBor (List ℕ))} (cases : MatchOption r (sound_lent b ≡ false) (λ w. (w.now ≡ b) × (sound_lent b ≡ true))) where
+  pub not_given : r ≡ std.None → sound_lent b ≡ false
+  not_given e = subst (λ (q : std.Option (MutBor (List ℕ))). MatchOption q (sound_lent b ≡ false) (λ w. (w.now ≡ b) × (sound_lent b ≡ true))) e cases
+
+  pub given : {w : MutBor (List ℕ)} → r ≡ std.Some w → (w.now ≡ b) × (sound_lent w.now ≡ true)
+  given e =
+      let h = subst (λ (q : std.Option (MutBor (List ℕ))). MatchOption q (sound_lent b ≡ false) (λ w. (w.now ≡ b) × (sound_lent b ≡ true))) e cases in
+      (h.0, ap sound_lent h.0 ∙ h.1)
+
+module _ {b w : List ℕ} (same : w ≡ b) (c : MarkedCall) (r : Built) where
+  pub taken_up : (exit : List ℕ) → sound_lent w ≡ true → DidMarked w exit c r → Answered b exit c r
+  taken_up exit h did = subst (λ (x : List ℕ). Answered x exit c r) same (words.taken_up w c r exit h did)
