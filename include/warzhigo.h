@@ -51,6 +51,19 @@ typedef struct {
     uint32_t cause;
 } wz_key_answer;
 
+/* What a call for an extent answers. 0: the key will have so many bytes, and the fragment defines so many values, blocks and operations,
+ * its own operation included; `nesting` is the most regions between the fragment, itself not counted, and an operation inside it, or 0;
+ * 1: refused by `cause`. */
+typedef struct {
+    uint32_t bytes;
+    uint32_t values;
+    uint32_t blocks;
+    uint32_t operations;
+    uint32_t nesting;
+    uint32_t code;
+    uint32_t cause;
+} wz_extent_answer;
+
 /* What the search for repeated runs answers. 0: the runs from `left` and from `right` on, counted from 0 in the block, are equal; 1: there are
  * none; 2: refused, and `left` is the cause. */
 typedef struct {
@@ -264,6 +277,24 @@ wz_key_answer wz_known_region_key(const uint32_t *store, size_t words, const uin
 /* The length of that key, on a store known to be sound. There must be a region n; anything else is undefined behaviour. */
 size_t wz_known_region_key_length(const uint32_t *store, size_t words, const uint32_t *types, size_t type_words, uint32_t n,
                                   bool locations, uint64_t bits);
+
+/* How large operation n is with all inside it, before its key is written. No type is read. */
+wz_extent_answer wz_operation_extent(const uint32_t *store, size_t words, uint32_t n, bool locations, uint64_t bits);
+
+/* The same, on a store known to be sound. */
+wz_extent_answer wz_known_operation_extent(const uint32_t *store, size_t words, uint32_t n, bool locations, uint64_t bits);
+
+/* How large block n is likewise. */
+wz_extent_answer wz_basic_block_extent(const uint32_t *store, size_t words, uint32_t n, bool locations, uint64_t bits);
+
+/* The same, on a store known to be sound. */
+wz_extent_answer wz_known_basic_block_extent(const uint32_t *store, size_t words, uint32_t n, bool locations, uint64_t bits);
+
+/* How large region n is likewise. */
+wz_extent_answer wz_region_extent(const uint32_t *store, size_t words, uint32_t n, bool locations, uint64_t bits);
+
+/* The same, on a store known to be sound. */
+wz_extent_answer wz_known_region_extent(const uint32_t *store, size_t words, uint32_t n, bool locations, uint64_t bits);
 
 /* Two runs of `length` operations of a block that are equal and don't overlap, the earlier one on the left: of all such pairs the one with the
  * smallest right start, and then with the smallest left. Refused by 15 for a length of 0 or over 256. */

@@ -1,9 +1,10 @@
-// Cases of keys: small fragments whose keys were written down by hand from the order's text, what stays of lent bytes, the causes, and the
-// order of keys.
+// Cases of keys: small fragments whose keys were written down by hand from the order's text, how large they are, what stays of lent bytes, the
+// causes, and the order of keys.
 #![tactic(auto)]
 
 mod comparing;
 mod form;
+mod measuring;
 mod writing;
 
 use comparing::{lookalikes, order_line};
@@ -92,6 +93,7 @@ fn cases(rt: &impl Print) -> io::Result<()> {
     exact(rt, &store)?;
     renamed(rt, &store)?;
     causes(rt, &store)?;
+    measuring::smallest(rt, &store)?;
     built(rt, form::attribute(&mut store, true))?;
     key_line(rt, "inherent attribute", &store, Sort::Op, 0, NOTHING)?;
     key_line(rt, "not ignored", &store, Sort::Op, 0, unruled)?;
@@ -101,6 +103,7 @@ fn cases(rt: &impl Print) -> io::Result<()> {
     built(rt, form::fill(&mut store))?;
     key_line(rt, "block", &store, Sort::Block, 0, NOTHING)?;
     key_line(rt, "its region", &store, Sort::Region, 0, NOTHING)?;
+    measuring::filled(rt, &store)?;
     built(rt, form::lookalikes(&mut store))?;
     key_line(rt, "a value used", &store, Sort::Op, 3, NOTHING)?;
     key_line(rt, "a block used", &store, Sort::Op, 4, NOTHING)?;

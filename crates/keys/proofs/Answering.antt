@@ -17,6 +17,7 @@ use Rattle.rules.specs.Hash.{no_numbers}
 use Rattle.rules.specs.Types.{types_hold, renamed}
 use Rattle.rules.specs.Keys.{Keyed, key_length, refused_key, key, longest_key, key_tests, written, keyed_by, keyed}
 use Rattle.rules.specs.Statements.{KeyLongest}
+use Rattle.rules.proofs.Extents.Lengths.{key_length_renamed}
 use Rattle.rules.proofs.Keys.Longest.{key_longest}
 use Rattle.rules.proofs.Types.Renamed.{exists_renamed, steps_renamed, renamed_sound}
 use Rattle.rules.proofs.Walking.Answered.{fragment_shallow}
@@ -28,6 +29,7 @@ use Rattle.fragments.specs.Options.{Options, under}
 use Rattle.numbering.specs.Words.{Stands}
 use Rattle.numbering.proofs.Counting.{no_words, stands_start}
 use Rattle.key_bytes.specs.Put.{Put, Puts}
+use Rattle.key_bytes.specs.declared.sink.Sink.{Sink}
 use Rattle.keys.specs.Written.{Place, steps_bytes, Wrote}
 use Rattle.keys.specs.Calls.{Answered}
 use Rattle.key_bytes.proofs.Putting.{puts_as}
@@ -41,13 +43,19 @@ module _ (s : Store) (o : Options) (f : Sort) (n : ℕ) where
   key_steps = ap (λ (xs : List Step). steps_bytes s o xs no_numbers) (sym (steps_renamed o.types s f n))
 
   -- what they write with nothing numbered is the key
-  pub wrote_whole : {a b : Place} → a.numbers ≡ no_words → Wrote s o (steps s f n) a b → Puts (key (under o s) o.ignore f n) a.key b.key
+  pub wrote_whole : {a b : Place} → a.walked.numbers ≡ no_words → Wrote s o (steps s f n) a b → Puts (key (under o s) o.ignore f n) a.key b.key
   wrote_whole e w = puts_as key_steps (w.put no_numbers (subst (Stands s no_numbers) (sym e) (stands_start s)))
 
   module _ (sd : sound s ≡ true) (e : exists s f n ≡ true) where
     pub longest : length (key (under o s) o.ignore f n) ≤ longest_key
     unfolding KeyLongest
     longest = key_longest (under o s) (renamed_sound o.types s sd) o.ignore f n (exists_renamed o.types s f n ∙ e)
+
+    -- where nothing was put before, so many bytes are
+    pub whole_length : {a b : Sink} → a.at ≡ 0 → Puts (key (under o s) o.ignore f n) a b → (b.at ≡ length (key s o.ignore f n)) × (b.at ≤ longest_key)
+    whole_length z p =
+        let same : length (key (under o s) o.ignore f n) ≡ length (key s o.ignore f n) = key_length_renamed o.types s o.ignore f n in
+        (omega (arith, longest, p.put.many, z, same), omega (arith, longest, p.put.many, z))
 
 -- ---- lists of types
 

@@ -1,11 +1,13 @@
-// The key of a fragment on a sound store, under an index of renamed types. It begins with nothing written and nothing numbered. Where it may
-// not fit its length is found first, by the same walk into no bytes at all, so that nothing is written before a refusal.
-ghost use Rattle.std.specs.Prelude.{true, ◌≡◌, ◌<◌, leb, length};
+// The key of a fragment on a sound store, under an index of renamed types, and how large a fragment is. One walk gives both: into no bytes
+// at all it only counts. So where a key may not fit, its length is found first, and nothing is written before a refusal.
+ghost use Rattle.std.specs.Prelude.{List, ℕ, true, ◌≡◌, ◌<◌, leb, length};
 ghost use Rattle.rules.specs.Fragments.{op, steps};
 ghost use Rattle.rules.specs.Types.{renamed};
 ghost use Rattle.rules.specs.Keys;
+ghost use Rattle.rules.specs.Extents.{extent};
 ghost use Rattle.layout.specs.Columns.{columns};
 ghost use Rattle.layout.specs.Reading.{op_count, store_in};
+ghost use Rattle.layout.specs.Soundness.{IsSound};
 ghost use Rattle.renaming.specs.Index.{list_in};
 ghost use Rattle.fragments.specs.Ignoring.{ignore_of};
 ghost use Rattle.fragments.specs.Options.{Readable};
@@ -15,9 +17,12 @@ ghost use Rattle.key_bytes.specs.Put.{Puts};
 ghost use Rattle.fragments.specs.Terms.{store_read, options_in};
 ghost use Rattle.keys.specs.Written.{place, Wrote};
 ghost use Rattle.keys.specs.Calls.{keyed_of, Answered};
+ghost use Rattle.keys.specs.Extents.{extent_means};
 
 use crate::alone::put_alone;
+use crate::counting::{depth_outside, lone_extent, walked_extent};
 use crate::shells::put_op_shell;
+use crate::types::{Extent, Walked};
 use crate::walk::{put_blocks_full, put_op_full};
 use fragments::ignoring::Ignore;
 use fragments::sorts::exists;
@@ -27,76 +32,85 @@ use key_bytes::sink::Sink;
 use layout::causes::Cause;
 use layout::columns::StoreWords;
 use numbering::alone::holds_nothing;
-use numbering::words::{NUMBERS_LENGTH, WalkNumbers};
+use numbering::words::NUMBERS_LENGTH;
 
 // No key is longer.
 pub const LONGEST_KEY: usize = 78344;
 
 // An operation: its shell, then its operands, successors and nested regions.
-fn put_op(terms: &Terms, numbers: &mut WalkNumbers, key: &mut Sink, n: usize)
+fn put_op(terms: &Terms, walked: &mut Walked, key: &mut Sink, n: usize)
     requires n_bound { n < op_count (columns terms.now.store.now) }
-    requires definitions_fit { DefinitionsFit (store_read terms.now) (steps (store_read terms.now) op n) numbers.old }
-    ensures { Wrote (store_read terms.now) (options_in terms.now) (steps (store_read terms.now) op n) (place numbers.old key.old) (place numbers.new key.new) }
+    requires definitions_fit { DefinitionsFit (store_read terms.now) (steps (store_read terms.now) op n) walked.old.numbers }
+    ensures { Wrote (store_read terms.now) (options_in terms.now) (steps (store_read terms.now) op n) (place walked.old key.old) (place walked.new key.new) }
 {
-    put_op_shell(terms, numbers, key, n);
-    put_op_full(terms, numbers, key, n);
+    put_op_shell(terms, walked, key, n);
+    put_op_full(terms, walked, key, n);
 }
 
 // A fragment by its sort. A block is a list of one block. (The walk that hashes has the same three cases, with other steps in each.)
-fn put_steps(terms: &Terms, numbers: &mut WalkNumbers, key: &mut Sink, sort: Sort, n: usize)
+fn put_steps(terms: &Terms, walked: &mut Walked, key: &mut Sink, sort: Sort, n: usize)
     requires n_value { Rattle.rules.specs.Fragments.exists (store_read terms.now) (sort_of sort) n ≡ true }
-    requires definitions_fit { DefinitionsFit (store_read terms.now) (steps (store_read terms.now) (sort_of sort) n) numbers.old }
-    ensures { Wrote (store_read terms.now) (options_in terms.now) (steps (store_read terms.now) (sort_of sort) n) (place numbers.old key.old) (place numbers.new key.new) }
+    requires definitions_fit { DefinitionsFit (store_read terms.now) (steps (store_read terms.now) (sort_of sort) n) walked.old.numbers }
+    ensures { Wrote (store_read terms.now) (options_in terms.now) (steps (store_read terms.now) (sort_of sort) n) (place walked.old key.old) (place walked.new key.new) }
 {
     match sort {
-        Sort::Op => put_op(terms, numbers, key, n),
-        Sort::Block => put_blocks_full(terms, numbers, key, Blocks::Alone(n)),
-        Sort::Region => put_blocks_full(terms, numbers, key, Blocks::InRegion(n)),
+        Sort::Op => put_op(terms, walked, key, n),
+        Sort::Block => put_blocks_full(terms, walked, key, Blocks::Alone(n)),
+        Sort::Region => put_blocks_full(terms, walked, key, Blocks::InRegion(n)),
     }
 }
 
-// A fragment's key, if it fits, and its length in any case. It begins with nothing numbered.
-fn put_fragment(terms: &Terms, key: &mut Sink, sort: Sort, n: usize)
-    requires { Rattle.rules.specs.Fragments.exists (store_read terms.now) (sort_of sort) n ≡ true }
-    ensures { Puts (Keys.key (renamed (list_in terms.now.types.now) (store_read terms.now)) (ignore_of terms.now.ignore) (sort_of sort) n) key.old key.new }
+// A fragment's key, as far as it fits, and its extent in any case. It begins with nothing put and nothing numbered.
+fn put_fragment(terms: &Terms, key: &mut Sink, sort: Sort, n: usize) -> Extent
+    requires nothing_put { key.old.at ≡ 0 }
+    requires n_value { Rattle.rules.specs.Fragments.exists (store_read terms.now) (sort_of sort) n ≡ true }
+    ensures puts { Puts (Keys.key (renamed (list_in terms.now.types.now) (store_read terms.now)) (ignore_of terms.now.ignore) (sort_of sort) n) key.old key.new }
+    ensures extent { extent_means result ≡ extent (store_read terms.now) (ignore_of terms.now.ignore) (sort_of sort) n }
 {
     if holds_nothing(terms.store, sort, n) {
         put_alone(terms, key, n);
-    } else {
-        put_steps(terms, &mut [0; NUMBERS_LENGTH], key, sort, n);
+        return lone_extent(terms.store, n, key.length() as u32);
     }
+    let mut walked = Walked {
+        numbers: [0; NUMBERS_LENGTH],
+        operations: 0,
+        deepest: 0,
+    };
+    put_steps(terms, &mut walked, key, sort, n);
+    let outside = depth_outside(terms.store, sort, n);
+    walked_extent(&walked, outside, key.length() as u32)
 }
 
-// The length of a fragment's key: what would be written, had any bytes been lent.
-pub fn key_length(store: &StoreWords, types: &[u32], sort: Sort, n: usize, ignore: Ignore) -> usize
-    requires readable { Readable store.now types.now }
+// How large a fragment is: its key is written into no bytes at all, and no type is looked up.
+pub fn fragment_extent(store: &StoreWords, sort: Sort, n: usize, ignore: Ignore) -> Extent
+    requires sound { IsSound store.now }
     requires n_value { Rattle.rules.specs.Fragments.exists (store_in store.now) (sort_of sort) n ≡ true }
-    ensures { result ≡ length (Keys.key (renamed (list_in types.now) (store_in store.now)) (ignore_of ignore) (sort_of sort) n) }
+    ensures { extent_means result ≡ extent (store_in store.now) (ignore_of ignore) (sort_of sort) n }
 {
     let terms = Terms {
         store,
-        types,
+        types: &[],
         ignore,
     };
-    let mut key = Sink::new(&mut []);
-    put_fragment(&terms, &mut key, sort, n);
-    key.length()
+    put_fragment(&terms, &mut Sink::new(&mut []), sort, n)
+}
+
+// The length of a fragment's key, which is the same under every list of types.
+pub fn key_length(store: &StoreWords, sort: Sort, n: usize, ignore: Ignore) -> usize
+    requires sound { IsSound store.now }
+    requires n_value { Rattle.rules.specs.Fragments.exists (store_in store.now) (sort_of sort) n ≡ true }
+    ensures { (types : List ℕ) → result ≡ length (Keys.key (renamed types (store_in store.now)) (ignore_of ignore) (sort_of sort) n) }
+{
+    fragment_extent(store, sort, n, ignore).bytes as usize
 }
 
 // Whether a fragment's key fits into so many bytes. Where they are enough for any key, its length is not asked for.
-fn key_fits(
-    store: &StoreWords,
-    types: &[u32],
-    room: usize,
-    sort: Sort,
-    n: usize,
-    ignore: Ignore,
-) -> bool
-    requires readable { Readable store.now types.now }
+fn key_fits(store: &StoreWords, room: usize, sort: Sort, n: usize, ignore: Ignore) -> bool
+    requires sound { IsSound store.now }
     requires n_value { Rattle.rules.specs.Fragments.exists (store_in store.now) (sort_of sort) n ≡ true }
-    ensures { result ≡ leb (length (Keys.key (renamed (list_in types.now) (store_in store.now)) (ignore_of ignore) (sort_of sort) n)) room }
+    ensures { (types : List ℕ) → result ≡ leb (length (Keys.key (renamed types (store_in store.now)) (ignore_of ignore) (sort_of sort) n)) room }
 {
-    room >= LONGEST_KEY || key_length(store, types, sort, n, ignore) <= room
+    room >= LONGEST_KEY || key_length(store, sort, n, ignore) <= room
 }
 
 // Write the key of a fragment into lent bytes, unless it does not exist or its key does not fit. In a sound store nothing is nested too deep.
@@ -114,7 +128,7 @@ pub fn fragment_key(
     if !exists(store, sort, n) {
         return Err(Cause::NotThere);
     }
-    if !key_fits(store, types, lent.len(), sort, n as usize, ignore) {
+    if !key_fits(store, lent.len(), sort, n as usize, ignore) {
         return Err(Cause::NoRoom);
     }
     let terms = Terms {
@@ -123,6 +137,6 @@ pub fn fragment_key(
         ignore,
     };
     let mut key = Sink::new(lent);
-    put_fragment(&terms, &mut key, sort, n as usize);
-    Ok(key.length() as u32)
+    let extent = put_fragment(&terms, &mut key, sort, n as usize);
+    Ok(extent.bytes)
 }

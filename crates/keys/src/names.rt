@@ -8,10 +8,11 @@ ghost use Rattle.key_bytes.specs.Put.{Puts};
 ghost use Rattle.fragments.specs.Terms.{store_read};
 ghost use Rattle.keys.specs.Written.{NamesAllowed, PutsNames, WroteNames};
 
+use crate::types::Walked;
 use fragments::terms::Terms;
 use key_bytes::sink::Sink;
 use layout::slices::{operands_of, successors_of};
-use numbering::words::{Name, WalkNumbers, block_name, value_name};
+use numbering::words::{Name, block_name, value_name};
 
 // A use by its name: tag 0 and the walk number, or tag 1 and the number in the store.
 fn put_name(key: &mut Sink, name: Name)
@@ -35,18 +36,18 @@ pub fn put_uses<F: Fn(u32) -> Name>(key: &mut Sink, list: &[u32], name_of: F)
 }
 
 // What an operation uses: its operands, then its successors.
-pub fn put_names(terms: &Terms, numbers: &WalkNumbers, key: &mut Sink, n: usize)
+pub fn put_names(terms: &Terms, walked: &Walked, key: &mut Sink, n: usize)
     requires { n < op_count (columns terms.now.store.now) }
-    ensures { WroteNames (store_read terms.now) n numbers.now key.old key.new }
+    ensures { WroteNames (store_read terms.now) n walked.now key.old key.new }
 {
     put_uses(
         key,
         operands_of(terms.store, n),
-        |v| value_name(terms.store, numbers, v),
+        |v| value_name(terms.store, &walked.numbers, v),
     );
     put_uses(
         key,
         successors_of(terms.store, n),
-        |b| block_name(numbers, b),
+        |b| block_name(&walked.numbers, b),
     );
 }

@@ -8,15 +8,18 @@ use Rattle.rules.specs.Shells.{Ignore}
 use Rattle.rules.specs.Comparison.{pair_of}
 use Rattle.rules.specs.Answers.{Compared, eq, neq, refused, Hashed, hash_is, refused_hash}
 use Rattle.rules.specs.Keys.{Keyed, key_length, refused_key}
+use Rattle.rules.specs.Extents.{Sized, extent_is, refused_extent}
 use Rattle.rules.specs.Runs.{Repeated, run_found, no_run, refused_run}
 use Rattle.rules.specs.Building as building
 use Rattle.rules.specs.Building.{Built}
 use Rattle.mapping.specs.declared.types.Entries as found
+use Rattle.keys.specs.Extents.{of_numbers}
 use Rattle.listing.specs.Calls as listing
 use Rattle.listing.specs.Calls.{Told}
 use Rattle.link.specs.declared.answers.Verdict.{Verdict}
 use Rattle.link.specs.declared.answers.Sum.{Sum}
 use Rattle.link.specs.declared.answers.KeyAnswer.{KeyAnswer}
+use Rattle.link.specs.declared.answers.ExtentAnswer.{ExtentAnswer}
 use Rattle.link.specs.declared.answers.RunAnswer.{RunAnswer}
 use Rattle.link.specs.declared.answers.Outcome.{Outcome}
 use Rattle.link.specs.declared.answers.Output.{Output}
@@ -40,6 +43,11 @@ sum_means s = cond (eqb s.code 0) (hash_is s.word) (refused_hash s.cause)
 -- code 0 is a key's length, any other a refusal
 unfoldable pub key_answer_means : KeyAnswer → Keyed
 key_answer_means k = cond (eqb k.code 0) (key_length k.length) (refused_key k.cause)
+
+-- code 0 is how large a key will be, any other a refusal
+unfoldable pub extent_answer_means : ExtentAnswer → Sized
+extent_answer_means e =
+    cond (eqb e.code 0) (extent_is (of_numbers e.bytes e.values e.blocks e.operations e.nesting)) (refused_extent e.cause)
 
 -- code 0 is two starts, 1 none, any other a refusal
 unfoldable pub run_means : RunAnswer → Repeated

@@ -5,11 +5,13 @@ ghost use Rattle.calling.specs.Types.{parent_of, made_of, done_of};
 ghost use Rattle.pairing.specs.Told.{compared_of};
 ghost use Rattle.hashing.specs.Calls.{hashed_of};
 ghost use Rattle.keys.specs.Calls.{keyed_of};
+ghost use Rattle.keys.specs.Extents.{sized_of};
 ghost use Rattle.runs.specs.Calls.{found_of};
 ghost use Rattle.listing.specs.Calls.{told_of};
-ghost use Rattle.link.specs.Codes.{entries_mean, verdict_means, sum_means, key_answer_means, run_means, outcome_means, output_means, parent_from, owner_from};
+ghost use Rattle.link.specs.Codes.{entries_mean, verdict_means, sum_means, key_answer_means, extent_answer_means, run_means, outcome_means, output_means, parent_from, owner_from};
 
 use equivalence::types::EqResult;
+use keys::types::Extent;
 use layout::causes::Cause;
 use layout::owners::Owner;
 use listing::types::Unprinted;
@@ -58,6 +60,20 @@ pub struct Sum {
 #[derive(Clone, Copy)]
 pub struct KeyAnswer {
     pub length: u32,
+    pub code: u32,
+    pub cause: u32,
+}
+
+// Code 0 is how large a key will be: its length, `bytes`, what its fragment defines, and how deep it is nested. 1 is a refusal, and its cause
+// is `cause`.
+#[repr(C)]
+#[derive(Clone, Copy)]
+pub struct ExtentAnswer {
+    pub bytes: u32,
+    pub values: u32,
+    pub blocks: u32,
+    pub operations: u32,
+    pub nesting: u32,
     pub code: u32,
     pub cause: u32,
 }
@@ -179,6 +195,32 @@ pub fn of_key(k: Result<u32, Cause>) -> KeyAnswer
         },
         Err(cause) => KeyAnswer {
             length: 0,
+            code: 1,
+            cause: cause.number(),
+        },
+    }
+}
+
+#[tactic(auto, unfolding(crate::specs::Codes::extent_answer_means, keys::specs::Extents::sized_of, keys::specs::Extents::extent_means))]
+pub fn of_extent(q: Result<Extent, Cause>) -> ExtentAnswer
+    ensures { extent_answer_means result ≡ sized_of q }
+{
+    match q {
+        Ok(e) => ExtentAnswer {
+            bytes: e.bytes,
+            values: e.values,
+            blocks: e.blocks,
+            operations: e.operations,
+            nesting: e.nesting,
+            code: 0,
+            cause: 0,
+        },
+        Err(cause) => ExtentAnswer {
+            bytes: 0,
+            values: 0,
+            blocks: 0,
+            operations: 0,
+            nesting: 0,
             code: 1,
             cause: cause.number(),
         },

@@ -20,13 +20,14 @@ ghost use Rattle.marks.specs.Doing.{IsLent, DidMarked};
 ghost use Rattle.copying.specs.Cloned.{Cloned};
 ghost use Rattle.equivalence.specs.Calls as comparing;
 ghost use Rattle.rules.specs.Answers.{hashed};
+ghost use Rattle.rules.specs.Extents.{sized};
 ghost use Rattle.rules.specs.Runs.{repeated_run};
 ghost use Rattle.keys.specs.Calls as keys;
-ghost use Rattle.link.specs.Codes.{entries_mean, index_means, verdict_means, sum_means, key_answer_means, run_means, outcome_means, ignoring, parent_from, owner_from, attribute_from};
+ghost use Rattle.link.specs.Codes.{entries_mean, index_means, verdict_means, sum_means, key_answer_means, extent_answer_means, run_means, outcome_means, ignoring, parent_from, owner_from, attribute_from};
 
 use crate::answers::{
-    Entries, KeyAnswer, Outcome, RunAnswer, Sum, Verdict, of_done, of_entries, of_hash, of_key,
-    of_made, of_run, of_verdict, owner, parent,
+    Entries, ExtentAnswer, KeyAnswer, Outcome, RunAnswer, Sum, Verdict, of_done, of_entries,
+    of_extent, of_hash, of_key, of_made, of_run, of_verdict, owner, parent,
 };
 use crate::words::{array, array_mut};
 use calling::types::{Attribute, OpFields};
@@ -36,6 +37,7 @@ use fragments::ignoring::Ignore;
 use fragments::terms::Terms;
 use fragments::types::Sort;
 use hashing::hashes::fragment_hash;
+use keys::extents::sound_extent;
 use keys::keys::{fragment_key, key_length};
 use mapping::unmapping::entered;
 use renaming::indexing::index_types;
@@ -392,7 +394,6 @@ pub extern "C" fn wz_known_operation_key_length(
 {
     key_length(
         array(store),
-        types,
         Sort::Op,
         n as usize,
         Ignore { locations, bits },
@@ -436,7 +437,6 @@ pub extern "C" fn wz_known_basic_block_key_length(
 {
     key_length(
         array(store),
-        types,
         Sort::Block,
         n as usize,
         Ignore { locations, bits },
@@ -480,11 +480,50 @@ pub extern "C" fn wz_known_region_key_length(
 {
     key_length(
         array(store),
-        types,
         Sort::Region,
         n as usize,
         Ignore { locations, bits },
     )
+}
+
+// How large the key will be, and what the fragment holds.
+#[unsafe(no_mangle)]
+pub extern "C" fn wz_known_operation_extent(
+    store: &[u32],
+    n: u32,
+    locations: bool,
+    bits: u64,
+) -> ExtentAnswer
+    requires { IsSound store.now }
+    ensures { extent_answer_means result ≡ sized true (store_in store.now) (ignoring locations bits) op n }
+{
+    of_extent(sound_extent(array(store), Sort::Op, n, Ignore { locations, bits }))
+}
+
+#[unsafe(no_mangle)]
+pub extern "C" fn wz_known_basic_block_extent(
+    store: &[u32],
+    n: u32,
+    locations: bool,
+    bits: u64,
+) -> ExtentAnswer
+    requires { IsSound store.now }
+    ensures { extent_answer_means result ≡ sized true (store_in store.now) (ignoring locations bits) Rattle.rules.specs.Fragments.block n }
+{
+    of_extent(sound_extent(array(store), Sort::Block, n, Ignore { locations, bits }))
+}
+
+#[unsafe(no_mangle)]
+pub extern "C" fn wz_known_region_extent(
+    store: &[u32],
+    n: u32,
+    locations: bool,
+    bits: u64,
+) -> ExtentAnswer
+    requires { IsSound store.now }
+    ensures { extent_answer_means result ≡ sized true (store_in store.now) (ignoring locations bits) Rattle.rules.specs.Fragments.region n }
+{
+    of_extent(sound_extent(array(store), Sort::Region, n, Ignore { locations, bits }))
 }
 
 // Two equal runs of operations in a block.

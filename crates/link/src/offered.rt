@@ -9,14 +9,15 @@ ghost use Rattle.marks.specs.Doing as building;
 ghost use Rattle.copying.specs.Calls as copying;
 ghost use Rattle.equivalence.specs.Calls as comparing;
 ghost use Rattle.rules.specs.Answers.{hashed};
+ghost use Rattle.rules.specs.Extents.{sized};
 ghost use Rattle.rules.specs.Runs.{repeated_run};
 ghost use Rattle.layout.specs.Reading.{store_in};
 ghost use Rattle.keys.specs.Calls as keys;
-ghost use Rattle.link.specs.Codes.{verdict_means, sum_means, key_answer_means, run_means, outcome_means, ignoring, parent_from, owner_from, attribute_from};
+ghost use Rattle.link.specs.Codes.{verdict_means, sum_means, key_answer_means, extent_answer_means, run_means, outcome_means, ignoring, parent_from, owner_from, attribute_from};
 
 use crate::answers::{
-    KeyAnswer, Outcome, RunAnswer, Sum, Verdict, of_done, of_hash, of_key, of_made, of_run,
-    of_verdict, owner, parent,
+    ExtentAnswer, KeyAnswer, Outcome, RunAnswer, Sum, Verdict, of_done, of_extent, of_hash, of_key,
+    of_made, of_run, of_verdict, owner, parent,
 };
 use calling::types::Attribute;
 use fragments::ignoring::Ignore;
@@ -285,6 +286,42 @@ pub extern "C" fn wz_region_key(
     ensures { keys.Answered (sound_lent store.now) store.now types.now (ignoring locations bits) Rattle.rules.specs.Fragments.region n key.old key.new (key_answer_means result) }
 {
     of_key(keys::calls::region_key(store, types, key, n, Ignore { locations, bits }))
+}
+
+#[unsafe(no_mangle)]
+pub extern "C" fn wz_operation_extent(
+    store: &[u32],
+    n: u32,
+    locations: bool,
+    bits: u64,
+) -> ExtentAnswer
+    ensures { extent_answer_means result ≡ sized (sound_lent store.now) (store_in store.now) (ignoring locations bits) op n }
+{
+    of_extent(keys::extents::operation_extent(store, n, Ignore { locations, bits }))
+}
+
+#[unsafe(no_mangle)]
+pub extern "C" fn wz_basic_block_extent(
+    store: &[u32],
+    n: u32,
+    locations: bool,
+    bits: u64,
+) -> ExtentAnswer
+    ensures { extent_answer_means result ≡ sized (sound_lent store.now) (store_in store.now) (ignoring locations bits) Rattle.rules.specs.Fragments.block n }
+{
+    of_extent(keys::extents::basic_block_extent(store, n, Ignore { locations, bits }))
+}
+
+#[unsafe(no_mangle)]
+pub extern "C" fn wz_region_extent(
+    store: &[u32],
+    n: u32,
+    locations: bool,
+    bits: u64,
+) -> ExtentAnswer
+    ensures { extent_answer_means result ≡ sized (sound_lent store.now) (store_in store.now) (ignoring locations bits) Rattle.rules.specs.Fragments.region n }
+{
+    of_extent(keys::extents::region_extent(store, n, Ignore { locations, bits }))
 }
 
 // Two equal runs of operations in a block.

@@ -23,9 +23,9 @@ pub type WalkNumbers = [u16; NUMBERS_LENGTH];
 const BLOCK_NUMBERS: usize = 513;
 
 // Where the words are that tell how many values and how many blocks are numbered.
-const VALUES_NUMBERED: usize = 1024;
+pub const VALUES_NUMBERED: usize = 1024;
 
-const BLOCKS_NUMBERED: usize = 1025;
+pub const BLOCKS_NUMBERED: usize = 1025;
 
 // How a use is named: by the walk number of what is used, or, of what is defined elsewhere, by its number in the store.
 #[derive(Clone, Copy, PartialEq, Eq, Debug)]

@@ -18,4 +18,5 @@ pub mod MappingComputed
 pub mod CopyComputed
 pub mod Marks
 pub mod Copying
+pub mod Extents
 pub mod Stated

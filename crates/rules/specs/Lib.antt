@@ -21,6 +21,8 @@ pub mod Laws
 pub mod MappingLaws
 pub mod Copying
 pub mod CopyLaws
+pub mod Extents
+pub mod ExtentLaws
 pub mod Runs
 pub mod Marks
 pub mod Form
@@ -34,3 +36,4 @@ pub mod RunCases
 pub mod MarkCases
 pub mod MappingCases
 pub mod CopyCases
+pub mod ExtentCases

@@ -3,7 +3,7 @@
 use std::cmp::Ordering;
 use std::hint::black_box;
 
-use warzhigo::{Ignore, OpId, Store, compare_keys, lent, operation_hash, operation_key, operation_key_into};
+use warzhigo::{Ignore, OpId, Store, compare_keys, lent, operation_extent, operation_hash, operation_key, operation_key_into};
 
 use crate::cases::{SIZES, Shape, case};
 use crate::race::{Effort, Runner, Series, race, runner};
@@ -29,6 +29,8 @@ pub struct Times {
     pub offered: f64,
     /// The key in bytes of its own.
     pub allocated: f64,
+    /// How large the key will be, and what the fragment holds.
+    pub extent: f64,
     /// Two keys that are the same, compared.
     pub compared: f64,
 }
@@ -41,6 +43,11 @@ impl Times {
     pub fn roomy_ratio(&self) -> f64 {
         self.roomy / self.hash
     }
+
+    /// To the key in bytes that suffice for any.
+    pub fn extent_ratio(&self) -> f64 {
+        self.extent / self.roomy
+    }
 }
 
 /// The sizes of a shape, measured.
@@ -49,7 +56,7 @@ pub struct Row {
     pub sizes: Vec<Times>,
 }
 
-pub type Keys = Series<Filed, 6>;
+pub type Keys = Series<Filed, 7>;
 
 /// The shapes that are hashed.
 fn filed_shapes() -> impl Iterator<Item = Shape> {
@@ -66,13 +73,14 @@ pub fn shapes(effort: Effort) -> Keys {
 pub fn by_shape(keys: Keys) -> Vec<Row> {
     let times: Vec<Times> = keys
         .rows()
-        .map(|(filed, [hash, inner, roomy, offered, allocated, compared])| Times {
+        .map(|(filed, [hash, inner, roomy, offered, allocated, extent, compared])| Times {
             length: filed.key(filed.left).len(),
             hash,
             inner,
             roomy,
             offered,
             allocated,
+            extent,
             compared,
         })
         .collect();
@@ -91,6 +99,7 @@ impl Filed {
         let mut bytes = [vec![0; lent::key_bytes()], vec![0; lent::key_bytes()]];
         let lengths = [filed.inner(&mut bytes[0]), filed.offered(&mut bytes[1])];
         assert!(lengths == [key.len(); 2] && bytes.iter().all(|bytes| bytes.starts_with(&key)), "the ways to write a key differ");
+        assert!(filed.length() == key.len(), "the extent of a key that is of another length");
         filed
     }
 
@@ -106,8 +115,13 @@ impl Filed {
         lent::operation_key(self.store.words(), &[], self.left.number(), &Ignore::NOTHING, key).expect("a key")
     }
 
-    /// The hash, the key in each way, and two keys compared.
-    fn runners(&self) -> [Runner<'_>; 6] {
+    /// By the extent.
+    fn length(&self) -> usize {
+        operation_extent(&self.store, self.left, &Ignore::NOTHING).expect("an extent").bytes
+    }
+
+    /// The hash, the key in each way, its extent, and two keys compared.
+    fn runners(&self) -> [Runner<'_>; 7] {
         let hash = runner(move || {
             let Filed { store, left, .. } = black_box(self);
             black_box(operation_hash(store, *left, &Ignore::NOTHING).expect("a hash"));
@@ -127,11 +141,14 @@ impl Filed {
         let allocated = runner(move || {
             black_box(black_box(self).key(self.left));
         });
+        let extent = runner(move || {
+            black_box(black_box(self).length());
+        });
         let keys = [self.left, self.right].map(|op| self.key(op));
         let compared = runner(move || {
             let [left, right] = black_box(&keys);
             black_box(compare_keys(left, right));
         });
-        [hash, inner, roomy, offered, allocated, compared]
+        [hash, inner, roomy, offered, allocated, extent, compared]
     }
 }

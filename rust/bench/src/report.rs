@@ -52,7 +52,7 @@ pub fn page(results: &Results) -> String {
     let Efforts { passes, short, middle, long } = results.efforts;
     let rounds = |effort: Effort| (passes * effort.rounds).to_string();
     let (shapes, hashed) = (&results.shapes, |shape| shape != Shape::Unequal);
-    let places: [(&str, String); 31] = [
+    let places: [(&str, String); 32] = [
         ("processor", processor()),
         ("compiler", compiler()),
         ("short rounds", rounds(short)),
@@ -69,6 +69,7 @@ pub fn page(results: &Results) -> String {
         ("around", around(&results.around).to_string()),
         ("keys", key_ratios(&results.keys, keys::Times::ratio).to_string()),
         ("roomy keys", key_ratios(&results.keys, keys::Times::roomy_ratio).to_string()),
+        ("extents", key_ratios(&results.keys, keys::Times::extent_ratio).to_string()),
         ("flat keys", flat_keys(&results.keys[0]).to_string()),
         ("lists", lists(&results.lists).to_string()),
         ("runs", repeated(&results.runs).to_string()),
@@ -189,12 +190,13 @@ fn key_ratios(rows: &[keys::Row], ratio: fn(&keys::Times) -> f64) -> Table {
 fn flat_keys(row: &keys::Row) -> Table {
     let mut table = by_size("ns", |n| n.to_string());
     table.row("bytes of the key", row.sizes.iter().map(|times| thousands(times.length as u64)));
-    let rows: [(&str, fn(&keys::Times) -> f64); 6] = [
+    let rows: [(&str, fn(&keys::Times) -> f64); 7] = [
         ("hash, inner", |times| times.hash),
         ("key in lent bytes, inner", |times| times.inner),
         ("key in 78,344 lent bytes, inner", |times| times.roomy),
         ("key in lent bytes, offered", |times| times.offered),
         ("key in bytes of its own", |times| times.allocated),
+        ("how large the key will be", |times| times.extent),
         ("two keys compared", |times| times.compared),
     ];
     for (name, nanos) in rows {

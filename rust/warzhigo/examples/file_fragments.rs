@@ -31,11 +31,13 @@ fn main() -> Result<(), Refused> {
     Ok(())
 }
 
-/// All operations of a store, by their keys.
+/// All operations of a store, by their keys, for each of which exactly as many bytes are reserved as it has.
 fn filed(store: &Store, ignore: &Ignore) -> Result<Shelf, Refused> {
     let mut shelf = Shelf::new();
     for op in store.operations().map(|op| op.id()) {
-        shelf.entry(operation_key(store, op, ignore)?).or_default().push(op);
+        let mut key = vec![0; store.extent(op, ignore)?.bytes];
+        assert_eq!(store.key_into(op, ignore, &mut key)?, key.len());
+        shelf.entry(key).or_default().push(op);
     }
     Ok(shelf)
 }

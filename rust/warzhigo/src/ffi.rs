@@ -38,6 +38,19 @@ pub(crate) struct KeyAnswer {
     pub(crate) cause: u32,
 }
 
+/// What a call for an extent answers. Code 0 is how large a key will be; 1 is a refusal, and its cause is `cause`.
+#[repr(C)]
+#[derive(Clone, Copy)]
+pub(crate) struct ExtentAnswer {
+    pub(crate) bytes: u32,
+    pub(crate) values: u32,
+    pub(crate) blocks: u32,
+    pub(crate) operations: u32,
+    pub(crate) nesting: u32,
+    pub(crate) code: u32,
+    pub(crate) cause: u32,
+}
+
 /// What the search for repeated runs answers. Code 0 is two starts; 1 is none; 2 is a refusal, and its cause is `left`.
 #[repr(C)]
 #[derive(Clone, Copy)]
@@ -126,13 +139,22 @@ unsafe extern "C" {
 
     fn wz_operation_key(store: *const u32, words: usize, types: *const u32, type_words: usize, key: *mut u8, room: usize, n: u32, locations: bool, bits: u64) -> KeyAnswer;
     fn wz_known_operation_key(store: *const u32, words: usize, types: *const u32, type_words: usize, key: *mut u8, room: usize, n: u32, locations: bool, bits: u64) -> KeyAnswer;
+    #[allow(dead_code)] // for other callers: here a key's length is that of its extent
     fn wz_known_operation_key_length(store: *const u32, words: usize, types: *const u32, type_words: usize, n: u32, locations: bool, bits: u64) -> usize;
     fn wz_basic_block_key(store: *const u32, words: usize, types: *const u32, type_words: usize, key: *mut u8, room: usize, n: u32, locations: bool, bits: u64) -> KeyAnswer;
     fn wz_known_basic_block_key(store: *const u32, words: usize, types: *const u32, type_words: usize, key: *mut u8, room: usize, n: u32, locations: bool, bits: u64) -> KeyAnswer;
+    #[allow(dead_code)] // for other callers: here a key's length is that of its extent
     fn wz_known_basic_block_key_length(store: *const u32, words: usize, types: *const u32, type_words: usize, n: u32, locations: bool, bits: u64) -> usize;
     fn wz_region_key(store: *const u32, words: usize, types: *const u32, type_words: usize, key: *mut u8, room: usize, n: u32, locations: bool, bits: u64) -> KeyAnswer;
     fn wz_known_region_key(store: *const u32, words: usize, types: *const u32, type_words: usize, key: *mut u8, room: usize, n: u32, locations: bool, bits: u64) -> KeyAnswer;
+    #[allow(dead_code)] // for other callers: here a key's length is that of its extent
     fn wz_known_region_key_length(store: *const u32, words: usize, types: *const u32, type_words: usize, n: u32, locations: bool, bits: u64) -> usize;
+    fn wz_operation_extent(store: *const u32, words: usize, n: u32, locations: bool, bits: u64) -> ExtentAnswer;
+    fn wz_known_operation_extent(store: *const u32, words: usize, n: u32, locations: bool, bits: u64) -> ExtentAnswer;
+    fn wz_basic_block_extent(store: *const u32, words: usize, n: u32, locations: bool, bits: u64) -> ExtentAnswer;
+    fn wz_known_basic_block_extent(store: *const u32, words: usize, n: u32, locations: bool, bits: u64) -> ExtentAnswer;
+    fn wz_region_extent(store: *const u32, words: usize, n: u32, locations: bool, bits: u64) -> ExtentAnswer;
+    fn wz_known_region_extent(store: *const u32, words: usize, n: u32, locations: bool, bits: u64) -> ExtentAnswer;
     fn wz_repeated_run(store: *const u32, words: usize, types: *const u32, type_words: usize, block: u32, length: u32, locations: bool, bits: u64) -> RunAnswer;
     fn wz_known_repeated_run(store: *const u32, words: usize, types: *const u32, type_words: usize, block: u32, length: u32, locations: bool, bits: u64) -> RunAnswer;
     fn wz_compare_keys(lhs: *const u8, lhs_length: usize, rhs: *const u8, rhs_length: usize) -> i32;

@@ -5,6 +5,7 @@ use alloc::vec::Vec;
 use core::cmp::Ordering;
 
 use crate::equivalence::Fragment;
+use crate::extents::extent;
 use crate::ffi::{KeyAnswer, lent};
 use crate::ids::{BlockId, OpId, RegionId};
 use crate::refused::Refused;
@@ -22,9 +23,9 @@ impl KeyAnswer {
     }
 }
 
-/// The key of a fragment.
+/// The key of a fragment, in exactly as many bytes as it has.
 fn key<I: Fragment>(store: &Store, fragment: I, options: Options) -> Result<Vec<u8>, Refused> {
-    let mut key = vec![0; store.sound.key_length(fragment, options)?];
+    let mut key = vec![0; extent(store, fragment, &options.ignore)?.bytes];
     key_into(store, fragment, options, &mut key)?;
     Ok(key)
 }

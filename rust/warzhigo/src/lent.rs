@@ -15,6 +15,7 @@
 //! ```
 
 use crate::equivalence::{Ignore, Sort};
+use crate::extents::Extent;
 use crate::ffi::{Output, lent};
 use crate::refused::Refused;
 use crate::runs::Run;
@@ -166,6 +167,21 @@ pub fn basic_block_key(store: &[u32], types: &[u32], block: u32, ignore: &Ignore
 /// Writes the key of a region. Refused by 1, 14, 2, 12 or 13.
 pub fn region_key(store: &[u32], types: &[u32], region: u32, ignore: &Ignore, key: &mut [u8]) -> Result<usize, Refused> {
     lent::key(Sort::Region, store, types, region, ignore, key).result()
+}
+
+/// How large an operation is with all inside it; as [`operation_extent`](crate::operation_extent). Refused by 1, 2 or 12.
+pub fn operation_extent(store: &[u32], op: u32, ignore: &Ignore) -> Result<Extent, Refused> {
+    lent::extent(Sort::Op, store, op, ignore).result()
+}
+
+/// How large a block is. Refused by 1, 2 or 12.
+pub fn basic_block_extent(store: &[u32], block: u32, ignore: &Ignore) -> Result<Extent, Refused> {
+    lent::extent(Sort::Block, store, block, ignore).result()
+}
+
+/// How large a region is. Refused by 1, 2 or 12.
+pub fn region_extent(store: &[u32], region: u32, ignore: &Ignore) -> Result<Extent, Refused> {
+    lent::extent(Sort::Region, store, region, ignore).result()
 }
 
 /// Two equal runs of operations in a block; as [`Store::repeated_run`](crate::Store::repeated_run). Refused by 1, 14, 2, 15 or 12.

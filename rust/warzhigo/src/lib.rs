@@ -25,6 +25,7 @@
 //! - [`Mapping::entries`] writes down what corresponds, [`Mapping::inverse`] reads it backwards, and [`Mapping::then`] puts two together.
 //! - [`Renamed`] is a list of types that have been renamed: calls that are asked under one compare, hash and file by present types.
 //! - [`operation_key`], [`basic_block_key`] and [`region_key`] give the bytes by which a fragment is filed, and [`compare_keys`] their order.
+//! - [`operation_extent`], [`basic_block_extent`] and [`region_extent`] tell how large a key will be, before it is written.
 //! - [`Store::repeated_run`] finds two equal runs of operations in one block.
 //! - [`Store::mark`] names the store as it stands, and [`Store::go_back`] returns to it.
 //! - A call outside the rules is [`Refused`] by number, and has changed nothing.
@@ -45,6 +46,7 @@ mod copying;
 mod entries;
 mod equivalence;
 mod eras;
+mod extents;
 #[allow(unsafe_code)] // the only module that has any
 mod ffi;
 mod ids;
@@ -62,6 +64,7 @@ mod touched;
 
 pub use entries::Entry;
 pub use equivalence::{EqResult, Ignore, basic_block_eq, basic_block_hash, operation_eq, operation_hash, region_eq, region_hash};
+pub use extents::{Extent, basic_block_extent, operation_extent, region_extent};
 pub use ids::{BlockId, OpId, RegionId, ValueId};
 pub use keys::{
     FragmentId, basic_block_key, basic_block_key_into, compare_keys, operation_key, operation_key_into, region_key, region_key_into,

@@ -132,6 +132,17 @@ fn keys_in_lent_bytes() {
 }
 
 #[test]
+fn how_large_a_key_will_be() {
+    let sizes = "Z,r,0,0,0\nZ,o,0,0,0\nZ,o,0,1,0\nZ,o,1,0,0\nZ,b,0,0,0\n";
+    let expected = "0\nsize,8,0,0,0,0\nsize,56,0,0,1,0\nsize,52,0,0,1,0\nrefused,2\nrefused,2\n";
+    assert_eq!(answers(&format!("o,7,-,5,1,0,0,0\n{sizes}")), expected);
+    // a block with an argument, and in it an operation that names it; no list of types is lent
+    let lines = format!("{TWO}T,3,3\nZ,o,0,0,0\nZ,b,1,0,0\nZ,r,1,1,0\nT\na,o,1,9,2,3\nZ,r,0,0,4\nZ,r,0,0,0\n");
+    let sizes = "size,149,2,1,2,1\nsize,101,2,1,1,0\nsize,93,2,1,1,0\nok\nsize,101,2,1,1,0\nsize,114,2,1,1,0\n";
+    assert_eq!(answers(&lines), format!("{MADE}{sizes}"));
+}
+
+#[test]
 fn keys_compared() {
     let lines = format!("{TWO}C,o,0,2,1,0\nC,o,0,2,0,0\nC,o,2,0,0,0\nC,b,0,1,1,0\nC,r,0,1,0,0\nC,o,0,4,1,0\nC,r,2,0,1,0\n");
     assert_eq!(answers(&lines), format!("{MADE}0\n-1\n1\n0\n-1\nrefused,2\nrefused,2\n"));
@@ -187,14 +198,14 @@ fn empty_lines_are_passed_over() {
 
 /// Lines that `calls` doesn't take.
 #[rustfmt::skip]
-const NOT_OF_THE_FORM: [&str; 63] = [
+const NOT_OF_THE_FORM: [&str; 67] = [
     "x", "o", "O,7,-,5,1,0,0,0", "o,7,-,5,1,0,0", "o,7,-,5,1,0,0,0,0", "o,7,-,5,1,2,3,0,0", "o,-,-,5,1,0,0,0", "o,+7,-,5,1,0,0,0",
     "o,07,-,5,1,0,0,0", "o,4294967296,-,5,1,0,0,0", "o, 7,-,5,1,0,0,0", "o,,-,5,1,0,0,0", "b,0,0,5", "b,0,-,5,0", "a,r,0,1,1,1",
     "a,o,0,1,1", "a,o,0,1,1,1,i", "i", "i,r,0,1,1,1", "i,o,0,1,1", "i,o,0,1,1,1,1", "s,0,0", "q,x,0,0,0,0", "q,o,0,0,2,0", "q,o,0,0,0",
     "q,o,0,0,0,18446744073709551616", "q,o,0,0,0,0,", "E,r,0,0", "E,v,0", "P,1", "H,o,0,0", "D,0", "S,0", "S\r", " S", "o,7,-,5,1,0,0,0 ",
     "o,7,-,5,1,4294967295,0,0", "K,o,0,0,0", "K,v,0,0,0,9", "K,o,0,0,0,-", "K,o,0,0,0,4294967296", "C,o,0,0,0", "C,o,0,0,2,0", "B,00",
     "B,0,00", "B,00,000", "B,0g,00", "B,00,00,00", "B,+1,00", "M", "M,", "M,-", "M,01", "M,1,1", "G", "G,1,1", "m,1", "X", "X,0",
-    "X,-,-", "X,0,", "X,0,-,0", "x,0,-",
+    "X,-,-", "X,0,", "X,0,-,0", "x,0,-", "Z,o,0,0", "Z,o,0,2,0", "Z,v,0,0,0", "Z,o,0,0,0,9",
 ];
 
 #[test]

@@ -1,5 +1,5 @@
-/* The header from C: two operations built, compared, hashed and filed, types renamed, a mark gone back to, attributes set, an operation
- * copied, and a listing's question answered. Gives the number of the first thing that isn't as it should be, or 0. */
+/* The header from C: two operations built, compared, hashed, measured and filed, types renamed, a mark gone back to, attributes set, an
+ * operation copied, and a listing's question answered. Gives the number of the first thing that isn't as it should be, or 0. */
 #include "warzhigo.h"
 
 #include <stdlib.h>
@@ -96,6 +96,12 @@ int main(void) {
     wz_outcome short_mapping = wz_clone_operation(keyed, wz_store_words(), 0, false, 0, mapping, 1);
     if (misplaced.code != 2 || misplaced.number != 2 || short_mapping.code != 2 || short_mapping.number != 8) return 33;
     if (mapping[1] != 3 || !wz_is_sound(keyed, wz_store_words())) return 34;
+
+    wz_extent_answer extent = wz_operation_extent(keyed, wz_store_words(), 1, true, 0);
+    wz_key_answer whole = wz_operation_key(keyed, wz_store_words(), NULL, 0, key, wz_key_bytes(), 1, true, 0);
+    if (extent.code != 0 || extent.bytes != whole.length || extent.values != 1 || extent.operations != 1) return 35;
+    if (extent.blocks != 0 || extent.nesting != 0 || wz_region_extent(keyed, wz_store_words(), 0, true, 0).cause != 2) return 36;
+    if (wz_known_operation_extent(keyed, wz_store_words(), 1, false, 0).bytes != whole.length + 4) return 37;
 
     free(index);
     free(keyed);

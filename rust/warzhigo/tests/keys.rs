@@ -6,13 +6,14 @@ use std::cmp::Ordering;
 
 use common::bytes_model;
 use common::call::{Call, New, apply};
+use common::extents_model;
 use common::numbers::Random;
 use common::offered::SORTS;
 use common::picture::Picture;
-use common::question::{Question, Sort, key_inner, key_is};
+use common::question::{Question, Sort, extent_is, key_inner, key_is};
 use oracle::Verdict;
 use warzhigo::lent::{self, Owner};
-use warzhigo::{Attribute, Ignore, Inherent, Mapping, Store, compare_keys, operation_hash, operation_key};
+use warzhigo::{Attribute, Extent, Ignore, Inherent, Mapping, Store, compare_keys, operation_hash, operation_key};
 
 const BY_HAND: &str = "a store made by hand";
 
@@ -232,7 +233,10 @@ fn the_longest_key() {
     for sort in SORTS {
         let key = bytes_model::key(&picture, sort, 0, Ignore::NOTHING);
         key_is(&store, sort, 0, &Ignore::NOTHING, &key, BY_HAND);
+        extent_is(&store, sort, 0, &Ignore::NOTHING, extents_model::extent(&picture, sort, 0, &Ignore::NOTHING), BY_HAND);
     }
+    let extent = Extent { bytes: 78_336, values: 2048, blocks: 256, operations: 512, nesting: 1 };
+    extent_is(&store, Sort::Op, 0, &Ignore::NOTHING, extent, BY_HAND);
 }
 
 /// The order of any bytes is that of byte slices in Rust: byte by byte, without sign, and a proper beginning first.

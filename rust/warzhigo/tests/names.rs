@@ -6,12 +6,13 @@ use warzhigo::Inherent;
 
 const HEADER: &str = include_str!("../../../include/warzhigo.h");
 const RUST: &str = include_str!("../src/ffi.rs");
-const RATTLE: [&str; 5] = [
+const RATTLE: [&str; 6] = [
     include_str!("../../../crates/link/src/answers.rt"),
     include_str!("../../../crates/link/src/known.rt"),
     include_str!("../../../crates/link/src/lengths.rt"),
     include_str!("../../../crates/link/src/listings.rt"),
     include_str!("../../../crates/link/src/offered.rt"),
+    include_str!("../../../crates/link/src/words.rt"),
 ];
 const RATTLE_ROOT: &str = include_str!("../../../crates/link/src/lib.rt");
 
@@ -90,6 +91,7 @@ fn from_c(declaration: &str) -> (String, String) {
         "wz_verdict" => "Verdict",
         "wz_sum" => "Sum",
         "wz_key_answer" => "KeyAnswer",
+        "wz_extent_answer" => "ExtentAnswer",
         "wz_run_answer" => "RunAnswer",
         "wz_outcome" => "Outcome",
         "wz_output" => "Output",
@@ -167,7 +169,7 @@ fn inherent_has_the_same_numbers() {
 #[test]
 fn structs_are_the_same() {
     let rattle = structs(&RATTLE.concat());
-    assert_eq!(rattle.len(), 7);
+    assert_eq!(rattle.len(), 8);
     assert_eq!(rattle, structs(RUST));
     assert_eq!(rattle, header_structs());
 }

@@ -13,7 +13,7 @@ use Rattle.rules.specs.Lists.{concat_map}
 use Rattle.rules.specs.Store.{Store, values_of, sound, max_values, max_blocks}
 use Rattle.rules.specs.Fragments.{Sort, Step, shell, names, counted, steps, step_defines, step_operands, step_successors, block_owner, defines_owners, defines_values, defines_blocks, names_values, names_blocks, NamesNothingOf}
 use Rattle.rules.specs.Shells.{Ignore}
-use Rattle.rules.specs.Mapping.{no_image, or_self, empty_mapping, image, enter_all}
+use Rattle.rules.specs.Mapping.{Mapping, no_image, or_self, empty_mapping, image, enter_all}
 use Rattle.rules.specs.Comparison.{State, Walk, on, ended, start, compare}
 use Rattle.rules.specs.Hash.{Numbering, no_numbers, fnv, hash, uncounted, all_bytes}
 use Rattle.rules.specs.Laws.{succeeds, equal, Equal, In}
@@ -130,17 +130,17 @@ module _ (s : Store) (sd : sound s ≡ true) where
     goes (on st) h = (st, refl)
     goes (ended why st) h = clash h refl
 
-    -- what the comparison comes to is what the lock-step pass comes to
-    pub pass : (a b : ℕ) → In s f a → going (compare s ig f a b empty_mapping) ≡ lock s ig (events s f a) (events s f b) (start empty_mapping)
+    -- what the comparison comes to, from whatever mapping, is what the lock-step pass comes to
+    pub pass : (m : Mapping) (a b : ℕ) → In s f a → going (compare s ig f a b m) ≡ lock s ig (events s f a) (events s f b) (start m)
     unfolding compare
-    pass a b h = ⊎_elim (λ d. absurd (compare_not_deep s sd ig f a b h empty_mapping d.0 d.1)) (λ e. e) (lock_step s ig f a b (start empty_mapping))
+    pass m a b h = ⊎_elim (λ d. absurd (compare_not_deep s sd ig f a b h m d.0 d.1)) (λ e. e) (lock_step s ig f a b (start m))
 
     pub canonical→equal : (a b : ℕ) → In s f a → In s f b → canonical s ig f a ≡ canonical s ig f b → Equal s ig f a b
     unfolding canonical equal succeeds
     canonical→equal a b ha hb e =
         let w = lock_goes_on s ig EV EB empty_values empty_blocks (all_defined s f a) (all_defined s f b) (whole f a ha) (whole f b hb)
         (events s f a) (events s f b) no_numbers no_numbers (start empty_mapping) (events_rest s f a) (events_rest s f b) (begun a b ha hb) e in
-        go (compare s ig f a b empty_mapping) (pass a b ha ∙ w.1)
+        go (compare s ig f a b empty_mapping) (pass empty_mapping a b ha ∙ w.1)
       where
         go : {st : State} (w : Walk) → going w ≡ some st → succeeds w ≡ true
         go (on st) k = refl
@@ -162,7 +162,7 @@ module _ (s : Store) (sd : sound s ≡ true) where
         let w = goes (compare s ig f a b empty_mapping) h in
         tokens_equal s ig EV EB empty_values empty_blocks (all_defined s f a) (all_defined s f b) (whole f a ha) (whole f b hb)
         (events s f a) (events s f b) no_numbers no_numbers (start empty_mapping) w.0 (events_rest s f a) (events_rest s f b) (begun a b ha hb)
-        (apart a b ha hb out) (sym (pass a b ha) ∙ ap going w.1)
+        (apart a b ha hb out) (sym (pass empty_mapping a b ha) ∙ ap going w.1)
 
 -- ---- the hash is one of the canonical form
 

@@ -27,7 +27,7 @@ op_alone (of_op n) = (λ m. Memᴰ.not-nil m, tt)
 op_alone (of_block b) = tt
 
 -- each is an operation or a block
-owners_split : (ws : List Owner) → length ws ≡ length (concat_map op_owner ws) + length (concat_map block_owner ws)
+pub owners_split : (ws : List Owner) → length ws ≡ length (concat_map op_owner ws) + length (concat_map block_owner ws)
 unfolding concat_map op_owner block_owner
 owners_split [] = refl
 owners_split (of_op n ∷ ws) = omega (arith, owners_split ws)

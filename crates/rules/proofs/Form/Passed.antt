@@ -9,8 +9,8 @@ use Rattle.rules.specs.Lists.{concat_map}
 use Rattle.rules.specs.Store.{Store, Owner, sound}
 use Rattle.rules.specs.Fragments.{Sort, shell, names, counted, step_defines, defines_owners}
 use Rattle.rules.specs.Shells.{Ignore, same_shells}
-use Rattle.rules.specs.Mapping.{empty_mapping}
-use Rattle.rules.specs.Comparison.{State, start, standing, compare}
+use Rattle.rules.specs.Mapping.{Mapping, empty_mapping}
+use Rattle.rules.specs.Comparison.{State, on, start, standing, compare}
 use Rattle.rules.specs.Laws.{equal, Equal, In}
 use Rattle.rules.specs.Form.{Event, step, more, done, events}
 use Rattle.rules.proofs.Form.Events.{and_then, enter_owners, meet, lock}
@@ -82,11 +82,16 @@ pub in_walk : (s : Store) (f : Sort) (n : ℕ) → concat_map event_owners (even
 unfolding defines_owners event_owners
 in_walk s f n = in_fragment event_owners step_defines (λ x. refl) refl refl s f n
 
+-- from whatever mapping, if the comparison goes on to its end
+pub walked_passed : (s : Store) → sound s ≡ true → (ig : Ignore) (f : Sort) (a b : ℕ) → In s f a → (m : Mapping) (st : State) → compare s ig f a b m ≡ on st
+    → Passed s ig (defines_owners s f a) (defines_owners s f b) (start m) st
+walked_passed s sd ig f a b ia m st h =
+    subst₂ (λ (ls rs : List Owner). Passed s ig ls rs (start m) st) (in_walk s f a) (in_walk s f b)
+    (along s ig (events s f a) (events s f b) (start m) st (sym (pass s sd ig f m a b ia) ∙ ap going h))
+
 pub equal_passed : (s : Store) → sound s ≡ true → (ig : Ignore) (f : Sort) (a b : ℕ) → In s f a → Equal s ig f a b
     → Passed s ig (defines_owners s f a) (defines_owners s f b) (start empty_mapping) (standing (compare s ig f a b empty_mapping))
 unfolding equal standing
 equal_passed s sd ig f a b ia h =
     let w = goes s sd ig f (compare s ig f a b empty_mapping) h in
-    rw w.1
-    (subst₂ (λ (ls rs : List Owner). Passed s ig ls rs (start empty_mapping) w.0) (in_walk s f a) (in_walk s f b)
-    (along s ig (events s f a) (events s f b) (start empty_mapping) w.0 (sym (pass s sd ig f a b ia) ∙ ap going w.1)))
+    rw w.1 (walked_passed s sd ig f a b ia empty_mapping w.0 w.1)

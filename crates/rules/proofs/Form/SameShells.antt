@@ -62,14 +62,15 @@ unfolding same_shells
       ((location_same _ _).1 (λ i. (h i).location), ((attributes_same _ _).1 (λ i. (h i).attributes), ((numbers_same _ _).1 (λ i. (h i).types), tt))),
     )
 
+-- a shell has a type for each value
+pub types_count : (s : Store) (ig : Ignore) (w : Owner) → length (shell_of s ig w).types ≡ length (values_of s w)
+unfolding shell_of
+types_count s ig (of_op n) = length-map (values_of s (of_op n)) (type_of s)
+types_count s ig (of_block b) = length-map (values_of s (of_block b)) (type_of s)
+
 -- equal shells have as many values, and are both of an operation or both of a block
 pub values_count : (s : Store) (ig : Ignore) (l r : Owner) → shell_of s ig l ≡ shell_of s ig r → length (values_of s l) ≡ length (values_of s r)
-unfolding shell_of
-values_count s ig l r h = sym (len l) ∙ ap (λ (x : Shell). length x.types) h ∙ len r
-  where
-    len : (w : Owner) → length (shell_of s ig w).types ≡ length (values_of s w)
-    len (of_op n) = length-map (values_of s (of_op n)) (type_of s)
-    len (of_block b) = length-map (values_of s (of_block b)) (type_of s)
+values_count s ig l r h = sym (types_count s ig l) ∙ ap (λ (x : Shell). length x.types) h ∙ types_count s ig r
 
 by_sort : (s : Store) (f : Owner → ℕ) → ((a b : ℕ) → f (of_op a) ≡ f (of_op b)) → ((a b : ℕ) → f (of_block a) ≡ f (of_block b))
     → (l r : Owner) → counts_of s l ≡ counts_of s r → f l ≡ f r

@@ -92,18 +92,25 @@ unfolding bytes
 bytes_length zero n = refl
 bytes_length (suc k) n = ap suc (bytes_length k (n / 256))
 
-leaf_length : (n : ℕ) → length (leaf n) ≡ 4
+pub leaf_length : (n : ℕ) → length (leaf n) ≡ 4
 unfolding leaf
 leaf_length n = bytes_length 4 n
 
-count_length : (n : ℕ) → length (count n) ≡ 8
+pub count_length : (n : ℕ) → length (count n) ≡ 8
 unfolding count
 count_length n = bytes_length 8 n
 
-name_most : (x : Name) → length (name_bytes x) ≤ 9
+pub walk_name_length : (i : ℕ) → length (name_bytes (walk_number i)) ≡ 9
 unfolding name_bytes tag
-name_most (walk_number i) = omega (arith, length-append (bytes 1 0) (count i), bytes_length 1 0, count_length i)
-name_most (store_number n) = omega (arith, length-append (bytes 1 1) (leaf n), bytes_length 1 1, leaf_length n)
+walk_name_length i = omega (arith, length-append (bytes 1 0) (count i), bytes_length 1 0, count_length i)
+
+pub store_name_length : (n : ℕ) → length (name_bytes (store_number n)) ≡ 5
+unfolding name_bytes tag
+store_name_length n = omega (arith, length-append (bytes 1 1) (leaf n), bytes_length 1 1, leaf_length n)
+
+name_most : (x : Name) → length (name_bytes x) ≤ 9
+name_most (walk_number i) = omega (arith, walk_name_length i)
+name_most (store_number n) = omega (arith, store_name_length n)
 
 attribute_length : (a : Attribute) → length (attribute_bytes a) ≡ 13
 unfolding attribute_bytes flag
@@ -118,12 +125,12 @@ attribute_length a =
       leaf_length a.content,
     )
 
-attributes_length : (xs : List Attribute) → length (concat_map attribute_bytes xs) ≡ 13 * length xs
+pub attributes_length : (xs : List Attribute) → length (concat_map attribute_bytes xs) ≡ 13 * length xs
 unfolding concat_map
 attributes_length [] = refl
 attributes_length (x ∷ xs) = omega (arith, length-append (attribute_bytes x) (concat_map attribute_bytes xs), attribute_length x, attributes_length xs)
 
-leaves_length : (xs : List ℕ) → length (concat_map leaf xs) ≡ 4 * length xs
+pub leaves_length : (xs : List ℕ) → length (concat_map leaf xs) ≡ 4 * length xs
 unfolding concat_map
 leaves_length [] = refl
 leaves_length (x ∷ xs) = omega (arith, length-append (leaf x) (concat_map leaf xs), leaf_length x, leaves_length xs)
@@ -133,18 +140,22 @@ unfolding concat_map
 names_most g [] = le_refl 0
 names_most g (n ∷ ns) = omega (arith, length-append (name_bytes (g n)) (concat_map (λ (m : ℕ). name_bytes (g m)) ns), name_most (g n), names_most g ns)
 
-uses_most : (g : ℕ → Name) (ns : List ℕ) → length (list_bytes count (λ (n : ℕ). name_bytes (g n)) ns) ≤ 8 + 9 * length ns
+pub uses_length : (g : ℕ → Name) (ns : List ℕ)
+    → length (list_bytes count (λ (n : ℕ). name_bytes (g n)) ns) ≡ 8 + length (concat_map (λ (n : ℕ). name_bytes (g n)) ns)
 unfolding list_bytes
-uses_most g ns = omega (arith, length-append (count (length ns)) (concat_map (λ (n : ℕ). name_bytes (g n)) ns), count_length (length ns), names_most g ns)
+uses_length g ns = omega (arith, length-append (count (length ns)) (concat_map (λ (n : ℕ). name_bytes (g n)) ns), count_length (length ns))
+
+uses_most : (g : ℕ → Name) (ns : List ℕ) → length (list_bytes count (λ (n : ℕ). name_bytes (g n)) ns) ≤ 8 + 9 * length ns
+uses_most g ns = omega (arith, uses_length g ns, names_most g ns)
 
 location_most : (o : Option ℕ) → length (location_bytes o) ≤ 4
 unfolding location_bytes
 location_most none = omega arith
 location_most (some l) = omega (arith, leaf_length l)
 
-shell_most : (sh : Shell) → length (shell_bytes count sh) ≤ 20 + 13 * length sh.attributes + 4 * length sh.types
+pub shell_length : (sh : Shell) → length (shell_bytes count sh) ≡ length (location_bytes sh.location) + 16 + 13 * length sh.attributes + 4 * length sh.types
 unfolding shell_bytes list_bytes
-shell_most sh =
+shell_length sh =
     let L = location_bytes sh.location in
     let C = count (length sh.attributes) in
     let A = concat_map attribute_bytes sh.attributes in
@@ -155,12 +166,14 @@ shell_most sh =
       length-append (L ++ C) A,
       length-append L C,
       length-append (count (length sh.types)) T,
-      location_most sh.location,
       count_length (length sh.attributes),
       attributes_length sh.attributes,
       count_length (length sh.types),
       leaves_length sh.types,
     )
+
+shell_most : (sh : Shell) → length (shell_bytes count sh) ≤ 20 + 13 * length sh.attributes + 4 * length sh.types
+shell_most sh = omega (arith, shell_length sh, location_most sh.location)
 
 -- what an operation, or a block, is charged for what it is and names
 unfoldable op_charge : Op → ℕ

@@ -63,7 +63,7 @@ module _ (types : List ℕ) (s : Store) where
     unfolding defines_blocks
     blocks = ap (concat_map block_owner) owners
 
-    ops : fragment_ops other f n ≡ fragment_ops s f n
+    pub ops : fragment_ops other f n ≡ fragment_ops s f n
     unfolding fragment_ops
     ops = ap (concat_map op_owner) owners
 

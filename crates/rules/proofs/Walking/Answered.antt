@@ -45,7 +45,7 @@ sizes_some size (n ∷ ns) h = plus_some (size n) (sizes size ns) (h n (Memᴰ.h
 
 module _ (s : Store) (sd : sound s ≡ true) where
   -- what stands inside an operation leaves one level less
-  inside_leaves : (n j : ℕ) → Leaves s max_nesting (parent_of s n) j → (m : ℕ) → Memᴰ m (ops_inside s n)
+  pub inside_leaves : (n j : ℕ) → Leaves s max_nesting (parent_of s n) j → (m : ℕ) → Memᴰ m (ops_inside s n)
       → (i : ℕ) × Leaves s max_nesting (parent_of s m) i × (j ≡ suc i)
   unfolding ops_inside ops_in_blocks
   inside_leaves n j h m m∈ =

@@ -38,11 +38,11 @@ module _ (s : Store) where
   leaves_most (suc k) (some b) j h = let l : j ≤ k = leaves_most k (parent_of s (op_around s b)) j h in omega arith
 
   -- inside a block one level less is left than around it
-  leaves_inside : (k b i j : ℕ) → Leaves (suc k) (parent_of s (op_around s b)) j → Leaves (suc k) (some b) i → j ≡ suc i
+  pub leaves_inside : (k b i j : ℕ) → Leaves (suc k) (parent_of s (op_around s b)) j → Leaves (suc k) (some b) i → j ≡ suc i
   unfolding levels_left
   leaves_inside k b i j around inside = let e : Leaves (suc k) (parent_of s (op_around s b)) (suc i) = leaves_more k _ i inside in cc
 
-  around_block : (n : ℕ) {r b : ℕ} → Memᴰ r (regions_of s n) → Memᴰ b (blocks_of s r) → op_around s b ≡ n
+  pub around_block : (n : ℕ) {r b : ℕ} → Memᴰ r (regions_of s n) → Memᴰ b (blocks_of s r) → op_around s b ≡ n
   unfolding op_around
   around_block n r∈ b∈ = rw (blocks_in_lem s _ b∈).1 (regions_in_lem s n r∈).1
 

@@ -9,7 +9,7 @@ use alloc::vec::Vec;
 use super::allowed::AllowedWords;
 use super::*;
 use crate::columns::numbered;
-use crate::equivalence::{Fragment, Sort};
+use crate::equivalence::{Ignore, Sort};
 use crate::eras::Eras;
 use crate::refused::Refused;
 use crate::renamed::Options;
@@ -179,29 +179,22 @@ impl SoundWords {
         unsafe { call(store, words, index, rows, bytes, room, n, options.ignore.locations, options.ignore.bits) }
     }
 
+    #[inline]
+    pub(crate) fn extent(&self, sort: Sort, n: u32, ignore: &Ignore) -> ExtentAnswer {
+        let call = match sort {
+            Sort::Op => wz_known_operation_extent,
+            Sort::Block => wz_known_basic_block_extent,
+            Sort::Region => wz_known_region_extent,
+        };
+        // SAFETY: as above.
+        unsafe { call(self.words.as_ptr(), self.words.len(), n, ignore.locations, ignore.bits) }
+    }
+
     pub(crate) fn repeated_run(&self, block: u32, length: u32, options: Options) -> RunAnswer {
         let (store, words) = (self.words.as_ptr(), self.words.len());
         let (index, rows) = options.types.index.lent();
         // SAFETY: as above.
         unsafe { wz_known_repeated_run(store, words, index, rows, block, length, options.ignore.locations, options.ignore.bits) }
-    }
-
-    /// How long a key will be. Refused by 2 where the fragment is of another store, or has gone away.
-    #[inline]
-    pub(crate) fn key_length<I: Fragment>(&self, fragment: I, options: Options) -> Result<usize, Refused> {
-        if !self.eras.has(fragment) {
-            return Err(Refused::NOTHING_THERE);
-        }
-        let call = match I::SORT {
-            Sort::Op => wz_known_operation_key_length,
-            Sort::Block => wz_known_basic_block_key_length,
-            Sort::Region => wz_known_region_key_length,
-        };
-        let (store, words) = (self.words.as_ptr(), self.words.len());
-        let (index, rows) = options.types.index.lent();
-        // SAFETY: as above; and the fragment exists, as these calls ask for too: its id is good for the eras of this store, of which one
-        // begins whenever numbers go away.
-        Ok(unsafe { call(store, words, index, rows, fragment.number(), options.ignore.locations, options.ignore.bits) })
     }
 }
 
@@ -243,7 +236,7 @@ impl IndexWords {
 mod tests {
     use super::super::allowed::NONE;
     use super::*;
-    use crate::{Ignore, Mapping, OpId, Store, operation_eq};
+    use crate::{Mapping, OpId, Store, operation_eq};
 
     /// An operation with a block of so many others, and as many strangers between it and them.
     fn fragment(store: &mut Store, inner: usize, strangers: usize) -> OpId {

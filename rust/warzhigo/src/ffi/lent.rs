@@ -148,6 +148,17 @@ pub(crate) fn key(sort: Sort, store: &[u32], types: &[u32], n: u32, ignore: &Ign
 }
 
 #[inline]
+pub(crate) fn extent(sort: Sort, store: &[u32], n: u32, ignore: &Ignore) -> ExtentAnswer {
+    let call = match sort {
+        Sort::Op => wz_operation_extent,
+        Sort::Block => wz_basic_block_extent,
+        Sort::Region => wz_region_extent,
+    };
+    // SAFETY: as above.
+    unsafe { call(store.as_ptr(), store.len(), n, ignore.locations, ignore.bits) }
+}
+
+#[inline]
 pub(crate) fn repeated_run(store: &[u32], types: &[u32], block: u32, length: u32, ignore: &Ignore) -> RunAnswer {
     let (list, rows) = (types.as_ptr(), types.len());
     // SAFETY: as above.

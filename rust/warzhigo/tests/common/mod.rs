@@ -7,6 +7,7 @@ pub mod call;
 pub mod copying;
 pub mod defined;
 pub mod document;
+pub mod extents_model;
 pub mod instance;
 pub mod journal;
 pub mod layout;

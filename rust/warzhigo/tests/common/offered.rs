@@ -5,7 +5,7 @@ use warzhigo::{Attribute, Ignore, Inherent, Refused, Store};
 
 use super::call::{Call, New};
 use super::marked::Step;
-use super::question::{LENT, Question, Sort, hash_lent, key_lent};
+use super::question::{LENT, Question, Sort, extent_lent, hash_lent, key_lent};
 
 pub const SORTS: [Sort; 3] = [Sort::Op, Sort::Block, Sort::Region];
 
@@ -35,6 +35,7 @@ pub fn all_refuse(store: &[u32], mapping: &[u32], context: &str) {
     for sort in SORTS {
         assert_eq!(hash_lent(store, sort, 0, &Ignore::NOTHING).map_err(Refused::number), Err(1), "{context}: hash of {sort:?}");
         key_refused(store, sort, 0, 100, 1, context);
+        assert_eq!(extent_lent(store, sort, 0, &Ignore::NOTHING).map_err(Refused::number), Err(1), "{context}: extent of {sort:?}");
         comparison_refused(store, mapping, sort, 1, context);
     }
 }

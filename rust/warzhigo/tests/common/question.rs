@@ -5,7 +5,7 @@ use std::collections::BTreeMap;
 pub use oracle::Sort;
 use oracle::{Oracle, Verdict};
 use warzhigo::lent::{self, EqResult};
-use warzhigo::{Ignore, Mapping, Options, Refused, Renamed, Store};
+use warzhigo::{Extent, Ignore, Mapping, Options, Refused, Renamed, Store};
 
 use super::numbers::Random;
 use super::walk::{Entries, Found};
@@ -168,10 +168,35 @@ pub fn key_lent_under(types: &[u32], store: &[u32], sort: Sort, n: u32, ignore: 
     }
 }
 
+/// The extent of one by ids. It has to exist.
+pub fn extent_inner(store: &Store, sort: Sort, n: u32, ignore: &Ignore) -> Result<Extent, Refused> {
+    match sort {
+        Sort::Op => warzhigo::operation_extent(store, store.op_id(n).expect("an operation that exists"), ignore),
+        Sort::Block => warzhigo::basic_block_extent(store, store.block_id(n).expect("a block that exists"), ignore),
+        Sort::Region => warzhigo::region_extent(store, store.region_id(n).expect("a region that exists"), ignore),
+    }
+}
+
+/// The extent of one on lent words.
+pub fn extent_lent(store: &[u32], sort: Sort, n: u32, ignore: &Ignore) -> Result<Extent, Refused> {
+    match sort {
+        Sort::Op => lent::operation_extent(store, n, ignore),
+        Sort::Block => lent::basic_block_extent(store, n, ignore),
+        Sort::Region => lent::region_extent(store, n, ignore),
+    }
+}
+
+/// Asserts that an extent is this one by ids and on lent words.
+pub fn extent_is(store: &Store, sort: Sort, n: u32, ignore: &Ignore, extent: Extent, context: &str) {
+    let found = [extent_inner(store, sort, n, ignore), extent_lent(store.words(), sort, n, ignore)];
+    assert_eq!(found, [Ok(extent); 2], "{context}: extent of {sort:?} {n}, {ignore:?}");
+}
+
 /// Asserts that a key is this one in every way: by ids, in lent bytes that are more than it needs, of which those behind it stay as they
 /// were, and refused by 13 in lent bytes that are fewer, which stay as they were.
 pub fn key_is(store: &Store, sort: Sort, n: u32, ignore: &Ignore, key: &[u8], context: &str) {
     assert_eq!(key_inner(store, sort, n, ignore).as_deref(), Ok(key), "{context}");
+    assert_eq!(extent_lent(store.words(), sort, n, ignore).map(|extent| extent.bytes), Ok(key.len()), "{context}: its length");
     for room in [key.len(), key.len() + 1, key.len() + 9] {
         let mut bytes = [vec![LENT; room], vec![LENT; room]];
         assert_eq!(key_into(store, sort, n, ignore, &mut bytes[0]), Ok(key.len()), "{context}: {room} lent bytes");

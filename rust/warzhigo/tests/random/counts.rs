@@ -40,6 +40,7 @@ pub struct Counts {
     pub equal_and_one_key: u64,
     pub equal_and_two_keys: u64,
     pub longest_key: usize,
+    pub deepest_extent: u32,
     /// Lists of renamed types, those that are refused, and comparisons that a list gave another answer.
     pub lists: u64,
     pub lists_refused: u64,
@@ -135,6 +136,7 @@ impl Counts {
             ("equal and one key", self.equal_and_one_key, self.stores),
             ("equal and two keys", self.equal_and_two_keys, self.stores / 500),
             ("longest key", self.longest_key as u64, 10_000),
+            ("deepest extent", self.deepest_extent as u64, 16),
             ("lists", self.lists, self.stores * 5),
             ("lists refused", self.lists_refused, self.lists / 20),
             ("another answer under a list", self.another_answer, self.lists / 20),

@@ -1,11 +1,13 @@
-//! Hashes and keys in every way, and the laws.
+//! Hashes, keys and extents in every way, and the laws.
 
 use oracle::Verdict;
 use warzhigo::{Attribute, BlockId, Ignore, Inherent, Mapping, OpId, compare_keys};
 
 use crate::common::bytes_model;
+use crate::common::extents_model;
 use crate::common::premise;
-use crate::common::question::{Question, Sort, hash_inner, hash_lent, key_inner, key_is};
+use crate::common::question::{Question, Sort, extent_inner, extent_is, hash_inner, hash_lent, key_inner, key_is};
+use crate::common::walk::Found;
 use crate::counts::Counts;
 use crate::trial::Trial;
 
@@ -31,6 +33,9 @@ impl Trial {
         let context = format!("seed {}: key of {sort:?} {n}, {ignore:?}", self.seed);
         let key = bytes_model::key(&self.picture, sort, n, ignore);
         key_is(&self.store, sort, n, &ignore, &key, &context);
+        let extent = extents_model::extent(&self.picture, sort, n, &ignore);
+        extent_is(&self.store, sort, n, &ignore, extent, &context);
+        counts.deepest_extent = counts.deepest_extent.max(extent.nesting);
         counts.keys += 1;
         counts.longest_key = counts.longest_key.max(key.len());
         key
@@ -78,6 +83,15 @@ impl Trial {
         }
     }
 
+    /// An equal comparison from an empty mapping pairs the operations and the blocks of either fragment, whatever is ignored.
+    fn paired_as_counted(&self, found: Found, sort: Sort, two: [u32; 2], context: &str) {
+        let ignore = Ignore { locations: true, bits: u64::MAX };
+        for n in two.into_iter().filter(|_| found.verdict == Verdict::Eq) {
+            let extent = extent_inner(&self.store, sort, n, &ignore).expect(context);
+            assert_eq!(found.paired, extent.operations + extent.blocks, "{context}: extent of {n}");
+        }
+    }
+
     /// Reflexive; and where the premise holds, equal gives symmetric and equal hashes.
     pub fn laws(&mut self, mapping: &mut Mapping, counts: &mut Counts) {
         let question = self.question();
@@ -85,6 +99,7 @@ impl Trial {
         let Question { sort, lhs, rhs, ignore } = question;
         let mut is_equal = |lhs, rhs| {
             let found = Question { lhs, rhs, ..question }.inner(&self.store, mapping).expect(&context);
+            self.paired_as_counted(found, sort, [lhs, rhs], &context);
             if found.verdict == Verdict::Eq && lhs != rhs {
                 self.same_inherent(mapping, ignore, &context, counts);
             }

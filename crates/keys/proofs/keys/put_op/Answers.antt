@@ -14,11 +14,11 @@ use Rattle.keys.proofs.keys.put_op.Goals as goal
 use Rattle.keys.proofs.keys.put_op.Goals.{Start}
 
 -- numbers are left for the one and the other
-parted : (c : Start) → DefinitionsFit (store_read c.args.terms.now) ((shell (of_op c.args.n) ∷ []) ++ full_steps (store_read c.args.terms.now) c.args.n) c.args.numbers.now
+parted : (c : Start) → DefinitionsFit (store_read c.args.terms.now) ((shell (of_op c.args.n) ∷ []) ++ full_steps (store_read c.args.terms.now) c.args.n) c.args.walked.now.numbers
 parted c =
     let store : Store = store_read c.args.terms.now in
     steps_room (key_walk store (options_in c.args.terms.now)) store op c.args.n _ (op_steps store c.args.n)
-    {a = place c.args.numbers.now c.args.key.now} c.requires.definitions_fit
+    {a = place c.args.walked.now c.args.key.now} c.requires.definitions_fit
 
 pub put_op_shell-requires-clause-definitions_fit : goal.put_op_shell-requires-clause-definitions_fit
 put_op_shell-requires-clause-definitions_fit c =

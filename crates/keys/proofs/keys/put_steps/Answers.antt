@@ -26,7 +26,7 @@ pub put_op-requires-clause-definitions_fit : goal.put_op-requires-clause-definit
 unfolding sort_of
 put_op-requires-clause-definitions_fit c =
     let store : Store = store_read c.args.terms.now in
-    subst (λ x. DefinitionsFit store (steps store (sort_of x) c.args.n) c.args.numbers.now) c.in-Op.is c.requires.definitions_fit
+    subst (λ x. DefinitionsFit store (steps store (sort_of x) c.args.n) c.args.walked.now.numbers) c.in-Op.is c.requires.definitions_fit
 
 pub returns-in-Op : goal.returns-in-Op
 unfolding sort_of
@@ -44,8 +44,8 @@ pub put_blocks_full-requires-clause-definitions_fit : goal.put_blocks_full-requi
 unfolding sort_of
 put_blocks_full-requires-clause-definitions_fit c =
     let store : Store = store_read c.args.terms.now in
-    steps_room (key_walk store (options_in c.args.terms.now)) store block c.args.n _ (block_steps store c.args.n) {a = place c.args.numbers.now c.args.key.now}
-    (subst (λ x. DefinitionsFit store (steps store (sort_of x) c.args.n) c.args.numbers.now) c.in-Block.is c.requires.definitions_fit)
+    steps_room (key_walk store (options_in c.args.terms.now)) store block c.args.n _ (block_steps store c.args.n) {a = place c.args.walked.now c.args.key.now}
+    (subst (λ x. DefinitionsFit store (steps store (sort_of x) c.args.n) c.args.walked.now.numbers) c.in-Block.is c.requires.definitions_fit)
 
 pub returns-in-Block : goal.returns-in-Block
 unfolding sort_of
@@ -67,8 +67,8 @@ unfolding sort_of
 put_blocks_full-requires-in-Region-clause-definitions_fit c =
     let store : Store = store_read c.args.terms.now in
     steps_room (key_walk store (options_in c.args.terms.now)) store region c.args.n _
-    (region_steps_lem store c.args.terms.now.readable.sound.ruled c.args.n) {a = place c.args.numbers.now c.args.key.now}
-    (subst (λ x. DefinitionsFit store (steps store (sort_of x) c.args.n) c.args.numbers.now) c.in-Region.is c.requires.definitions_fit)
+    (region_steps_lem store c.args.terms.now.readable.sound.ruled c.args.n) {a = place c.args.walked.now c.args.key.now}
+    (subst (λ x. DefinitionsFit store (steps store (sort_of x) c.args.n) c.args.walked.now.numbers) c.in-Region.is c.requires.definitions_fit)
 
 pub returns-in-Region : goal.returns-in-Region
 unfolding sort_of

@@ -9,4 +9,4 @@ abbrev pub invariant-loop-b : goal.invariant-loop-b
 invariant-loop-b l =
     (goal.iterator-loop-b).can_next l.b-iterator
     × (goal.iterator-loop-b).is_finite l.b-iterator
-    × Wrote (store_read l.terms) (options_in l.terms) (concat_map (op_shells (store_read l.terms)) l.yielded) (place l.initial.numbers l.initial.key) (place l.numbers l.key)
+    × Wrote (store_read l.terms) (options_in l.terms) (concat_map (op_shells (store_read l.terms)) l.yielded) (place l.initial.walked l.initial.key) (place l.walked l.key)

@@ -9,4 +9,4 @@ abbrev pub invariant-loop-n : goal.invariant-loop-n
 invariant-loop-n l =
     (goal.iterator-loop-n).can_next l.n-iterator
     × (goal.iterator-loop-n).is_finite l.n-iterator
-    × Wrote (store_read l.terms) (options_in l.terms) (each_shell of_op l.yielded) (place l.initial.numbers l.initial.key) (place l.numbers l.key)
+    × Wrote (store_read l.terms) (options_in l.terms) (each_shell of_op l.yielded) (place l.initial.walked l.initial.key) (place l.walked l.key)

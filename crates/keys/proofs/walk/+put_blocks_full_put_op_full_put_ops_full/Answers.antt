@@ -33,7 +33,7 @@ pub put_blocks_full-put_block_shells-requires-clause-definitions_fit : goal.put_
 put_blocks_full-put_block_shells-requires-clause-definitions_fit t c =
     let store : Store = store_read c.args.terms.now in
     let walk : StepRelation Place = key_walk store (options_in c.args.terms.now) in
-    first_room walk store (block_list store c.args.blocks) {a = place c.args.numbers.now c.args.key.now} c.requires.definitions_fit
+    first_room walk store (block_list store c.args.blocks) {a = place c.args.walked.now c.args.key.now} c.requires.definitions_fit
 
 pub put_blocks_full-put_op_shells-requires-clause-definitions_fit : goal.put_blocks_full-put_op_shells-requires-clause-definitions_fit
 put_blocks_full-put_op_shells-requires-clause-definitions_fit t c =
@@ -117,7 +117,7 @@ put_op_full-put_blocks_full-requires t c =
     let here : r < region_count (columns c.args.terms.now.store.now) =
     omega (arith, c.loop-r-test.true, c.number-r-end.ensures, (laid.op n c.requires.n_bound).regions.range.fits) in
     let room =
-    subst (λ (xs : List Step). walk.Room xs ((place c.loop-r.numbers c.loop-r.key))) (region_list store c.args.terms.now.readable.sound.ruled r)
+    subst (λ (xs : List Step). walk.Room xs ((place c.loop-r.walked c.loop-r.key))) (region_list store c.args.terms.now.readable.sound.ruled r)
     (came_room walk (each (in_region store)) _ c.loop-r.invariant r _ (regions_of store n) turn
     (regions_room walk store n (c.put_names.ensures (options_in c.args.terms.now)) (regions_of store n) refl c.requires.definitions_fit)) in
     let around : around_list store (InRegion r) ≡ n = around_region store n r (comes_mem _ _ _ _ turn) in

@@ -1,5 +1,6 @@
 -- `wz_known_region_key_length` meets its contract: it is `key_length` at its sort. Assumes nothing.
 use mathlib.Core.Path.{sym}
+use Rattle.renaming.specs.Index.{list_in}
 use Rattle.fragments.specs.Ignoring.{ignore_of}
 use Rattle.link.specs.Codes.{ignoring}
 use Rattle.fragments.specs.Sorts.{sort_of}
@@ -9,8 +10,8 @@ use Rattle.link.proofs.known.wz_known_region_key_length.Goals as goal
 pub key_length-requires : goal.key_length-requires
 unfolding sort_of
 key_length-requires c =
-    record { readable = search rules; n_value = search rules }
+    record { sound = search rules; n_value = search rules }
 
 pub returns : goal.returns
 unfolding ignoring ignore_of sort_of
-returns c = rw (sym c.array.ensures) c.key_length.ensures
+returns c = rw (sym c.array.ensures) (c.key_length.ensures (list_in c.args.types.now))

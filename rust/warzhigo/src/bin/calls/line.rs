@@ -74,6 +74,11 @@ pub enum Line {
         ignore: Ignore,
         room: u32,
     },
+    Extent {
+        sort: Sort,
+        number: u32,
+        ignore: Ignore,
+    },
     CompareKeys {
         sort: Sort,
         lhs: u32,
@@ -110,6 +115,7 @@ impl Line {
             "D" => Line::Dump,
             "S" => Line::Sound,
             "K" => Line::Key { sort: sort(f)?, number: f.number()?, ignore: f.ignore()?, room: f.number()? },
+            "Z" => Line::Extent { sort: sort(f)?, number: f.number()?, ignore: f.ignore()? },
             "C" => Line::CompareKeys { sort: sort(f)?, lhs: f.number()?, rhs: f.number()?, ignore: f.ignore()? },
             "B" => Line::CompareBytes(f.bytes()?, f.bytes()?),
             "T" => Line::Types(f.rest()?),

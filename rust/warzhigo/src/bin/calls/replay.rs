@@ -1,7 +1,7 @@
 //! The lent buffers, and each line's call on them.
 
 use warzhigo::lent::{self, EqResult, NewOperation};
-use warzhigo::{Ignore, Refused, Store, compare_keys};
+use warzhigo::{Extent, Ignore, Refused, Store, compare_keys};
 
 use crate::line::{Entry, Line, Sort};
 use crate::text;
@@ -71,6 +71,7 @@ impl Replay {
                 let length = self.key(*sort, *number, ignore, &mut bytes);
                 answered(length.map(|length| format!("key,{length},{}", text::hexadecimal(&bytes))))
             }
+            Line::Extent { sort, number, ignore } => answered(self.extent(*sort, *number, ignore).map(text::extent)),
             Line::CompareKeys { sort, lhs, rhs, ignore } => answered(self.compare_keys(*sort, (*lhs, *rhs), ignore)),
             Line::CompareBytes(lhs, rhs) => Some((compare_keys(lhs, rhs) as i8).to_string()),
             Line::Repeated { block, length, ignore } => {
@@ -121,6 +122,15 @@ impl Replay {
             Sort::Region => lent::region_key,
         };
         call(&self.store, &self.types, number, ignore, key)
+    }
+
+    fn extent(&self, sort: Sort, number: u32, ignore: &Ignore) -> Result<Extent, Refused> {
+        let call = match sort {
+            Sort::Op => lent::operation_extent,
+            Sort::Block => lent::basic_block_extent,
+            Sort::Region => lent::region_extent,
+        };
+        call(&self.store, number, ignore)
     }
 
     fn compare_keys(&self, sort: Sort, (lhs, rhs): (u32, u32), ignore: &Ignore) -> Result<i8, Refused> {

@@ -2,7 +2,7 @@
 
 use std::fmt::{Display, Write};
 
-use warzhigo::{Attribute, Inherent, Owner, Run, Store};
+use warzhigo::{Attribute, Extent, Inherent, Owner, Run, Store};
 
 use crate::replay::ENTRIES;
 
@@ -18,6 +18,12 @@ pub fn entries(mapping: &[u32]) -> String {
 /// `run,0,3`, or `run,none`.
 pub fn run(found: Option<Run>) -> String {
     found.map_or("run,none".to_string(), |Run { left, right }| format!("run,{left},{right}"))
+}
+
+/// `size,56,0,0,1,0`: the key's length, values, blocks, operations, nesting.
+pub fn extent(extent: Extent) -> String {
+    let Extent { bytes, values, blocks, operations, nesting } = extent;
+    format!("size,{bytes},{values},{blocks},{operations},{nesting}")
 }
 
 /// Bytes in hexadecimal, two digits to a byte.

@@ -1,0 +1,92 @@
+-- What a walk counts is the fragment's extent. Assumes nothing.
+use Prim.Native.Nat.{ℕ, suc, ◌-◌, ◌≤◌}
+use native.Mathlib.Omega.{arith}
+use mathlib.Core.Bool.{true}
+use mathlib.Core.List.{[], ◌∷◌, append-nil}
+use mathlib.Core.Path.{◌≡◌, sym, ap, ◌∙◌}
+use lib.ListN.{length}
+use Rattle.rules.specs.Lists.{concat_map}
+use Rattle.rules.specs.Store.{Store, of_op, blocks_of, regions_of, values_of, max_nesting, sound}
+use Rattle.rules.specs.Fragments.{Sort, op, steps, step_defines, op_owner, block_owner, exists, outermost, ops_in_blocks, ops_inside, defines_owners, defines_values, defines_blocks, fragment_ops}
+use Rattle.rules.specs.Shells.{Ignore}
+use Rattle.rules.specs.Hash.{no_numbers}
+use Rattle.rules.specs.Keys.{key}
+use Rattle.rules.specs.Extents.{deepest, op_nesting, deepest_nesting, extent}
+use Rattle.rules.specs.ExtentLaws.{ExtentMost}
+use Rattle.rules.proofs.Extents.Laws.{extent_most}
+use Rattle.numbering.specs.Words.{values_numbered, blocks_numbered}
+use Rattle.numbering.specs.Numbered.{values_in, blocks_in, Numbers}
+use Rattle.numbering.proofs.Counting.{no_words, stands_start}
+use Rattle.numbering.proofs.Lone.{two_steps}
+use Rattle.keys.specs.Extents.{of_numbers}
+use Rattle.keys.specs.Written.{depth, ops_in, Counts}
+use Rattle.keys.specs.declared.types.Walked.{Walked}
+
+-- ---- an operation without regions
+
+module _ (s : Store) (ig : Ignore) (n : ℕ) (none : regions_of s n ≡ []) where
+  owners_alone : defines_owners s op n ≡ of_op n ∷ []
+  unfolding defines_owners concat_map step_defines
+  owners_alone = ap (concat_map step_defines) (two_steps s n none)
+
+  values_alone : length (defines_values s op n) ≡ length (values_of s (of_op n))
+  unfolding defines_values concat_map
+  values_alone = ap (λ ws. length (concat_map (values_of s) ws)) owners_alone ∙ ap length (append-nil (values_of s (of_op n)))
+
+  blocks_alone : length (defines_blocks s op n) ≡ 0
+  unfolding defines_blocks concat_map block_owner
+  blocks_alone = ap (λ ws. length (concat_map block_owner ws)) owners_alone
+
+  ops_alone : length (fragment_ops s op n) ≡ 1
+  unfolding fragment_ops concat_map op_owner
+  ops_alone = ap (λ ws. length (concat_map op_owner ws)) owners_alone
+
+  nesting_alone : deepest_nesting s op n ≡ 0
+  unfolding deepest_nesting outermost deepest op_nesting ops_inside concat_map
+  nesting_alone =
+      let inside : ops_inside s n ≡ [] = ap (concat_map (λ (r : ℕ). ops_in_blocks s (blocks_of s r))) none in
+      let e : op_nesting max_nesting s n ≡ 0 = ap (deepest (λ (m : ℕ). suc (op_nesting 31 s m))) inside in
+      omega (arith, e)
+
+  pub extent_alone : (bytes : ℕ) → bytes ≡ length (key s ig op n) → of_numbers bytes (length (values_of s (of_op n))) 0 1 0 ≡ extent s ig op n
+  unfolding extent of_numbers
+  extent_alone bytes e = λ i. of_numbers (e i) (sym values_alone i) (sym blocks_alone i) (sym ops_alone i) (sym nesting_alone i)
+
+-- ---- any other fragment
+
+-- where a walk begins
+abbrev pub nothing_walked : Walked
+nothing_walked = record { numbers = no_words; operations = 0; deepest = 0 }
+
+module _ (s : Store) (sd : sound s ≡ true) (ig : Ignore) (f : Sort) (n : ℕ) (there : exists s f n ≡ true) (w : Walked) where
+  module _ (m : Numbers s (steps s f n) no_words w.numbers) where
+    values_walked : values_numbered w.numbers ≡ length (defines_values s f n)
+    unfolding no_numbers values_in defines_values defines_owners
+    values_walked = omega (arith, m.values, (stands_start s).value_count)
+
+    blocks_walked : blocks_numbered w.numbers ≡ length (defines_blocks s f n)
+    unfolding no_numbers blocks_in defines_blocks defines_owners
+    blocks_walked = omega (arith, m.blocks, (stands_start s).block_count)
+
+  module _ (c : Counts s (steps s f n) nothing_walked w) where
+    ops_walked : w.operations ≡ length (fragment_ops s f n)
+    unfolding ops_in fragment_ops defines_owners ExtentMost extent
+    ops_walked =
+        let most : length (fragment_ops s f n) ≤ 512 = (extent_most s sd ig f n there).3 in
+        omega (arith, c.many)
+
+    deepest_walked : w.deepest ≡ deepest (depth s) (fragment_ops s f n)
+    unfolding ops_in fragment_ops defines_owners
+    deepest_walked = omega (arith, c.deep)
+
+  pub extent_walked : Numbers s (steps s f n) no_words w.numbers
+      → Counts s (steps s f n) nothing_walked w
+      → (outside : ℕ)
+      → deepest_nesting s f n ≡ deepest (depth s) (fragment_ops s f n) - outside
+      → (bytes : ℕ)
+      → bytes ≡ length (key s ig f n)
+      → of_numbers bytes (values_numbered w.numbers) (blocks_numbered w.numbers) w.operations (w.deepest - outside) ≡ extent s ig f n
+  unfolding extent of_numbers
+  extent_walked m c outside d bytes e =
+      let nested : w.deepest - outside ≡ deepest_nesting s f n = omega (arith, d, deepest_walked c) in
+      λ i. of_numbers (e i) (values_walked m i) (blocks_walked m i) (ops_walked c i) (nested i)

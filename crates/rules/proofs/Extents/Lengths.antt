@@ -1,0 +1,113 @@
+-- How long a key is, step by step, and that it is so whatever the types: every type takes 4 bytes, a shell's attributes and location are the
+-- same under every list of renamed types, and the numbers that names get don't depend on types. Assumes nothing.
+use Prim.Native.Nat.{ℕ, ◌+◌, ◌*◌}
+use native.Mathlib.Omega.{arith}
+use mathlib.Core.List.{List, [], ◌∷◌, ◌++◌}
+use mathlib.Core.Path.{◌≡◌, refl, ap, ◌∙◌}
+use lib.ListN.{length, length-append, length-map}
+use Rattle.rules.specs.Lists.{concat_map}
+use Rattle.rules.specs.Store.{Store, Owner, of_op, of_block, op_at, regions_of, values_of}
+use Rattle.rules.specs.Fragments.{Sort, Step, shell, names, counted, steps}
+use Rattle.rules.specs.Shells.{Ignore, Shell, shell_of}
+use Rattle.rules.specs.Hash.{leaf, count, list_bytes, location_bytes, shell_bytes, head_bytes, Numbering, no_numbers, numbered, name_of, name_bytes, feeds, all_bytes}
+use Rattle.rules.specs.Types.{present, renamed}
+use Rattle.rules.specs.Keys.{key}
+use Rattle.rules.proofs.Types.Renamed.{shell_renamed, shell_renamed_lem, steps_renamed, numbered_renamed}
+use Rattle.rules.proofs.Form.SameShells.{types_count}
+use Rattle.rules.proofs.Keys.Longest.{leaf_length, count_length, uses_length, shell_length}
+
+-- ---- what each step takes
+
+module _ (s : Store) (ig : Ignore) (N : Numbering) where
+  pub op_step_length : (n : ℕ)
+      → length (feeds count s ig (shell (of_op n)) N)
+      ≡ 28 + length (location_bytes (shell_of s ig (of_op n)).location)
+      + 13 * length (shell_of s ig (of_op n)).attributes + 4 * length (values_of s (of_op n))
+  unfolding feeds head_bytes
+  op_step_length n =
+      let head = leaf (op_at s n).kind ++ count (length (regions_of s n)) in
+      omega (
+        arith,
+        length-append head (shell_bytes count (shell_of s ig (of_op n))),
+        length-append (leaf (op_at s n).kind) (count (length (regions_of s n))),
+        leaf_length (op_at s n).kind,
+        count_length (length (regions_of s n)),
+        shell_length (shell_of s ig (of_op n)),
+        types_count s ig (of_op n),
+      )
+
+  pub block_step_length : (b : ℕ)
+      → length (feeds count s ig (shell (of_block b)) N)
+      ≡ 16 + length (location_bytes (shell_of s ig (of_block b)).location)
+      + 13 * length (shell_of s ig (of_block b)).attributes + 4 * length (values_of s (of_block b))
+  unfolding feeds head_bytes
+  block_step_length b = omega (arith, shell_length (shell_of s ig (of_block b)), types_count s ig (of_block b))
+
+  pub names_step_length : (n : ℕ)
+      → length (feeds count s ig (names n) N)
+      ≡ 16 + length (concat_map (λ (v : ℕ). name_bytes (name_of N.values v)) (op_at s n).operands)
+      + length (concat_map (λ (b : ℕ). name_bytes (name_of N.blocks b)) (op_at s n).successors)
+  unfolding feeds
+  names_step_length n =
+      omega (
+        arith,
+        length-append (list_bytes count (λ (v : ℕ). name_bytes (name_of N.values v)) (op_at s n).operands)
+            (list_bytes count (λ (b : ℕ). name_bytes (name_of N.blocks b)) (op_at s n).successors),
+        uses_length (name_of N.values) (op_at s n).operands,
+        uses_length (name_of N.blocks) (op_at s n).successors,
+      )
+
+  pub counted_step_length : (k : ℕ) → length (feeds count s ig (counted k) N) ≡ 8
+  unfolding feeds
+  counted_step_length k = count_length k
+
+-- ---- under a list of types
+
+module _ (types : List ℕ) where
+  -- a shell, with present types
+  shell_same : (sh : Shell) → length (shell_bytes count (shell_renamed types sh)) ≡ length (shell_bytes count sh)
+  unfolding shell_renamed
+  shell_same sh = omega (arith, shell_length sh, shell_length (shell_renamed types sh), length-map sh.types (present types))
+
+  module _ (s : Store) (ig : Ignore) where
+    head_same : (w : Owner) → head_bytes (renamed types s) w ≡ head_bytes s w
+    unfolding head_bytes renamed op_at regions_of
+    head_same (of_op n) = refl
+    head_same (of_block b) = refl
+
+    -- a step
+    pub step_length_renamed : (x : Step) (N : Numbering) → length (feeds count (renamed types s) ig x N) ≡ length (feeds count s ig x N)
+    unfolding feeds renamed op_at
+    step_length_renamed (shell w) N =
+        let sh = shell_of s ig w in
+        omega (
+          arith,
+          length-append (head_bytes (renamed types s) w) (shell_bytes count (shell_of (renamed types s) ig w)),
+          length-append (head_bytes s w) (shell_bytes count sh),
+          ap length (head_same w),
+          ap (λ (x : Shell). length (shell_bytes count x)) (shell_renamed_lem types s ig w),
+          shell_same sh,
+        )
+    step_length_renamed (names n) N = refl
+    step_length_renamed (counted k) N = refl
+
+    -- the steps of a walk
+    pub steps_length_renamed : (xs : List Step) (N : Numbering)
+        → length (all_bytes count (renamed types s) ig xs N) ≡ length (all_bytes count s ig xs N)
+    unfolding all_bytes
+    steps_length_renamed [] N = refl
+    steps_length_renamed (x ∷ xs) N =
+        omega (
+          arith,
+          length-append (feeds count (renamed types s) ig x N) (all_bytes count (renamed types s) ig xs (numbered (renamed types s) x N)),
+          length-append (feeds count s ig x N) (all_bytes count s ig xs (numbered s x N)),
+          step_length_renamed x N,
+          ap (λ (M : Numbering). length (all_bytes count (renamed types s) ig xs M)) (numbered_renamed types s x N),
+          steps_length_renamed xs (numbered s x N),
+        )
+
+    pub key_length_renamed : (f : Sort) (n : ℕ) → length (key (renamed types s) ig f n) ≡ length (key s ig f n)
+    unfolding key
+    key_length_renamed f n =
+        ap (λ (xs : List Step). length (all_bytes count (renamed types s) ig xs no_numbers)) (steps_renamed types s f n)
+        ∙ steps_length_renamed (steps s f n) no_numbers
