@@ -1,9 +1,8 @@
--- A comparison that is refused by a test answers its cause, and one that is not answers where its walk has come to: in a sound store no
--- walk is too deep. Assumes nothing.
+-- A comparison that is refused by a test answers its cause, and one that is not answers where its walk has come to. Assumes nothing.
 use Rattle.std.specs.Prelude.{Result, Ok, Err}
 use Prim.Native.Nat.{ℕ}
 use native.Mathlib.Omega.{arith}
-use mathlib.Core.Bool.{Bool, true, false, true≢false, ◌&&◌}
+use mathlib.Core.Bool.{Bool, true, false, true≢false}
 use mathlib.Core.List.{List, [], ◌∷◌}
 use mathlib.Core.Option.{none, some}
 use mathlib.Core.Path.{◌≡◌, refl, sym, ap, subst, ◌∙◌}
@@ -14,14 +13,13 @@ use Rattle.rules.specs.Building.{first_failed}
 use Rattle.rules.specs.Shells.{Ignore}
 use Rattle.rules.specs.Mapping.{Mapping, allowed}
 use Rattle.rules.specs.Types.{types_hold, renamed}
-use Rattle.rules.specs.Comparison.{State, unequal, one_longer, too_deep, Walk, on, ended, standing, ◌>>=◌, pair_ops, compare_by, start, compare}
-use Rattle.rules.specs.Answers.{Compared, refused, shallow, compare_tests, comparison_of, comparison_by, comparison}
+use Rattle.rules.specs.Comparison.{State, unequal, one_longer, Walk, on, ended, standing, ◌>>=◌, pair_ops, compare_by, start, compare}
+use Rattle.rules.specs.Answers.{Compared, refused, compare_tests, comparison_of, comparison_by, comparison}
 use Rattle.rules.proofs.Basics.Tests.{and_left, and_right}
-use Rattle.rules.proofs.Walking.Deep.{compare_not_deep}
+use Rattle.rules.proofs.Soundness.Accepted.{first_failed_none}
 use Rattle.rules.proofs.Walking.Paired.{paired_most}
 use Rattle.rules.proofs.Types.Renamed.{exists_renamed, renamed_sound}
 use Rattle.layout.specs.Reading.{store_in}
-use Rattle.layout.specs.Soundness.{IsSound}
 use Rattle.renaming.specs.Index.{list_in, IsIndex}
 use Rattle.renaming.proofs.Indexed.{no_words_lem, no_list}
 use Rattle.fragments.specs.Options.{Options, under}
@@ -38,32 +36,11 @@ use Rattle.equivalence.specs.declared.types.BlockLists.TheVariants.{Alone}
 
 -- ---- the tests of a pair
 
-two_passed : (a b : Bool) (i j : ℕ) → first_failed ((a, i) ∷ (b, j) ∷ []) ≡ none → (a ≡ true) × (b ≡ true)
-unfolding first_failed
-two_passed true true i j h = (refl, refl)
-two_passed true false i j h = let x : ◌≡◌ {A = Bool} true false = cc in absurd (true≢false x)
-two_passed false b i j h = let x : ◌≡◌ {A = Bool} true false = cc in absurd (true≢false x)
-
 pub pair_exists : (s : Store) (f : Sort) (l r : ℕ) → first_failed (pair_tests s f l r) ≡ none → (exists s f l ≡ true) × (exists s f r ≡ true)
 unfolding pair_tests
 pair_exists s f l r h =
-    let t = (two_passed (exists s f l && exists s f r) (shallow s f l && shallow s f r) 2 12 h).0 in
+    let t = (first_failed_none (pair_tests s f l r) h).0 in
     (and_left (exists s f l) (exists s f r) t, and_right (exists s f l) (exists s f r) t)
-
-module _ (s : Store) (f : Sort) (l r : ℕ) where
-  pub left_missing : exists s f l ≡ false → first_failed (pair_tests s f l r) ≡ some 2
-  unfolding pair_tests first_failed
-  left_missing e = rw e refl
-
-  module _ (el : exists s f l ≡ true) where
-    pub right_missing : exists s f r ≡ false → first_failed (pair_tests s f l r) ≡ some 2
-    unfolding pair_tests first_failed
-    right_missing e = rw (el, e) refl
-
-    module _ (er : exists s f r ≡ true) where
-      pub both_shallow : shallow s f l ≡ true → shallow s f r ≡ true → first_failed (pair_tests s f l r) ≡ none
-      unfolding pair_tests first_failed
-      both_shallow e d = rw (el, er, e, d) refl
 
 module _ (s : Store) (f : Sort) (l r : ℕ) {A : Type 0} (q : Result A Cause) (told : cause_of q ≡ first_failed (pair_tests s f l r)) where
   pub tests_passed : {a : A} → q ≡ Ok a → first_failed (pair_tests s f l r) ≡ none
@@ -83,12 +60,11 @@ not_refused (Err (FirstNEQOps l r n)) c h = true≢false cc
 not_refused (Err (FirstNEQRegions l r n)) c h = true≢false cc
 not_refused (Err (FirstNEQBlocks l r n)) c h = true≢false cc
 
-outcome_is : (w : Walk) (m : Mapping) → ((st : State) → w ≡ ended too_deep st → ⊥) → comparison_of w m ≡ outcome w
+outcome_is : (w : Walk) (m : Mapping) → comparison_of w m ≡ outcome w
 unfolding outcome comparison_of standing
-outcome_is (on st) m h = refl
-outcome_is (ended (unequal p) st) m h = refl
-outcome_is (ended (one_longer p) st) m h = refl
-outcome_is (ended too_deep st) m h = absurd (h st refl)
+outcome_is (on st) m = refl
+outcome_is (ended (unequal p) st) m = refl
+outcome_is (ended (one_longer p) st) m = refl
 
 module _ (b types m : List ℕ) (ig : Ignore) (f : Sort) (l r : ℕ) where
   pub unsound : (ok : Bool) → ok ≡ false → Answered ok b types m m ig f l r (refused 1)
@@ -115,16 +91,10 @@ module _ (b types m : List ℕ) (ig : Ignore) (f : Sort) (l r : ℕ) where
     unfolding comparison comparison_by compare_tests first_failed pair_tests
     refused_pair c e = record { told = rw (a, ty, e) refl; unchanged = λ k h. refl }
 
-    pub walked : IsSound b → (q : Result ℕ Unequal) (z : List ℕ) → first_failed (pair_tests (store_in b) f l r) ≡ none
+    pub walked : (q : Result ℕ Unequal) (z : List ℕ) → first_failed (pair_tests (store_in b) f l r) ≡ none
         → Told walk q z → Answered true b types m z ig f l r (answer_of q)
     unfolding comparison comparison_by compare_tests first_failed pair_tests compare start state_of Told
-    walked h q z e t =
-        let ex = (pair_exists (store_in b) f l r e).0 in
-        let deep = compare_not_deep (renamed types (store_in b)) (renamed_sound types (store_in b) h.ruled) ig f l r (exists_renamed types (store_in b) f l ∙ ex) (mapping_of m) in
-        record {
-          told = rw (a, ty, e) (outcome_is walk (mapping_of m) deep ∙ t);
-          unchanged = λ c k. absurd (not_refused q c k);
-        }
+    walked q z e t = record { told = rw (a, ty, e) (outcome_is walk (mapping_of m) ∙ t); unchanged = λ c k. absurd (not_refused q c k) }
 
 -- ---- the walk of each sort, and that it enters no more than there are operations and blocks
 

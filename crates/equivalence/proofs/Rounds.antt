@@ -7,12 +7,11 @@ use mathlib.Core.Bool.{true, false}
 use mathlib.Core.List.{List, ◌∷◌, Memᴰ}
 use mathlib.Core.Path.{◌≡◌, refl, sym, ap, ap₂, subst, ◌∙◌}
 use Rattle.rules.specs.Store.{Store, op_around, ops_of, blocks_of, regions_of, region_exists, sound}
-use Rattle.rules.specs.Fragments.{region, exists, levels}
+use Rattle.rules.specs.Fragments.{exists, levels}
 use Rattle.rules.specs.Types.{renamed}
 use Rattle.rules.specs.Comparison.{State, Walk, standing, ◌>>=◌, each_pair, expect, check_names, check_ops, pass3, compare_lists, compare_regions, compare_by}
 use Rattle.rules.specs.Answers.{comparison_of}
-use Rattle.rules.proofs.Walking.Enough.{enough_one}
-use Rattle.rules.proofs.Walking.Deep.{walks_not_deep}
+use Rattle.rules.proofs.Walking.Enough.{regions_enough}
 use Rattle.rules.proofs.Walking.Paired.{Grows, grows_each, grows_ops, grows_pass2, grows_pass3, grows_regions}
 use Rattle.rules.proofs.Types.Renamed.{renamed_sound}
 use Rattle.rules.proofs.Soundness.Children.{regions_in_lem}
@@ -38,9 +37,10 @@ module _ (s : Store) (o : Options) where
   -- ---- two regions
 
   -- one region more to enter makes no difference
-  pub region_lists : sound s ≡ true → (l r : ℕ) → region_exists s l ≡ true → (st : State) → region_walk s o l r st ≡ lists_walk s o (InRegions l r) st
+  pub region_lists : sound s ≡ true → (l r : ℕ) (st : State) → region_walk s o l r st ≡ lists_walk s o (InRegions l r) st
   unfolding region_walk lists_walk op_walk left_of right_of block_list pair_of_lists compare_regions compare_by exists renamed blocks_of region_exists
-  region_lists sd l r e st = sym (enough_one (under o s) o.ignore levels l r st (λ t h. walks_not_deep (under o s) (renamed_sound o.types s sd) o.ignore region l r e st t h))
+  region_lists sd l r st =
+      regions_enough (under o s) (renamed_sound o.types s sd) o.ignore levels (suc levels) (omega arith) (omega arith) l r st
 
   -- ---- two operations
 

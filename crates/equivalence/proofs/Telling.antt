@@ -7,7 +7,7 @@ use mathlib.Core.Bool.{true≢false}
 use mathlib.Core.List.{List}
 use mathlib.Core.Logic.{◌⊎◌, inl, inr}
 use mathlib.Core.Path.{◌≡◌, refl, sym, ap, subst}
-use Rattle.rules.specs.Comparison.{State, Pair, unequal, one_longer, too_deep, Walk, on, ended, standing, ◌>>=◌}
+use Rattle.rules.specs.Comparison.{State, Pair, unequal, one_longer, Walk, on, ended, standing, ◌>>=◌}
 use Rattle.rules.specs.Answers.{Compared, Comparison, eq, neq, refused, comparison_of}
 use Rattle.rules.proofs.Walking.Paired.{Grows, grows_bind}
 use Rattle.pairing.specs.Told.{answer_of, state_of, outcome, Told, max_paired, PairedFits}
@@ -28,10 +28,9 @@ unfolding Told outcome comparison_of standing answer_of state_of
 told_on (on st) n b h = λ i. on (record { mapping = (h i).mapping; paired = paired_in_lem (h i).answer })
 told_on (ended (unequal p) st) n b h = let a : neq p st.paired ≡ eq n = ap (λ (x : Comparison). x.answer) h in cc
 told_on (ended (one_longer p) st) n b h = let a : neq p st.paired ≡ eq n = ap (λ (x : Comparison). x.answer) h in cc
-told_on (ended too_deep st) n b h = let a : refused 12 ≡ eq n = ap (λ (x : Comparison). x.answer) h in cc
 
 -- where it is not, the walk has ended
-not_equal : (u : Unequal) (n : ℕ) → eq n ≡ answer_of (Err u) → ⊥
+pub not_equal : (u : Unequal) (n : ℕ) → eq n ≡ answer_of (Err u) → ⊥
 unfolding answer_of
 not_equal (FirstNEQOps l r m) n h = true≢false cc
 not_equal (FirstNEQRegions l r m) n h = true≢false cc

@@ -3,13 +3,13 @@ use Rattle.std.specs.Prelude.{ℕ, Bool, ◌&&◌, List, [], ◌∷◌, ◌≡�
 use Rattle.rules.specs.Store.{Store}
 use Rattle.rules.specs.Fragments.{Sort, exists}
 use Rattle.rules.specs.Shells as rules
-use Rattle.rules.specs.Answers.{Compared, refused, shallow, comparison}
+use Rattle.rules.specs.Answers.{Compared, refused, comparison}
 use Rattle.layout.specs.Reading.{store_in}
 use Rattle.mapping.specs.MappingWords.{mapping_of}
 
 -- what is tested of two fragments before anything is entered
 unfoldable pub pair_tests : Store → Sort → ℕ → ℕ → List (Bool × ℕ)
-pair_tests s f l r = (exists s f l && exists s f r, 2) ∷ (shallow s f l && shallow s f r, 12) ∷ []
+pair_tests s f l r = (exists s f l && exists s f r, 2) ∷ []
 
 -- of two fragments of one sort, under a list of renamed types, begun with a lent mapping; `ok` is whether the store is sound
 pub record Answered (ok : Bool) (store types before after : List ℕ) (ig : rules.Ignore) (f : Sort) (l r : ℕ) (q : Compared) : Type 0 where

@@ -27,9 +27,9 @@ use mapping::mapping::MappingWords;
 use pairing::pairing::op_eq_map;
 use pairing::types::{Pair, Unequal};
 
-// Two fragments are compared if both exist. In a sound store none is nested too deep.
+// Two fragments are compared if both exist.
+#[tactic(auto, unfolding(layout::specs::Causes::cause_of, crate::specs::Calls::pair_tests, rules::specs::Building::first_failed))]
 fn both_exist(store: &StoreWords, sort: Sort, lhs: u32, rhs: u32) -> Result<(), Cause>
-    requires { IsSound store.now }
     ensures { cause_of result ≡ first_failed (pair_tests (store_in store.now) (sort_of sort) lhs rhs) }
 {
     if exists(store, sort, lhs) && exists(store, sort, rhs) {

@@ -1,8 +1,4 @@
--- The sizes that the code tells are the rules', and so is what it leaves of attributes; a list of blocks is gone through as the rules do.
-pub mod Counting
-pub mod Parts
-pub mod Most
-pub mod Turns
+-- What the code leaves of attributes is what the rules leave; a list of blocks is gone through as the rules do.
 pub mod Kept
 pub mod ByRows
 pub mod Ordered

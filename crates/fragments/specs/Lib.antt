@@ -1,5 +1,4 @@
 -- What is told of a fragment, what an ignore rule leaves of it, and the order in which a walk goes through it.
-pub mod Sizes
 pub mod Sorts
 pub mod Ignoring
 pub mod Options

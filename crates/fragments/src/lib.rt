@@ -1,12 +1,11 @@
-// The fragments of a store: which there are, how many operations are in one, what an operation or a block has by itself, what an
-// ignore rule leaves of it, and the order in which a walk goes through a fragment.
+// The fragments of a store: which there are, what an operation or a block has by itself, what an ignore rule leaves of it, and the order
+// in which a walk goes through a fragment.
 #![tactic(auto)]
 
 pub mod ignoring;
 pub mod kept_slots;
 pub mod order;
 pub mod rows;
-pub mod sizes;
 pub mod sorts;
 pub mod terms;
 pub mod types;

@@ -1,6 +1,6 @@
 -- A hash that is refused by a test answers its cause, and one that is not answers the word that all steps of the fragment are fed into.
 -- Assumes nothing.
-use Rattle.std.proofs.Common.{◌≡◌, ℕ, Bool, true, false, cond, List, [], ◌∷◌, sym, refl, ap, ◌∙◌, subst, true≢false}
+use Rattle.std.proofs.Common.{◌≡◌, ℕ, Bool, true, false, cond, List, sym, refl, ap, ◌∙◌, subst}
 use mathlib.Core.Option.{Option, none, some}
 use Rattle.std.specs.Prelude as std
 use Rattle.rules.specs.Store.{Store}
@@ -9,7 +9,8 @@ use Rattle.rules.specs.Building.{first_failed}
 use Rattle.rules.specs.Shells.{Ignore}
 use Rattle.rules.specs.Types.{types_hold, renamed}
 use Rattle.rules.specs.Hash.{hash}
-use Rattle.rules.specs.Answers.{Hashed, shallow, hash_tests, hashed_by, hashed}
+use Rattle.rules.specs.Answers.{Hashed, hash_tests, hashed_by, hashed}
+use Rattle.rules.proofs.Soundness.Accepted.{first_failed_none}
 use Rattle.layout.specs.Causes.{number_of}
 use Rattle.layout.specs.declared.causes.Cause.{Cause}
 use Rattle.layout.specs.declared.causes.Cause.TheVariants as causes
@@ -19,23 +20,9 @@ use Rattle.hashing.specs.Calls.{hashed_of, fragment_tests, Answered}
 
 -- ---- the tests of a fragment
 
-module _ (s : Store) (f : Sort) (n : ℕ) where
-  pub missing : exists s f n ≡ false → first_failed (fragment_tests s f n) ≡ some 2
-  unfolding fragment_tests first_failed
-  missing e = rw e refl
-
-  pub both_pass : exists s f n ≡ true → shallow s f n ≡ true → first_failed (fragment_tests s f n) ≡ none
-  unfolding fragment_tests first_failed
-  both_pass e d = rw (e, d) refl
-
-first_passed : (a b : Bool) (i j : ℕ) → first_failed ((a, i) ∷ (b, j) ∷ []) ≡ none → a ≡ true
-unfolding first_failed
-first_passed true b i j h = refl
-first_passed false b i j h = let x : ◌≡◌ {A = Bool} true false = cc in absurd (true≢false x)
-
 pub existing : (s : Store) (f : Sort) (n : ℕ) → first_failed (fragment_tests s f n) ≡ none → exists s f n ≡ true
 unfolding fragment_tests
-existing s f n h = first_passed (exists s f n) (shallow s f n) 2 12 h
+existing s f n h = (first_failed_none (fragment_tests s f n) h).0
 
 -- ---- answers
 

@@ -5,7 +5,7 @@ use Rattle.rules.specs.Store.{Store}
 use Rattle.rules.specs.Fragments.{Sort, exists}
 use Rattle.rules.specs.Shells.{Ignore}
 use Rattle.rules.specs.Answers as rules
-use Rattle.rules.specs.Answers.{shallow, hashed}
+use Rattle.rules.specs.Answers.{hashed}
 use Rattle.layout.specs.Reading.{store_in}
 use Rattle.layout.specs.Causes.{number_of}
 use Rattle.layout.specs.declared.causes.Cause.{Cause}
@@ -17,7 +17,7 @@ hashed_of (std.Err cause) = rules.refused_hash (number_of cause)
 
 -- what is tested of a fragment of a sound store, after the list of types, before anything is fed
 unfoldable pub fragment_tests : Store → Sort → ℕ → List (Bool × ℕ)
-fragment_tests s f n = (exists s f n, 2) ∷ (shallow s f n, 12) ∷ []
+fragment_tests s f n = (exists s f n, 2) ∷ []
 
 -- of a fragment; `ok` is whether the store is sound
 pub record Answered (ok : Bool) (store types : List ℕ) (ig : Ignore) (f : Sort) (n : ℕ) (q : std.Result ℕ Cause) : Type 0 where

@@ -26,9 +26,9 @@ use layout::columns::StoreWords;
 use numbering::alone::holds_nothing;
 use numbering::words::{NUMBERS_LENGTH, WalkNumbers};
 
-// Why a fragment is not hashed: it does not exist. In a sound store nothing is nested too deep.
+// Why a fragment is not hashed: it does not exist.
+#[tactic(auto, unfolding(layout::specs::Causes::cause_of, crate::specs::Calls::fragment_tests, rules::specs::Building::first_failed))]
 fn hash_cause(store: &StoreWords, sort: Sort, n: u32) -> Result<(), Cause>
-    requires { IsSound store.now }
     ensures { cause_of result ≡ first_failed (fragment_tests (store_in store.now) (sort_of sort) n) }
 {
     if !exists(store, sort, n) {

@@ -20,7 +20,6 @@ use Rattle.rules.specs.Statements.{KeyLongest}
 use Rattle.rules.proofs.Extents.Lengths.{key_length_renamed}
 use Rattle.rules.proofs.Keys.Longest.{key_longest}
 use Rattle.rules.proofs.Types.Renamed.{exists_renamed, steps_renamed, renamed_sound}
-use Rattle.rules.proofs.Walking.Answered.{fragment_shallow}
 use Rattle.layout.specs.Reading.{store_in}
 use Rattle.layout.specs.Soundness.{IsSound}
 use Rattle.renaming.specs.Index.{list_in, IsIndex}
@@ -110,12 +109,12 @@ module _ (b types : List ℕ) (ig : Ignore) (f : Sort) (n : ℕ) (before : List 
       module _ (e : exists (store_in b) f n ≡ true) where
         pub too_short_lem : leb (length its) (length before) ≡ false → Answered true b types ig f n before before (refused_key 13)
         unfolding key_tests first_failed
-        too_short_lem l = refused true 13 (rw (t, e, fragment_shallow (store_in b) h.ruled f n e, l) refl)
+        too_short_lem l = refused true 13 (rw (t, e, l) refl)
 
         module _ (l : leb (length its) (length before) ≡ true) where
           none_failed : tested true ≡ none
           unfolding key_tests first_failed
-          none_failed = rw (t, e, fragment_shallow (store_in b) h.ruled f n e, l) refl
+          none_failed = rw (t, e, l) refl
 
           pub given : {after : List ℕ} {r : ℕ} → length its ≤ longest_key → Put its before 0 after r → Answered true b types ig f n before after (key_length r)
           unfolding keyed keyed_by written

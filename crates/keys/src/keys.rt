@@ -113,7 +113,7 @@ fn key_fits(store: &StoreWords, room: usize, sort: Sort, n: usize, ignore: Ignor
     room >= LONGEST_KEY || key_length(store, sort, n, ignore) <= room
 }
 
-// Write the key of a fragment into lent bytes, unless it does not exist or its key does not fit. In a sound store nothing is nested too deep.
+// Write the key of a fragment into lent bytes, unless it does not exist or its key does not fit.
 pub fn fragment_key(
     store: &StoreWords,
     types: &[u32],

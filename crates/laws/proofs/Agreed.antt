@@ -9,7 +9,7 @@ use Rattle.rules.specs.Store.{Store, sound}
 use Rattle.rules.specs.Fragments.{Sort, op, block, region}
 use Rattle.rules.specs.Shells.{Ignore}
 use Rattle.rules.specs.Mapping.{Mapping, allowed}
-use Rattle.rules.specs.Comparison.{Pair, unequal, one_longer, too_deep, State, Walk, on, ended, standing, pair_of, compare}
+use Rattle.rules.specs.Comparison.{Pair, unequal, one_longer, Walk, on, ended, standing, pair_of, compare}
 use Rattle.rules.specs.Types.{types_hold, renamed}
 use Rattle.rules.specs.Answers.{Comparison, eq, neq, comparison_of, comparison}
 use Rattle.rules.specs.Rust as rust
@@ -17,7 +17,6 @@ use Rattle.rules.specs.Agreement.{named_by, named, result_of, answered, met_one_
 use Rattle.rules.specs.Laws.{In}
 use Rattle.rules.specs.Statements.{RenamedSound}
 use Rattle.rules.proofs.Types.Under.{renamed_sound}
-use Rattle.rules.proofs.Walking.Deep.{compare_not_deep}
 use Rattle.rules.proofs.Walking.Answered.{comparison_is}
 use Rattle.rules.proofs.Rust.Comparison.{compares_as_the_rust}
 use Rattle.rules.proofs.Rust.Hash.{hashes_as_the_rust}
@@ -44,18 +43,17 @@ eq_word : (q : EqAnswer) (n : ℕ) → compared_of q ≡ eq n → verdict_of q �
 unfolding verdict_of
 eq_word q n e = ap verdict_of (equal_only q n e)
 
--- a walk that has not run too deep, and an answer of the rules that is the code's
-same_words : (w : Walk) → ((t : State) → w ≡ ended too_deep t → ⊥) → (m after : Mapping) (q : EqAnswer)
+-- an answer of the rules that is the code's
+same_words : (w : Walk) (m after : Mapping) (q : EqAnswer)
     → comparison_of w m ≡ record { answer = compared_of q; mapping = after } → answered w ≡ rust.answers (verdict_of q) after
 unfolding comparison_of answered result_of standing
-same_words (on st) deep m after q e =
+same_words (on st) m after q e =
     let k : verdict_of q ≡ rust.Eq = eq_word q st.paired (sym (ap (λ (c : Comparison). c.answer) e)) in
     ap₂ rust.answers (sym k) (ap (λ (c : Comparison). c.mapping) e)
-same_words (ended (unequal p) st) deep m after q e =
+same_words (ended (unequal p) st) m after q e =
     ap₂ rust.answers (sym (names_only q p st.paired (sym (ap (λ (c : Comparison). c.answer) e)))) (ap (λ (c : Comparison). c.mapping) e)
-same_words (ended (one_longer p) st) deep m after q e =
+same_words (ended (one_longer p) st) m after q e =
     ap₂ rust.answers (sym (names_only q p st.paired (sym (ap (λ (c : Comparison). c.answer) e)))) (ap (λ (c : Comparison). c.mapping) e)
-same_words (ended too_deep st) deep m after q e = absurd (deep st refl)
 
 module _ (b : List ℕ) (sd : sound_lent b ≡ true) (types : List ℕ) (th : types_hold types ≡ true) (ig : Ignore) (f : Sort) where
   -- the store as it is read
@@ -79,8 +77,7 @@ module _ (b : List ℕ) (sd : sound_lent b ≡ true) (types : List ℕ) (th : ty
     unfolding ComparesAsTheRust
     as_the_rust never =
         compares_as_the_rust read sound_read ig f l r (mapping_of before) never
-        ∙ same_words (compare read ig f l r (mapping_of before)) (λ t h. compare_not_deep read sound_read ig f l r (here b sd types th ig f l il) (mapping_of before) t h)
-        (mapping_of before) (mapping_of after) q walked
+        ∙ same_words (compare read ig f l r (mapping_of before)) (mapping_of before) (mapping_of after) q walked
 
   answers_agree : AnswersAgree b types ig f
   unfolding HashesAsTheRust

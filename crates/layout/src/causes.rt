@@ -4,7 +4,7 @@ ghost use Rattle.layout.specs.Causes.{number_of};
 
 use std::fmt;
 
-// The causes by their numbers. No walk over a sound store gives 12.
+// The causes by their numbers. 12 is retired, and not used again.
 #[derive(Clone, Copy, PartialEq, Eq, Debug)]
 pub enum Cause {
     NotSound = 1,

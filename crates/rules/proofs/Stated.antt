@@ -11,7 +11,9 @@ use Rattle.rules.proofs.Walking.Allowed as allowing
 use Rattle.rules.proofs.Walking.Entered as entering
 use Rattle.rules.proofs.Listings.Nearest as nearest
 use Rattle.rules.proofs.Listings.Counted as counting
-use Rattle.rules.proofs.Walking.Sizes as sizing
+use Rattle.rules.proofs.Walking.Stays as staying
+use Rattle.rules.proofs.Walking.Enough as enough
+use Rattle.rules.proofs.Form.Counted as sizing
 use Rattle.rules.proofs.Form.Canonical as forms
 use Rattle.rules.proofs.Form.Inherent as inherent
 use Rattle.rules.proofs.Form.SideBySide as sides
@@ -46,6 +48,15 @@ pub after_sound : stated.AfterSound
 unfolding stated.AfterSound
 after_sound calls = kept.after_sound empty_store calls kept.empty_sound
 
+pub nested_at_most : stated.NestedAtMost
+nested_at_most = staying.nested_at_most
+
+pub walk_stays : stated.WalkStays
+walk_stays = staying.walk_stays
+
+pub levels_enough : stated.LevelsEnough
+levels_enough = enough.levels_enough
+
 pub comparison_is : stated.ComparisonIs
 unfolding stated.ComparisonIs
 comparison_is s sd types th ig f m am l r il ir = walking.comparison_is s sd ig f types th m am l r il ir
@@ -76,11 +87,7 @@ paired_most s sd ig f l r i st = pairing.paired_most s sd ig f l r i st
 
 pub size_most : stated.SizeMost
 unfolding stated.SizeMost
-size_most s sd f n size i e = sizing.size_most s sd f n size i e
-
-pub size_is : stated.SizeIs
-unfolding stated.SizeIs
-size_is s f n size e = sizing.size_is s f n size e
+size_most s sd f n i = sizing.size_most s sd f n i
 
 pub counted_exactly : stated.CountedExactly
 unfolding stated.CountedExactly

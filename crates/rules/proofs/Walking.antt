@@ -1,12 +1,12 @@
--- Walks: their depth, their answers, the Rust's, how far they count, and what they keep.
+-- Walks: their levels, where they stay, their answers, how far they count, and what they keep.
 pub mod Walks
 pub mod Levels
-pub mod Deep
 pub mod Enough
 pub mod EnoughSteps
+pub mod Stays
 pub mod Answered
 pub mod Paired
-pub mod Sizes
 pub mod Keeping
 pub mod Allowed
 pub mod Entered
+pub mod Computed

@@ -4,11 +4,12 @@ use Rattle.rules.specs.Store.{Store, sound}
 use Rattle.rules.specs.Fragments.{Sort, op, block, region, exists}
 use Rattle.rules.specs.Shells.{Ignore}
 use Rattle.rules.specs.Mapping.{Mapping}
-use Rattle.rules.specs.Comparison.{Pair, unequal, one_longer, too_deep, Walk, on, ended, standing, compare}
+use Rattle.rules.specs.Comparison.{Pair, unequal, one_longer, Walk, on, ended, standing, compare}
 use Rattle.rules.specs.Hash.{hash}
-use Rattle.rules.specs.Rust.{EqResult, Eq, FirstNEQOps, FirstNEQRegions, FirstNEQBlocks, no_answer, Returned, answers, rust_eq, rust_hash}
+use Rattle.rules.specs.Rust.{EqResult, Eq, FirstNEQOps, FirstNEQRegions, FirstNEQBlocks, Returned, answers, rust_eq, rust_hash}
 
--- 01's answer in the Rust's words: the verdict with its pair, and the mapping
+-- 01's answer in the Rust's words: the verdict with its pair, and the mapping. It is never `no_answer`: where the two agree the Rust's
+-- recursion ends
 unfoldable pub named_by : Sort → ℕ → ℕ → EqResult
 named_by op l r = FirstNEQOps l r
 named_by block l r = FirstNEQBlocks l r
@@ -21,7 +22,6 @@ unfoldable pub result_of : Walk → EqResult
 result_of (on st) = Eq
 result_of (ended (unequal p) st) = named p
 result_of (ended (one_longer p) st) = named p
-result_of (ended too_deep st) = no_answer
 
 unfoldable pub answered : Walk → Returned
 answered w = answers (result_of w) (standing w).mapping
@@ -31,7 +31,6 @@ unfoldable pub met_one_longer : Walk → Bool
 met_one_longer (on st) = false
 met_one_longer (ended (unequal p) st) = false
 met_one_longer (ended (one_longer p) st) = true
-met_one_longer (ended too_deep st) = false
 
 -- "Verdict, named pair, mapping ... equal ... the Rust's wherever no list of blocks or operations is, where the walk tests lengths, exactly
 -- one longer on the left"

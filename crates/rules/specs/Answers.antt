@@ -1,14 +1,13 @@
 -- 01, "Causes": what a comparison and a hash answer, under a lent list of renamed types. A refused call leaves the mapping as it was.
 use Rattle.std.specs.Prelude.{ℕ, Bool, ◌&&◌, List, [], ◌∷◌}
 use Rattle.std.proofs.Math.Option.{Option, none, some}
-use Rattle.rules.specs.Lists.{is_some}
 use Rattle.rules.specs.Store.{Store}
-use Rattle.rules.specs.Fragments.{Sort, exists, fragment_size}
+use Rattle.rules.specs.Fragments.{Sort, exists}
 use Rattle.rules.specs.Building.{first_failed}
 use Rattle.rules.specs.Shells.{Ignore}
 use Rattle.rules.specs.Mapping.{Mapping, allowed}
 use Rattle.rules.specs.Types.{types_hold, renamed}
-use Rattle.rules.specs.Comparison.{Pair, unequal, one_longer, too_deep, Walk, on, ended, compare}
+use Rattle.rules.specs.Comparison.{Pair, unequal, one_longer, Walk, on, ended, compare}
 use Rattle.rules.specs.Hash.{hash}
 
 -- "eq, op, block or region, the named pair, paired"
@@ -21,26 +20,20 @@ pub record Comparison : Type 0 where
   pub answer : Compared
   pub mapping : Mapping
 
--- cause 12 is tested before anything is entered
-unfoldable pub shallow : Store → Sort → ℕ → Bool
-shallow s f n = is_some (fragment_size s f n)
-
--- "Order for a call: 1, 8, 6, 2, 7, 4, 5, 3, 12", and order 3: "14, after 8". The first test is the soundness of the lent store, which its
--- layout tells.
+-- "Order for a call: 1, 8, 6, 2, 7, 4, 5, 3" (order 13), and order 3: "14, after 8". The first test is the soundness of the lent store,
+-- which its layout tells.
 unfoldable pub compare_tests : Bool → Store → List ℕ → Mapping → Sort → ℕ → ℕ → List (Bool × ℕ)
 compare_tests lent s types m f l r =
     (lent, 1)
     ∷ (allowed s m, 8)
     ∷ (types_hold types, 14)
     ∷ (exists s f l && exists s f r, 2)
-    ∷ (shallow s f l && shallow s f r, 12)
     ∷ []
 
 unfoldable pub comparison_of : Walk → Mapping → Comparison
 comparison_of (on st) m = record { answer = eq st.paired; mapping = st.mapping }
 comparison_of (ended (unequal p) st) m = record { answer = neq p st.paired; mapping = st.mapping }
 comparison_of (ended (one_longer p) st) m = record { answer = neq p st.paired; mapping = st.mapping }
-comparison_of (ended too_deep st) m = record { answer = refused 12; mapping = m }
 
 unfoldable pub comparison_by : Option ℕ → Store → Mapping → Ignore → Sort → ℕ → ℕ → Comparison
 comparison_by none s m ig f l r = comparison_of (compare s ig f l r m) m
@@ -57,7 +50,7 @@ pub data Hashed : Type 0 where
   refused_hash : ℕ → Hashed
 
 unfoldable pub hash_tests : Bool → Store → List ℕ → Sort → ℕ → List (Bool × ℕ)
-hash_tests lent s types f n = (lent, 1) ∷ (types_hold types, 14) ∷ (exists s f n, 2) ∷ (shallow s f n, 12) ∷ []
+hash_tests lent s types f n = (lent, 1) ∷ (types_hold types, 14) ∷ (exists s f n, 2) ∷ []
 
 unfoldable pub hashed_by : Option ℕ → Store → Ignore → Sort → ℕ → Hashed
 hashed_by none s ig f n = hash_is (hash s ig f n)

@@ -73,7 +73,7 @@ operation_room s o =
 unfoldable pub block_room : Store → NewBlock → Bool
 block_room s b = every (leb (length s.blocks + 1) max_blocks ∷ leb (length s.values + length b.types) max_values ∷ [])
 
--- "Order for a call: 1, 8, 6, 2, 7, 4, 5, 3, 12"
+-- "Order for a call: 1, 8, 6, 2, 7, 4, 5, 3" (order 13)
 unfoldable pub tests : Store → Call → List (Bool × ℕ)
 tests s (new_operation o) =
     (operation_names s o, 2)

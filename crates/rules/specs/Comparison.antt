@@ -19,12 +19,10 @@ pub record Pair : Type 0 where
   pub left : ℕ
   pub right : ℕ
 
--- why a walk has ended: a failure that names a pair; unequal lengths, the left list exactly one longer, which name a pair too;
--- or more regions one in another than any operation is nested in (cause 12)
+-- why a walk has ended: a failure that names a pair; or unequal lengths, the left list exactly one longer, which name a pair too
 pub data Stop : Type 0 where
   unequal : Pair → Stop
   one_longer : Pair → Stop
-  too_deep : Stop
 
 -- "The first failure ends the walk; entries made so far stay."
 pub data Walk : Type 0 where
@@ -132,9 +130,9 @@ pass3 s check ls rs = each_pair (λ (l r : ℕ). each_pair check (ops_of s l) (o
 unfoldable pub compare_lists : Store → Ignore → (ℕ → ℕ → State → Walk) → Pair → List ℕ → List ℕ → State → Walk
 compare_lists s ig check p ls rs st = pass1 s ig p ls rs st >>= pass2 s ig ls rs >>= pass3 s check ls rs
 
--- two regions (`region_eq`); the first number is that of regions, one in another, that may still be entered
+-- two regions (`region_eq`); the first number is that of regions, one in another, that may still be entered; for 0, see `levels`
 unfoldable pub compare_regions : ℕ → Store → Ignore → ℕ → ℕ → State → Walk
-compare_regions zero s ig l r st = ended too_deep st
+compare_regions zero s ig l r st = on st
 compare_regions (suc k) s ig l r st =
     compare_lists s ig (check_ops s (compare_regions k s ig)) (pair_of region l r) (blocks_of s l) (blocks_of s r) st
 

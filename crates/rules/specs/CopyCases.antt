@@ -1,6 +1,6 @@
 -- Copies in small stores: a nested form with labels, attributes and successors whose copy's tables are written out, the places that are refused,
 -- names that come too early, a copy of the copy, and a copy at the deepest place.
-use Rattle.std.specs.Prelude.{ℕ, zero, suc, true, false, List, [], ◌∷◌, ◌++◌, ◌≡◌, take, drop}
+use Rattle.std.specs.Prelude.{ℕ, true, false, List, [], ◌∷◌, ◌++◌, ◌≡◌, take, drop}
 use Rattle.std.proofs.Math.Option.{Option, none, some}
 use Rattle.rules.specs.Store.{Store, of_op, of_block, empty_store}
 use Rattle.rules.specs.Fragments.{op}
@@ -8,6 +8,7 @@ use Rattle.rules.specs.Building.{Call, new_operation, new_block, set_attribute, 
 use Rattle.rules.specs.Laws.{Equal, equal}
 use Rattle.rules.specs.Copying.{copied, copy_mapping, copy_tests}
 use Rattle.rules.specs.Cases.{ignoring, attribute, inherent_one, operation, block_in, first_operand}
+use Rattle.rules.specs.NestingCases.{chain}
 
 -- an operation in this block or none, with so many regions, these result types, operands and successors
 unfoldable pub operation_in : Option ℕ → ℕ → List ℕ → List ℕ → List ℕ → Call
@@ -55,17 +56,10 @@ early_successor =
     ∷ operation_in (some 0) 0 [] [] (2 ∷ [])
     ∷ []
 
--- so many more operations one in another, the first in block n: each has a region, with a block in it
-unfoldable pub deeper : ℕ → ℕ → List Call
-deeper n zero = []
-deeper n (suc k) = operation_in (some n) 1 [] [] [] ∷ block_in (suc n) [] ∷ deeper (suc n) k
-
 -- 32 operations one in another; behind them an operation with an empty block, and one with an operation in its block
 unfoldable pub deep : List Call
 deep =
-    operation_in none 1 [] [] []
-    ∷ block_in 0 []
-    ∷ deeper 0 31
+    chain none 0 32
     ++ (operation_in none 1 [] [] [] ∷ block_in 32 [] ∷ operation_in none 1 [] [] [] ∷ block_in 33 [] ∷ operation_in (some 33) 0 [] [] [] ∷ [])
 
 -- `copy_cases_hold`

@@ -7,7 +7,6 @@ use Rattle.rules.specs.Fragments.{Sort, exists, ops_inside, outermost, fragment_
 use Rattle.rules.specs.Building.{first_failed}
 use Rattle.rules.specs.Shells.{Ignore}
 use Rattle.rules.specs.Keys.{key}
-use Rattle.rules.specs.Answers.{shallow}
 
 -- the largest of what f gives, 0 where there is nothing
 unfoldable pub deepest : (ℕ → ℕ) → List ℕ → ℕ
@@ -47,7 +46,7 @@ pub data Sized : Type 0 where
   refused_extent : ℕ → Sized
 
 unfoldable pub extent_tests : Bool → Store → Sort → ℕ → List (Bool × ℕ)
-extent_tests lent s f n = (lent, 1) ∷ (exists s f n, 2) ∷ (shallow s f n, 12) ∷ []
+extent_tests lent s f n = (lent, 1) ∷ (exists s f n, 2) ∷ []
 
 unfoldable pub sized_by : Option ℕ → Store → Ignore → Sort → ℕ → Sized
 sized_by none s ig f n = extent_is (extent s ig f n)

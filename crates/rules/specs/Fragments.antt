@@ -1,10 +1,9 @@
 -- 01, "Store": "A fragment is an operation, block or region with all inside it", what it names and defines, in the order of the walk,
--- and its size.
-use Rattle.std.specs.Prelude.{ℕ, zero, suc, ◌+◌, Bool, ◌⊎◌, ◌≡◌, length}
-use Rattle.std.proofs.Math.Option.{Option, none, some}
+-- and which operations are next inside it.
+use Rattle.std.specs.Prelude.{ℕ, zero, suc, Bool, ◌⊎◌, ◌≡◌, length}
 use mathlib.Core.List.{List, [], ◌∷◌, ◌++◌, map, Memᴰ}
 use Rattle.rules.specs.Lists.{concat_map}
-use Rattle.rules.specs.Store.{Store, Owner, of_op, of_block, op_at, ops_of, blocks_of, regions_of, values_of, parent_of, op_exists, block_exists, region_exists, levels_left, max_nesting}
+use Rattle.rules.specs.Store.{Store, Owner, of_op, of_block, op_at, ops_of, blocks_of, regions_of, values_of, op_exists, block_exists, region_exists, max_nesting}
 
 pub data Sort : Type 0 where
   op : Sort
@@ -46,7 +45,8 @@ unfoldable pub region_steps : ℕ → Store → ℕ → List Step
 region_steps zero s r = []
 region_steps (suc k) s r = list_steps s (full_op s (region_steps k s)) (blocks_of s r)
 
--- a walk enters at most 33 regions, one in another: those around operations of the deepest nesting, and theirs
+-- a walk enters at most 33 regions, one in another: those around operations of the deepest nesting, and theirs. What stands at 0 levels,
+-- here, in `compare_regions` and in `region_events`, may be anything: no walk over a sound store comes there (`Statements`, `LevelsEnough`)
 abbrev pub levels : ℕ
 levels = suc max_nesting
 
@@ -85,7 +85,7 @@ step_successors s (counted k) = []
 unfoldable pub defines_owners : Store → Sort → ℕ → List Owner
 defines_owners s f n = concat_map step_defines (steps s f n)
 
--- the operations inside a fragment, "a fragment's own operation included": as many as its size
+-- the operations inside a fragment, "a fragment's own operation included"
 unfoldable pub fragment_ops : Store → Sort → ℕ → List ℕ
 fragment_ops s f n = concat_map op_owner (defines_owners s f n)
 
@@ -121,16 +121,7 @@ Premise s f a b =
     × NamesNothingOf s f a b
     × NamesNothingOf s f b a)
 
--- ---- size: "an operation counts itself and its nested operations"; none where one is nested deeper than 32
-
-unfoldable pub plus : Option ℕ → Option ℕ → Option ℕ
-plus none b = none
-plus (some a) none = none
-plus (some a) (some b) = some (a + b)
-
-unfoldable pub sizes : (ℕ → Option ℕ) → List ℕ → Option ℕ
-sizes size [] = some 0
-sizes size (n ∷ ns) = plus (size n) (sizes size ns)
+-- ---- operations next inside
 
 -- the operations in a list of blocks, and in an operation's regions
 unfoldable pub ops_in_blocks : Store → List ℕ → List ℕ
@@ -139,23 +130,8 @@ ops_in_blocks s bs = concat_map (ops_of s) bs
 unfoldable pub ops_inside : Store → ℕ → List ℕ
 ops_inside s n = concat_map (λ (r : ℕ). ops_in_blocks s (blocks_of s r)) (regions_of s n)
 
--- of an operation in which k more regions may stand, one in another
-unfoldable pub op_size : ℕ → Store → ℕ → Option ℕ
-op_size zero s n = plus (some 1) (sizes (λ (m : ℕ). none) (ops_inside s n))
-op_size (suc k) s n = plus (some 1) (sizes (op_size k s) (ops_inside s n))
-
-unfoldable pub size_within : Option ℕ → Store → ℕ → Option ℕ
-size_within none s n = none
-size_within (some k) s n = op_size k s n
-
-unfoldable pub own_size : Store → ℕ → Option ℕ
-own_size s n = size_within (levels_left max_nesting s (parent_of s n)) s n
-
 -- the outermost operations of a fragment
 unfoldable pub outermost : Store → Sort → ℕ → List ℕ
 outermost s op n = n ∷ []
 outermost s block n = ops_of s n
 outermost s region n = ops_in_blocks s (blocks_of s n)
-
-unfoldable pub fragment_size : Store → Sort → ℕ → Option ℕ
-fragment_size s f n = sizes (own_size s) (outermost s f n)

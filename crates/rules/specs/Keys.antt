@@ -8,7 +8,6 @@ use Rattle.rules.specs.Building.{Call, new_operation, new_block, set_attribute, 
 use Rattle.rules.specs.Shells.{Ignore}
 use Rattle.rules.specs.Hash.{count, no_numbers, all_bytes}
 use Rattle.rules.specs.Types.{types_hold, renamed}
-use Rattle.rules.specs.Answers.{shallow}
 
 -- "the bytes that its hash takes in, with the count of every list (results, operands, successors, blocks, arguments, operations) in 8
 -- bytes ahead of that list"
@@ -59,7 +58,6 @@ key_tests lent s types ig f n room =
     (lent, 1)
     ∷ (types_hold types, 14)
     ∷ (exists s f n, 2)
-    ∷ (shallow s f n, 12)
     ∷ (leb (length (key (renamed types s) ig f n)) room, 13)
     ∷ []
 

@@ -35,5 +35,6 @@ pub mod TypeCases
 pub mod RunCases
 pub mod MarkCases
 pub mod MappingCases
+pub mod NestingCases
 pub mod CopyCases
 pub mod ExtentCases

@@ -10,7 +10,6 @@ use Rattle.rules.specs.Mapping.{empty_mapping}
 use Rattle.rules.specs.Types.{types_hold, renamed}
 use Rattle.rules.specs.Comparison.{Walk, pairwise, each_pair, pair_of, pair_ops, check_ops, compare_regions, ◌>>=◌, start}
 use Rattle.rules.specs.Hash.{fnv, fnv_prime, uncounted, no_numbers, feeds}
-use Rattle.rules.specs.Answers.{shallow}
 use Rattle.rules.specs.Laws.{succeeds}
 
 -- ---- "equal by passes 2 and 3 from an empty mapping under a given ignore rule, earlier run on the left"
@@ -98,7 +97,6 @@ run_tests lent s types b n =
     ∷ (types_hold types, 14)
     ∷ (exists s block b, 2)
     ∷ (leb 1 n && leb n max_run, 15)
-    ∷ (shallow s block b, 12)
     ∷ []
 
 unfoldable pub repeated_of : Option Run → Repeated

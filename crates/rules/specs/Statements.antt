@@ -1,16 +1,16 @@
 -- What is proved of the rules, statement by statement, as the documents cite it; `proofs/Stated` has a proof of each, of the name that
 -- stands beside it. Demand 3 is in `Laws`, agreement with the Rust in `Agreement`, computed cases are in `Cases` and `ListingCases`.
-use Rattle.std.specs.Prelude.{ℕ, ◌+◌, ◌*◌, ◌-◌, ◌%◌, ◌<◌, ◌≤◌, Bool, true, false, not, ◌↔◌, ◌⊎◌, ◌≡◌, eqb, pos, length, get_or, replicate}
+use Rattle.std.specs.Prelude.{ℕ, zero, suc, ◌+◌, ◌*◌, ◌-◌, ◌%◌, ◌<◌, ◌≤◌, Bool, true, false, not, ◌↔◌, ◌⊎◌, ◌≡◌, eqb, pos, length, get_or, replicate}
 use mathlib.Core.List.{List, [], ◌∷◌, ◌++◌, map, Memᴰ}
 use Rattle.std.proofs.Math.Option.{Option, none, some}
 use Rattle.rules.specs.Lists.{every, all, any, filter, same_list, concat_map}
-use Rattle.rules.specs.Store.{Store, Attribute, Owner, empty_store, op_at, ops_of, results_of, sound, keys_rise, max_ops}
-use Rattle.rules.specs.Fragments.{Sort, op, block, NamesNothingOf, Premise, defines_owners, fragment_ops, fragment_size}
+use Rattle.rules.specs.Store.{Store, Attribute, Owner, empty_store, op_at, ops_of, results_of, op_exists, owner_exists, parent_of, op_around, nesting_holds, max_nesting, sound, keys_rise, max_ops}
+use Rattle.rules.specs.Fragments.{Sort, op, block, shell, names, levels, region_steps, steps, NamesNothingOf, Premise, defines_owners, fragment_ops}
 use Rattle.rules.specs.Building.{Call, attributes_of, tests, first_failed, applied, built, after}
 use Rattle.rules.specs.Shells.{Ignore, unignored, same_attribute}
 use Rattle.rules.specs.Mapping.{Mapping, empty_mapping, allowed}
 use Rattle.rules.specs.Types.{types_hold, present, renamed}
-use Rattle.rules.specs.Comparison.{State, standing, compare, compare_by}
+use Rattle.rules.specs.Comparison.{State, standing, compare_regions, compare, compare_by}
 use Rattle.rules.specs.Hash.{hash}
 use Rattle.rules.specs.Answers.{eq, refused, comparison_of, comparison, hash_is, hashed}
 use Rattle.rules.specs.Keys.{key, keyed, key_length, written, longest_key, same, less, compare_bytes, ordering_number, reversed, fits, fields_fit, call_fits}
@@ -19,7 +19,7 @@ use Rattle.rules.specs.Asked.{asked, inside, inside_equal}
 use Rattle.rules.specs.Laws.{In, Equal, equal, succeeds, Laws}
 use Rattle.rules.specs.Runs.{Run, compare_runs, same_runs, repeated, window_sum, weighted, kept_sum, max_run, repeated_of, repeated_run}
 use Rattle.rules.specs.Marks.{Mark, MarkedStore, unmarked, MarkedCall, build, set_mark, go_back, copy, is_mark, is_set, max_remembered, marked_tests, marked, after_marked, marks_hold, sound_marked, sets, marked_call_fits}
-use Rattle.rules.specs.Form.{canonical}
+use Rattle.rules.specs.Form.{region_events, canonical}
 use Rattle.rules.specs.Entered.{EnteredBy}
 use Rattle.rules.specs.Cases.{ignoring, operation, first_operand}
 
@@ -305,6 +305,36 @@ unfoldable pub AcceptedExactly : Type 0
 AcceptedExactly =
     (s : Store) (c : Call) → sound s ≡ true → names_hold s c ≡ true → (first_failed (tests s c) ≡ none) ↔ (sound (applied s c) ≡ true)
 
+-- ---- nesting
+
+-- at least k regions are around operation n, one in another: it stands in a block, and at least one fewer are around the operation that
+-- this block is in
+unfoldable pub Around : ℕ → Store → ℕ → Type 0
+Around zero s n = Unit {0}
+Around (suc k) s n = (b : ℕ) × ((parent_of s n ≡ some b) × Around k s (op_around s b))
+
+-- "at most 32": what the test of a sound store says of each operation, and what one finds who goes up from it: `nested_at_most`
+unfoldable pub NestedAtMost : Type 0
+NestedAtMost =
+    (s : Store) → sound s ≡ true → (n : ℕ) → In s op n
+    → (nesting_holds s (parent_of s n) ≡ true) × ((k : ℕ) → Around k s n → k ≤ max_nesting)
+
+-- a walk goes only through the store: each of its steps is of an operation or a block that exists: `walk_stays`
+unfoldable pub WalkStays : Type 0
+WalkStays =
+    (s : Store) → sound s ≡ true → (f : Sort) (n : ℕ) → In s f n
+    → ((w : Owner) → Memᴰ (shell w) (steps s f n) → owner_exists s w ≡ true)
+    × ((m : ℕ) → Memᴰ (names m) (steps s f n) → op_exists s m ≡ true)
+
+-- so no walk comes to the end of its levels: with any more of them a region's steps and events are the same, and so is the comparison of
+-- two. As functions they are, so in a whole fragment's `steps`, `events` and `compare_by` the larger number may stand too: `levels_enough`
+unfoldable pub LevelsEnough : Type 0
+LevelsEnough =
+    (s : Store) → sound s ≡ true → (k : ℕ)
+    → (region_steps (levels + k) s ≡ region_steps levels s)
+    × (region_events s (levels + k) ≡ region_events s levels)
+    × ((ig : Ignore) → compare_regions (levels + k) s ig ≡ compare_regions levels s ig)
+
 -- ---- answers
 
 -- a comparison of fragments that exist, from an allowed mapping, answers as the walk does, and is never refused: `comparison_is`,
@@ -353,13 +383,9 @@ PairedMost =
     (s : Store) → sound s ≡ true → (ig : Ignore) (f : Sort) (l r : ℕ) → In s f l → (st : State)
     → (standing (compare_by s ig f l r st)).paired ≤ st.paired + 768
 
--- a fragment has at most 512 operations: `size_most`
+-- a fragment has at most 512 operations inside it: `size_most`
 unfoldable pub SizeMost : Type 0
-SizeMost = (s : Store) → sound s ≡ true → (f : Sort) (n size : ℕ) → In s f n → fragment_size s f n ≡ some size → size ≤ max_ops
-
--- and so many are inside it: `size_is`
-unfoldable pub SizeIs : Type 0
-SizeIs = (s : Store) (f : Sort) (n size : ℕ) → fragment_size s f n ≡ some size → size ≡ length (fragment_ops s f n)
+SizeMost = (s : Store) → sound s ≡ true → (f : Sort) (n : ℕ) → In s f n → length (fragment_ops s f n) ≤ max_ops
 
 -- order 8: "over all operations inside any right fragment, those inside at least one right fragment found equal, each fragment as it stood
 -- at its `q`": what `twins` has counted after these lines: `counted_exactly`

@@ -10,12 +10,11 @@ use Rattle.rules.specs.Store.{Store, ops_of}
 use Rattle.rules.specs.Fragments.{block, exists}
 use Rattle.rules.specs.Mapping.{Mapping}
 use Rattle.rules.specs.Types.{renamed}
-use Rattle.rules.specs.Comparison.{State, unequal, one_longer, too_deep, Walk, on, ended, standing, start}
-use Rattle.rules.specs.Answers.{Comparison, eq, refused, comparison_of}
+use Rattle.rules.specs.Comparison.{unequal, one_longer, Walk, on, ended, standing, start}
+use Rattle.rules.specs.Answers.{Comparison, comparison_of}
 use Rattle.rules.specs.Entered.{EnteredBy, paired_in}
 use Rattle.rules.specs.Laws.{succeeds}
 use Rattle.rules.specs.Runs.{compare_runs, run_of, same_runs}
-use Rattle.rules.proofs.Basics.Tests.{impossible}
 use Rattle.rules.proofs.Soundness.Children.{ops_in_lem}
 use Rattle.rules.proofs.Types.Renamed.{exists_renamed, entered_renamed, renamed_sound}
 use Rattle.rules.proofs.Walking.Entered.{runs_entered}
@@ -29,11 +28,10 @@ use Rattle.mapping.specs.MappingWords.{mapping_of, empty_words}
 use Rattle.pairing.specs.Told.{answer_of, state_of, outcome, Told, PairedFits}
 use Rattle.equivalence.specs.Walked.{op_walk}
 use Rattle.pairing.specs.declared.types.Unequal.{Unequal}
-use Rattle.equivalence.proofs.Telling.{told_on, told_ended}
+use Rattle.equivalence.proofs.Telling.{told_on, not_equal}
 use Rattle.mapping.proofs.Unmapped.{empty_words_lem}
 use Rattle.runs.specs.Walked.{RunsIn, runs_walk}
 use Rattle.runs.specs.declared.types.TwoRuns.{TwoRuns}
-use Rattle.runs.proofs.Deep.{runs_not_deep}
 use Rattle.runs.proofs.Listed.{run_in}
 
 -- ---- what is in a run is in the store
@@ -48,28 +46,23 @@ pub told_succeeds : (w : Walk) (b : List ℕ) {q : Result ℕ Unequal} {n : ℕ}
 unfolding succeeds
 told_succeeds w b {q} {n} e h = sym (ap succeeds (told_on w n b (subst (λ (r : Result ℕ Unequal). Told w r b) e h)))
 
--- and another is not: what it answers then does not hang on what comes behind
+-- and another is not
 pub told_fails : (w : Walk) (q : Result ℕ Unequal) (b : List ℕ) (u : Unequal) → q ≡ Err u → Told w q b → false ≡ succeeds w
 unfolding succeeds Told outcome comparison_of standing
-told_fails (on st) q b u k h =
-    let deep = told_ended (on st) (λ (t : State). ended too_deep t) u b k h in
-    let one : eq st.paired ≡ answer_of (Err u) = ap (λ (x : Comparison). x.answer) h ∙ ap answer_of k in
-    let two : refused 12 ≡ answer_of (Err u) = ap (λ (x : Comparison). x.answer) deep in
-    impossible cc
+told_fails (on st) q b u k h = absurd (not_equal u st.paired (ap (λ (x : Comparison). x.answer) h ∙ ap answer_of k))
 told_fails (ended why st) q b u k h = refl
 
--- words and count are where the walk has come to, unless that is too deep
-told_entered : (s : Store) (w : Walk) (q : Result ℕ Unequal) (b : List ℕ) → ((t : State) → w ≡ ended too_deep t → ⊥)
+-- words and count are where the walk has come to
+told_entered : (s : Store) (w : Walk) (q : Result ℕ Unequal) (b : List ℕ)
     → EnteredBy s (standing w).mapping (standing w).paired → Told w q b → EnteredBy s (mapping_of b) (paired_in (answer_of q))
 unfolding Told outcome comparison_of standing paired_in
-told_entered s w q b deep h t = subst (λ (c : Comparison). EnteredBy s c.mapping (paired_in c.answer)) t (by w deep h)
+told_entered s w q b h t = subst (λ (c : Comparison). EnteredBy s c.mapping (paired_in c.answer)) t (by w h)
   where
-    by : (w : Walk) → ((t : State) → w ≡ ended too_deep t → ⊥) → EnteredBy s (standing w).mapping (standing w).paired
+    by : (w : Walk) → EnteredBy s (standing w).mapping (standing w).paired
         → EnteredBy s (comparison_of w (standing w).mapping).mapping (paired_in (comparison_of w (standing w).mapping).answer)
-    by (on st) d e = e
-    by (ended (unequal p) st) d e = e
-    by (ended (one_longer p) st) d e = e
-    by (ended too_deep st) d e = absurd (d st refl)
+    by (on st) e = e
+    by (ended (unequal p) st) e = e
+    by (ended (one_longer p) st) e = e
 
 -- ---- the walk through two runs
 
@@ -123,6 +116,6 @@ module _ {store ops : List ℕ} {x : TwoRuns} (o : Options) (sd : IsSound store)
     pub runs_unmap : EnteredBy (store_in store) (mapping_of b) (paired_in (answer_of q))
     runs_unmap =
         entered_renamed o.types (store_in store)
-        (told_entered s runs q b (runs_not_deep s sound_too o.ignore x.runs.block _ _)
+        (told_entered s runs q b
         (runs_entered s sound_too o.ignore x.runs.block _ _ (op_in_run s x.runs.block x.runs.n x.left) (op_in_run s x.runs.block x.runs.n x.right))
         told_runs)

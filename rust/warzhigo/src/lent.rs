@@ -123,68 +123,68 @@ pub fn clone_operation(store: &mut [u32], op: u32, parent: Option<u32>, mapping:
     lent::clone_operation(store, op, parent, mapping).accepted()
 }
 
-/// Compares two operations. Refused by 1, 8, 14, 2 or 12.
+/// Compares two operations. Refused by 1, 8, 14 or 2.
 pub fn operation_eq(store: &[u32], types: &[u32], mapping: &mut [u32], lhs: u32, rhs: u32, ignore: &Ignore) -> Result<EqResult, Refused> {
     lent::compare(Sort::Op, store, types, mapping, (lhs, rhs), ignore).result()
 }
 
-/// Compares two blocks. Refused by 1, 8, 14, 2 or 12.
+/// Compares two blocks. Refused by 1, 8, 14 or 2.
 pub fn basic_block_eq(store: &[u32], types: &[u32], mapping: &mut [u32], lhs: u32, rhs: u32, ignore: &Ignore) -> Result<EqResult, Refused> {
     lent::compare(Sort::Block, store, types, mapping, (lhs, rhs), ignore).result()
 }
 
-/// Compares two regions. Refused by 1, 8, 14, 2 or 12.
+/// Compares two regions. Refused by 1, 8, 14 or 2.
 pub fn region_eq(store: &[u32], types: &[u32], mapping: &mut [u32], lhs: u32, rhs: u32, ignore: &Ignore) -> Result<EqResult, Refused> {
     lent::compare(Sort::Region, store, types, mapping, (lhs, rhs), ignore).result()
 }
 
-/// The hash of an operation. Refused by 1, 14, 2 or 12.
+/// The hash of an operation. Refused by 1, 14 or 2.
 pub fn operation_hash(store: &[u32], types: &[u32], op: u32, ignore: &Ignore) -> Result<u64, Refused> {
     lent::hash(Sort::Op, store, types, op, ignore).result()
 }
 
-/// The hash of a block. Refused by 1, 14, 2 or 12.
+/// The hash of a block. Refused by 1, 14 or 2.
 pub fn basic_block_hash(store: &[u32], types: &[u32], block: u32, ignore: &Ignore) -> Result<u64, Refused> {
     lent::hash(Sort::Block, store, types, block, ignore).result()
 }
 
-/// The hash of a region. Refused by 1, 14, 2 or 12.
+/// The hash of a region. Refused by 1, 14 or 2.
 pub fn region_hash(store: &[u32], types: &[u32], region: u32, ignore: &Ignore) -> Result<u64, Refused> {
     lent::hash(Sort::Region, store, types, region, ignore).result()
 }
 
 /// Writes the key of an operation into lent bytes, from the first on, and gives its length; bytes behind it are as they were. Refused by 1,
-/// 14, 2, 12 or 13, and then nothing is written.
+/// 14, 2 or 13, and then nothing is written.
 pub fn operation_key(store: &[u32], types: &[u32], op: u32, ignore: &Ignore, key: &mut [u8]) -> Result<usize, Refused> {
     lent::key(Sort::Op, store, types, op, ignore, key).result()
 }
 
-/// Writes the key of a block. Refused by 1, 14, 2, 12 or 13.
+/// Writes the key of a block. Refused by 1, 14, 2 or 13.
 pub fn basic_block_key(store: &[u32], types: &[u32], block: u32, ignore: &Ignore, key: &mut [u8]) -> Result<usize, Refused> {
     lent::key(Sort::Block, store, types, block, ignore, key).result()
 }
 
-/// Writes the key of a region. Refused by 1, 14, 2, 12 or 13.
+/// Writes the key of a region. Refused by 1, 14, 2 or 13.
 pub fn region_key(store: &[u32], types: &[u32], region: u32, ignore: &Ignore, key: &mut [u8]) -> Result<usize, Refused> {
     lent::key(Sort::Region, store, types, region, ignore, key).result()
 }
 
-/// How large an operation is with all inside it; as [`operation_extent`](crate::operation_extent). Refused by 1, 2 or 12.
+/// How large an operation is with all inside it; as [`operation_extent`](crate::operation_extent). Refused by 1 or 2.
 pub fn operation_extent(store: &[u32], op: u32, ignore: &Ignore) -> Result<Extent, Refused> {
     lent::extent(Sort::Op, store, op, ignore).result()
 }
 
-/// How large a block is. Refused by 1, 2 or 12.
+/// How large a block is. Refused by 1 or 2.
 pub fn basic_block_extent(store: &[u32], block: u32, ignore: &Ignore) -> Result<Extent, Refused> {
     lent::extent(Sort::Block, store, block, ignore).result()
 }
 
-/// How large a region is. Refused by 1, 2 or 12.
+/// How large a region is. Refused by 1 or 2.
 pub fn region_extent(store: &[u32], region: u32, ignore: &Ignore) -> Result<Extent, Refused> {
     lent::extent(Sort::Region, store, region, ignore).result()
 }
 
-/// Two equal runs of operations in a block; as [`Store::repeated_run`](crate::Store::repeated_run). Refused by 1, 14, 2, 15 or 12.
+/// Two equal runs of operations in a block; as [`Store::repeated_run`](crate::Store::repeated_run). Refused by 1, 14, 2 or 15.
 pub fn repeated_run(store: &[u32], types: &[u32], block: u32, length: u32, ignore: &Ignore) -> Result<Option<Run>, Refused> {
     lent::repeated_run(store, types, block, length, ignore).result()
 }

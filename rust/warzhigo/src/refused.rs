@@ -43,7 +43,6 @@ impl Refused {
             9 => "the listing's first line isn't the header, or is missing",
             10 => "a line with an unknown letter, a bad number, or a field missing or extra",
             11 => "the listing or a line is too long, or the last line feed is missing",
-            12 => "an operation inside is nested deeper than 32",
             13 => "the lent key is too short",
             14 => "the list of renamed types has a half row, over 64 rows, an old type twice, or a present type that has a row itself",
             15 => "the run's length is 0 or over 256",
@@ -69,14 +68,16 @@ mod tests {
     use super::*;
     use alloc::format;
 
+    /// All but 12, which is retired.
     #[test]
     fn every_cause_has_words_of_its_own() {
-        for cause in 1..=19 {
+        for cause in (1..=11).chain(13..=19) {
             let (refused, unknown) = (Refused::by(cause), Refused::by(0));
             assert_eq!(refused.number(), cause);
             assert_ne!(refused.meaning(), unknown.meaning());
             assert!((1..cause).all(|other| Refused::by(other).meaning() != refused.meaning()));
             assert_eq!(format!("{refused}"), format!("refused, cause {cause}: {}", refused.meaning()));
         }
+        assert_eq!(Refused::by(12).meaning(), Refused::by(0).meaning());
     }
 }

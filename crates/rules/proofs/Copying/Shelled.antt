@@ -2,12 +2,12 @@
 -- the steps of an operation tell of lies in the operation. Assumes nothing.
 use Prim.Native.Nat.{ℕ, zero, suc}
 use mathlib.Core.List.Memᴰ
-use mathlib.Core.List.{List, ◌++◌, Memᴰ}
+use mathlib.Core.List.{List, [], ◌∷◌, ◌++◌, Memᴰ}
 use mathlib.Core.Logic.{◌⊎◌, inl, inr, ⊎_elim}
 use mathlib.Core.Path.{◌≡◌, refl, sym, ap, subst}
 use Rattle.rules.specs.Lists.{concat_map}
 use Rattle.rules.specs.Store.{Store, Owner, of_op, of_block, ops_of, blocks_of, regions_of}
-use Rattle.rules.specs.Fragments.{Step, shell, names, counted, op, full_op, shells, list_steps, region_steps, levels, steps, step_defines, defines_owners}
+use Rattle.rules.specs.Fragments.{Sort, Step, shell, names, counted, op, block, region, full_op, shells, list_steps, region_steps, levels, steps, step_defines, defines_owners}
 use Rattle.rules.proofs.Basics.Distinct.{mem_concat_map}
 use Rattle.rules.proofs.Copying.Renumbered.{in_concat_map}
 
@@ -108,19 +108,26 @@ module _ (s : Store) where
       (λ i. let r = mem_concat_map in_region (regions_of s o) i in inr (Memᴰ.tail (in_concat_map in_region (regions_of s o) r.1 (inner r.0 r.2))))
       (Memᴰ.cases_cons k)
 
+  in_list_lem : (in_region : ℕ → List Step) (m : ℕ) → ((r : ℕ) → Memᴰ (names m) (in_region r) → Memᴰ (shell (of_op m)) (in_region r))
+      → (bs : List ℕ) → Memᴰ (names m) (list_steps s (full_op s in_region) bs)
+      → Memᴰ (shell (of_op m)) (list_steps s (full_op s in_region) bs)
+  in_list_lem in_region m inner bs i =
+      let b = listed_names s (full_op s in_region) bs i in
+      ⊎_elim
+      (λ e. op_listed s (full_op s in_region) bs b.2 (subst (λ (x : ℕ). Memᴰ x (ops_of s b.0)) (sym e) b.3))
+      (λ j. full_listed s (full_op s in_region) bs b.2 b.3 j)
+      (in_full_lem in_region m inner b.1 b.4)
+
   in_region_lem : (k r m : ℕ) → Memᴰ (names m) (region_steps k s r) → Memᴰ (shell (of_op m)) (region_steps k s r)
   unfolding region_steps
   in_region_lem zero r m i = absurd (Memᴰ.not-nil i)
-  in_region_lem (suc k) r m i =
-      let b = listed_names s (full_op s (region_steps k s)) (blocks_of s r) i in
-      ⊎_elim
-      (λ e. op_listed s (full_op s (region_steps k s)) (blocks_of s r) b.2 (subst (λ (x : ℕ). Memᴰ x (ops_of s b.0)) (sym e) b.3))
-      (λ j. full_listed s (full_op s (region_steps k s)) (blocks_of s r) b.2 b.3 j)
-      (in_full_lem (region_steps k s) m (λ q l. in_region_lem k q m l) b.1 b.4)
+  in_region_lem (suc k) r m i = in_list_lem (region_steps k s) m (λ q l. in_region_lem k q m l) (blocks_of s r) i
 
-  in_steps : (n m : ℕ) → Memᴰ (names m) (steps s op n) → Memᴰ (shell (of_op m)) (steps s op n)
+  pub in_steps : (f : Sort) (n m : ℕ) → Memᴰ (names m) (steps s f n) → Memᴰ (shell (of_op m)) (steps s f n)
   unfolding steps
-  in_steps n m k =
+  in_steps block n m k = in_list_lem (region_steps levels s) m (λ r l. in_region_lem levels r m l) (n ∷ []) k
+  in_steps region n m k = in_region_lem levels n m k
+  in_steps op n m k =
       ⊎_elim (λ e. let z : ⊥ = cc in absurd z)
       (λ i. ⊎_elim (λ e. Memᴰ.head (ap (λ (x : ℕ). shell (of_op x)) e)) (λ j. Memᴰ.tail j)
       (in_full_lem (region_steps levels s) m (λ r l. in_region_lem levels r m l) n i))
@@ -133,7 +140,7 @@ module _ (s : Store) where
   shell_owner n w k = in_concat_map step_defines (steps s op n) k (Memᴰ.head refl)
 
   pub names_owner : (n m : ℕ) → Memᴰ (names m) (steps s op n) → Memᴰ (of_op m) (defines_owners s op n)
-  names_owner n m k = shell_owner n (of_op m) (in_steps n m k)
+  names_owner n m k = shell_owner n (of_op m) (in_steps op n m k)
 
   of_step : (x : Step) (w : Owner) → Memᴰ w (step_defines x) → x ≡ shell w
   unfolding step_defines

@@ -2,36 +2,23 @@
 -- regions between two, one inside the other, as their depths differ; so the deepest nesting is the largest depth inside less the outermost
 -- one. Assumes nothing.
 use Prim.Native.Nat.{ℕ, zero, suc, ◌+◌, ◌-◌, ◌<◌, ◌≤◌}
-use native.Mathlib.Decide.{dec_lt}
 use native.Mathlib.Omega.{arith}
 use mathlib.Core.Bool.{true}
 use mathlib.Core.List.{Memᴰ}
 use mathlib.Core.Logic.{◌⊎◌, inl, inr, ⊎_elim}
 use mathlib.Core.Option.{some}
 use mathlib.Core.Path.{◌≡◌, sym, ap, ◌∙◌}
-use lib.ListN.{length, get_or-eq_default}
-use Rattle.rules.specs.Store.{Store, no_op, op_at, parent_of, op_around, levels_left, max_nesting, ops_of, blocks_of, regions_of, sound}
+use lib.ListN.{length}
+use Rattle.rules.specs.Store.{Store, parent_of, op_around, max_nesting, ops_of, blocks_of, regions_of, sound}
 use Rattle.rules.specs.Fragments.{Sort, fragment_ops, ops_in_blocks, ops_inside, outermost}
 use Rattle.rules.specs.Extents.{deepest, op_nesting, deepest_nesting}
 use Rattle.rules.proofs.Basics.Distinct.{mem_concat_map}
 use Rattle.rules.proofs.Soundness.Children.{ops_in_lem}
-use Rattle.rules.proofs.Walking.Levels.{Leaves, op_leaves, leaves_most, around_block}
-use Rattle.rules.proofs.Walking.Answered.{inside_leaves}
+use Rattle.rules.proofs.Walking.Levels.{Leaves, op_leaves, leaves_most, inside_leaves, around_block}
 use Rattle.rules.proofs.Extents.Deepest.{deepest_most, deepest_attained, deepest_is}
 use Rattle.rules.proofs.Extents.Inside.{At, at_self, at_inside, at_under, height, height_enough, fragment_at, at_fragment}
 
 module _ (s : Store) (sd : sound s ≡ true) where
-  -- one that is not in the store has no parent, and leaves all levels
-  pub leaves_any : (n : ℕ) → (j : ℕ) × Leaves s max_nesting (parent_of s n) j
-  unfolding parent_of op_at no_op levels_left
-  leaves_any n = go (dec_lt n (length s.ops))
-    where
-      go : Dec (n < length s.ops) → (j : ℕ) × Leaves s max_nesting (op_at s n).parent j
-      go (yes l) = op_leaves s sd n l
-      go (no g) =
-          let l : length s.ops ≤ n = omega arith in
-          (max_nesting, rw (get_or-eq_default s.ops no_op l))
-
   module _ (D : ℕ → ℕ) (deeper : (m b : ℕ) → m < length s.ops → parent_of s m ≡ some b → D m ≡ D (op_around s b) + 1) where
     pub inside_deeper : (n : ℕ) {m : ℕ} → Memᴰ m (ops_inside s n) → D m ≡ D n + 1
     unfolding ops_inside ops_in_blocks
@@ -93,7 +80,7 @@ module _ (s : Store) (sd : sound s ≡ true) where
       unfolding deepest_nesting
       none_below m i =
           let p = fragment_at s f a m i in
-          let j = leaves_any p.0 in
+          let j = op_leaves s sd p.0 in
           let l : j.0 ≤ max_nesting = leaves_most s max_nesting (parent_of s p.0) j.0 j.1 in
           omega (arith, outer p.0 p.1, at_most (height f) max_nesting p.0 m j.0 j.1 l p.2, deepest_most (op_nesting max_nesting s) p.1)
 

@@ -1,5 +1,5 @@
 -- The laws of extents: what is reserved by them is filled exactly, since types change no length; each number is one that a sound store
--- bounds; and a fragment that exists is not nested too deep, so no test fails. Assumes nothing.
+-- bounds; and a fragment that exists passes every test. Assumes nothing.
 use Prim.Native.Nat.{ℕ, zero, suc}
 use mathlib.Core.Bool.{true}
 use mathlib.Core.List.{List, append-nil}
@@ -9,18 +9,15 @@ use native.Mathlib.Nat.{le_of_eq}
 use lib.ListN.{length}
 use lib.Seq.{drop-length}
 use Rattle.rules.specs.Store.{Store, max_nesting, ops_of, blocks_of, regions_of}
-use Rattle.rules.specs.Fragments.{Sort, op, block, region, ops_in_blocks, ops_inside, outermost, fragment_ops}
+use Rattle.rules.specs.Fragments.{Sort, op, block, region, ops_in_blocks, ops_inside, outermost}
 use Rattle.rules.specs.Building.{first_failed}
 use Rattle.rules.specs.Types.{renamed}
 use Rattle.rules.specs.Keys.{key, key_length, written}
 use Rattle.rules.specs.Statements.{KeyedIs, KeyLongest}
 use Rattle.rules.specs.Extents.{deepest, op_nesting, deepest_nesting, extent, extent_tests, sized_by, sized}
 use Rattle.rules.specs.ExtentLaws.{ExtentFills, ExtentRenamed, ExtentMost, SizedIs}
-use Rattle.rules.proofs.Soundness.Sound.{facts}
 use Rattle.rules.proofs.Soundness.Accepted.{all_passed}
-use Rattle.rules.proofs.Form.Once.{owners_once, owners_here}
-use Rattle.rules.proofs.Form.Counted.{ops_most, values_most, blocks_most}
-use Rattle.rules.proofs.Walking.Answered.{fragment_shallow}
+use Rattle.rules.proofs.Form.Counted.{size_most, values_most, blocks_most}
 use Rattle.rules.proofs.Keys.Longest.{key_longest}
 use Rattle.rules.proofs.Keys.Given.{keyed_is}
 use Rattle.rules.proofs.Types.Under as under
@@ -73,20 +70,14 @@ extent_fills s sd types th ig f n h bytes e =
 -- ---- the most of each
 
 pub extent_most : ExtentMost
-unfolding ExtentMost KeyLongest extent fragment_ops
+unfolding ExtentMost KeyLongest extent
 extent_most s sd ig f n h =
-    let so = facts s sd in (
-      key_longest s sd ig f n h,
-      values_most s sd f n h,
-      blocks_most s sd f n h,
-      ops_most s sd _ (owners_once s so f n h) (owners_here s so f n h),
-      nesting_most s f n,
-    )
+    (key_longest s sd ig f n h, values_most s sd f n h, blocks_most s sd f n h, size_most s sd f n h, nesting_most s f n)
 
 -- ---- the answer
 
 pub sized_is : SizedIs
 unfolding SizedIs sized sized_by extent_tests
 sized_is s sd ig f n h =
-    let t : first_failed (extent_tests true s f n) ≡ none = all_passed _ (refl, (h, (fragment_shallow s sd f n h, tt))) in
+    let t : first_failed (extent_tests true s f n) ≡ none = all_passed _ (refl, (h, tt)) in
     rw t

@@ -15,11 +15,10 @@ use Rattle.rules.specs.Extents.{deepest, op_nesting, deepest_nesting}
 use Rattle.rules.specs.ExtentLaws.{Between, ExtentNesting}
 use Rattle.rules.proofs.Basics.Distinct.{mem_concat_map}
 use Rattle.rules.proofs.Soundness.Children.{ops_in_lem, blocks_in_lem}
-use Rattle.rules.proofs.Walking.Levels.{Leaves, leaves_most, leaves_inside}
-use Rattle.rules.proofs.Walking.Answered.{inside_leaves}
+use Rattle.rules.proofs.Walking.Levels.{Leaves, leaves_most, leaves_inside, op_leaves, inside_leaves}
 use Rattle.rules.proofs.Extents.Deepest.{deepest_most, deepest_attained, deepest_least}
 use Rattle.rules.proofs.Extents.Inside.{At, at_self, at_inside, at_under, height, height_enough, fragment_at, at_fragment}
-use Rattle.rules.proofs.Extents.Depths.{leaves_any, inside_deeper, fragment_nesting_by_depth}
+use Rattle.rules.proofs.Extents.Depths.{inside_deeper, fragment_nesting_by_depth}
 
 -- in any store
 op_nesting_most : (s : Store) (k n : ℕ) → op_nesting k s n ≤ k
@@ -55,8 +54,8 @@ module _ (s : Store) (sd : sound s ≡ true) where
 
   depth_deeper : (m b : ℕ) → m < length s.ops → parent_of s m ≡ some b → depth s m ≡ depth s (op_around s b) + 1
   depth_deeper m b l e =
-      let i = leaves_any s sd m in
-      let j = leaves_any s sd (op_around s b) in
+      let i = op_leaves s sd m in
+      let j = op_leaves s sd (op_around s b) in
       let inside : Leaves s max_nesting (some b) i.0 = rw e at i.1 in
       let d : j.0 ≡ suc i.0 = leaves_inside s 31 b i.0 j.0 j.1 inside in
       let most : j.0 ≤ max_nesting = leaves_most s max_nesting (parent_of s (op_around s b)) j.0 j.1 in
@@ -92,7 +91,7 @@ module _ (s : Store) (sd : sound s ≡ true) where
     between_in zero m h = at_fragment s f a m m h (at_self s (height f) m)
     between_in (suc k) m h =
         let p = fragment_at s f a h.0 (between_in k h.0 h.1.0) in
-        let j = leaves_any s sd p.0 in
+        let j = op_leaves s sd p.0 in
         let l : j.0 ≤ max_nesting = leaves_most s max_nesting (parent_of s p.0) j.0 j.1 in
         at_fragment s f a p.0 m p.1 (at_closed (height f) j.0 p.0 h.0 m j.1 (omega (arith, height_enough f)) p.2 h.1.1)
 

@@ -3,13 +3,13 @@
 use Prim.Native.Nat.{ℕ, ◌+◌}
 use native.Mathlib.Omega.{arith}
 use mathlib.Core.List.{List}
-use mathlib.Core.Path.{◌≡◌, refl, ap, ◌∙◌}
+use mathlib.Core.Path.{◌≡◌, refl, ap}
 use lib.ListN.{length}
 use Rattle.rules.specs.Store.{Store, Owner}
 use Rattle.rules.specs.Fragments.{defines_owners, defines_blocks, fragment_ops}
 use Rattle.rules.specs.Shells.{Ignore}
 use Rattle.rules.specs.Mapping.{Mapping}
-use Rattle.rules.specs.Comparison.{State, Walk, unequal, one_longer, too_deep, on, ended, start, compare}
+use Rattle.rules.specs.Comparison.{State, Walk, unequal, one_longer, on, ended, start, compare}
 use Rattle.rules.specs.Types.{renamed}
 use Rattle.rules.specs.Answers.{eq, comparison_of}
 use Rattle.rules.specs.Extents.{extent}
@@ -18,7 +18,6 @@ use Rattle.rules.proofs.Basics.Tests.{impossible}
 use Rattle.rules.proofs.Form.Counted.{owners_split}
 use Rattle.rules.proofs.Form.Events.{enter_owners}
 use Rattle.rules.proofs.Form.Passed.{Passed, over, pair, walked_passed}
-use Rattle.rules.proofs.Types.Renamed.{exists_renamed, renamed_sound}
 use Rattle.rules.proofs.Types.Under.{owners}
 use Rattle.rules.proofs.Walking.Answered.{comparison_is}
 
@@ -34,14 +33,12 @@ unfolding comparison_of
 went_on (on st) m n e = (st, refl, cc)
 went_on (ended (unequal p) st) m n e = impossible cc
 went_on (ended (one_longer p) st) m n e = impossible cc
-went_on (ended too_deep st) m n e = impossible cc
 
 pub extent_paired : ExtentPaired
 unfolding ExtentPaired extent start fragment_ops defines_blocks
 extent_paired s sd types th ig other f m am a b n ia ib e =
     let w = went_on (compare (renamed types s) ig f a b m) m n (rw (comparison_is s sd ig f types th m am a b ia ib) at e) in
-    let here = exists_renamed types s f a ∙ ia in
-    let c = passed_count (walked_passed (renamed types s) (renamed_sound types s sd) ig f a b here m w.0 w.1) in
+    let c = passed_count (walked_passed (renamed types s) ig f a b m w.0 w.1) in
     omega (
       arith,
       w.2,

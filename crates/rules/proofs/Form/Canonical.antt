@@ -4,7 +4,7 @@ use Prim.Native.Nat.{ℕ, ◌≤◌, ◌<◌}
 use native.Mathlib.Nat.{le_trans}
 use mathlib.Core.Bool.{true}
 use mathlib.Core.List.{List, [], ◌∷◌, ◌++◌, append-nil, Memᴰ}
-use mathlib.Core.Logic.{◌⊎◌, inl, inr, ⊎_elim}
+use mathlib.Core.Logic.{◌⊎◌, inl, inr}
 use mathlib.Core.Option.{some, none-ne-some}
 use mathlib.Core.Path.{◌≡◌, refl, sym, ap, ap₂, subst, ◌∙◌}
 use lib.Dec.{lit≤}
@@ -28,7 +28,6 @@ use Rattle.rules.proofs.Form.LockStep.{going, lock_step}
 use Rattle.rules.proofs.Form.Tokens.{event_values, event_blocks, event_operands, event_successors, Rest, Whole, Related, Apart, tokens_equal, lock_goes_on}
 use Rattle.rules.proofs.Form.Hashes.{token_bytes, tokens_bytes}
 use Rattle.rules.proofs.Form.Once.{values_once_lem, values_here, blocks_once_lem, blocks_here}
-use Rattle.rules.proofs.Walking.Deep.{compare_not_deep}
 
 -- ---- the empty mapping
 
@@ -109,6 +108,17 @@ empty_blocks : Empty EB
 unfolding empty_mapping
 empty_blocks = empty_table max_blocks (lit≤ tt)
 
+pub goes : (w : Walk) → succeeds w ≡ true → (st : State) × (w ≡ on st)
+unfolding succeeds
+goes (on st) h = (st, refl)
+goes (ended why st) h = clash h refl
+
+-- what the comparison comes to, from whatever mapping, is what the lock-step pass comes to
+pub pass : (s : Store) (ig : Ignore) (f : Sort) (m : Mapping) (a b : ℕ)
+    → going (compare s ig f a b m) ≡ lock s ig (events s f a) (events s f b) (start m)
+unfolding compare
+pass s ig f m a b = lock_step s ig f a b (start m)
+
 module _ (s : Store) (sd : sound s ≡ true) where
   whole : (f : Sort) (n : ℕ) → In s f n → Whole EV EB (all_defined s f n)
   unfolding all_defined empty_mapping
@@ -125,22 +135,12 @@ module _ (s : Store) (sd : sound s ≡ true) where
     unfolding start no_numbers enter_all
     begun a b wa wb = record { values = record { made = refl; lengths = refl }; blocks = record { made = refl; lengths = refl } }
 
-    pub goes : (w : Walk) → succeeds w ≡ true → (st : State) × (w ≡ on st)
-    unfolding succeeds
-    goes (on st) h = (st, refl)
-    goes (ended why st) h = clash h refl
-
-    -- what the comparison comes to, from whatever mapping, is what the lock-step pass comes to
-    pub pass : (m : Mapping) (a b : ℕ) → In s f a → going (compare s ig f a b m) ≡ lock s ig (events s f a) (events s f b) (start m)
-    unfolding compare
-    pass m a b h = ⊎_elim (λ d. absurd (compare_not_deep s sd ig f a b h m d.0 d.1)) (λ e. e) (lock_step s ig f a b (start m))
-
     pub canonical→equal : (a b : ℕ) → In s f a → In s f b → canonical s ig f a ≡ canonical s ig f b → Equal s ig f a b
     unfolding canonical equal succeeds
     canonical→equal a b ha hb e =
         let w = lock_goes_on s ig EV EB empty_values empty_blocks (all_defined s f a) (all_defined s f b) (whole f a ha) (whole f b hb)
         (events s f a) (events s f b) no_numbers no_numbers (start empty_mapping) (events_rest s f a) (events_rest s f b) (begun a b ha hb) e in
-        go (compare s ig f a b empty_mapping) (pass empty_mapping a b ha ∙ w.1)
+        go (compare s ig f a b empty_mapping) (pass s ig f empty_mapping a b ∙ w.1)
       where
         go : {st : State} (w : Walk) → going w ≡ some st → succeeds w ≡ true
         go (on st) k = refl
@@ -162,7 +162,7 @@ module _ (s : Store) (sd : sound s ≡ true) where
         let w = goes (compare s ig f a b empty_mapping) h in
         tokens_equal s ig EV EB empty_values empty_blocks (all_defined s f a) (all_defined s f b) (whole f a ha) (whole f b hb)
         (events s f a) (events s f b) no_numbers no_numbers (start empty_mapping) w.0 (events_rest s f a) (events_rest s f b) (begun a b ha hb)
-        (apart a b ha hb out) (sym (pass empty_mapping a b ha) ∙ ap going w.1)
+        (apart a b ha hb out) (sym (pass s ig f empty_mapping a b) ∙ ap going w.1)
 
 -- ---- the hash is one of the canonical form
 

@@ -10,7 +10,7 @@ use borrow.Author.Tests.{ltb-true}
 use lib.ListN.{length}
 use Rattle.rules.specs.Lists.{concat_map}
 use Rattle.rules.specs.Store.{Store, Owner, of_op, of_block, owner_exists, op_exists, max_ops, max_blocks, max_values, sound}
-use Rattle.rules.specs.Fragments.{Sort, exists, block_owner, defines_owners, defines_values, defines_blocks, op_owner}
+use Rattle.rules.specs.Fragments.{Sort, exists, block_owner, defines_owners, defines_values, defines_blocks, op_owner, fragment_ops}
 use Rattle.rules.proofs.Soundness.Sound.{facts}
 use Rattle.rules.proofs.Basics.Distinct.{Distinct, distinct_concat_map, mem_concat_map}
 use Rattle.rules.proofs.Basics.Pigeons.{pigeons}
@@ -49,6 +49,10 @@ module _ (s : Store) (sd : sound s ≡ true) where
       let t : length s.ops ≤ max_ops = (facts s sd).totals.ops in
       omega arith
 
+  pub size_most : (f : Sort) (n : ℕ) → exists s f n ≡ true → length (fragment_ops s f n) ≤ max_ops
+  unfolding fragment_ops
+  size_most f n e = let so = facts s sd in ops_most (defines_owners s f n) (owners_once s so f n e) (owners_here s so f n e)
+
   pub values_most : (f : Sort) (n : ℕ) → exists s f n ≡ true → length (defines_values s f n) ≤ max_values
   values_most f n e =
       let so = facts s sd in
@@ -64,9 +68,8 @@ module _ (s : Store) (sd : sound s ≡ true) where
       omega arith
 
   pub owners_most : (f : Sort) (n : ℕ) → exists s f n ≡ true → length (defines_owners s f n) ≤ max_ops + max_blocks
-  unfolding defines_blocks
+  unfolding defines_blocks fragment_ops
   owners_most f n e =
-      let so = facts s sd in
-      let o : length (concat_map op_owner (defines_owners s f n)) ≤ max_ops = ops_most (defines_owners s f n) (owners_once s so f n e) (owners_here s so f n e) in
+      let o : length (concat_map op_owner (defines_owners s f n)) ≤ max_ops = size_most f n e in
       let b : length (concat_map block_owner (defines_owners s f n)) ≤ max_blocks = blocks_most f n e in
       omega (arith, owners_split (defines_owners s f n))

@@ -47,4 +47,4 @@ along s ig (pair {l} {r} e rest) = ap₂ ◌∷◌ (alike s ig l r (shells→≡
 
 pub inherent_kept : (s : Store) → sound s ≡ true → (ig : Ignore) (f : Sort) (a b : ℕ) → In s f a → Equal s ig f a b
     → map (inherent_of s) (defines_owners s f a) ≡ map (inherent_of s) (defines_owners s f b)
-inherent_kept s sd ig f a b ia h = along s ig (equal_passed s sd ig f a b ia h)
+inherent_kept s sd ig f a b ia h = along s ig (equal_passed s ig f a b h)

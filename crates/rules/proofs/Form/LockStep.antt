@@ -1,9 +1,8 @@
--- The comparison goes on exactly when the lock-step pass over the two fragments' events does, and with the same state; but for a walk
--- that is too deep. Each pass of the comparison mirrors its stretch of events, whatever follows. Assumes nothing.
+-- The comparison goes on exactly when the lock-step pass over the two fragments' events does, and with the same state: each pass of the
+-- comparison mirrors its stretch of events, whatever follows. Assumes nothing.
 use Prim.Native.Nat.{ℕ, zero, suc}
 use mathlib.Core.Bool.{Bool, true, false, cond}
 use mathlib.Core.List.{List, [], ◌∷◌, ◌++◌, append_assoc, append-nil}
-use mathlib.Core.Logic.{◌⊎◌, inl, inr}
 use mathlib.Core.Option.{Option, none, some}
 use mathlib.Core.Path.{◌≡◌, refl, ap, subst₂, ◌∙◌}
 use lib.ListN.{length}
@@ -11,7 +10,7 @@ use Rattle.rules.specs.Store.{Store, Owner, of_op, of_block, ops_of, blocks_of, 
 use Rattle.rules.specs.Fragments.{Sort, op, block, region, levels, shell, names, counted, block_owner, op_owner}
 use Rattle.rules.specs.Shells.{Ignore, same_shells}
 use Rattle.rules.specs.Mapping.{enter_all}
-use Rattle.rules.specs.Comparison.{State, Pair, Walk, on, ended, too_deep, ◌>>=◌, pairwise, pair_of, expect, pair_ops, enter_ops, pair_blocks, enter_blocks, pass1, compare_by}
+use Rattle.rules.specs.Comparison.{State, Pair, Walk, on, ended, ◌>>=◌, pairwise, pair_of, expect, pair_ops, enter_ops, pair_blocks, enter_blocks, pass1, compare_by}
 use Rattle.rules.specs.Form.{Event, step, list_events, one, shell_events, op_events, blocks_events, region_events, events}
 use Rattle.rules.proofs.Form.Tested.{names_agree, tested_names, tested_ops, tested2, tested3, tested_lists, tested_regions, tested_by, compare_tested}
 use Rattle.rules.proofs.Form.Events.{and_then, enter_owners, meet, lock}
@@ -20,9 +19,9 @@ abbrev pub going : Walk → Option State
 going (on st) = some st
 going (ended why st) = none
 
--- a walk is too deep, or goes on exactly as the pass does
+-- a walk goes on exactly as the pass does
 abbrev pub Alike : Walk → Option State → Type 0
-Alike w o = ((st : State) × (w ≡ ended too_deep st)) ⊎ (going w ≡ o)
+Alike w o = going w ≡ o
 
 pub >>=-assoc : (w : Walk) (f g : State → Walk) → (w >>= f) >>= g ≡ w >>= (λ (st : State). f st >>= g)
 >>=-assoc (on st) f g = refl
@@ -50,7 +49,7 @@ module _ (s : Store) (ig : Ignore) where
       → Alike (expect b p st st' >>= K) (and_then (cond b (some st') none) o)
   unfolding expect
   tested true p st st' K o k = k
-  tested false p st st' K o k = inr refl
+  tested false p st st' K o k = refl
 
   ops_mirror : (l r : ℕ) → Mirrors (pair_ops s ig l r) (one (λ (n : ℕ). shell (of_op n)) l) (one (λ (n : ℕ). shell (of_op n)) r)
   unfolding Mirrors pair_ops lock meet enter_owners enter_ops block_owner op_owner enter_all
@@ -75,9 +74,9 @@ module _ (s : Store) (ig : Ignore) where
       → (ls rs : List ℕ) → Mirrors (pairwise f p ls rs) (list_events ev ls) (list_events ev rs)
   unfolding Mirrors pairwise list_events lock meet
   list_mirror f p ev m [] [] K E E' k st = k st
-  list_mirror f p ev m [] (r ∷ rs) K E E' k st = inr refl
-  list_mirror f p ev m (l ∷ []) [] K E E' k st = inr refl
-  list_mirror f p ev m (l ∷ l' ∷ ls) [] K E E' k st = inr refl
+  list_mirror f p ev m [] (r ∷ rs) K E E' k st = refl
+  list_mirror f p ev m (l ∷ []) [] K E E' k st = refl
+  list_mirror f p ev m (l ∷ l' ∷ ls) [] K E E' k st = refl
   list_mirror f p ev m (l ∷ ls) (r ∷ rs) K E E' k st =
       both (f l r) (pairwise f p ls rs) (ev l) (ev r) (list_events ev ls) (list_events ev rs) (m l r) (list_mirror f p ev m ls rs) K E E' k st
 
@@ -116,7 +115,7 @@ module _ (s : Store) (ig : Ignore) where
 
   regions_mirror : (k : ℕ) (l r : ℕ) → Mirrors (tested_regions s ig k l r) (region_events s k l) (region_events s k r)
   unfolding Mirrors tested_regions region_events
-  regions_mirror zero l r = λ K E E' k st. inl (st, refl)
+  regions_mirror zero l r = λ K E E' k. k
   regions_mirror (suc j) l r =
       lists_mirror (tested_ops s (tested_regions s ig j)) (op_events s (region_events s j)) (op_mirror (tested_regions s ig j) (region_events s j) (regions_mirror j))
       (pair_of region l r) (blocks_of s l) (blocks_of s r)
@@ -138,4 +137,4 @@ module _ (s : Store) (ig : Ignore) where
       rw (compare_tested s ig f l r st)
       (subst₂ (λ (w : Walk) (o : Option State). Alike w o) (>>=-on (tested_by s ig f l r st))
       (ap (λ (es : List Event). lock s ig es (events s f r ++ []) st) (append-nil (events s f l)) ∙ ap (λ (es : List Event). lock s ig (events s f l) es st) (append-nil (events s f r)))
-      (mirror f l r on [] [] (λ st₁. inr refl) st))
+      (mirror f l r on [] [] (λ st₁. refl) st))

@@ -97,11 +97,12 @@ module _ (s : Store) (sd : Sound s) where
   full_part_lem k = op_part_lem (region_steps k s) (region_part k)
 
   -- an operation and what it defines
-  pub op_once : (k n : ℕ) → op_exists s n ≡ true → Distinct (of_op n ∷ defined (full_op s (region_steps k s) n))
+  op_once : (k n : ℕ) → op_exists s n ≡ true → Distinct (of_op n ∷ defined (full_op s (region_steps k s) n))
   unfolding op_exists
   op_once k n h = (λ m. not_around_itself s sd (owner_op s sd n (ltb-true _ _ h)) ((full_part_lem k n).inside (of_op n) m).1, (full_part_lem k n).once)
 
-  pub op_here : (k n : ℕ) → op_exists s n ≡ true → (w : Owner) → Memᴰ w (of_op n ∷ defined (full_op s (region_steps k s) n)) → owner_exists s w ≡ true
+  op_here : (k n : ℕ) → op_exists s n ≡ true
+      → (w : Owner) → Memᴰ w (of_op n ∷ defined (full_op s (region_steps k s) n)) → owner_exists s w ≡ true
   unfolding op_exists
   op_here k n h w m =
       ⊎_elim (λ e. subst (λ (x : Owner). owner_exists s x ≡ true) (sym e) (owner_op s sd n (ltb-true _ _ h))) (λ i. ((full_part_lem k n).inside w i).0) (Memᴰ.cases_cons m)

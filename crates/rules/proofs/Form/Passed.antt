@@ -6,12 +6,12 @@ use mathlib.Core.List.{List, [], ◌∷◌, ◌++◌}
 use mathlib.Core.Option.{Option, none, some, some-injective, none-ne-some}
 use mathlib.Core.Path.{◌≡◌, refl, sym, ap, subst, subst₂, ◌∙◌}
 use Rattle.rules.specs.Lists.{concat_map}
-use Rattle.rules.specs.Store.{Store, Owner, sound}
+use Rattle.rules.specs.Store.{Store, Owner}
 use Rattle.rules.specs.Fragments.{Sort, shell, names, counted, step_defines, defines_owners}
 use Rattle.rules.specs.Shells.{Ignore, same_shells}
 use Rattle.rules.specs.Mapping.{Mapping, empty_mapping}
 use Rattle.rules.specs.Comparison.{State, on, start, standing, compare}
-use Rattle.rules.specs.Laws.{equal, Equal, In}
+use Rattle.rules.specs.Laws.{equal, Equal}
 use Rattle.rules.specs.Form.{Event, step, more, done, events}
 use Rattle.rules.proofs.Form.Events.{and_then, enter_owners, meet, lock}
 use Rattle.rules.proofs.Form.LockStep.{going}
@@ -83,15 +83,15 @@ unfolding defines_owners event_owners
 in_walk s f n = in_fragment event_owners step_defines (λ x. refl) refl refl s f n
 
 -- from whatever mapping, if the comparison goes on to its end
-pub walked_passed : (s : Store) → sound s ≡ true → (ig : Ignore) (f : Sort) (a b : ℕ) → In s f a → (m : Mapping) (st : State) → compare s ig f a b m ≡ on st
+pub walked_passed : (s : Store) (ig : Ignore) (f : Sort) (a b : ℕ) (m : Mapping) (st : State) → compare s ig f a b m ≡ on st
     → Passed s ig (defines_owners s f a) (defines_owners s f b) (start m) st
-walked_passed s sd ig f a b ia m st h =
+walked_passed s ig f a b m st h =
     subst₂ (λ (ls rs : List Owner). Passed s ig ls rs (start m) st) (in_walk s f a) (in_walk s f b)
-    (along s ig (events s f a) (events s f b) (start m) st (sym (pass s sd ig f m a b ia) ∙ ap going h))
+    (along s ig (events s f a) (events s f b) (start m) st (sym (pass s ig f m a b) ∙ ap going h))
 
-pub equal_passed : (s : Store) → sound s ≡ true → (ig : Ignore) (f : Sort) (a b : ℕ) → In s f a → Equal s ig f a b
+pub equal_passed : (s : Store) (ig : Ignore) (f : Sort) (a b : ℕ) → Equal s ig f a b
     → Passed s ig (defines_owners s f a) (defines_owners s f b) (start empty_mapping) (standing (compare s ig f a b empty_mapping))
 unfolding equal standing
-equal_passed s sd ig f a b ia h =
-    let w = goes s sd ig f (compare s ig f a b empty_mapping) h in
-    rw w.1 (walked_passed s sd ig f a b ia empty_mapping w.0 w.1)
+equal_passed s ig f a b h =
+    let w = goes (compare s ig f a b empty_mapping) h in
+    rw w.1 (walked_passed s ig f a b empty_mapping w.0 w.1)

@@ -60,5 +60,5 @@ module _ (s : Store) (ig : Ignore) where
 pub side_by_side : SideBySide
 unfolding SideBySide filed start defined
 side_by_side s sd ig f a b ia ib h t =
-    let whole = along s ig t (equal_passed s sd ig f a b ia h) in
+    let whole = along s ig t (equal_passed s ig f a b h) in
     rw (← by_owners s f a t, ← by_owners s f b t) (whole.made, whole.lengths)

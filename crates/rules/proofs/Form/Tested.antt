@@ -11,7 +11,7 @@ use Rattle.rules.specs.Lists.{same_list}
 use Rattle.rules.specs.Store.{Store, of_op, ops_of, blocks_of, regions_of}
 use Rattle.rules.specs.Fragments.{Sort, op, block, region, levels}
 use Rattle.rules.specs.Shells.{Ignore, counts_of, same_shells}
-use Rattle.rules.specs.Comparison.{State, Pair, Walk, on, ended, too_deep, unequal, ◌>>=◌, pairwise, each_pair, pair_of, expect, pair_ops, enter_ops, pair_blocks, operands_agree, successors_agree, check_names, check_ops, pass1, pass2, pass3, compare_lists, compare_regions, compare_by}
+use Rattle.rules.specs.Comparison.{State, Pair, Walk, on, ended, unequal, ◌>>=◌, pairwise, each_pair, pair_of, expect, pair_ops, enter_ops, pair_blocks, operands_agree, successors_agree, check_names, check_ops, pass1, pass2, pass3, compare_lists, compare_regions, compare_by}
 use Rattle.rules.proofs.Basics.Tests.{impossible, passed, numbers_same}
 
 -- ---- lists of one length, pair by pair related
@@ -84,7 +84,7 @@ module _ (s : Store) where
     tested_lists check p ls rs st = pass1 s ig p ls rs st >>= tested2 p ls rs >>= tested3 check p ls rs
 
     unfoldable pub tested_regions : ℕ → ℕ → ℕ → State → Walk
-    tested_regions zero l r st = ended too_deep st
+    tested_regions zero l r st = on st
     tested_regions (suc k) l r st = tested_lists (tested_ops (tested_regions k)) (pair_of region l r) (blocks_of s l) (blocks_of s r) st
 
     unfoldable pub tested_by : Sort → ℕ → ℕ → State → Walk

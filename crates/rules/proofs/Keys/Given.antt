@@ -1,4 +1,4 @@
--- A key that fits is written: the fragment exists and is not nested too deep, so no test fails. Assumes nothing.
+-- A key that fits is written: the fragment exists, so no test fails. Assumes nothing.
 use mathlib.Core.Bool.{true}
 use mathlib.Core.Option.{none}
 use mathlib.Core.Path.{◌≡◌, refl}
@@ -9,11 +9,10 @@ use Rattle.rules.specs.Keys.{key, key_tests, keyed_by, keyed}
 use Rattle.rules.specs.Types.{renamed}
 use Rattle.rules.specs.Statements.{KeyedIs}
 use Rattle.rules.proofs.Soundness.Accepted.{all_passed}
-use Rattle.rules.proofs.Walking.Answered.{fragment_shallow}
 
 pub keyed_is : KeyedIs
 unfolding KeyedIs keyed keyed_by key_tests
 keyed_is s sd types th ig f n bytes e l =
     let t : first_failed (key_tests true s types ig f n (length bytes)) ≡ none =
-    all_passed _ (refl, (th, (e, (fragment_shallow s sd f n e, (le-leb (length (key (renamed types s) ig f n)) (length bytes) l, tt))))) in
+    all_passed _ (refl, (th, (e, (le-leb (length (key (renamed types s) ig f n)) (length bytes) l, tt)))) in
     rw t

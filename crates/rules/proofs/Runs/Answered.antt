@@ -11,7 +11,6 @@ use mathlib.Core.Path.{◌≡◌, refl, subst}
 use borrow.Author.Tests.{ltb-true, le-leb}
 use lib.ListN.{length}
 use Rattle.rules.specs.Store.{Store, ops_of, op_around, op_after, sound, max_ops}
-use Rattle.rules.specs.Fragments.{block}
 use Rattle.rules.specs.Building.{first_failed}
 use Rattle.rules.specs.Runs.{Run, max_run, repeated, run_tests, repeated_by, repeated_run}
 use Rattle.rules.specs.Statements.{Apart, RepeatedFound, LongestRun, RepeatedIs}
@@ -20,7 +19,6 @@ use Rattle.rules.proofs.Basics.Pigeons.{pigeons}
 use Rattle.rules.proofs.Soundness.Accepted.{all_passed}
 use Rattle.rules.proofs.Soundness.Children.{ops_in_lem, ops_distinct}
 use Rattle.rules.proofs.Soundness.Sound.{facts}
-use Rattle.rules.proofs.Walking.Answered.{fragment_shallow}
 use Rattle.rules.proofs.Runs.Searched.{repeated_found}
 
 -- the operation around a block is none of its own, and has a smaller number
@@ -60,5 +58,5 @@ pub repeated_is : RepeatedIs
 unfolding RepeatedIs repeated_run repeated_by run_tests
 repeated_is s sd types th ig b n i low high =
     let t : first_failed (run_tests true s types b n) ≡ none =
-    all_passed _ (refl, (th, (i, (and_both _ _ (le-leb 1 n low) (le-leb n max_run high), (fragment_shallow s sd block b i, tt))))) in
+    all_passed _ (refl, (th, (i, (and_both _ _ (le-leb 1 n low) (le-leb n max_run high), tt)))) in
     rw t

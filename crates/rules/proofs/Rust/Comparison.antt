@@ -1,10 +1,10 @@
 -- The Rust's comparison is 01's, step by step, until 01's walk meets a list that is exactly one longer on the left, where it ends and the
--- Rust's `zip` has swallowed the item. What the Rust relies on after a pass, lists of one length, 01's walk has tested by then. Assumes
--- nothing.
+-- Rust's `zip` has swallowed the item. What the Rust relies on after a pass, lists of one length, 01's walk has tested by then; and levels
+-- are enough for both. Assumes nothing.
 use Prim.Native.Nat.{ℕ, zero, suc}
 use native.Mathlib.Omega.{arith}
 use mathlib.Core.Bool.{Bool, true, false, cond, ◌&&◌}
-use mathlib.Core.List.{List, [], ◌∷◌, map}
+use mathlib.Core.List.{List, [], ◌∷◌, map, Memᴰ}
 use mathlib.Core.Logic.{◌⊎◌, inl, inr}
 use mathlib.Core.Path.{◌≡◌, refl, sym, ap, subst, ◌∙◌}
 use borrow.Author.Tests.{ltb-true, ltb-false}
@@ -14,12 +14,13 @@ use Rattle.rules.specs.Store.{Store, no_op, no_block, op_at, block_at, ops_of, b
 use Rattle.rules.specs.Fragments.{Sort, op, block, region, levels}
 use Rattle.rules.specs.Shells.{Ignore}
 use Rattle.rules.specs.Mapping.{Mapping}
-use Rattle.rules.specs.Comparison.{State, Pair, Stop, unequal, one_longer, too_deep, Walk, on, ended, standing, ◌>>=◌, pairwise, each_pair, pair_of, pair_ops, pair_blocks, operands_agree, successors_agree, check_names, check_ops, pass1, pass2, pass3, compare_lists, compare_regions, compare_by, start, compare}
+use Rattle.rules.specs.Comparison.{State, Pair, Stop, unequal, one_longer, Walk, on, ended, standing, ◌>>=◌, pairwise, each_pair, pair_of, pair_ops, pair_blocks, operands_agree, successors_agree, check_names, check_ops, pass1, pass2, pass3, compare_lists, compare_regions, compare_by, start, compare}
 use Rattle.rules.specs.Rust.{next, Zipped, zip, differ, count_from, up_to, EqResult, Eq, FirstNEQOps, FirstNEQRegions, FirstNEQBlocks, no_answer, Returned, answers, or_return, and_then, for_each, op_eq_map, block_eq_map, region_pairs, op_eq_mapped, ops_of_blocks, full_ops_of_blocks, Err, ok, or_return_ok, or_else, resolved, blocks_eq, region_eq, basic_block_eq, operation_eq, rust_eq}
 use Rattle.rules.specs.Agreement.{named_by, named, result_of, answered, met_one_longer, ComparesAsTheRust}
 use Rattle.rules.proofs.Basics.Tests.{clash}
-use Rattle.rules.proofs.Soundness.Sound.{Sound, facts}
+use Rattle.rules.proofs.Soundness.Sound.{Sound, facts, sound_of}
 use Rattle.rules.proofs.Soundness.KeptAttributes.{none_hold, keys_rise_lem}
+use Rattle.rules.proofs.Walking.Levels.{by_levels}
 use Rattle.rules.proofs.Form.Tested.{Pairs, gained, testing, same_length, Counts, paired_counts, regions_count}
 use Rattle.rules.proofs.Rust.Shells.{Opposite, answered_expect, ops_map, blocks_map, operands_agree_lem, successors_agree_lem}
 
@@ -95,7 +96,6 @@ ended_returns : (why : Stop) (st : State) (g : Mapping → Returned) → and_the
 unfolding answered result_of standing and_then answers or_return
 ended_returns (unequal p) st g = named_returns p st.mapping g
 ended_returns (one_longer p) st g = named_returns p st.mapping g
-ended_returns too_deep st g = refl
 
 agree_bind : (w : Walk) (c : Returned) (f : State → Walk) (g : Mapping → Returned)
     → Agree w c → ((st : State) → w ≡ on st → Agree (f st) (g st.mapping)) → Agree (w >>= f) (and_then c g)
@@ -106,16 +106,16 @@ agree_bind (ended why st) c f g (inl e) h = inl e
 agree_bind (ended why st) c f g (inr e) h = inr (sym (ended_returns why st g) ∙ ap (λ (d : Returned). and_then d g) e)
 
 -- pair by pair, where each pair is related
-agree_each : (f : ℕ → ℕ → State → Walk) (g : ℕ → ℕ → Mapping → Returned) (R : ℕ → ℕ → Type 0)
-    → ((l r : ℕ) → R l r → (st : State) → Agree (f l r st) (g l r st.mapping))
-    → (ls rs : List ℕ) → Pairs R ls rs → (st : State) → Agree (each_pair f ls rs st) (for_each g (zip ls rs).pairs st.mapping)
+agree_each : (f : ℕ → ℕ → State → Walk) (g : ℕ → ℕ → Mapping → Returned) (R : ℕ → ℕ → Type 0) (ls rs : List ℕ)
+    → ((l r : ℕ) → Memᴰ l ls → R l r → (st : State) → Agree (f l r st) (g l r st.mapping))
+    → Pairs R ls rs → (st : State) → Agree (each_pair f ls rs st) (for_each g (zip ls rs).pairs st.mapping)
 unfolding each_pair for_each zip answered result_of standing
-agree_each f g R h [] [] q st = inr refl
-agree_each f g R h [] (r ∷ rs) q st = absurd q
-agree_each f g R h (l ∷ ls) [] q st = absurd q
-agree_each f g R h (l ∷ ls) (r ∷ rs) q st =
-    agree_bind (f l r st) (g l r st.mapping) (each_pair f ls rs) (for_each g (zip ls rs).pairs) (h l r q.0 st)
-    (λ st' e. agree_each f g R h ls rs q.1 st')
+agree_each f g R [] [] h q st = inr refl
+agree_each f g R [] (r ∷ rs) h q st = absurd q
+agree_each f g R (l ∷ ls) [] h q st = absurd q
+agree_each f g R (l ∷ ls) (r ∷ rs) h q st =
+    agree_bind (f l r st) (g l r st.mapping) (each_pair f ls rs) (for_each g (zip ls rs).pairs) (h l r (Memᴰ.head refl) q.0 st)
+    (λ st' e. agree_each f g R ls rs (λ m n k. h m n (Memᴰ.tail k)) q.1 st')
 
 -- pair by pair up to the shorter end, and then the lengths
 agree_pairwise : (f : ℕ → ℕ → State → Walk) (g : ℕ → ℕ → Mapping → Returned)
@@ -210,12 +210,16 @@ module _ (s : Store) (sd : Sound s) (ig : Ignore) where
   agree_in l r st =
       agree_pairwise (pair_ops s ig) (op_eq_map s ig) (λ a b t. inr (ops_map s ig a b (op_keys s sd a) (op_keys s sd b) t)) (pair_of block l r) (ops_of s l) (ops_of s r) st
 
-  module _ (regions : ℕ → ℕ → State → Walk) (region_eq' : ℕ → ℕ → Mapping → Returned)
-      (same : (l r : ℕ) (st : State) → Agree (regions l r st) (region_eq' l r st.mapping)) where
+  module _ (regions : ℕ → ℕ → State → Walk) (region_eq' : ℕ → ℕ → Mapping → Returned) where
+    -- the two agree on the regions of an operation
+    In_regions : ℕ → Type 0
+    In_regions n = (q y : ℕ) → Memᴰ q (regions_of s n) → (st : State) → Agree (regions q y st) (region_eq' q y st.mapping)
+
     -- `op_eq_mapped`, of two operations that are paired
-    agree_ops : (l r : ℕ) → Counts s l r → (st : State) → Agree (check_ops s regions l r st) (op_eq_mapped s region_eq' l r st.mapping)
-    unfolding check_ops check_names op_eq_mapped region_pairs named named_by pair_of and_then or_return answers
-    agree_ops l r c st =
+    agree_ops : (l r : ℕ) → In_regions l → Counts s l r
+        → (st : State) → Agree (check_ops s regions l r st) (op_eq_mapped s region_eq' l r st.mapping)
+    unfolding check_ops check_names op_eq_mapped region_pairs named named_by pair_of and_then or_return answers In_regions
+    agree_ops l r same c st =
         let pairs : region_pairs s l r ≡ (zip (regions_of s l) (regions_of s r)).pairs = by_place (regions_of s l) (regions_of s r) (regions_count s ig l r c) in
         let m = st.mapping in
         let neq = answers (FirstNEQOps l r) m in
@@ -223,14 +227,14 @@ module _ (s : Store) (sd : Sound s) (ig : Ignore) where
         (ap (λ (ps : List (ℕ × ℕ)). and_then (cond (operands_agree s m l r && successors_agree s m l r) (answers Eq m) neq) (for_each region_eq' ps)) (sym pairs)
         ∙ names_tests _ _ _ _ m neq (for_each region_eq' (region_pairs s l r)) refl (operands_agree_lem s m l r) (successors_agree_lem s m l r))
         (agree_bind (check_names s l r st) _ _ _ (inr (answered_expect _ (pair_of op l r) st st))
-        (λ st' e. agree_each regions region_eq' (λ (a b : ℕ). Unit {0}) (λ a b u. same a b) (regions_of s l) (regions_of s r)
+        (λ st' e. agree_each regions region_eq' (λ (a b : ℕ). Unit {0}) (regions_of s l) (regions_of s r) (λ a b m u. same a b m)
         (same_length (regions_of s l) (regions_of s r) (regions_count s ig l r c)) st'))
 
     -- `blocks_eq`, which names p where the lists' lengths differ
-    agree_lists : (p : Pair) (ls rs : List ℕ) (st : State)
+    agree_lists : (p : Pair) (ls rs : List ℕ) → ((b : ℕ) → Memᴰ b ls → (n : ℕ) → Memᴰ n (ops_of s b) → In_regions n) → (st : State)
         → Agree (compare_lists s ig (check_ops s regions) p ls rs st) (resolved (named p) (blocks_eq s ig region_eq' ls rs st.mapping))
     unfolding compare_lists pass1 pass2 pass3 in_blocks Inside full_ops_of_blocks
-    agree_lists p ls rs st =
+    agree_lists p ls rs same st =
         subst (λ (w : Walk). Agree w (resolved (named p) (blocks_eq s ig region_eq' ls rs st.mapping))) (sym (walk_assoc (pass1 s ig p ls rs st) (pass2 s ig ls rs) (pass3 s (check_ops s regions) ls rs)))
         (subst (Agree (pass1 s ig p ls rs st >>= (λ (t : State). pass2 s ig ls rs t >>= pass3 s (check_ops s regions) ls rs)))
         (then_assoc _ _ rest ∙ then_same _ _ _ (ends_then (zip ls rs) p rest) ∙ sym (resolved_blocks s ig region_eq' (named p) ls rs st.mapping))
@@ -244,33 +248,45 @@ module _ (s : Store) (sd : Sound s) (ig : Ignore) where
 
         third : Pairs Inside ls rs → (st₂ : State) → Agree (pass3 s (check_ops s regions) ls rs st₂) (for_each (full_ops_of_blocks s region_eq') (zip ls rs).pairs st₂.mapping)
         third q st₂ =
-            agree_each (λ (l r : ℕ). each_pair (check_ops s regions) (ops_of s l) (ops_of s r)) (full_ops_of_blocks s region_eq') Inside
-            (λ l r i. agree_each (check_ops s regions) (op_eq_mapped s region_eq') (Counts s) agree_ops (ops_of s l) (ops_of s r) i)
-            ls rs q st₂
+            agree_each (λ (l r : ℕ). each_pair (check_ops s regions) (ops_of s l) (ops_of s r)) (full_ops_of_blocks s region_eq')
+            Inside ls rs
+            (λ b c b∈ i. agree_each (check_ops s regions) (op_eq_mapped s region_eq') (Counts s) (ops_of s b) (ops_of s c)
+            (λ n m n∈. agree_ops n m (same b b∈ n n∈)) i)
+            q st₂
 
         second : (st₁ : State) → pass1 s ig p ls rs st ≡ on st₁ → Agree (pass2 s ig ls rs st₁ >>= pass3 s (check_ops s regions) ls rs) (rest st₁.mapping)
         second st₁ e =
             let q = gained (pair_blocks s ig) p (λ (l r : ℕ). Unit {0}) (λ l r a b h. tt) ls rs st st₁ e in
             let tested = testing in_blocks in_blocks p (λ (l r : ℕ). Unit {0}) (λ l r u t. refl) ls rs q st₁ in
             agree_bind (pass2 s ig ls rs st₁) _ _ _
-            (agree_each in_blocks (ops_of_blocks s ig) (λ (l r : ℕ). Unit {0}) (λ l r u t. agree_in l r t) ls rs q st₁)
+            (agree_each in_blocks (ops_of_blocks s ig) (λ (l r : ℕ). Unit {0}) ls rs (λ l r m u t. agree_in l r t) q st₁)
             (λ st₂ h. third (gained in_blocks p Inside inside ls rs st₁ st₂ (sym tested ∙ h)) st₂)
 
-  agree_regions : (k : ℕ) (l r : ℕ) (st : State) → Agree (compare_regions k s ig l r st) (region_eq k s ig l r st.mapping)
-  unfolding compare_regions region_eq answered result_of standing named named_by pair_of
-  agree_regions zero l r st = inr refl
-  agree_regions (suc k) l r st = agree_lists (compare_regions k s ig) (region_eq k s ig) (agree_regions k) (pair_of region l r) (blocks_of s l) (blocks_of s r) st
+  -- with levels enough, so that neither comes to the end of them
+  agree_regions : (x y : ℕ) (st : State) → Agree (compare_regions levels s ig x y st) (region_eq levels s ig x y st.mapping)
+  unfolding compare_regions region_eq named named_by pair_of In_regions
+  agree_regions =
+      by_levels s (sound_of s sd)
+      (λ k l x. (y : ℕ) (st : State) → Agree (compare_regions k s ig x y st) (region_eq l s ig x y st.mapping))
+      (λ k l x inner y. agree_lists (compare_regions k s ig) (region_eq l s ig) (pair_of region x y) (blocks_of s x) (blocks_of s y)
+      (λ b b∈ n n∈ q z q∈. inner b n q b∈ n∈ q∈ z))
+      levels levels (omega arith) (omega arith)
+
+  in_regions : (n : ℕ) → In_regions (compare_regions levels s ig) (region_eq levels s ig) n
+  unfolding In_regions
+  in_regions n q y m = agree_regions q y
 
   agree_fragments : (f : Sort) (l r : ℕ) (st : State) → Agree (compare_by s ig f l r st) (rust_eq s ig f l r st.mapping)
   unfolding compare_by rust_eq operation_eq basic_block_eq
   agree_fragments op l r st =
       agree_bind (pair_ops s ig l r st) _ _ _ (inr (ops_map s ig l r (op_keys s sd l) (op_keys s sd r) st))
-      (λ st' e. agree_ops (compare_regions levels s ig) (region_eq levels s ig) (agree_regions levels) l r (paired_counts s ig l r st st' e) st')
+      (λ st' e. agree_ops (compare_regions levels s ig) (region_eq levels s ig) l r (in_regions l) (paired_counts s ig l r st st' e) st')
   agree_fragments block l r st =
       subst (Agree (compare_lists s ig (check_ops s (compare_regions levels s ig)) (pair_of block l r) (l ∷ []) (r ∷ []) st))
       (alone s ig (region_eq levels s ig) (named (pair_of block l r)) no_answer l r st.mapping)
-      (agree_lists (compare_regions levels s ig) (region_eq levels s ig) (agree_regions levels) (pair_of block l r) (l ∷ []) (r ∷ []) st)
-  agree_fragments region l r st = agree_regions levels l r st
+      (agree_lists (compare_regions levels s ig) (region_eq levels s ig) (pair_of block l r) (l ∷ []) (r ∷ [])
+      (λ b b∈ n n∈. in_regions n) st)
+  agree_fragments region l r st = agree_regions l r st
 
 pub compares_as_the_rust : ComparesAsTheRust
 unfolding ComparesAsTheRust compare start

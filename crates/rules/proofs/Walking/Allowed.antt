@@ -14,7 +14,7 @@ use Rattle.rules.specs.Fragments.{Sort, exists}
 use Rattle.rules.specs.Building.{first_failed}
 use Rattle.rules.specs.Shells.{Ignore}
 use Rattle.rules.specs.Mapping.{Mapping, no_image, enter_all, entries_allowed, table_allowed, allowed}
-use Rattle.rules.specs.Comparison.{State, unequal, one_longer, too_deep, Walk, on, ended, standing, enter_ops, enter_blocks, start, compare}
+use Rattle.rules.specs.Comparison.{State, unequal, one_longer, Walk, on, ended, standing, enter_ops, enter_blocks, start, compare}
 use Rattle.rules.specs.Types.{renamed}
 use Rattle.rules.specs.Answers.{compare_tests, comparison_of, comparison_by, comparison}
 use Rattle.rules.proofs.Types.Renamed.{exists_renamed, allowed_renamed}
@@ -89,7 +89,6 @@ module _ (s : Store) where
   kept_by (on st) m h k = k
   kept_by (ended (unequal p) st) m h k = k
   kept_by (ended (one_longer p) st) m h k = k
-  kept_by (ended too_deep st) m h k = h
 
 -- answered or refused
 pub comparison_allowed : (s : Store) (lent : Bool) (types : List ℕ) (ig : Ignore) (f : Sort) (l r : ℕ) (m : Mapping) → allowed s m ≡ true

@@ -1,45 +1,78 @@
--- Any sufficient number gives the same walk: with one more region to enter a walk takes the same steps, but where it had ended for
--- want of one; so a walk that is not too deep does not depend on the number. Assumes nothing.
-use Prim.Native.Nat.{ℕ, zero, suc, ◌+◌}
-use native.Mathlib.Numerals.{unary_clauses}
-use mathlib.Core.Logic.{inl, inr}
-use mathlib.Core.Path.{◌≡◌, refl, sym, ◌∙◌}
-use Rattle.rules.specs.Store.{Store, blocks_of}
-use Rattle.rules.specs.Fragments.{region}
+-- Any sufficient number of levels gives the same comparison and the same events, as it gives the same steps: two regions are compared by
+-- comparing those next inside the left one, with one level less. Assumes nothing.
+use Prim.Native.Nat.{ℕ, ◌+◌, ◌≤◌}
+use native.Mathlib.Omega.{arith}
+use mathlib.Core.Bool.{true}
+use mathlib.Core.List.{List, [], ◌∷◌, ◌++◌, Memᴰ}
+use mathlib.Core.Path.{◌≡◌, refl}
+use Rattle.rules.specs.Store.{Store, of_op, of_block, ops_of, blocks_of, regions_of, sound}
+use Rattle.rules.specs.Fragments.{region, levels, names}
 use Rattle.rules.specs.Shells.{Ignore}
-use Rattle.rules.specs.Comparison.{State, Stop, unequal, one_longer, too_deep, Walk, on, ended, pair_of, compare_regions}
-use Rattle.rules.proofs.Walking.Walks.{EndedBy, Agree, Agreeing, agree_lists, agree_ops}
+use Rattle.rules.specs.Comparison.{State, Pair, Walk, ◌>>=◌, each_pair, pair_of, check_names, check_ops, pass1, pass2, pass3, compare_lists, compare_regions}
+use Rattle.rules.specs.Form.{Event, step, more, list_events, shell_events, op_events, blocks_events, region_events}
+use Rattle.rules.specs.Statements.{LevelsEnough}
+use Rattle.rules.proofs.Walking.Levels.{by_levels}
+use Rattle.rules.proofs.Walking.EnoughSteps.{steps_enough}
 
-abbrev TooDeep : Stop → Type 0
-TooDeep (unequal p) = ⊥
-TooDeep (one_longer p) = ⊥
-TooDeep too_deep = Unit {0}
+-- two ways to walk from the numbers of a list on the left
+abbrev Same : (f g : ℕ → ℕ → State → Walk) → List ℕ → Type 0
+Same f g ls = (l : ℕ) → Memᴰ l ls → (r : ℕ) (st : State) → f l r st ≡ g l r st
 
-module _ (s : Store) (ig : Ignore) where
-  one_more_lem : (k : ℕ) → Agreeing TooDeep (compare_regions k s ig) (compare_regions (suc k) s ig)
+each_same : (f g : ℕ → ℕ → State → Walk) (ls rs : List ℕ) → Same f g ls → (st : State) → each_pair f ls rs st ≡ each_pair g ls rs st
+unfolding each_pair
+each_same f g [] rs h st = refl
+each_same f g (l ∷ ls) [] h st = refl
+each_same f g (l ∷ ls) (r ∷ rs) h st = λ i.
+    h l (Memᴰ.head refl) r st i >>= (λ (t : State). each_same f g ls rs (λ m k. h m (Memᴰ.tail k)) t i)
+
+events_same : (f g : ℕ → List Event) (ns : List ℕ) → ((n : ℕ) → Memᴰ n ns → f n ≡ g n) → list_events f ns ≡ list_events g ns
+unfolding list_events
+events_same f g [] h = refl
+events_same f g (n ∷ ns) h = λ i. more ∷ (h n (Memᴰ.head refl) i ++ events_same f g ns (λ m k. h m (Memᴰ.tail k)) i)
+
+module _ (s : Store) (f g : ℕ → ℕ → State → Walk) where
+  -- two operations, from whose regions it makes no difference
+  ops_same : (n m : ℕ) → Same f g (regions_of s n) → (st : State) → check_ops s f n m st ≡ check_ops s g n m st
+  unfolding check_ops
+  ops_same n m h st = λ i. check_names s n m st >>= (λ (t : State). each_same f g (regions_of s n) (regions_of s m) h t i)
+
+  -- two lists of blocks, from the regions of whose operations it makes none
+  lists_same : (ig : Ignore) (p : Pair) (ls rs : List ℕ)
+      → ((b : ℕ) → Memᴰ b ls → (n : ℕ) → Memᴰ n (ops_of s b) → Same f g (regions_of s n))
+      → (st : State) → compare_lists s ig (check_ops s f) p ls rs st ≡ compare_lists s ig (check_ops s g) p ls rs st
+  unfolding compare_lists pass3
+  lists_same ig p ls rs h st = λ i. pass1 s ig p ls rs st >>= pass2 s ig ls rs >>= (λ (t : State). third t i)
+    where
+      third : (t : State) → pass3 s (check_ops s f) ls rs t ≡ pass3 s (check_ops s g) ls rs t
+      third =
+          each_same _ _ ls rs
+          (λ b b∈ c. each_same (check_ops s f) (check_ops s g) (ops_of s b) (ops_of s c) (λ n n∈ m. ops_same n m (h b b∈ n n∈)))
+
+module _ (s : Store) (sd : sound s ≡ true) where
+  pub regions_enough : (ig : Ignore) (k l : ℕ) → levels ≤ k → levels ≤ l
+      → (x y : ℕ) (st : State) → compare_regions k s ig x y st ≡ compare_regions l s ig x y st
   unfolding compare_regions
-  one_more_lem zero l r st = inl tt
-  one_more_lem (suc k) l r st =
-      agree_lists TooDeep s ig _ _ (agree_ops TooDeep s _ _ (one_more_lem k)) (pair_of region l r) (blocks_of s l) (blocks_of s r) st
+  regions_enough ig =
+      by_levels s sd (λ k l x. (y : ℕ) (st : State) → compare_regions k s ig x y st ≡ compare_regions l s ig x y st)
+      (λ k l x inner y.
+      lists_same s (compare_regions k s ig) (compare_regions l s ig) ig (pair_of region x y) (blocks_of s x) (blocks_of s y)
+      (λ b b∈ n n∈ q q∈. inner b n q b∈ n∈ q∈))
 
-  module _ (k l r : ℕ) (st : State) (enough : (t : State) → compare_regions k s ig l r st ≡ ended too_deep t → ⊥) where
-    not_deep : (w : Walk) → compare_regions k s ig l r st ≡ w → EndedBy TooDeep w → ⊥
-    not_deep (on t) e d = d
-    not_deep (ended (unequal p) t) e d = d
-    not_deep (ended (one_longer p) t) e d = d
-    not_deep (ended too_deep t) e d = enough t e
+  pub region_events_enough : (k l : ℕ) → levels ≤ k → levels ≤ l → (r : ℕ) → region_events s k r ≡ region_events s l r
+  unfolding region_events blocks_events op_events
+  region_events_enough =
+      by_levels s sd (λ k l r. region_events s k r ≡ region_events s l r)
+      (λ k l r inner i.
+      shell_events of_block (blocks_of s r)
+      ++ list_events (λ (b : ℕ). shell_events of_op (ops_of s b)) (blocks_of s r)
+      ++ events_same _ _ (blocks_of s r)
+      (λ b b∈. events_same (op_events s (region_events s k)) (op_events s (region_events s l)) (ops_of s b)
+      (λ n n∈ j. step (names n) ∷ events_same (region_events s k) (region_events s l) (regions_of s n) (λ q q∈. inner b n q b∈ n∈ q∈) j)) i)
 
-    pub enough_one : compare_regions (suc k) s ig l r st ≡ compare_regions k s ig l r st
-    enough_one = go (one_more_lem k l r st)
-      where
-        go : Agree TooDeep (compare_regions k s ig l r st) (compare_regions (suc k) s ig l r st)
-            → compare_regions (suc k) s ig l r st ≡ compare_regions k s ig l r st
-        go (inl d) = absurd (not_deep (compare_regions k s ig l r st) refl d)
-        go (inr e) = sym e
-
-  pub enough_any : (k j l r : ℕ) (st : State) → ((t : State) → compare_regions k s ig l r st ≡ ended too_deep t → ⊥)
-      → compare_regions (k + j) s ig l r st ≡ compare_regions k s ig l r st
-  enough_any k zero l r st enough = simp unary_clauses
-  enough_any k (suc j) l r st enough =
-      let e : compare_regions (k + j) s ig l r st ≡ compare_regions k s ig l r st = enough_any k j l r st enough in
-      simp unary_clauses (enough_one (k + j) l r st (λ t h. enough t (sym e ∙ h)) ∙ e)
+pub levels_enough : LevelsEnough
+unfolding LevelsEnough
+levels_enough s sd k = (
+  λ i r. steps_enough s sd (levels + k) levels (omega arith) (omega arith) r i,
+  λ i r. region_events_enough s sd (levels + k) levels (omega arith) (omega arith) r i,
+  λ ig i x y st. regions_enough s sd ig (levels + k) levels (omega arith) (omega arith) x y st i,
+)

@@ -17,7 +17,7 @@ use Rattle.rules.specs.Fragments.{Sort, exists, block}
 use Rattle.rules.specs.Building.{first_failed}
 use Rattle.rules.specs.Shells.{Ignore}
 use Rattle.rules.specs.Mapping.{no_image, empty_mapping, enter_all}
-use Rattle.rules.specs.Comparison.{State, unequal, one_longer, too_deep, Walk, on, ended, standing, enter_ops, enter_blocks, start, compare, pair_of}
+use Rattle.rules.specs.Comparison.{State, unequal, one_longer, Walk, on, ended, standing, enter_ops, enter_blocks, start, compare, pair_of}
 use Rattle.rules.specs.Types.{renamed}
 use Rattle.rules.specs.Answers.{compare_tests, comparison_of, comparison_by, comparison}
 use Rattle.rules.specs.Runs.{compare_runs}
@@ -181,7 +181,6 @@ module _ (s : Store) (sd : sound s ≡ true) (lent : Bool) (types : List ℕ) (i
   by_walk (on st) h = h
   by_walk (ended (unequal p) st) h = h
   by_walk (ended (one_longer p) st) h = h
-  by_walk (ended too_deep st) h = none_entered s
 
   pub comparison_entered : EnteredBy s (comparison lent s types empty_mapping ig f l r).mapping (paired_in (comparison lent s types empty_mapping ig f l r).answer)
   unfolding comparison comparison_by compare_tests paired_in

@@ -35,8 +35,7 @@ unfolding standing
 adding =
     record {
       stays = λ xs st. le_refl st.paired;
-      named = λ xs st p. le_refl st.paired;
-      longer = λ xs st p. le_refl st.paired;
+      stops = λ xs st why. le_refl st.paired;
       behind = λ xs ys st w f a b. le_trans a (grows_bind w f b);
     }
 
@@ -93,8 +92,7 @@ unfolding standing
 at_most =
     record {
       stays = λ xs st. omega arith;
-      named = λ xs st p. omega arith;
-      longer = λ xs st p. omega arith;
+      stops = λ xs st why. omega arith;
       behind = λ xs ys st w f a b. omega (arith, bind_most ys w f b, defined_append xs ys);
     }
 

@@ -1,10 +1,9 @@
--- Two walks made of steps that agree agree; and what holds of steps, from where each begins to what it comes to, holds of a walk made of
--- them, if it passes from one walk to the next. Both go through every way in which a walk is put together. Assumes nothing.
+-- What holds of steps, from where each begins to what it comes to, holds of a walk made of them, if it passes from one walk to the next:
+-- through every way in which a walk is put together. Assumes nothing.
 use Prim.Native.Nat.{ℕ}
 use mathlib.Core.Bool.{Bool, true, false}
 use mathlib.Core.List.{List, [], ◌∷◌, ◌++◌, map, Memᴰ}
-use mathlib.Core.Logic.{◌⊎◌, inl, inr}
-use mathlib.Core.Path.{◌≡◌, refl, subst}
+use mathlib.Core.Path.{refl}
 use lib.ListN.{length}
 use Rattle.rules.specs.Lists.{concat_map}
 use Rattle.rules.specs.Store.{Store, Owner, of_op, of_block, ops_of, regions_of}
@@ -12,62 +11,12 @@ use Rattle.rules.specs.Fragments.{op, block, Step, shell, names, counted, full_o
 use Rattle.rules.specs.Shells.{Ignore}
 use Rattle.rules.specs.Comparison.{State, Pair, Stop, unequal, one_longer, Walk, on, ended, ◌>>=◌, pairwise, each_pair, pair_of, expect, pair_ops, pair_blocks, check_names, check_ops, pass1, pass2, pass3, compare_lists}
 
--- the walk has ended, and by such a stop
-abbrev pub EndedBy : (Stop → Type 0) → Walk → Type 0
-EndedBy P (on st) = ⊥
-EndedBy P (ended why st) = P why
-
--- the first has ended by such a stop, or the two are the same
-abbrev pub Agree : (Stop → Type 0) → Walk → Walk → Type 0
-Agree P w v = EndedBy P w ⊎ (w ≡ v)
-
--- two ways to walk from a pair of numbers agree, whatever the numbers and the state
-abbrev pub Agreeing : (Stop → Type 0) → (f g : ℕ → ℕ → State → Walk) → Type 0
-Agreeing P f g = (l r : ℕ) (st : State) → Agree P (f l r st) (g l r st)
-
-module _ (P : Stop → Type 0) where
-  pub agree_bind : (w v : Walk) (f g : State → Walk) → Agree P w v → ((st : State) → Agree P (f st) (g st)) → Agree P (w >>= f) (v >>= g)
-  agree_bind (on st) v f g (inl e) h = absurd e
-  agree_bind (on st) v f g (inr e) h = subst (λ (u : Walk). Agree P (f st) (u >>= g)) e (h st)
-  agree_bind (ended why st) v f g (inl e) h = inl e
-  agree_bind (ended why st) v f g (inr e) h = inr (subst (λ (u : Walk). ended why st ≡ (u >>= g)) e refl)
-
-  agree_each : (f g : ℕ → ℕ → State → Walk) → Agreeing P f g → (ls rs : List ℕ) (st : State)
-      → Agree P (each_pair f ls rs st) (each_pair g ls rs st)
-  unfolding each_pair
-  agree_each f g h [] rs st = inr refl
-  agree_each f g h (l ∷ ls) [] st = inr refl
-  agree_each f g h (l ∷ ls) (r ∷ rs) st = agree_bind (f l r st) (g l r st) _ _ (h l r st) (agree_each f g h ls rs)
-
-  agree_pairwise : (f g : ℕ → ℕ → State → Walk) → Agreeing P f g → (p : Pair) (ls rs : List ℕ) (st : State)
-      → Agree P (pairwise f p ls rs st) (pairwise g p ls rs st)
-  unfolding pairwise
-  agree_pairwise f g h p [] [] st = inr refl
-  agree_pairwise f g h p [] (r ∷ rs) st = inr refl
-  agree_pairwise f g h p (l ∷ []) [] st = inr refl
-  agree_pairwise f g h p (l ∷ m ∷ ls) [] st = inr refl
-  agree_pairwise f g h p (l ∷ ls) (r ∷ rs) st = agree_bind (f l r st) (g l r st) _ _ (h l r st) (agree_pairwise f g h p ls rs)
-
-  pub agree_lists : (s : Store) (ig : Ignore) (f g : ℕ → ℕ → State → Walk) → Agreeing P f g → (p : Pair) (ls rs : List ℕ) (st : State)
-      → Agree P (compare_lists s ig f p ls rs st) (compare_lists s ig g p ls rs st)
-  unfolding compare_lists pass1 pass2 pass3
-  agree_lists s ig f g h p ls rs st =
-      agree_bind _ _ _ _
-      (agree_bind _ _ _ _ (agree_pairwise _ _ (λ l r t. inr refl) p ls rs st)
-      (agree_each _ _ (λ l r. agree_pairwise _ _ (λ a b t. inr refl) (pair_of block l r) (ops_of s l) (ops_of s r)) ls rs))
-      (agree_each _ _ (λ l r. agree_each f g h (ops_of s l) (ops_of s r)) ls rs)
-
-  pub agree_ops : (s : Store) (f g : ℕ → ℕ → State → Walk) → Agreeing P f g → Agreeing P (check_ops s f) (check_ops s g)
-  unfolding check_ops
-  agree_ops s f g h l r st = agree_bind (check_names s l r st) _ _ _ (inr refl) (agree_each f g h (regions_of s l) (regions_of s r))
-
 -- ---- of the steps on the left that a walk goes through, the state in which it begins, and what it comes to
 
--- it holds of a walk that goes on at once and of one that names a pair at once, and passes from a walk to one behind it
+-- it holds of a walk that goes on at once and of one that ends at once, and passes from a walk to one behind it
 pub record Passes (R : List Step → State → Walk → Type 0) : Type 0 where
   pub stays : (xs : List Step) (st : State) → R xs st (on st)
-  pub named : (xs : List Step) (st : State) (p : Pair) → R xs st (ended (unequal p) st)
-  pub longer : (xs : List Step) (st : State) (p : Pair) → R xs st (ended (one_longer p) st)
+  pub stops : (xs : List Step) (st : State) (why : Stop) → R xs st (ended why st)
   pub behind : (xs ys : List Step) (st : State) (w : Walk) (f : State → Walk) → R xs st w → ((t : State) → R ys t (f t)) → R (xs ++ ys) st (w >>= f)
 
 -- in whatever state it begins
@@ -85,16 +34,16 @@ module _ (R : List Step → State → Walk → Type 0) (h : Passes R) where
   pub always_expect : (xs : List Step) (b : Bool) (p : Pair) (st t : State) → R xs st (on t) → R xs st (expect b p st t)
   unfolding expect
   always_expect xs true p st t a = a
-  always_expect xs false p st t a = h.named xs st p
+  always_expect xs false p st t a = h.stops xs st (unequal p)
 
   -- pair by pair, each with a shell
   pub always_pairwise : (f : ℕ → ℕ → State → Walk) (w : ℕ → Owner) → ((l r : ℕ) → Always R (shell (w l) ∷ []) (f l r))
       → (p : Pair) (ls rs : List ℕ) → Always R (map (λ (l : ℕ). shell (w l)) ls) (pairwise f p ls rs)
   unfolding pairwise
   always_pairwise f w a p [] [] st = h.stays _ st
-  always_pairwise f w a p [] (r ∷ rs) st = h.named _ st p
-  always_pairwise f w a p (l ∷ []) [] st = h.longer _ st p
-  always_pairwise f w a p (l ∷ m ∷ ls) [] st = h.named _ st p
+  always_pairwise f w a p [] (r ∷ rs) st = h.stops _ st (unequal p)
+  always_pairwise f w a p (l ∷ []) [] st = h.stops _ st (one_longer p)
+  always_pairwise f w a p (l ∷ m ∷ ls) [] st = h.stops _ st (unequal p)
   always_pairwise f w a p (l ∷ ls) (r ∷ rs) st =
       always_then (shell (w l) ∷ []) (map (λ (n : ℕ). shell (w n)) ls) (f l r) (pairwise f p ls rs) (a l r) (always_pairwise f w a p ls rs) st
 

@@ -1,4 +1,4 @@
-//! How a refusal presents itself. Causes 9, 10 and 11 are only printed, and 12 is never met: no call gives them as a value.
+//! How a refusal presents itself. Causes 9, 10 and 11 are only printed: no call gives them as a value.
 
 use warzhigo::{Attribute, Ignore, Inherent, Mapping, MarkId, NewOperation, Refused, Renamed, Store, operation_eq, operation_key_into};
 

@@ -8,7 +8,7 @@ use crate::common::call::{Call, New};
 use crate::common::offered::SORTS;
 use crate::common::picture::Picture;
 use crate::common::question::{Question, Sort, hash_lent, key_is};
-use crate::stores::{ask, attribute, block, deep, inherent, operation, results, small};
+use crate::stores::{ask, attribute, block, deep, deepest, inherent, operation, results, small};
 
 #[test]
 fn cause_4_lists_of_a_new_operation() {
@@ -56,19 +56,20 @@ fn cause_5_nesting() {
     assert_eq!(nesting, (0..=32).chain([32]).collect::<Vec<_>>());
 }
 
-/// The deepest store is walked to its end.
+/// The deepest stores are walked to their end: what is inside operation 0 is so many operations and blocks, itself not counted.
 #[test]
 fn nesting_32_is_compared_hashed_and_filed() {
-    let (store, _) = deep();
-    let picture = Picture::of(&store, "a store made by hand");
-    for sort in SORTS {
-        let question = Question { sort, lhs: 0, rhs: 0, ignore: Ignore::NOTHING };
-        let found = question.inner(&store, &mut Mapping::new()).expect("a sound store");
-        let outer = if sort == Sort::Op { 66 } else { 65 };
-        assert_eq!((found.verdict, found.paired), (oracle::Verdict::Eq, outer), "{sort:?}");
-        assert!(hash_lent(store.words(), sort, 0, &Ignore::NOTHING).is_ok(), "{sort:?}");
-        let key = bytes_model::key(&picture, sort, 0, Ignore::NOTHING);
-        key_is(&store, sort, 0, &Ignore::NOTHING, &key, "a store made by hand");
+    for (store, inside) in [(deep().0, 65), (deepest(), 66)] {
+        let picture = Picture::of(&store, "a store made by hand");
+        for sort in SORTS {
+            let question = Question { sort, lhs: 0, rhs: 0, ignore: Ignore::NOTHING };
+            let found = question.inner(&store, &mut Mapping::new()).expect("a sound store");
+            let paired = if sort == Sort::Op { inside + 1 } else { inside };
+            assert_eq!((found.verdict, found.paired), (oracle::Verdict::Eq, paired), "{sort:?}");
+            assert!(hash_lent(store.words(), sort, 0, &Ignore::NOTHING).is_ok(), "{sort:?}");
+            let key = bytes_model::key(&picture, sort, 0, Ignore::NOTHING);
+            key_is(&store, sort, 0, &Ignore::NOTHING, &key, "a store made by hand");
+        }
     }
 }
 

@@ -52,16 +52,27 @@ pub fn filled(store: &mut Store, calls: u32, call: Call) {
     }
 }
 
+/// Operations with nesting 0 to 32, each with a region and a block in it; the last one has so many regions more, which are empty.
+fn nested(more: u32) -> Store {
+    let mut store = Store::new();
+    for nesting in 0..=32u32 {
+        let regions = if nesting < 32 { 1 } else { 1 + more };
+        assert_eq!(operation(&mut store, New { parent: nesting.checked_sub(1), regions, ..New::default() }), Ok(Some(nesting)));
+        assert_eq!(ask(&mut store, block(nesting, 0)), Ok(Some(nesting)));
+    }
+    store
+}
+
 /// Operations with nesting 0 to 32, and a block in the last of them.
 pub fn deep() -> (Store, u32) {
-    let mut store = Store::new();
-    let mut parent = None;
-    for nesting in 0..=32 {
-        assert_eq!(operation(&mut store, New { parent, regions: 1, ..New::default() }), Ok(Some(nesting)));
-        assert_eq!(ask(&mut store, block(nesting, 0)), Ok(Some(nesting)));
-        parent = Some(nesting);
-    }
-    (store, 32)
+    (nested(0), 32)
+}
+
+/// As `deep`, and the last operation has another block beside that one, and an empty region.
+pub fn deepest() -> Store {
+    let mut store = nested(1);
+    assert_eq!(ask(&mut store, block(32, 0)), Ok(Some(33)));
+    store
 }
 
 /// 1,024 attributes: 1 of operation 1, 8 of each operation from 2 to 128, and 7 of operation 129.

@@ -40,5 +40,5 @@ returns c =
     let b = a.terms.now.store.now in
     let f = sort_of a.of.sort in
     walked b (list_in a.terms.now.types.now) a.mapping.now (ignore_of a.terms.now.ignore) f a.of.lhs a.of.rhs c.requires (index_holds _ c.args.terms.now.readable.indexed)
-    c.args.terms.now.readable.sound c.walk_eq.result c.walk_eq.new.mapping
+    c.walk_eq.result c.walk_eq.new.mapping
     (tests_passed (store_in b) f a.of.lhs a.of.rhs _ c.both_exist.ensures c.in_ok-both_exist.was) c.walk_eq.ensures

@@ -73,7 +73,7 @@ returns-then-at c =
     told_ended (pair_ops (under o S) o.ignore a.lhs a.rhs st) (op_walk S o a.lhs a.rhs) (FirstNEQOps a.lhs a.rhs 0) m refl
     (ops_unlike S o a.lhs a.rhs m 0 unlike) in
     walked b (list_in a.terms.now.types.now) m o.ignore op a.lhs a.rhs c.requires (index_holds _ c.args.terms.now.readable.indexed)
-    c.args.terms.now.readable.sound (Err (FirstNEQOps a.lhs a.rhs 0)) m
+    (Err (FirstNEQOps a.lhs a.rhs 0)) m
     (tests_passed S op a.lhs a.rhs _ c.both_exist.ensures c.in_ok-both_exist.was)
     (subst (λ (w : Walk). Told w (Err (FirstNEQOps a.lhs a.rhs 0)) m) (sym (op_walk_lem S o a.lhs a.rhs st)) told)
 
@@ -94,5 +94,5 @@ returns c =
     let a = c.args in
     let b = a.terms.now.store.now in
     walked b (list_in a.terms.now.types.now) a.mapping.now (ignore_of a.terms.now.ignore) op a.lhs a.rhs c.requires (index_holds _ c.args.terms.now.readable.indexed)
-    c.args.terms.now.readable.sound c.ops_eq.result c.ops_eq.new.mapping
+    c.ops_eq.result c.ops_eq.new.mapping
     (tests_passed (store_in b) op a.lhs a.rhs _ c.both_exist.ensures c.in_ok-both_exist.was) c.ops_eq.ensures

@@ -3,20 +3,17 @@
 use Rattle.std.specs.Prelude.{Ok}
 use Prim.Native.Nat.{ℕ, ◌+◌, ◌*◌, ◌<◌}
 use native.Mathlib.Omega.{arith}
-use mathlib.Core.Bool.{true}
 use mathlib.Core.Logic.{inl, inr}
 use mathlib.Core.Path.{◌≡◌, sym, ap, ap₂, subst, ◌∙◌}
-use borrow.Author.Tests.{lt-ltb}
-use lib.ListN.{length, get_or}
+use lib.ListN.{get_or}
 use Rattle.std.proofs.Common.{rules, ⊎_elim}
-use Rattle.rules.specs.Store.{Store, region_exists, op_around, ops_of, regions_of}
+use Rattle.rules.specs.Store.{Store, op_around, ops_of, regions_of}
 use Rattle.rules.specs.Comparison.{Walk, each_pair}
 use Rattle.layout.specs.Columns.{columns}
 use Rattle.layout.specs.Reading.{store_in}
 use Rattle.layout.specs.OpsLeft.{ops_left}
 use Rattle.layout.proofs.Laid.{laid_facts}
 use Rattle.layout.proofs.Ranges.{range, range_empty, regions_range}
-use Rattle.layout.proofs.Tabulate.{regions_length}
 use Rattle.fragments.specs.BlocksLeft.{blocks_left}
 use Rattle.fragments.specs.Options.{Options}
 use Rattle.fragments.specs.Order.{BlocksExist}
@@ -272,27 +269,22 @@ op_eq_mapped-returns t c =
 -- ---- two regions
 
 pub region_eq-blocks_eq-requires : goal.region_eq-blocks_eq-requires
-unfolding region_exists BlocksExist left_of right_of around_list
+unfolding BlocksExist left_of right_of around_list
 region_eq-blocks_eq-requires t c =
     let a = c.args in
     let S = store_in a.terms.now.store.now in
     let o = options_in a.terms.now in
-    let e : region_exists S a.pair.lhs ≡ true =
-    lt-ltb a.pair.lhs (length S.regions) (subst (λ (k : ℕ). a.pair.lhs < k) (sym (regions_length (columns a.terms.now.store.now))) c.requires.lhs_bound) in
-    let same_lists = region_lists S o c.args.terms.now.readable.sound.ruled a.pair.lhs a.pair.rhs e (state_of a.mapping.now a.paired) in
+    let same_lists = region_lists S o c.args.terms.now.readable.sound.ruled a.pair.lhs a.pair.rhs (state_of a.mapping.now a.paired) in
     let falls : 4 * below S (get_or S.regions a.pair.lhs 0) + 1 < 4 * below S (get_or S.regions a.pair.lhs 0) + 2 = omega arith in (
       subst (λ (j : ℕ). 4 * below S (get_or S.regions a.pair.lhs 0) + 1 < j) c.decreases falls,
       ((c.requires.lhs_bound, c.requires.rhs_bound), subst (λ (w : Walk). PairedFits w) same_lists c.requires.paired_fits),
     )
 
 pub region_eq-returns : goal.region_eq-returns
-unfolding region_exists
 region_eq-returns t c =
     let a = c.args in
     let S = store_in a.terms.now.store.now in
     let o = options_in a.terms.now in
-    let e : region_exists S a.pair.lhs ≡ true =
-    lt-ltb a.pair.lhs (length S.regions) (subst (λ (k : ℕ). a.pair.lhs < k) (sym (regions_length (columns a.terms.now.store.now))) c.requires.lhs_bound) in
-    let same_lists = region_lists S o c.args.terms.now.readable.sound.ruled a.pair.lhs a.pair.rhs e (state_of a.mapping.now a.paired) in
+    let same_lists = region_lists S o c.args.terms.now.readable.sound.ruled a.pair.lhs a.pair.rhs (state_of a.mapping.now a.paired) in
     let compared = c.blocks_eq in
     subst (λ (w : Walk). Told w compared.result compared.new.mapping) (sym same_lists) compared.ensures

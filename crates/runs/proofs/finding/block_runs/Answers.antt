@@ -1,4 +1,4 @@
--- `block_runs` meets its contract: causes 2 and 15 come in this order, cause 12 never, and then what is found is the answer. Assumes nothing.
+-- `block_runs` meets its contract: causes 2 and 15 come in this order, and then what is found is the answer. Assumes nothing.
 use native.Mathlib.Omega.{arith}
 use mathlib.Core.Bool.{true}
 use mathlib.Core.Path.{◌≡◌, sym, ◌∙◌}
