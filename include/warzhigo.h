@@ -79,7 +79,8 @@ typedef struct {
     uint32_t number;
 } wz_outcome;
 
-/* What wz_twins and wz_sums answer. 0: so many bytes were printed; 1: refused by `cause`; 2: the output has too little room. */
+/* What wz_twins, wz_sums and wz_convert answer. 0: so many bytes were printed, from the first lent one on; 1: refused by `cause`; 2: the output
+ * has too little room. */
 typedef struct {
     size_t bytes;
     uint32_t code;
@@ -106,6 +107,9 @@ size_t wz_mapping_words(void);
 
 /* The bytes that wz_twins and wz_sums want for what they print. */
 size_t wz_output_bytes(void);
+
+/* The bytes that wz_convert wants for what it prints. */
+size_t wz_converted_bytes(void);
 
 /* Bytes that every key fits into. */
 size_t wz_key_bytes(void);
@@ -143,13 +147,12 @@ wz_outcome wz_known_new_operation(uint32_t *store, size_t words, uint32_t kind, 
                                   uint32_t regions, const uint32_t *types, size_t type_count, const uint32_t *operands,
                                   size_t operand_count, const uint32_t *successors, size_t successor_count);
 
-/* A new block, at the end of `region`, with arguments of these types; label 0 is none. */
-wz_outcome wz_new_block(uint32_t *store, size_t words, uint32_t region, uint32_t label, uint32_t location, const uint32_t *types,
-                        size_t type_count);
+/* A new block, at the end of `region`, with arguments of these types. */
+wz_outcome wz_new_block(uint32_t *store, size_t words, uint32_t region, uint32_t location, const uint32_t *types, size_t type_count);
 
 /* The same, on a store known to be sound. */
-wz_outcome wz_known_new_block(uint32_t *store, size_t words, uint32_t region, uint32_t label, uint32_t location,
-                              const uint32_t *types, size_t type_count);
+wz_outcome wz_known_new_block(uint32_t *store, size_t words, uint32_t region, uint32_t location, const uint32_t *types,
+                              size_t type_count);
 
 /* Sets an attribute of operation n, or of block n where `blocks` is true; a key that is there is replaced, with its kind, its content and
  * whether it is inherent. While a mark is set, refused by 17 where that can't be remembered. */
@@ -182,7 +185,7 @@ wz_outcome wz_known_go_back(uint32_t *store, size_t words, uint32_t mark);
 
 /* Copies operation n with all inside it, to the end of `block` if it is to be `placed` in one. What it defines is copied in the order in which
  * a comparison enters it, each thing with the next number of its table. Names of what is inside become the copy's, others are kept; so are
- * kinds, types, locations, labels and attributes, inherent ones as such. The mapping then has an entry from each thing that operation n
+ * kinds, types, locations and attributes, inherent ones as such. The mapping then has an entry from each thing that operation n
  * defines to its copy, and no others: those it had before are gone. Refused by 18 where `block` lies inside operation n, and by 19 where an
  * operand or successor names something inside before a comparison has entered it. A mark remembers nothing of it: going back takes the copy
  * away. */
@@ -314,6 +317,9 @@ wz_output wz_twins(const uint8_t *listing, size_t length, uint32_t *store, size_
 
 /* What the program `sums` prints for a listing; likewise. */
 wz_output wz_sums(const uint8_t *listing, size_t length, uint32_t *store, size_t words, uint8_t *out, size_t room);
+
+/* What the program `convert` prints for a listing: the same listing in the other edition, or a refused line alone. Never answers 1. */
+wz_output wz_convert(const uint8_t *listing, size_t length, uint8_t *out, size_t room);
 
 #ifdef __cplusplus
 }

@@ -11,7 +11,7 @@ use Rattle.rules.specs.Lists.{sum}
 use Rattle.rules.specs.Store.{Block, of_block, max_blocks, max_values}
 use Rattle.rules.specs.Building.{NewBlock, new_block, applied, values_for}
 use Rattle.rules.proofs.Basics.Tests.{and_both}
-use Rattle.layout.specs.Columns.{Cols, at, op_operand_end, op_successor_end, op_attributes, region_op, region_block_first, region_block_end, block_region, block_label, block_location, block_argument_first, block_argument_end, block_op_end, block_attributes, op_next}
+use Rattle.layout.specs.Columns.{Cols, at, op_operand_end, op_successor_end, op_attributes, region_op, region_block_first, region_block_end, block_region, block_location, block_argument_first, block_argument_end, block_op_end, block_attributes, op_next}
 use Rattle.layout.specs.Reading.{tabulate, op_count, block_count, region_count, value_count, operand_count, successor_count, attribute_count, slots_of, op_of, block_of, value_of, store_of}
 use Rattle.layout.specs.Soundness.{end_before, in_owner, attribute_sum}
 use Rattle.layout.proofs.Laid.{InRange, BlockLaid, Laid, within_of}
@@ -32,7 +32,6 @@ pub record BlockAdded (C D : Cols) (new : NewBlock) : Type 0 where
   pub successor_counted : successor_count D ≡ successor_count C
   pub attribute_counted : attribute_count D ≡ attribute_count C
   pub region_word : at D block_region (block_count C) ≡ new.region
-  pub label_word : at D block_label (block_count C) ≡ new.label
   pub location_word : at D block_location (block_count C) ≡ new.location
   pub argument_first : at D block_argument_first (block_count C) ≡ value_count C
   pub argument_end : at D block_argument_end (block_count C) ≡ value_count C + length new.types
@@ -47,9 +46,9 @@ pub record BlockRoom (C : Cols) (types : List ℕ) : Type 0 where
 module _ (C D : Cols) (new : NewBlock) (h : Laid C) (a : BlockAdded C D new) where
   -- ---- what is read
 
-  row_read : ◌≡◌ {A = Block} (block_of D (block_count C)) (record { region = new.region; label = new.label; location = new.location; attributes = [] })
+  row_read : ◌≡◌ {A = Block} (block_of D (block_count C)) (record { region = new.region; location = new.location; attributes = [] })
   unfolding block_of
-  row_read = λ i. record { region = a.region_word i; label = a.label_word i; location = a.location_word i; attributes = no_attributes D (slots_of (of_block (block_count C))) (at D block_attributes (block_count C)) a.keys i }
+  row_read = λ i. record { region = a.region_word i; location = a.location_word i; attributes = no_attributes D (slots_of (of_block (block_count C))) (at D block_attributes (block_count C)) a.keys i }
 
   pub added_reads : store_of D ≡ applied (store_of C) (new_block new)
   unfolding store_of applied

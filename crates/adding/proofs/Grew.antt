@@ -9,7 +9,7 @@ use lib.Dec.{eqb, ltb}
 use lib.ListN.{get_or}
 use Rattle.rules.specs.Store.{Owner, of_op, of_block}
 use Rattle.rules.proofs.Basics.Tests.{and_left, and_right, and_both}
-use Rattle.layout.specs.Columns.{Cols, at, op_kind, op_parent, op_location, op_depth, op_region_first, op_region_end, op_result_first, op_result_end, op_operand_first, op_operand_end, op_successor_first, op_successor_end, op_attributes, region_op, region_block_first, region_block_end, block_region, block_label, block_location, block_argument_first, block_argument_end, block_op_first, block_op_end, block_attributes, value_type, value_owner, operand_words, successor_words, slot_key, slot_kind, slot_content}
+use Rattle.layout.specs.Columns.{Cols, at, op_kind, op_parent, op_location, op_depth, op_region_first, op_region_end, op_result_first, op_result_end, op_operand_first, op_operand_end, op_successor_first, op_successor_end, op_attributes, region_op, region_block_first, region_block_end, block_region, block_location, block_argument_first, block_argument_end, block_op_first, block_op_end, block_attributes, value_type, value_owner, operand_words, successor_words, slot_key, slot_kind, slot_content}
 use Rattle.layout.specs.Reading.{tabulate, slice, op_count, block_count, region_count, value_count, operand_count, successor_count, around, parent_from, owner_from, slots_of, attribute_read, attribute_at, attributes_from, op_of, block_of, value_of}
 use Rattle.layout.specs.Soundness.{within, placed, end_before, in_owner, value_laid}
 use Rattle.layout.proofs.Laid.{InRange, Owned, Tiled, OpLaid, BlockLaid, RegionLaid, Laid, within_facts, within_of}
@@ -38,7 +38,6 @@ pub record Grew (C D : Cols) : Type 0 where
   pub keys : EntriesKept C D op_attributes (op_count C)
   pub around : EntriesKept C D region_op (region_count C)
   pub region : EntriesKept C D block_region (block_count C)
-  pub label : EntriesKept C D block_label (block_count C)
   pub block_place : EntriesKept C D block_location (block_count C)
   pub argument_first : EntriesKept C D block_argument_first (block_count C)
   pub argument_end : EntriesKept C D block_argument_end (block_count C)
@@ -110,7 +109,6 @@ module _ (C D : Cols) (h : Laid C) (g : Grew C D) where
       λ i.
       record {
         region = g.region m l i;
-        label = g.label m l i;
         location = g.block_place m l i;
         attributes = (ap (attributes_from D (slots_of (of_block m))) (g.block_keys m l) ∙ attributes_same (slots_of (of_block m)) (at C block_attributes m)) i;
       }

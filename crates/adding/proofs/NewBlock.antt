@@ -8,7 +8,7 @@ use lib.Dec.{eqb}
 use lib.ListN.{length, get_or, set, replicate, length-replicate, get_or-replicate}
 use Rattle.rules.specs.Store.{of_block}
 use Rattle.rules.specs.Building.{NewBlock, new_block, applied}
-use Rattle.layout.specs.Columns.{Cols, at, pasted, write, write_range, counts, op_kind, op_parent, op_location, op_depth, op_region_first, op_region_end, op_result_first, op_result_end, op_operand_first, op_operand_end, op_successor_first, op_successor_end, op_attributes, region_op, region_block_first, region_block_end, block_region, block_label, block_location, block_argument_first, block_argument_end, block_op_first, block_op_end, block_attributes, value_type, value_owner, operand_words, successor_words, slot_key, slot_kind, slot_content, op_next, block_next}
+use Rattle.layout.specs.Columns.{Cols, at, pasted, write, write_range, counts, op_kind, op_parent, op_location, op_depth, op_region_first, op_region_end, op_result_first, op_result_end, op_operand_first, op_operand_end, op_successor_first, op_successor_end, op_attributes, region_op, region_block_first, region_block_end, block_region, block_location, block_argument_first, block_argument_end, block_op_first, block_op_end, block_attributes, value_type, value_owner, operand_words, successor_words, slot_key, slot_kind, slot_content, op_next, block_next}
 use Rattle.layout.specs.Reading.{slice, op_count, block_count, region_count, value_count, operand_count, successor_count, attribute_count, owner_code, store_of}
 use Rattle.layout.proofs.Buffer.{write_shaped}
 use Rattle.layout.proofs.Laid.{Shaped, InRange, Laid}
@@ -33,7 +33,7 @@ blocks_apart = record { first_end = refl; end_first = refl; first_links = refl; 
 module _ (C : Cols) (new : NewBlock) where
   -- the block's row, and its region's range
   abbrev row : Cols
-  row = block_written C (block_count C) new.region new.label new.location (length new.types)
+  row = block_written C (block_count C) new.region new.location (length new.types)
 
   abbrev placed : Cols
   placed = block_placed row new.region (block_count C)
@@ -170,7 +170,6 @@ module _ (C : Cols) (new : NewBlock) where
             keys = λ i l. same C made op_attributes (placed_other op_attributes refl refl refl) i;
             around = λ i l. same C made region_op (placed_other region_op refl refl refl) i;
             region = (row_put block_region new.region (sh block_region) (placed_other block_region refl refl refl)).old;
-            label = (row_put block_label new.label (sh block_label) (placed_other block_label refl refl refl)).old;
             block_place = (row_put block_location new.location (sh block_location) (placed_other block_location refl refl refl)).old;
             argument_first = (row_put block_argument_first (value_count C) (sh block_argument_first) (placed_other block_argument_first refl refl refl)).old;
             argument_end = (row_put block_argument_end (value_count C + length new.types) (sh block_argument_end) (placed_other block_argument_end refl refl refl)).old;
@@ -201,7 +200,6 @@ module _ (C : Cols) (new : NewBlock) where
             successor_counted = counts_else 5 (λ e. omega arith) (λ e. omega arith);
             attribute_counted = counts_else 6 (λ e. omega arith) (λ e. omega arith);
             region_word = (row_put block_region new.region (sh block_region) (placed_other block_region refl refl refl)).new;
-            label_word = (row_put block_label new.label (sh block_label) (placed_other block_label refl refl refl)).new;
             location_word = (row_put block_location new.location (sh block_location) (placed_other block_location refl refl refl)).new;
             argument_first = (row_put block_argument_first (value_count C) (sh block_argument_first) (placed_other block_argument_first refl refl refl)).new;
             argument_end = (row_put block_argument_end (value_count C + length new.types) (sh block_argument_end) (placed_other block_argument_end refl refl refl)).new;

@@ -8,7 +8,7 @@ use lib.Dec.{eqb}
 use lib.ListN.{length, replicate, length-replicate, get_or-replicate}
 use Rattle.rules.specs.Store.{of_op}
 use Rattle.rules.specs.Building.{NewOperation, new_operation, applied}
-use Rattle.layout.specs.Columns.{Cols, at, write, write_range, counts, op_kind, op_parent, op_next, region_block_end, block_region, block_label, block_location, block_argument_first, block_argument_end, block_op_first, block_op_end, block_attributes, operand_words, successor_words, slot_key, slot_kind, slot_content, block_next}
+use Rattle.layout.specs.Columns.{Cols, at, write, write_range, counts, op_kind, op_parent, op_next, region_block_end, block_region, block_location, block_argument_first, block_argument_end, block_op_first, block_op_end, block_attributes, operand_words, successor_words, slot_key, slot_kind, slot_content, block_next}
 use Rattle.layout.specs.Reading.{op_count, block_count, region_count, value_count, operand_count, successor_count, attribute_count, store_of}
 use Rattle.layout.proofs.Laid.{Shaped, InRange, Laid}
 use Rattle.calling.specs.Doing.{Behind}
@@ -132,7 +132,6 @@ module _ (C : Cols) (new : NewOperation) (sh : Shaped C) (room : RoomFor C new) 
           keys = puts.keys.old;
           around = (around_run C new sh room).old;
           region = λ i l. same C D block_region (unwritten block_region refl refl refl) i;
-          label = λ i l. same C D block_label (unwritten block_label refl refl refl) i;
           block_place = λ i l. same C D block_location (unwritten block_location refl refl refl) i;
           argument_first = λ i l. same C D block_argument_first (unwritten block_argument_first refl refl refl) i;
           argument_end = λ i l. same C D block_argument_end (unwritten block_argument_end refl refl refl) i;

@@ -139,9 +139,9 @@ with_operation C o =
 -- ---- new block
 
 -- the row of block m, from its region on
-unfoldable pub block_written : Cols → ℕ → ℕ → ℕ → ℕ → ℕ → Cols
-block_written C m region label location arguments =
-    with_row C block_region m (region ∷ label ∷ location ∷ value_count C ∷ (value_count C + arguments) ∷ 0 ∷ 0 ∷ 0 ∷ [])
+unfoldable pub block_written : Cols → ℕ → ℕ → ℕ → ℕ → Cols
+block_written C m region location arguments =
+    with_row C block_region m (region ∷ location ∷ value_count C ∷ (value_count C + arguments) ∷ 0 ∷ 0 ∷ 0 ∷ [])
 
 unfoldable pub block_placed : Cols → ℕ → ℕ → Cols
 block_placed C region m = child_placed C block_region block_next region_block_first region_block_end region region m
@@ -150,6 +150,6 @@ unfoldable pub with_block : Cols → NewBlock → Cols
 with_block C b =
     write
     (with_values
-    (block_placed (block_written C (block_count C) b.region b.label b.location (length b.types)) b.region (block_count C))
+    (block_placed (block_written C (block_count C) b.region b.location (length b.types)) b.region (block_count C))
     (of_block (block_count C)) b.types)
     counts 1 (block_count C + 1)

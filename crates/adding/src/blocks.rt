@@ -15,12 +15,11 @@ use layout::columns::{BLOCK_REGION, BLOCKS, COUNTS, StoreWords, VALUES, at, numb
 use layout::existing::region_exists;
 use layout::families::BLOCKS_IN_REGIONS;
 
-// The cause for which the call is refused, if there is one. It does not depend on label and location.
+// The cause for which the call is refused, if there is one. It does not depend on the location.
 fn block_cause(store: &StoreWords, region: u32, types: &[u32]) -> Result<(), Cause>
     requires { IsSound store.now }
-    ensures { (label location : ℕ) → cause_of result ≡ first_failed (tests (store_in store.now) (new_block (record {
+    ensures { (location : ℕ) → cause_of result ≡ first_failed (tests (store_in store.now) (new_block (record {
       region = region;
-      label = label;
       location = location;
       types = types.now;
     }))) }
@@ -39,21 +38,14 @@ fn block_cause(store: &StoreWords, region: u32, types: &[u32]) -> Result<(), Cau
 
 // Writes the row of a new block, m: its arguments are the next `arguments` values of the store, and it has no operations or attributes yet.
 #[tactic(auto, unfolding(layout::specs::Reading::value_count, crate::specs::Raw::block_written))]
-fn put_block_row(
-    store: &mut StoreWords,
-    m: usize,
-    region: u32,
-    label: u32,
-    location: u32,
-    arguments: usize,
-)
+fn put_block_row(store: &mut StoreWords, m: usize, region: u32, location: u32, arguments: usize)
     requires m_bound { m < 256 }
     requires arguments_bound { value_count (columns store.old) + arguments ≤ 2048 }
-    ensures { columns store.new ≡ block_written (columns store.old) m region label location arguments }
+    ensures { columns store.new ≡ block_written (columns store.old) m region location arguments }
 {
     let from = number(store, COUNTS, VALUES);
     let end = from + arguments;
-    let row = [region, label, location, from as u32, end as u32, 0, 0, 0];
+    let row = [region, location, from as u32, end as u32, 0, 0, 0];
     put_row(store, BLOCK_REGION, m, &row);
 }
 
@@ -68,19 +60,18 @@ fn place_block(store: &mut StoreWords, region: u32, m: usize)
 
 // Writes all of a new block: its row, its number into its region's range, its arguments, and the count of blocks.
 #[tactic(auto, unfolding(layout::specs::Reading::block_count, layout::specs::Reading::value_count))]
-pub fn put_block(store: &mut StoreWords, region: u32, label: u32, location: u32, types: &[u32])
+pub fn put_block(store: &mut StoreWords, region: u32, location: u32, types: &[u32])
     requires region_bound { region < 256 }
     requires store_bound { block_count (columns store.old) + 1 ≤ 256 }
     requires types_bound { value_count (columns store.old) + length types.now ≤ 2048 }
     ensures { columns store.new ≡ with_block (columns store.old) (record {
       region = region;
-      label = label;
       location = location;
       types = types.now;
     }) }
 {
     let m = number(store, COUNTS, BLOCKS);
-    put_block_row(store, m, region, label, location, types.len());
+    put_block_row(store, m, region, location, types.len());
     place_block(store, region, m);
     put_values(store, (2 * m + 1) as u32, types);
     put(store, COUNTS, BLOCKS, (m + 1) as u32);
@@ -90,20 +81,18 @@ pub fn put_block(store: &mut StoreWords, region: u32, label: u32, location: u32,
 pub fn new_block(
     store: &mut StoreWords,
     region: u32,
-    label: u32,
     location: u32,
     types: &[u32],
 ) -> Result<u32, Cause>
     requires { IsSound store.old }
     ensures { Did store.old store.new (new_block (record {
       region = region;
-      label = label;
       location = location;
       types = types.now;
     })) (made_of result) }
 {
     block_cause(store, region, types)?;
     let m = at(store, COUNTS, BLOCKS);
-    put_block(store, region, label, location, types);
+    put_block(store, region, location, types);
     Ok(m)
 }

@@ -41,22 +41,15 @@ pub fn new_operation(
     remembering::adding_calls::new_operation(words, fields, types, operands, successors)
 }
 
-pub fn new_block(
-    store: &mut [u32],
-    region: u32,
-    label: u32,
-    location: u32,
-    types: &[u32],
-) -> Result<u32, Cause>
+pub fn new_block(store: &mut [u32], region: u32, location: u32, types: &[u32]) -> Result<u32, Cause>
     ensures { Answered store.old store.new (build (new_block (record {
       region = region;
-      label = label;
       location = location;
       types = types.now;
     }))) (made_of result) }
 {
     let words = sound_words_mut(store).ok_or(Cause::NotSound)?;
-    remembering::adding_calls::new_block(words, region, label, location, types)
+    remembering::adding_calls::new_block(words, region, location, types)
 }
 
 pub fn set_attribute(store: &mut [u32], owner: Owner, attribute: Attribute) -> Result<(), Cause>

@@ -52,7 +52,7 @@ fn operation(
 
 fn block(store: &mut [u32], region: u32, arguments: usize) -> Answer {
     let words = [0; MOST];
-    let n = new_block(store, region, 0, 2, first(&words, arguments))?;
+    let n = new_block(store, region, 2, first(&words, arguments))?;
     Ok(Some(n))
 }
 

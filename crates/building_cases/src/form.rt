@@ -22,7 +22,7 @@ const WIDTH: u32 = 2;
 // The form's operation 0 with its block 0, whose arguments are values 0 and 1.
 fn build_frame(store: &mut Store) -> bool {
     new_operation(store, FORM, None, 1, 1, &[], &[], &[]) == Ok(0)
-        && new_block(store, 0, 0, 2, &[RING, DATE]) == Ok(0)
+        && new_block(store, 0, 2, &[RING, DATE]) == Ok(0)
 }
 
 // A field in block 0: it reads a value and has one result.

@@ -4,7 +4,7 @@ use Rattle.std.proofs.Common.{◌≡◌, ℕ, ◌+◌, ◌-◌, ◌<◌, true, L
 use Rattle.rules.specs.Store.{Op, Block, op_at, block_at, type_of, regions_of, results_of, arguments_of, parent_exists}
 use Rattle.rules.specs.Building.{new_operation, new_block, applied}
 use Rattle.rules.specs.Mapping.{image, or_self}
-use Rattle.layout.specs.Columns.{Cols, columns, at, value_type, op_kind, op_location, op_region_first, op_region_end, op_result_first, op_result_end, block_label, block_location, block_argument_first, block_argument_end}
+use Rattle.layout.specs.Columns.{Cols, columns, at, value_type, op_kind, op_location, op_region_first, op_region_end, op_result_first, op_result_end, block_location, block_argument_first, block_argument_end}
 use Rattle.layout.specs.Reading.{op_count, block_count, region_count, op_of, block_of, slice, store_in}
 use Rattle.layout.specs.Soundness.{Arranged}
 use Rattle.layout.proofs.Laid.{laid_facts}
@@ -87,33 +87,31 @@ module _ (a : List ℕ) (h : Arranged a) (w : List ℕ) (long : length w ≡ map
 
 -- ---- a block
 
-pub record BlockTaken (a w : List ℕ) (m region label location : ℕ) (n : List ℕ) : Type 0 where
-  pub label_read : label ≡ at (columns a) block_label m
+pub record BlockTaken (a w : List ℕ) (m region location : ℕ) (n : List ℕ) : Type 0 where
   pub location_read : location ≡ at (columns a) block_location m
   pub types : n ≡ slice (columns a value_type) (at (columns a) block_argument_first m) (at (columns a) block_argument_end m)
   pub region_read : region ≡ region_by (store_in a) (mapping_of w) (block_at (store_in a) m).region
 
 module _ (a : List ℕ) (h : Arranged a) (w : List ℕ) (m : ℕ) (l : m < block_count (columns a)) (ready : BlockReady (store_in a) (mapping_of w) m)
-    {region label location : ℕ} {n : List ℕ} (k : BlockTaken a w m region label location n) where
+    {region location : ℕ} {n : List ℕ} (k : BlockTaken a w m region location n) where
   pub argument_types_asked : n ≡ map (type_of (store_in a)) (arguments_of (store_in a) m)
   argument_types_asked = k.types ∙ argument_types a h (mapping_of w) m l ready
 
   pub region_there : region < region_count (columns a)
   region_there = omega (arith, k.region_read, ready.region, regions_length (columns a))
 
-  block_asked_lem : record { region = region; label = label; location = location; types = n } ≡ block_asked (store_in a) (mapping_of w) m
+  block_asked_lem : record { region = region; location = location; types = n } ≡ block_asked (store_in a) (mapping_of w) m
   unfolding block_asked block_of
   block_asked_lem =
       let row = block_read (columns a) m l in
       λ i. record {
         region = k.region_read i;
-        label = (k.label_read ∙ sym (ap (λ (x : Block). x.label) row)) i;
         location = (k.location_read ∙ sym (ap (λ (x : Block). x.location) row)) i;
         types = argument_types_asked i;
       }
 
   pub block_row_wrote : (b : List ℕ) → length b ≡ length a
-      → columns b ≡ with_block (columns a) (record { region = region; label = label; location = location; types = n })
+      → columns b ≡ with_block (columns a) (record { region = region; location = location; types = n })
       → Wrote a b (applied (store_in a) (new_block (block_asked (store_in a) (mapping_of w) m)))
   unfolding block_asked
   block_row_wrote b len e =

@@ -132,7 +132,7 @@ attributed_more s (of_block b) as' a h i =
     record {
       ops = s.ops;
       blocks = update_twice (block_with_attribute a) (block_attributed as') (block_attributed (as' ++ (a ∷ []))) b s.blocks
-          (λ (o : Block). λ j. record { region = o.region; label = o.label; location = o.location; attributes = put_last a as' h j }) i;
+          (λ (o : Block). λ j. record { region = o.region; location = o.location; attributes = put_last a as' h j }) i;
       regions = s.regions;
       values = s.values;
     }

@@ -105,13 +105,12 @@ module _ (s : Store) (sd : Sound s) (n : ℕ) (ex : op_exists s n ≡ true) (pla
 
       row_made : block_attributed (block_at now b).attributes (record {
         region = region_by now M (block_at now b).region;
-        label = (block_at now b).label;
         location = (block_at now b).location;
         attributes = [];
       }) ≡ copied_block s n b
       unfolding block_attributed copied_block
       row_made i =
-          record { region = region_same i; label = (same_row i).label; location = (same_row i).location; attributes = (same_row i).attributes }
+          record { region = region_same i; location = (same_row i).location; attributes = (same_row i).attributes }
 
       blocks_made : update_at (block_attributed (block_at now b).attributes) (length now.blocks) (applied now (new_block (block_asked now M b))).blocks
           ≡ (copied_by s n place (ws ++ (of_block b ∷ []))).blocks

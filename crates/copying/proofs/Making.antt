@@ -72,7 +72,7 @@ pub block_settable : (s : Store) (new : NewBlock) (m k : ℕ) → k ≡ length s
     → Settable (applied s (new_block new)) (of_block m) (of_block k) (block_at s m).attributes
 unfolding applied owner_exists block_exists attributes_of block_at attribute_total sum
 block_settable s new m k e l room =
-    let row : Block = record { region = new.region; label = new.label; location = new.location; attributes = [] } in
+    let row : Block = record { region = new.region; location = new.location; attributes = [] } in
     let long : length (s.blocks ++ (row ∷ [])) ≡ length s.blocks + 1 = length-append s.blocks (row ∷ []) in
     let total : sum (map (λ (o : Block). length o.attributes) (s.blocks ++ (row ∷ []))) ≡ sum (map (λ (o : Block). length o.attributes) s.blocks) + 0 =
     sum_append (λ (o : Block). length o.attributes) s.blocks (row ∷ []) in

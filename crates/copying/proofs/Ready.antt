@@ -189,8 +189,6 @@ module _ (s : Store) (M : Mapping) (b : ℕ) where
       record {
         region =
             region_by s M (block_at s b).region;
-        label =
-            (block_at s b).label;
         location = (block_at s b).location;
         attributes = (block_at s b).attributes;
       }

@@ -20,7 +20,7 @@ op_attributed as' o =
     record { kind = o.kind; parent = o.parent; location = o.location; operands = o.operands; successors = o.successors; attributes = as' }
 
 unfoldable pub block_attributed : List Attribute → Block → Block
-block_attributed as' b = record { region = b.region; label = b.label; location = b.location; attributes = as' }
+block_attributed as' b = record { region = b.region; location = b.location; attributes = as' }
 
 -- the owner's attributes are these
 unfoldable pub attributed : Store → Owner → List Attribute → Store
@@ -59,7 +59,6 @@ unfoldable pub block_asked : Store → Mapping → ℕ → NewBlock
 block_asked s M b =
     record {
       region = region_by s M (block_at s b).region;
-      label = (block_at s b).label;
       location = (block_at s b).location;
       types = map (type_of s) (arguments_of s b);
     }

@@ -21,8 +21,8 @@ use adding::blocks::put_block;
 use adding::operations::put_operation;
 use calling::types::{Attribute, OpFields, Owner};
 use layout::columns::{
-    BLOCK_ARGUMENT_END, BLOCK_ARGUMENT_FIRST, BLOCK_LABEL, BLOCK_LOCATION, BLOCK_REGION, BLOCKS,
-    COUNTS, OP_KIND, OP_LOCATION, OP_PARENT, OP_REGION_END, OP_REGION_FIRST, OP_RESULT_END,
+    BLOCK_ARGUMENT_END, BLOCK_ARGUMENT_FIRST, BLOCK_LOCATION, BLOCK_REGION, BLOCKS, COUNTS,
+    OP_KIND, OP_LOCATION, OP_PARENT, OP_REGION_END, OP_REGION_FIRST, OP_RESULT_END,
     OP_RESULT_FIRST, OPS, REGION_OP, SLOT_CONTENT, SLOT_KEY, SLOT_KIND, StoreWords, VALUE_TYPE, at,
     number, words,
 };
@@ -187,9 +187,8 @@ fn copy_block(store: &mut StoreWords, mapping: &MappingWords, b: usize)
         &mut types,
     );
     let region = region_copy(store, mapping, at(store, BLOCK_REGION, b));
-    let label = at(store, BLOCK_LABEL, b);
     let location = at(store, BLOCK_LOCATION, b);
-    put_block(store, region, label, location, arguments);
+    put_block(store, region, location, arguments);
     copy_attributes(store, Owner::Block(b as u32), Owner::Block(copy));
 }
 

@@ -19,6 +19,7 @@ use Rattle.rules.proofs.Basics.Tests.{and_left, and_right}
 use Rattle.rules.proofs.Soundness.Accepted.{first_failed_none}
 use Rattle.rules.proofs.Walking.Paired.{paired_most}
 use Rattle.rules.proofs.Types.Renamed.{exists_renamed, renamed_sound}
+use Rattle.journal.specs.Words.{sound_lent}
 use Rattle.layout.specs.Reading.{store_in}
 use Rattle.renaming.specs.Index.{list_in, IsIndex}
 use Rattle.renaming.proofs.Indexed.{no_words_lem, no_list}
@@ -66,6 +67,14 @@ outcome_is (on st) m = refl
 outcome_is (ended (unequal p) st) m = refl
 outcome_is (ended (one_longer p) st) m = refl
 
+-- what is found to be sound, of a mapping of the right length, is what was lent
+pub as_found : {b w types m entries z : List ℕ} {ig : Ignore} {f : Sort} {l r : ℕ} {q : Compared} → (w ≡ b) × (sound_lent b ≡ true) → entries ≡ m
+    → Answered true w types entries z ig f l r q → Answered (sound_lent b) b types m z ig f l r q
+as_found {b} {w} {types} {m} {entries} {z} {ig} {f} {l} {r} {q} same taken h =
+    subst (λ (t : Bool). Answered t b types m z ig f l r q) (sym same.1)
+    (subst (λ (x : List ℕ). Answered true x types m z ig f l r q) same.0
+    (subst (λ (x : List ℕ). Answered true w types x z ig f l r q) taken h))
+
 module _ (b types m : List ℕ) (ig : Ignore) (f : Sort) (l r : ℕ) where
   pub unsound : (ok : Bool) → ok ≡ false → Answered ok b types m m ig f l r (refused 1)
   unfolding comparison comparison_by compare_tests first_failed
@@ -78,10 +87,6 @@ module _ (b types m : List ℕ) (ig : Ignore) (f : Sort) (l r : ℕ) where
   pub untyped : allowed (store_in b) (mapping_of m) ≡ true → types_hold types ≡ false → Answered true b types m m ig f l r (refused 14)
   unfolding comparison comparison_by compare_tests first_failed
   untyped a t = record { told = rw (a, t) refl; unchanged = λ c h. refl }
-
-  -- found to be sound, as if known to be
-  pub as_found : (ok : Bool) → ok ≡ true → {z : List ℕ} {q : Compared} → Answered true b types m z ig f l r q → Answered ok b types m z ig f l r q
-  as_found ok e {z} {q} h = subst (λ (t : Bool). Answered t b types m z ig f l r q) (sym e) h
 
   module _ (a : allowed (store_in b) (mapping_of m) ≡ true) (ty : types_hold types ≡ true) where
     abbrev walk : Walk

@@ -75,9 +75,6 @@ module _ {A : Type 0} (came rest whole : List A) (x : A) (turn : came ++ x ∷ r
   pub came_then : (came ++ x ∷ []) ++ rest ≡ whole
   came_then = append_assoc came (x ∷ []) rest ∙ turn
 
-  pub came_mem : (y : A) → Memᴰ y (came ++ x ∷ []) → Memᴰ y whole
-  came_mem y m = subst (λ (xs : List A). Memᴰ y xs) came_then (Memᴰ.append_left rest m)
-
   pub came_fewer : length (came ++ x ∷ []) ≤ length whole
   came_fewer =
       let e : length ((came ++ x ∷ []) ++ rest) ≡ length whole = ap (λ (xs : List A). length xs) came_then in

@@ -11,6 +11,7 @@ use Rattle.rules.specs.Types.{types_hold, renamed}
 use Rattle.rules.specs.Hash.{hash}
 use Rattle.rules.specs.Answers.{Hashed, hash_tests, hashed_by, hashed}
 use Rattle.rules.proofs.Soundness.Accepted.{first_failed_none}
+use Rattle.journal.specs.Words.{sound_lent}
 use Rattle.layout.specs.Causes.{number_of}
 use Rattle.layout.specs.declared.causes.Cause.{Cause}
 use Rattle.layout.specs.declared.causes.Cause.TheVariants as causes
@@ -25,6 +26,12 @@ unfolding fragment_tests
 existing s f n h = (first_failed_none (fragment_tests s f n) h).0
 
 -- ---- answers
+
+-- what is found to be sound is what was lent
+pub as_found : {b w types : List ℕ} {ig : Ignore} {f : Sort} {n : ℕ} {q : std.Result ℕ Cause}
+    → (w ≡ b) × (sound_lent b ≡ true) → Answered true w types ig f n q → Answered (sound_lent b) b types ig f n q
+as_found {b} {w} {types} {ig} {f} {n} {q} same h =
+    subst (λ (t : Bool). Answered t b types ig f n q) (sym same.1) (subst (λ (x : List ℕ). Answered true x types ig f n q) same.0 h)
 
 module _ (b types : List ℕ) (ig : Ignore) (f : Sort) (n : ℕ) where
   -- by whether the buffer is sound, whether the list of types holds, and which test of the fragment fails first
@@ -41,10 +48,6 @@ module _ (b types : List ℕ) (ig : Ignore) (f : Sort) (n : ℕ) where
   pub unsound : (ok : Bool) → ok ≡ false → Answered ok b types ig f n (std.Err causes.NotSound)
   unfolding hashed_by hashed_of by
   unsound ok h = record { told = by_tests ok ∙ ap (λ (t : Bool). by t (types_hold types) first) h }
-
-  -- found to be sound, as if known to be
-  pub as_found : (ok : Bool) → ok ≡ true → {q : std.Result ℕ Cause} → Answered true b types ig f n q → Answered ok b types ig f n q
-  as_found ok e {q} h = subst (λ (t : Bool). Answered t b types ig f n q) (sym e) h
 
   module _ (h : IsSound b) where
     pub untyped : types_hold types ≡ false → Answered true b types ig f n (std.Err causes.BadTypes)

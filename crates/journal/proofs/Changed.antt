@@ -55,7 +55,7 @@ module _ (f : List Attribute → List Attribute) where
       }
 
   abbrev pub block_by : Block → Block
-  block_by b = record { region = b.region; label = b.label; location = b.location; attributes = f b.attributes }
+  block_by b = record { region = b.region; location = b.location; attributes = f b.attributes }
 
   abbrev pub attributes_by : Owner → Store → Store
   attributes_by (of_op n) s = ops_by op_by n s

@@ -34,7 +34,7 @@ op_without_key k o =
     }
 
 unfoldable pub block_without_key : ℕ → Block → Block
-block_without_key k b = record { region = b.region; label = b.label; location = b.location; attributes = without_key k b.attributes }
+block_without_key k b = record { region = b.region; location = b.location; attributes = without_key k b.attributes }
 
 unfoldable pub key_taken : Store → Owner → ℕ → Store
 key_taken s (of_op n) k = record { ops = update_at (op_without_key k) n s.ops; blocks = s.blocks; regions = s.regions; values = s.values }

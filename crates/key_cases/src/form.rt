@@ -24,7 +24,7 @@ pub fn attribute(store: &mut Store, inherent: bool) -> bool {
 }
 
 pub fn fill(store: &mut Store) -> bool {
-    new_block(store, 0, 0, 3, &[6, 7]) == Ok(0)
+    new_block(store, 0, 3, &[6, 7]) == Ok(0)
         && new_operation(store, 9, Some(0), 4, 0, &[5], &[2, 0], &[0]) == Ok(2)
 }
 

@@ -19,7 +19,7 @@ use layout::causes::Cause;
 use layout::columns::StoreWords;
 use lending::lent::sound_words;
 
-// The extent of a fragment of a sound store, unless it does not exist. In a sound store nothing is nested too deep.
+// The extent of a fragment of a sound store, unless it does not exist.
 pub fn sound_extent(store: &StoreWords, sort: Sort, n: u32, ignore: Ignore) -> Result<Extent, Cause>
     requires { IsSound store.now }
     ensures { sized_of result ≡ sized true (store_in store.now) (ignore_of ignore) (sort_of sort) n }

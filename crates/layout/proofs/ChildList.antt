@@ -161,9 +161,3 @@ module _ (C : Cols) (h : Laid C) where
   blocks_scan r l =
       child_scan (λ (x : Block). eqb x.region r) (block_of C) (at C block_region) r (λ i. (eqb-true _ r, eq-eqb _ r))
       (at C region_block_first r) (at C region_block_end r) (block_count C) (h.region r l).blocks (block_inside r)
-
-  -- ---- the regions of an operation
-
-  pub regions_mem : (n r : ℕ) → r < region_count C → at C region_op r ≡ n → Memᴰ r (regions_of (store_of C) n)
-  unfolding regions_of store_of
-  regions_mem n = child_mem (λ (o : ℕ). eqb o n) (at C region_op) (at C region_op) n (λ i. (eqb-true _ n, eq-eqb _ n)) (region_count C)

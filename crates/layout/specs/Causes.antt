@@ -25,6 +25,7 @@ number_of causes.NoMark = 16
 number_of causes.JournalFull = 17
 number_of causes.PlacedInside = 18
 number_of causes.NamedEarly = 19
+number_of causes.InherentLine = 20
 
 -- the cause of a refusal, if there is one
 unfoldable pub cause_of : {A : Type 0} → std.Result A Cause → Option ℕ

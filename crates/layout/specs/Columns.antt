@@ -71,92 +71,89 @@ region_block_end = 16
 abbrev pub block_region : ℕ
 block_region = 17
 
-abbrev pub block_label : ℕ
-block_label = 18
-
 abbrev pub block_location : ℕ
-block_location = 19
+block_location = 18
 
 abbrev pub block_argument_first : ℕ
-block_argument_first = 20
+block_argument_first = 19
 
 abbrev pub block_argument_end : ℕ
-block_argument_end = 21
+block_argument_end = 20
 
 abbrev pub block_op_first : ℕ
-block_op_first = 22
+block_op_first = 21
 
 abbrev pub block_op_end : ℕ
-block_op_end = 23
+block_op_end = 22
 
 abbrev pub block_attributes : ℕ
-block_attributes = 24
+block_attributes = 23
 
 -- of a value: its type, and its owner as twice the number, and one more for a block
 abbrev pub value_type : ℕ
-value_type = 25
+value_type = 24
 
 abbrev pub value_owner : ℕ
-value_owner = 26
+value_owner = 25
 
 -- the shared lists of operands and of successors
 abbrev pub operand_words : ℕ
-operand_words = 27
+operand_words = 26
 
 abbrev pub successor_words : ℕ
-successor_words = 28
+successor_words = 27
 
 -- of an attribute slot
 abbrev pub slot_key : ℕ
-slot_key = 29
+slot_key = 28
 
 abbrev pub slot_kind : ℕ
-slot_kind = 30
+slot_kind = 29
 
 abbrev pub slot_content : ℕ
-slot_content = 31
+slot_content = 30
 
 -- of an operation in a block: the next operation of the block, or 0
 abbrev pub op_next : ℕ
-op_next = 32
+op_next = 31
 
 -- of a block: the next block of its region, or 0
 abbrev pub block_next : ℕ
-block_next = 33
+block_next = 32
 
 -- of a set mark, the oldest first: its number, its place in the journal, and 8 words of the counts at its setting, the last of which is spare
 abbrev pub mark_number : ℕ
-mark_number = 34
+mark_number = 33
 
 abbrev pub mark_place : ℕ
-mark_place = 35
+mark_place = 34
 
 abbrev pub mark_counts : ℕ
-mark_counts = 36
+mark_counts = 35
 
 -- how many entries the journal has, and how many of them are replacements; the other words are spare
 abbrev pub journal_counts : ℕ
-journal_counts = 37
+journal_counts = 36
 
 -- of an entry of the journal: 0 for an operand, 1 for an attribute, 2 for a new key; the operation or the owner's code; the operand's index or
 -- the key; the value or the kind, and the content, as it was
 abbrev pub journal_sort : ℕ
-journal_sort = 38
+journal_sort = 37
 
 abbrev pub journal_owner : ℕ
-journal_owner = 39
+journal_owner = 38
 
 abbrev pub journal_key : ℕ
-journal_key = 40
+journal_key = 39
 
 abbrev pub journal_kind : ℕ
-journal_kind = 41
+journal_kind = 40
 
 abbrev pub journal_content : ℕ
-journal_content = 42
+journal_content = 41
 
 abbrev pub column_count : ℕ
-column_count = 43
+column_count = 42
 
 -- ---- where they stand, one behind the other
 
@@ -172,7 +169,7 @@ column_sizes =
     8
     ∷ 512 ∷ 512 ∷ 512 ∷ 512 ∷ 512 ∷ 512 ∷ 512 ∷ 512 ∷ 512 ∷ 512 ∷ 512 ∷ 512 ∷ 512
     ∷ 256 ∷ 256 ∷ 256
-    ∷ 256 ∷ 256 ∷ 256 ∷ 256 ∷ 256 ∷ 256 ∷ 256 ∷ 256
+    ∷ 256 ∷ 256 ∷ 256 ∷ 256 ∷ 256 ∷ 256 ∷ 256
     ∷ 2048 ∷ 2048
     ∷ 2048 ∷ 512
     ∷ slot_count ∷ slot_count ∷ slot_count
@@ -189,7 +186,7 @@ base k = sum (take k column_sizes)
 
 -- the buffer's length in words
 abbrev pub buffer_length : ℕ
-buffer_length = 45664
+buffer_length = 45408
 
 -- an empty store's words
 unfoldable pub empty_buffer : List ℕ

@@ -3,7 +3,7 @@
 use Rattle.std.specs.Prelude.{ℕ, zero, suc, ◌+◌, ◌*◌, ◌-◌, ◌/◌, ◌%◌, Bool, cond, List, [], ◌∷◌, eqb, leb, take, drop}
 use Rattle.std.proofs.Math.Option.{Option, none, some}
 use Rattle.rules.specs.Store.{Store, Op, Block, Value, Attribute, Owner, of_op, of_block}
-use Rattle.layout.specs.Columns.{Cols, columns, at, counts, op_kind, op_parent, op_location, op_operand_first, op_operand_end, op_successor_first, op_successor_end, op_attributes, region_op, block_region, block_label, block_location, block_attributes, value_type, value_owner, operand_words, successor_words, slot_key, slot_kind, slot_content, first_block_slot}
+use Rattle.layout.specs.Columns.{Cols, columns, at, counts, op_kind, op_parent, op_location, op_operand_first, op_operand_end, op_successor_first, op_successor_end, op_attributes, region_op, block_region, block_location, block_attributes, value_type, value_owner, operand_words, successor_words, slot_key, slot_kind, slot_content, first_block_slot}
 
 -- f at each number below n, by rising number
 unfoldable pub tabulate_from : {A : Type 0} → ℕ → ℕ → (ℕ → A) → List A
@@ -104,7 +104,6 @@ unfoldable pub block_of : Cols → ℕ → Block
 block_of C m =
     record {
       region = at C block_region m;
-      label = at C block_label m;
       location = at C block_location m;
       attributes = attributes_from C (slots_of (of_block m)) (at C block_attributes m);
     }

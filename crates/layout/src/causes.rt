@@ -25,6 +25,7 @@ pub enum Cause {
     JournalFull = 17,
     PlacedInside = 18,
     NamedEarly = 19,
+    InherentLine = 20,
 }
 
 impl Cause {

@@ -6,7 +6,7 @@ ghost use Rattle.layout.specs.Reading.{slice};
 use crate::lists::{copy_at, fill_at, insert_at};
 
 // The buffer's length in words.
-pub const STORE_LENGTH: usize = 45664;
+pub const STORE_LENGTH: usize = 45408;
 
 // The buffer.
 pub type StoreWords = [u32; STORE_LENGTH];
@@ -67,69 +67,67 @@ pub const REGION_BLOCK_END: usize = 16;
 // Of a block.
 pub const BLOCK_REGION: usize = 17;
 
-pub const BLOCK_LABEL: usize = 18;
+pub const BLOCK_LOCATION: usize = 18;
 
-pub const BLOCK_LOCATION: usize = 19;
+pub const BLOCK_ARGUMENT_FIRST: usize = 19;
 
-pub const BLOCK_ARGUMENT_FIRST: usize = 20;
+pub const BLOCK_ARGUMENT_END: usize = 20;
 
-pub const BLOCK_ARGUMENT_END: usize = 21;
+pub const BLOCK_OP_FIRST: usize = 21;
 
-pub const BLOCK_OP_FIRST: usize = 22;
+pub const BLOCK_OP_END: usize = 22;
 
-pub const BLOCK_OP_END: usize = 23;
-
-pub const BLOCK_ATTRIBUTES: usize = 24;
+pub const BLOCK_ATTRIBUTES: usize = 23;
 
 // Of a value.
-pub const VALUE_TYPE: usize = 25;
+pub const VALUE_TYPE: usize = 24;
 
-pub const VALUE_OWNER: usize = 26;
+pub const VALUE_OWNER: usize = 25;
 
 // The shared lists.
-pub const OPERAND_WORDS: usize = 27;
+pub const OPERAND_WORDS: usize = 26;
 
-pub const SUCCESSOR_WORDS: usize = 28;
+pub const SUCCESSOR_WORDS: usize = 27;
 
 // Of an attribute slot.
-pub const SLOT_KEY: usize = 29;
+pub const SLOT_KEY: usize = 28;
 
-pub const SLOT_KIND: usize = 30;
+pub const SLOT_KIND: usize = 29;
 
-pub const SLOT_CONTENT: usize = 31;
+pub const SLOT_CONTENT: usize = 30;
 
 // Where the slots of blocks begin, behind those of operations.
 pub const FIRST_BLOCK_SLOT: usize = 4096;
 
 // Of an operation in a block, and of a block: the next operation of the block, the next block of the region, or 0.
-pub const OP_NEXT: usize = 32;
+pub const OP_NEXT: usize = 31;
 
-pub const BLOCK_NEXT: usize = 33;
+pub const BLOCK_NEXT: usize = 32;
 
 // Of a set mark: its number, its place in the journal, and 8 words each of the counts at its setting.
-pub const MARK_NUMBER: usize = 34;
+pub const MARK_NUMBER: usize = 33;
 
-pub const MARK_PLACE: usize = 35;
+pub const MARK_PLACE: usize = 34;
 
-pub const MARK_COUNTS: usize = 36;
+pub const MARK_COUNTS: usize = 35;
 
 // How many entries the journal has, and how many of them are replacements.
-pub const JOURNAL_COUNTS: usize = 37;
+pub const JOURNAL_COUNTS: usize = 36;
 
 pub const ENTRIES: usize = 0;
 
 pub const REPLACED: usize = 1;
 
 // Of an entry of the journal: what it tells, of whom, and how it was.
-pub const JOURNAL_SORT: usize = 38;
+pub const JOURNAL_SORT: usize = 37;
 
-pub const JOURNAL_OWNER: usize = 39;
+pub const JOURNAL_OWNER: usize = 38;
 
-pub const JOURNAL_KEY: usize = 40;
+pub const JOURNAL_KEY: usize = 39;
 
-pub const JOURNAL_KIND: usize = 41;
+pub const JOURNAL_KIND: usize = 40;
 
-pub const JOURNAL_CONTENT: usize = 42;
+pub const JOURNAL_CONTENT: usize = 41;
 
 // Where a column begins. A match and no table: a table would be built on the stack wherever the column isn't a constant.
 fn base(column: usize) -> usize
@@ -155,31 +153,30 @@ fn base(column: usize) -> usize
         REGION_BLOCK_FIRST => 6920,
         REGION_BLOCK_END => 7176,
         BLOCK_REGION => 7432,
-        BLOCK_LABEL => 7688,
-        BLOCK_LOCATION => 7944,
-        BLOCK_ARGUMENT_FIRST => 8200,
-        BLOCK_ARGUMENT_END => 8456,
-        BLOCK_OP_FIRST => 8712,
-        BLOCK_OP_END => 8968,
-        BLOCK_ATTRIBUTES => 9224,
-        VALUE_TYPE => 9480,
-        VALUE_OWNER => 11528,
-        OPERAND_WORDS => 13576,
-        SUCCESSOR_WORDS => 15624,
-        SLOT_KEY => 16136,
-        SLOT_KIND => 22280,
-        SLOT_CONTENT => 28424,
-        OP_NEXT => 34568,
-        BLOCK_NEXT => 35080,
-        MARK_NUMBER => 35336,
-        MARK_PLACE => 35344,
-        MARK_COUNTS => 35352,
-        JOURNAL_COUNTS => 35416,
-        JOURNAL_SORT => 35424,
-        JOURNAL_OWNER => 37472,
-        JOURNAL_KEY => 39520,
-        JOURNAL_KIND => 41568,
-        _ => 43616,
+        BLOCK_LOCATION => 7688,
+        BLOCK_ARGUMENT_FIRST => 7944,
+        BLOCK_ARGUMENT_END => 8200,
+        BLOCK_OP_FIRST => 8456,
+        BLOCK_OP_END => 8712,
+        BLOCK_ATTRIBUTES => 8968,
+        VALUE_TYPE => 9224,
+        VALUE_OWNER => 11272,
+        OPERAND_WORDS => 13320,
+        SUCCESSOR_WORDS => 15368,
+        SLOT_KEY => 15880,
+        SLOT_KIND => 22024,
+        SLOT_CONTENT => 28168,
+        OP_NEXT => 34312,
+        BLOCK_NEXT => 34824,
+        MARK_NUMBER => 35080,
+        MARK_PLACE => 35088,
+        MARK_COUNTS => 35096,
+        JOURNAL_COUNTS => 35160,
+        JOURNAL_SORT => 35168,
+        JOURNAL_OWNER => 37216,
+        JOURNAL_KEY => 39264,
+        JOURNAL_KIND => 41312,
+        _ => 43360,
     }
 }
 

@@ -1,4 +1,4 @@
--- An offered call that changes a buffer takes its words, if they are as many as a store has: what it does to these it does to the buffer.
+-- An offered call takes a buffer's words, if they are sound: what it does to these it does to the buffer.
 -- Assumes nothing.
 use Prim.Native.Nat.{ℕ}
 use mathlib.Core.Bool.{true, false}
@@ -12,8 +12,10 @@ use Rattle.std.specs.Array.{IsWholeChunk}
 use Rattle.rules.specs.Building.{Built}
 use Rattle.rules.specs.Marks.{MarkedCall}
 use Rattle.layout.specs.Columns.{buffer_length}
+use Rattle.layout.specs.Soundness.{IsSound}
 use Rattle.journal.specs.Words.{sound_lent}
 use Rattle.marks.specs.Doing.{DidMarked, Answered}
+use Rattle.marks.proofs.Lent.{lent_facts}
 use Rattle.marks.proofs.Answering as words
 use Rattle.lending.proofs.Marks.{long_unsound}
 
@@ -36,3 +38,7 @@ module _ (b : List ℕ) {r : std.Option (MutBor (List ℕ))} (cases : MatchOptio
 module _ {b w : List ℕ} (same : w ≡ b) (c : MarkedCall) (r : Built) where
   pub taken_up : (exit : List ℕ) → sound_lent w ≡ true → DidMarked w exit c r → Answered b exit c r
   taken_up exit h did = subst (λ (x : List ℕ). Answered x exit c r) same (words.taken_up w c r exit h did)
+
+-- words that are found to be sound have sound tables
+pub words_sound : {b w : List ℕ} → (w ≡ b) × (sound_lent b ≡ true) → IsSound w
+words_sound h = (lent_facts _ (ap sound_lent h.0 ∙ h.1)).tables

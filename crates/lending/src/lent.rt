@@ -10,7 +10,7 @@ use crate::words::words_hold;
 use layout::columns::{COUNTS, MARKS, STORE_LENGTH, StoreWords, at};
 
 // The marks of a buffer whose tables are sound, of which at least one is set. The copy takes a large frame, so this must stay a call of its
-// own and not become a part of `is_sound`: that it is called from elsewhere too (`marks_are_sound`) keeps it one.
+// own and not become a part of `are_sound`: that it is called from elsewhere too (`marks_are_sound`) keeps it one.
 fn marks_hold(store: &StoreWords) -> bool
     requires sound { IsSound store.now }
     requires nonzero { 0 < mark_count (columns store.now) }
@@ -35,7 +35,7 @@ pub fn marks_are_sound(store: &StoreWords) -> bool
 
 // The tables are sound, and so are those of every mark. Without a mark that is one word more than the tables' check.
 #[tactic(auto, unfolding(journal::specs::Words::mark_count))]
-pub fn are_sound(store: &StoreWords) -> bool
+fn are_sound(store: &StoreWords) -> bool
     ensures { result ≡ sound_lent store.now }
 {
     layout::sound::is_sound(store) && (at(store, COUNTS, MARKS) == 0 || marks_hold(store))

@@ -5,9 +5,9 @@ use Rattle.std.specs.Bool.{then_some}
 use Rattle.std.proofs.Math.Option.{none, some}
 use Rattle.rules.specs.Store.{Owner}
 use Rattle.rules.specs.Building.{set_attribute}
-use Rattle.rules.specs.Lines.{Line, Reader, building, and_then, ◌>>=◌, giving, number, attribute_line, all_read}
-use Rattle.lines.specs.Parsing.{owner_fields}
-use Rattle.lines.specs.Reading.{Answer, nothing_left, told}
+use Rattle.rules.specs.Lines.{Edition, Line, Reader, building, and_then, ◌>>=◌, giving, number, items, label, block_line, attribute_line, all_read}
+use Rattle.lines.specs.Parsing.{owner_fields, operation_lists}
+use Rattle.lines.specs.Reading.{Answer, nothing_left, told, passing}
 
 all_or_none : {A B : Type 0} (f : B → A) (v : B) (gs : List (List ℕ)) → all_read (f v) gs ≡ told (option_map f (then_some (nothing_left gs) v))
 unfolding all_read
@@ -17,6 +17,13 @@ all_or_none f v (g ∷ gs) = refl
 pub ended : {A B : Type 0} (f : B → A) (v : B) (gs : List (List ℕ)) (t : Bool) (r : Option B) → t ≡ nothing_left gs → r ≡ then_some t v → all_read (f v) gs ≡ told (option_map f r)
 ended f v gs t r e h = all_or_none f v gs ∙ ap (λ s. told (option_map f (then_some s v))) (sym e) ∙ ap (λ s. told (option_map f s)) (sym h)
 
+pub told_as_is : {A : Type 0} (r : Option A) → told (option_map (λ a. a) r) ≡ told r
+told_as_is None = refl
+told_as_is (Some a) = refl
+
+pub ended_unkept : (gs : List (List ℕ)) (t : Bool) (r : Option (Unit {0})) → t ≡ nothing_left gs → r ≡ then_some t tt → all_read tt gs ≡ told r
+ended_unkept gs t r e h = ended (λ a. a) tt gs t r e h ∙ told_as_is r
+
 -- what holds of a line that is read wholly
 pub kept_if : {B : Type 0} (P : Option B → Type 0) → P None → (v : B) → P (Some v) → (t : Bool) (r : Option B) → r ≡ then_some t v → P r
 kept_if P n v s true r e = subst P (sym e) s
@@ -24,15 +31,25 @@ kept_if P n v s false r e = subst P (sym e) n
 
 -- ---- the line of an attribute begins with its owner
 
-abbrev owned : Owner → Reader Line
-owned w =
+abbrev owned : Bool → Owner → Reader Line
+owned inherent w =
     number >>= λ key. number >>= λ kind. number >>= λ content.
-    giving (building (set_attribute w (record { key = key; kind = kind; content = content; inherent = false })))
+    giving (building (set_attribute w (record { key = key; kind = kind; content = content; inherent = inherent })))
 
-regroup : {A B C : Type 0} (q : Answer A) (f : A → Reader B) (g : B → Reader C) → and_then (and_then q f) g ≡ and_then q (λ a gs. and_then (f a gs) g)
+pub regroup : {A B C : Type 0} (q : Answer A) (f : A → Reader B) (g : B → Reader C) → and_then (and_then q f) g ≡ and_then q (λ a gs. and_then (f a gs) g)
 regroup none f g = refl
 regroup (some got) f g = refl
 
-pub attribute_parts : (fs : List (List ℕ)) → attribute_line fs ≡ and_then (owner_fields fs) owned
+pub attribute_parts : (inherent : Bool) (fs : List (List ℕ)) → attribute_line inherent fs ≡ and_then (owner_fields fs) (owned inherent)
 unfolding attribute_line owner_fields
-attribute_parts fs = simp regroup
+attribute_parts inherent fs = simp regroup
+
+-- ---- where nothing is kept of the whole, nothing is kept of its lists
+
+pub lists_passed : (fs : List (List ℕ)) → passing operation_lists fs ≡ and_then (passing items fs) (λ x. passing items >>= λ y. passing items)
+unfolding operation_lists
+lists_passed fs = simp regroup
+
+pub block_passed : (e : Edition) (fs : List (List ℕ)) → passing (block_line e) fs ≡ and_then (number fs) (λ r. label e >>= λ u. number >>= λ l. passing items)
+unfolding block_line
+block_passed e fs = simp regroup

@@ -4,7 +4,7 @@ use Rattle.std.proofs.Common.{◌≡◌, ℕ, suc, ◌+◌, ◌-◌, ◌<◌, �
 use Rattle.std.specs.List.{position_or_len, position}
 use borrow.Author.Tests.{ltb-true, ltb-false}
 use lib.Dec.{ltb}
-use lib.ListN.{length-append, length-drop}
+use lib.ListN.{length-append, length-drop, drop_of_length-le}
 use lib.Seq.{drop-drop, take_all}
 use Rattle.rules.specs.Bytes.{Pieces, comma, new_piece, longer_by, cut_at}
 use Rattle.rules.specs.Lines.{fields_of}
@@ -97,6 +97,11 @@ module _ (bytes : List ℕ) (from b : ℕ) (l : from ≤ length bytes) where
         ended = λ h. absurd (omega arith);
         unended = λ _. one_piece b left (nowhere (ap (position (λ x. eqb x b)) (sym all_left) ∙ e));
       }
+
+-- no piece is left at the end
+pub none_left : (b : ℕ) (bytes : List ℕ) (at : ℕ) → length bytes ≤ at → pieces_from b bytes at ≡ record { whole = []; rest = [] }
+unfolding pieces_from cut_at
+none_left b bytes at l = ap (cut_at b) (drop_of_length-le bytes l)
 
 -- ---- the fields of bytes
 

@@ -5,7 +5,7 @@ use lib.ListN.{length-append, length-set, length-drop}
 use lib.Seq.{length-take-le, take_all, take_at, take-suc-set}
 use Rattle.rules.specs.Bytes.{number_below}
 use Rattle.rules.specs.Lines.{and_then, giving, field, number, numbers, items}
-use Rattle.lines.specs.Reading.{Answer}
+use Rattle.lines.specs.Reading.{Answer, unkept, passing}
 
 -- numbers that were read before
 abbrev pub behind : List ℕ → Answer (List ℕ) → Answer (List ℕ)
@@ -136,3 +136,33 @@ module _ (fs : List (List ℕ)) where
 
         pub all_fit : n ≤ length (xs ++ rest)
         all_fit = let f = front in omega (arith, length-append xs rest)
+
+-- ---- items that are passed over
+
+-- nothing is kept of the numbers that were read before, either
+unkept_behind : (xs : List ℕ) (q : Answer (List ℕ)) → unkept (behind xs q) ≡ unkept q
+unkept_behind xs none = refl
+unkept_behind xs (some got) = refl
+
+module _ (fs : List (List ℕ)) where
+  pub pass_uncounted : number fs ≡ none → passing items fs ≡ none
+  pass_uncounted h = ap unkept (uncounted fs h)
+
+  pub pass_counted : {n : ℕ} {gs : List (List ℕ)} → number fs ≡ some (n, gs) → passing items fs ≡ passing (numbers (n - 0)) gs
+  pass_counted {n} {gs} h = ap unkept (counted fs h) ∙ ap (λ (m : ℕ). passing (numbers m) gs) (let z : n ≡ n - 0 = omega arith in z)
+
+  module _ {count i : ℕ} where
+    pub pass_done : count ≤ i → passing (numbers (count - i)) fs ≡ some (tt, fs)
+    unfolding numbers
+    pass_done l = ap (λ (n : ℕ). passing (numbers n) fs) (let z : count - i ≡ 0 = omega arith in z)
+
+    module _ (l : i < count) where
+      one_more : passing (numbers (count - i)) fs ≡ passing (numbers (suc (count - (i + 1)))) fs
+      one_more = ap (λ (n : ℕ). passing (numbers n) fs) (let z : count - i ≡ suc (count - (i + 1)) = omega arith in z)
+
+      pub pass_broken_off : number fs ≡ none → passing (numbers (count - i)) fs ≡ none
+      pass_broken_off h = one_more ∙ ap unkept (numbers_none (count - (i + 1)) fs h)
+
+      pub pass_turn : {x : ℕ} {gs : List (List ℕ)} → number fs ≡ some (x, gs) → passing (numbers (count - i)) fs ≡ passing (numbers (count - (i + 1))) gs
+      pass_turn {x} {gs} h =
+          one_more ∙ ap unkept (numbers_some (count - (i + 1)) x fs gs h) ∙ unkept_behind (x ∷ []) (numbers (count - (i + 1)) gs)

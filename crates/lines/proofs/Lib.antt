@@ -7,3 +7,6 @@ pub mod Ended
 pub mod Joined
 mod Digits
 pub mod Lines
+pub mod Heading
+pub mod Meant
+mod FirstLetter

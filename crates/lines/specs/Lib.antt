@@ -2,6 +2,8 @@
 pub mod Pieces
 pub mod Fields
 pub mod Reading
+pub mod Editions
+pub mod Header
 pub mod Parsing
 pub mod Wrote
 pub mod Room

@@ -4,7 +4,8 @@ use Rattle.std.specs.Prelude.{ℕ, ◌≤◌, List, ◌≡◌, length, take, opt
 use Rattle.std.proofs.Math.Option.{Option}
 use Rattle.rules.specs.Store as rules
 use Rattle.rules.specs.Building.{new_operation, new_block, set_attribute, set_operand}
-use Rattle.rules.specs.Lines.{Line, building, query, Reader, ◌>>=◌, giving, number, items, parent_block, owner, block_line, wholly}
+use Rattle.std.specs.Prelude.{true, false}
+use Rattle.rules.specs.Lines.{Edition, Line, building, query, Reader, ◌>>=◌, giving, number, items, parent_block, owner, operation_line, block_line, attribute_line, operand_line, query_line, wholly}
 use Rattle.layout.specs.Owners.{owner_of}
 use Rattle.calling.specs.Types.{parent_of, attribute_of}
 use Rattle.calling.specs.declared.types.OpFields as code
@@ -16,6 +17,8 @@ use Rattle.lines.specs.declared.parsing.BlockLine.{BlockLine}
 use Rattle.lines.specs.declared.parsing.AttributeLine.{AttributeLine}
 use Rattle.lines.specs.declared.parsing.OperandLine.{OperandLine}
 use Rattle.lines.specs.declared.parsing.Query.{Query}
+use Rattle.lines.specs.declared.letters.Letter.{Letter}
+use Rattle.lines.specs.declared.letters.Letter.TheVariants as letters
 
 -- ---- fields of a line
 
@@ -86,16 +89,25 @@ operation_line_of h l =
 
 -- ---- lines
 
+-- what a letter says that the line behind it is
+abbrev pub line_behind : Edition → Letter → Reader Line
+line_behind e letters.Operation = operation_line
+line_behind e letters.Block = block_line e
+line_behind e letters.Attribute = attribute_line false
+line_behind e letters.Inherent = attribute_line true
+line_behind e letters.Operand = operand_line
+line_behind e letters.Query = query_line
+
 abbrev pub block_line_of : List ℕ → BlockLine → Line
 block_line_of types b =
-    building (new_block (record { region = b.region; label = b.label; location = b.location; types = take b.arguments types }))
+    building (new_block (record { region = b.region; location = b.location; types = take b.arguments types }))
 
 abbrev pub ArgumentsFit : List ℕ → std.Option BlockLine → Type 0
 ArgumentsFit types std.None = Unit {0}
 ArgumentsFit types (std.Some b) = b.arguments ≤ length types
 
-pub record ReadBlock (fields : List (List ℕ)) (types : List ℕ) (r : std.Option BlockLine) : Type 0 where
-  pub same : wholly (block_line fields) ≡ told (option_map (block_line_of types) r)
+pub record ReadBlock (e : Edition) (fields : List (List ℕ)) (types : List ℕ) (r : std.Option BlockLine) : Type 0 where
+  pub same : wholly (block_line e fields) ≡ told (option_map (block_line_of types) r)
   pub fit : ArgumentsFit types r
 
 abbrev pub attribute_line_of : AttributeLine → Line

@@ -2,8 +2,9 @@
 use Rattle.std.specs.Prelude as std
 use Rattle.std.specs.Prelude.{ℕ, ◌-◌, ◌^◌, ◌≤◌, Bool, true, false, cond, not, List, [], ◌∷◌, ◌≡◌, eqb, length, take, option_map}
 use Rattle.std.proofs.Math.Option.{Option, none, some}
+use Rattle.rules.specs.Lists.{same_list}
 use Rattle.rules.specs.Bytes.{is_digit}
-use Rattle.rules.specs.Lines.{items}
+use Rattle.rules.specs.Lines.{Reader, and_then, giving, items}
 
 -- no field is left
 abbrev pub nothing_left : List (List ℕ) → Bool
@@ -15,6 +16,11 @@ abbrev pub one_byte : List ℕ → Option ℕ
 one_byte [] = none
 one_byte (b ∷ []) = some b
 one_byte (b ∷ c ∷ bs) = none
+
+-- the first field is this one byte
+abbrev pub begins_with : ℕ → List (List ℕ) → Bool
+begins_with b [] = false
+begins_with b (f ∷ fs) = same_list eqb f (b ∷ [])
 
 -- ---- digits
 
@@ -42,6 +48,13 @@ Answer A = Option (A × List (List ℕ))
 abbrev pub read : {A : Type 0} → std.Option A → List (List ℕ) → Answer A
 read std.None left = none
 read (std.Some a) left = some (a, left)
+
+-- the same is read, and nothing of it kept
+abbrev pub unkept : {A : Type 0} → Answer A → Answer (Unit {0})
+unkept q = and_then q (λ a. giving tt)
+
+abbrev pub passing : {A : Type 0} → Reader A → Reader (Unit {0})
+passing r fs = unkept (r fs)
 
 -- so many items fit
 abbrev pub Fit : List ℕ → std.Option ℕ → Type 0

@@ -1,11 +1,13 @@
 // The lines of a listing, from behind their first letter on. A line that has more fields than it may have is bad.
 ghost use Rattle.std.specs.Prelude.{◌≡◌, ℕ, ◌+◌, ◌≤◌, List, length, option_map};
-ghost use Rattle.rules.specs.Lines.{yes_or_no, sort, attribute_line, operand_line, query_line, wholly};
+ghost use Rattle.rules.specs.Lines.{yes_or_no, sort, label, attribute_line, operand_line, query_line, wholly};
 ghost use Rattle.layout.specs.Owners.{owner_of};
 ghost use Rattle.fragments.specs.Sorts.{sort_of};
 ghost use Rattle.lines.specs.Reading.{told, read};
+ghost use Rattle.lines.specs.Editions.{edition_as};
 ghost use Rattle.lines.specs.Parsing.{owner_fields, fields_as, operation_fields, attribute_line_of, operand_line_of, query_of, ReadBlock, ReadLists};
 
+use crate::editions::Edition;
 use crate::reading::Fields;
 use calling::types::{Attribute, OpFields};
 use fragments::ignoring::Ignore;
@@ -24,7 +26,6 @@ pub struct OpLists {
 #[derive(Clone, Copy)]
 pub struct BlockLine {
     pub region: u32,
-    pub label: u32,
     pub location: u32,
     pub arguments: usize,
 }
@@ -133,28 +134,39 @@ pub fn read_lists(
     })
 }
 
-// `b` region, label, location, arguments, whose types are written to the start of `types`.
+// The label of a block, which stands in the first edition alone: it must be a number, and is dropped.
+#[tactic(auto, unfolding(rules::specs::Lines::label))]
+pub fn skip_label(fields: &mut Fields<'_>, edition: Edition) -> Option<()>
+    ensures reads { label (edition_as edition) fields.old ≡ read result fields.new }
+    ensures fewer { length fields.new ≤ length fields.old }
+{
+    if edition == Edition::First {
+        fields.number()?;
+    }
+    Some(())
+}
+
+// `b` region, location, arguments, whose types are written to the start of `types`; behind the region a label in the first edition.
 #[tactic(auto, unfolding(rules::specs::Lines::block_line, rules::specs::Lines::wholly))]
-pub fn block_line(fields: &mut Fields<'_>, types: &mut [u32]) -> Option<BlockLine>
+pub fn block_line(fields: &mut Fields<'_>, types: &mut [u32], edition: Edition) -> Option<BlockLine>
     requires { length fields.old ≤ length types.old + 1 }
-    ensures { ReadBlock fields.old types.new result }
+    ensures { ReadBlock (edition_as edition) fields.old types.new result }
 {
     let region = fields.number()?;
-    let label = fields.number()?;
+    skip_label(fields, edition)?;
     let location = fields.number()?;
     let arguments = fields.items(types)?;
     fields.is_empty().then_some(BlockLine {
         region,
-        label,
         location,
         arguments,
     })
 }
 
-// `a` o or b, number, key, kind, content. The attribute is not inherent.
+// `a` or `i`: o or b, number, key, kind, content. Which of the two letters it is says whether the attribute is inherent.
 #[tactic(auto, unfolding(rules::specs::Lines::attribute_line, rules::specs::Lines::wholly))]
-pub fn attribute_line(fields: &mut Fields<'_>) -> Option<AttributeLine>
-    ensures { wholly (attribute_line fields.old) ≡ told (option_map attribute_line_of result) }
+pub fn attribute_line(fields: &mut Fields<'_>, inherent: bool) -> Option<AttributeLine>
+    ensures { wholly (attribute_line inherent fields.old) ≡ told (option_map attribute_line_of result) }
 {
     let owner = read_owner(fields)?;
     let key = fields.number()?;
@@ -164,7 +176,7 @@ pub fn attribute_line(fields: &mut Fields<'_>) -> Option<AttributeLine>
         key,
         kind,
         content,
-        inherent: false,
+        inherent,
     };
     fields
         .is_empty()

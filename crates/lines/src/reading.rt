@@ -3,7 +3,7 @@ ghost use Rattle.std.specs.Prelude.{◌≡◌, ◌≢◌, ◌+◌, ◌^◌, ◌�
 ghost use Rattle.rules.specs.Bytes.{number_below};
 ghost use Rattle.rules.specs.Lines.{fields_of, field, number, numbers, items, ignore_bits, parent_block};
 ghost use Rattle.calling.specs.Types.{parent_of};
-ghost use Rattle.lines.specs.Reading.{nothing_left, one_byte, digit_of, starts_well, told, read, ReadItems};
+ghost use Rattle.lines.specs.Reading.{nothing_left, one_byte, digit_of, starts_well, told, read, passing, ReadItems};
 
 use crate::pieces::piece_end;
 use crate::texts::same_bytes;
@@ -127,6 +127,17 @@ impl<'a> Fields<'a> {
         }
         self.numbers(&mut list[..count])?;
         Some(count)
+    }
+
+    // A list of which nothing is kept. Its count may be beyond all that is there: the loop ends at the first item that is missing.
+    pub fn pass_items(&mut self) -> Option<()>
+        ensures { passing items self.old ≡ read result self.new }
+    {
+        let count = self.number()?;
+        for _ in 0..count {
+            self.number()?;
+        }
+        Some(())
     }
 }
 

@@ -1,2 +1,3 @@
 -- What crosses stands for what the calls answer.
 mod Indexing
+mod Converting

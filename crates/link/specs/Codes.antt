@@ -1,6 +1,6 @@
 -- What the numbers that cross to another language mean: the answers of the calls, which are the rules' own, and two of their arguments.
 use Rattle.std.specs.Prelude as std
-use Rattle.std.specs.Prelude.{ℕ, Bool, cond, not, eqb}
+use Rattle.std.specs.Prelude.{ℕ, Bool, cond, not, List, eqb}
 use Rattle.std.proofs.Math.Option.{Option, none, some}
 use Rattle.rules.specs.Store as rules
 use Rattle.rules.specs.Fragments.{op, block, region}
@@ -16,6 +16,8 @@ use Rattle.mapping.specs.declared.types.Entries as found
 use Rattle.keys.specs.Extents.{of_numbers}
 use Rattle.listing.specs.Calls as listing
 use Rattle.listing.specs.Calls.{Told}
+use Rattle.converting.specs.Calls.{Answered}
+use Rattle.converting.specs.declared.types.NoRoom.{NoRoom}
 use Rattle.link.specs.declared.answers.Verdict.{Verdict}
 use Rattle.link.specs.declared.answers.Sum.{Sum}
 use Rattle.link.specs.declared.answers.KeyAnswer.{KeyAnswer}
@@ -69,6 +71,17 @@ output_means o =
     cond (eqb o.code 0) (listing.printed o.bytes)
     (cond (eqb o.code 1) (listing.refused o.cause)
     listing.no_room)
+
+-- the converter is lent no buffer that it refuses
+unfoldable pub converted_told : std.Result ℕ NoRoom → Told
+converted_told (std.Ok n) = listing.printed n
+converted_told (std.Err no_room) = listing.no_room
+
+-- what the converter answers, as it is told
+unfoldable pub ConvertAnswered : List ℕ → List ℕ → List ℕ → Told → Type 0
+ConvertAnswered text before after (listing.printed n) = Answered text before after (std.Ok n)
+ConvertAnswered text before after (listing.refused cause) = ⊥
+ConvertAnswered text before after listing.no_room = Answered text before after (std.Err (record {}))
 
 unfoldable pub entries_mean : Entries → found.Entries
 entries_mean e = record { value = e.value; end = e.end; owner = e.owner; past = e.past }

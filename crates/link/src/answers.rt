@@ -8,8 +8,9 @@ ghost use Rattle.keys.specs.Calls.{keyed_of};
 ghost use Rattle.keys.specs.Extents.{sized_of};
 ghost use Rattle.runs.specs.Calls.{found_of};
 ghost use Rattle.listing.specs.Calls.{told_of};
-ghost use Rattle.link.specs.Codes.{entries_mean, verdict_means, sum_means, key_answer_means, extent_answer_means, run_means, outcome_means, output_means, parent_from, owner_from};
+ghost use Rattle.link.specs.Codes.{entries_mean, verdict_means, sum_means, key_answer_means, extent_answer_means, run_means, outcome_means, output_means, converted_told, parent_from, owner_from};
 
+use converting::types::NoRoom;
 use equivalence::types::EqResult;
 use keys::types::Extent;
 use layout::causes::Cause;
@@ -297,6 +298,24 @@ pub fn of_listed(l: Result<usize, Unprinted>) -> Output
             cause: cause.number(),
         },
         Err(Unprinted::NoRoom) => Output {
+            bytes: 0,
+            code: 2,
+            cause: 0,
+        },
+    }
+}
+
+#[tactic(auto, unfolding(crate::specs::Codes::output_means, crate::specs::Codes::converted_told))]
+pub fn of_converted(c: Result<usize, NoRoom>) -> Output
+    ensures { output_means result ≡ converted_told c }
+{
+    match c {
+        Ok(bytes) => Output {
+            bytes,
+            code: 0,
+            cause: 0,
+        },
+        Err(NoRoom) => Output {
             bytes: 0,
             code: 2,
             cause: 0,

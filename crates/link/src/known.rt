@@ -140,19 +140,17 @@ pub extern "C" fn wz_known_new_operation(
 pub extern "C" fn wz_known_new_block(
     store: &mut [u32],
     region: u32,
-    label: u32,
     location: u32,
     types: &[u32],
 ) -> Outcome
     requires { IsLent store.old }
     ensures { DidMarked store.old store.new (build (new_block (record {
       region = region;
-      label = label;
       location = location;
       types = types.now;
     }))) (outcome_means result) }
 {
-    of_made(remembering::adding_calls::new_block(array_mut(store), region, label, location, types))
+    of_made(remembering::adding_calls::new_block(array_mut(store), region, location, types))
 }
 
 #[unsafe(no_mangle)]

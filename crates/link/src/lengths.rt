@@ -1,7 +1,7 @@
 // How long the lent buffers are.
 ghost use Rattle.std.specs.Prelude.{◌≡◌};
 ghost use Rattle.rules.specs.Keys.{longest_key};
-ghost use Rattle.rules.specs.Listings.{max_output};
+ghost use Rattle.rules.specs.Listings.{max_listing, max_output};
 ghost use Rattle.layout.specs.Columns.{buffer_length};
 ghost use Rattle.renaming.specs.Index.{index_length};
 ghost use Rattle.mapping.specs.MappingWords.{mapping_length};
@@ -28,6 +28,14 @@ pub extern "C" fn wz_output_bytes() -> usize
     ensures { result ≡ max_output }
 {
     listing::calls::ROOM
+}
+
+// The bytes that `wz_convert` wants for what it prints.
+#[unsafe(no_mangle)]
+pub extern "C" fn wz_converted_bytes() -> usize
+    ensures { result ≡ max_listing }
+{
+    converting::calls::ROOM
 }
 
 // Bytes that every key fits into.

@@ -1,10 +1,10 @@
-// `twins` and `sums`: a listing's bytes in, what is printed for it out.
+// `twins`, `sums` and `convert`: a listing's bytes in, what is printed for it out.
 ghost use Rattle.rules.specs.Listings.{twins_program, sums_program};
 ghost use Rattle.mapping.specs.MappingWords.{empty_words};
 ghost use Rattle.listing.specs.Calls.{Answered, buffers};
-ghost use Rattle.link.specs.Codes.{output_means};
+ghost use Rattle.link.specs.Codes.{output_means, ConvertAnswered};
 
-use crate::answers::{Output, of_listed};
+use crate::answers::{Output, of_converted, of_listed};
 
 #[unsafe(no_mangle)]
 pub extern "C" fn wz_twins(
@@ -23,4 +23,11 @@ pub extern "C" fn wz_sums(listing: &[u8], store: &mut [u32], out: &mut [u8]) -> 
     ensures { Answered sums_program listing.now (buffers store.old empty_words out.old) (buffers store.new empty_words out.new) (output_means result) }
 {
     of_listed(listing::calls::sums(listing, store, out))
+}
+
+#[unsafe(no_mangle)]
+pub extern "C" fn wz_convert(listing: &[u8], out: &mut [u8]) -> Output
+    ensures { ConvertAnswered listing.now out.old out.new (output_means result) }
+{
+    of_converted(converting::calls::convert(listing, out))
 }

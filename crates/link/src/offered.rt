@@ -69,18 +69,16 @@ pub extern "C" fn wz_new_operation(
 pub extern "C" fn wz_new_block(
     store: &mut [u32],
     region: u32,
-    label: u32,
     location: u32,
     types: &[u32],
 ) -> Outcome
     ensures { building.Answered store.old store.new (build (new_block (record {
       region = region;
-      label = label;
       location = location;
       types = types.now;
     }))) (outcome_means result) }
 {
-    of_made(building::calls::new_block(store, region, label, location, types))
+    of_made(building::calls::new_block(store, region, location, types))
 }
 
 #[unsafe(no_mangle)]

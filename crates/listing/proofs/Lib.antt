@@ -1,10 +1,7 @@
 -- Why a listing is printed as the rules print it: its first line, what each line means and does, what a query prints and counts, and the
 -- lines one after the other.
-mod Heading
 mod Emptied
 mod Built
-mod Meant
-mod Letters
 mod Hashes
 mod Steps
 mod Runs

@@ -8,10 +8,9 @@ use Rattle.std.specs.Prelude as std
 use mathlib.Core.List.{List, [], ◌∷◌, ◌++◌, append_assoc}
 use mathlib.Core.Path.{◌≡◌, refl, sym, ap, ap₂, subst, ◌∙◌}
 use lib.ListN.{length, drop, length-append, length-drop}
-use lib.Seq.{drop-length}
 use Rattle.rules.specs.Store.{Store, empty_store}
 use Rattle.rules.specs.Marks.{unmarked}
-use Rattle.rules.specs.Bytes.{line_feed, Pieces, cut_at}
+use Rattle.rules.specs.Bytes.{line_feed, Pieces}
 use Rattle.rules.specs.Listings as rules
 use Rattle.rules.specs.Listings.{LineOutcome, prints, stops, refusal, does, proceed, at_end, run, at_start, keeps, leaves, no_tally, twins_program, sums_program, max_listing, max_output}
 use Rattle.rules.proofs.Listings.Short.{Within, Terse, does_within, twins_terse, sums_terse}
@@ -24,6 +23,9 @@ use Rattle.tally.specs.Tally.{tally_of}
 use Rattle.tally.specs.declared.types.Place.{Place}
 use Rattle.layout.specs.Causes.{number_of}
 use Rattle.layout.specs.declared.causes.Cause.{Cause}
+use Rattle.lines.specs.Editions.{edition_as}
+use Rattle.lines.specs.Header.{second_line}
+use Rattle.lines.proofs.Firsts.{none_left}
 use Rattle.lines.specs.Pieces.{pieces_from, PieceEnd}
 use Rattle.lines.specs.Wrote.{Writes, HasRoom}
 use Rattle.lines.specs.declared.writing.LineWriter.{LineWriter}
@@ -33,7 +35,8 @@ use Rattle.listing.specs.declared.types.Program.{Program}
 use Rattle.listing.specs.declared.types.Program.TheVariants.{Twins, Sums}
 use Rattle.listing.specs.Progress.{program_of, progress_of}
 use Rattle.listing.specs.Asking.{step_room, outcome_of, Goes}
-use Rattle.listing.specs.Stepping.{second_line, closes, Bare, LineDoes, Ran}
+use Rattle.listing.specs.declared.types.Reading.{Reading}
+use Rattle.listing.specs.Stepping.{closes, Bare, LineDoes, Ran}
 
 -- the rules print at most so many bytes for each byte of a line, its line feed included
 abbrev per_byte : ℕ
@@ -52,54 +55,54 @@ terse Sums = sums_terse
 front : (xs ys zs : List ℕ) {whole : List ℕ} → whole ≡ xs ++ (ys ++ zs) → whole ≡ (xs ++ ys) ++ zs
 front xs ys zs e = e ∙ sym (append_assoc xs ys zs)
 
-module _ (p : Program) (listing : List ℕ) where
+module _ (how : Reading) (listing : List ℕ) where
   -- what the rules print from a place on, at which line number n begins, and the store that they leave
   abbrev prints_from : ℕ → ℕ → rules.Progress → List ℕ
-  prints_from n at now = run (program_of p) n now (pieces_from line_feed listing at).whole (pieces_from line_feed listing at).rest
+  prints_from n at now = run (program_of how.program) (edition_as how.edition) n now (pieces_from line_feed listing at).whole (pieces_from line_feed listing at).rest
 
   abbrev leaves_from : ℕ → rules.Progress → Store
-  leaves_from at now = (leaves (program_of p) now (pieces_from line_feed listing at).whole).store
+  leaves_from at now = (leaves (program_of how.program) (edition_as how.edition) now (pieces_from line_feed listing at).whole).store
 
   -- ---- a line, and the lines behind it
 
   module _ (n start e : ℕ) (end : PieceEnd listing start line_feed e) (now : rules.Progress) where
-    line_first : e < length listing → prints_from n start now ≡ proceed (does (program_of p) now (slice listing start e)) n (λ next. prints_from (suc n) (e + 1) next)
+    line_first : e < length listing → prints_from n start now ≡ proceed (does (program_of how.program) (edition_as how.edition) now (slice listing start e)) n (λ next. prints_from (suc n) (e + 1) next)
     unfolding run
-    line_first l = ap (λ (q : Pieces). run (program_of p) n now q.whole q.rest) (end.ended l)
+    line_first l = ap (λ (q : Pieces). run (program_of how.program) (edition_as how.edition) n now q.whole q.rest) (end.ended l)
 
-    line_leaves : e < length listing → leaves_from start now ≡ (keeps (does (program_of p) now (slice listing start e)) now (λ next. leaves (program_of p) next (pieces_from line_feed listing (e + 1)).whole)).store
+    line_leaves : e < length listing → leaves_from start now ≡ (keeps (does (program_of how.program) (edition_as how.edition) now (slice listing start e)) now (λ next. leaves (program_of how.program) (edition_as how.edition) next (pieces_from line_feed listing (e + 1)).whole)).store
     unfolding leaves
-    line_leaves l = ap (λ (q : Pieces). (leaves (program_of p) now q.whole).store) (end.ended l)
+    line_leaves l = ap (λ (q : Pieces). (leaves (program_of how.program) (edition_as how.edition) now q.whole).store) (end.ended l)
 
     module _ (l : e < length listing) where
-      printed_on : (b : List ℕ) (next : rules.Progress) → does (program_of p) now (slice listing start e) ≡ prints b next → prints_from n start now ≡ b ++ prints_from (n + 1) (e + 1) next
+      printed_on : (b : List ℕ) (next : rules.Progress) → does (program_of how.program) (edition_as how.edition) now (slice listing start e) ≡ prints b next → prints_from n start now ≡ b ++ prints_from (n + 1) (e + 1) next
       unfolding proceed
       printed_on b next d =
           line_first l
           ∙ ap (λ (o : LineOutcome). proceed o n (λ next'. prints_from (suc n) (e + 1) next')) d
           ∙ ap (λ (k : ℕ). b ++ prints_from k (e + 1) next) (sym (add-one n))
 
-      left_on_lem : (b : List ℕ) (next : rules.Progress) → does (program_of p) now (slice listing start e) ≡ prints b next → leaves_from start now ≡ leaves_from (e + 1) next
+      left_on_lem : (b : List ℕ) (next : rules.Progress) → does (program_of how.program) (edition_as how.edition) now (slice listing start e) ≡ prints b next → leaves_from start now ≡ leaves_from (e + 1) next
       unfolding keeps
-      left_on_lem b next d = line_leaves l ∙ ap (λ (o : LineOutcome). (keeps o now (λ next'. leaves (program_of p) next' (pieces_from line_feed listing (e + 1)).whole)).store) d
+      left_on_lem b next d = line_leaves l ∙ ap (λ (o : LineOutcome). (keeps o now (λ next'. leaves (program_of how.program) (edition_as how.edition) next' (pieces_from line_feed listing (e + 1)).whole)).store) d
 
-      stops_here : (k : ℕ) → does (program_of p) now (slice listing start e) ≡ stops k → prints_from n start now ≡ refusal n k
+      stops_here : (k : ℕ) → does (program_of how.program) (edition_as how.edition) now (slice listing start e) ≡ stops k → prints_from n start now ≡ refusal n k
       unfolding proceed
       stops_here k d = line_first l ∙ ap (λ (o : LineOutcome). proceed o n (λ next'. prints_from (suc n) (e + 1) next')) d
 
-      left_here_lem : (k : ℕ) → does (program_of p) now (slice listing start e) ≡ stops k → leaves_from start now ≡ now.store
+      left_here_lem : (k : ℕ) → does (program_of how.program) (edition_as how.edition) now (slice listing start e) ≡ stops k → leaves_from start now ≡ now.store
       unfolding keeps
-      left_here_lem k d = line_leaves l ∙ ap (λ (o : LineOutcome). (keeps o now (λ next'. leaves (program_of p) next' (pieces_from line_feed listing (e + 1)).whole)).store) d
+      left_here_lem k d = line_leaves l ∙ ap (λ (o : LineOutcome). (keeps o now (λ next'. leaves (program_of how.program) (edition_as how.edition) next' (pieces_from line_feed listing (e + 1)).whole)).store) d
 
       -- five bytes for each byte of the line, its line feed included
-      line_short : (b : List ℕ) (next : rules.Progress) → does (program_of p) now (slice listing start e) ≡ prints b next → length b + per_byte * start ≤ per_byte * (e + 1)
+      line_short : (b : List ℕ) (next : rules.Progress) → does (program_of how.program) (edition_as how.edition) now (slice listing start e) ≡ prints b next → length b + per_byte * start ≤ per_byte * (e + 1)
       line_short b next d =
-          let w : length b ≤ per_byte * suc (length (slice listing start e)) = subst (Within (per_byte * suc (length (slice listing start e)))) d (does_within (program_of p) (terse p) now (slice listing start e)) in
+          let w : length b ≤ per_byte * suc (length (slice listing start e)) = subst (Within (per_byte * suc (length (slice listing start e)))) d (does_within (program_of how.program) (terse how.program) (edition_as how.edition) now (slice listing start e)) in
           let m : length (slice listing start e) ≡ e - start = slice_length listing start e end.within in
           let f : start ≤ e = end.behind in
           omega arith
 
-    some_bytes : (xs : List ℕ) → (length xs ≡ 0 → ⊥) → at_end (program_of p) n now xs ≡ refusal n 11
+    some_bytes : (xs : List ℕ) → (length xs ≡ 0 → ⊥) → at_end (program_of how.program) n now xs ≡ refusal n 11
     unfolding at_end
     some_bytes [] h = absurd (h refl)
     some_bytes (x ∷ xs) h = refl
@@ -108,27 +111,26 @@ module _ (p : Program) (listing : List ℕ) where
     pub unended : start < length listing → e ≡ length listing → prints_from n start now ≡ refusal n 11
     unfolding run
     unended l q =
-        ap (λ (r : Pieces). run (program_of p) n now r.whole r.rest) (end.unended (omega arith))
+        ap (λ (r : Pieces). run (program_of how.program) (edition_as how.edition) n now r.whole r.rest) (end.unended (omega arith))
         ∙ some_bytes (drop start listing) (λ z. absurd (let w : ⊥ = omega (arith, length-drop start listing) in w))
 
     pub nothing_more : start < length listing → e ≡ length listing → leaves_from start now ≡ now.store
     unfolding leaves
-    nothing_more l q = ap (λ (r : Pieces). (leaves (program_of p) now r.whole).store) (end.unended (omega arith))
+    nothing_more l q = ap (λ (r : Pieces). (leaves (program_of how.program) (edition_as how.edition) now r.whole).store) (end.unended (omega arith))
 
   -- ---- behind the last line
 
   module _ (n start : ℕ) (now : rules.Progress) (ends : start ≡ length listing) where
     no_pieces : pieces_from line_feed listing start ≡ record { whole = []; rest = [] }
-    unfolding pieces_from cut_at
-    no_pieces = ap (λ (k : ℕ). cut_at line_feed (drop k listing)) ends ∙ ap (cut_at line_feed) (drop-length listing)
+    no_pieces = none_left line_feed listing start (omega (arith, ends))
 
-    closes_here : prints_from n start now ≡ (program_of p).close now
+    closes_here : prints_from n start now ≡ (program_of how.program).close now
     unfolding run at_end
-    closes_here = ap (λ (q : Pieces). run (program_of p) n now q.whole q.rest) no_pieces
+    closes_here = ap (λ (q : Pieces). run (program_of how.program) (edition_as how.edition) n now q.whole q.rest) no_pieces
 
     leaves_here : leaves_from start now ≡ now.store
     unfolding leaves
-    leaves_here = ap (λ (q : Pieces). (leaves (program_of p) now q.whole).store) no_pieces
+    leaves_here = ap (λ (q : Pieces). (leaves (program_of how.program) (edition_as how.edition) now q.whole).store) no_pieces
 
 closing : (p : Program) (store : List ℕ) (tally : List Place) → (program_of p).close (progress_of store tally) ≡ closes p tally
 unfolding program_of closes progress_of twins_program sums_program
@@ -141,21 +143,21 @@ closing Sums store tally = refl
 pub numbered : {a b : LineWriter} (n : ℕ) {k q : ℕ} → k ≡ q → Writes refusal_room (refusal n k) a b → Writes refusal_room (refusal n q) a b
 numbered n e w = said w (ap (refusal n) e)
 
-module _ (p : Program) (listing : List ℕ) (from : ℕ) (before : LineWriter) where
+module _ (how : Reading) (listing : List ℕ) (from : ℕ) (before : LineWriter) where
   pub record Running (store mapping : List ℕ) (tally : List Place) (out : LineWriter) (n start : ℕ) : Type 0 where
     pub bare : Bare store
     pub empty : mapping ≡ empty_words
     pub bytes : List ℕ
     pub writes : Writes (per_byte * start) bytes before out
-    pub whole : prints_from p listing 2 from at_start ≡ bytes ++ prints_from p listing n start (progress_of store tally)
-    pub store_left : leaves_from p listing from at_start ≡ leaves_from p listing start (progress_of store tally)
+    pub whole : prints_from how listing 2 from at_start ≡ bytes ++ prints_from how listing n start (progress_of store tally)
+    pub store_left : leaves_from how listing from at_start ≡ leaves_from how listing start (progress_of store tally)
     pub room : length bytes + spare ≤ per_byte * start
     pub within : start ≤ length listing
     pub lines : n ≤ start
 
-module _ {p : Program} {listing : List ℕ} {from : ℕ} {before : LineWriter} (roomy : HasRoom max_output before) (short : length listing ≤ max_listing) where
+module _ {how : Reading} {listing : List ℕ} {from : ℕ} {before : LineWriter} (roomy : HasRoom max_output before) (short : length listing ≤ max_listing) where
   pub running_starts : (store mapping : List ℕ) (tally : List Place) → Bare store → store_in store ≡ empty_store → mapping ≡ empty_words → tally_of tally ≡ no_tally
-      → second_line ≤ from → from ≤ length listing → Running p listing from before store mapping tally before 2 from
+      → second_line ≤ from → from ≤ length listing → Running how listing from before store mapping tally before 2 from
   unfolding progress_of at_start
   running_starts store mapping tally bare reads e none long h =
       record {
@@ -163,14 +165,14 @@ module _ {p : Program} {listing : List ℕ} {from : ℕ} {before : LineWriter} (
         empty = e;
         bytes = [];
         writes = nothing (per_byte * from) before;
-        whole = ap₂ (λ (s : Store) (t : rules.Tally). prints_from p listing 2 from (record { store = s; tally = t })) (sym reads) (sym none);
-        store_left = ap₂ (λ (s : Store) (t : rules.Tally). leaves_from p listing from (record { store = s; tally = t })) (sym reads) (sym none);
+        whole = ap₂ (λ (s : Store) (t : rules.Tally). prints_from how listing 2 from (record { store = s; tally = t })) (sym reads) (sym none);
+        store_left = ap₂ (λ (s : Store) (t : rules.Tally). leaves_from how listing from (record { store = s; tally = t })) (sym reads) (sym none);
         room = omega arith;
         within = h;
         lines = omega arith;
       }
 
-  module _ {store mapping : List ℕ} {tally : List Place} {out : LineWriter} {n start : ℕ} (inv : Running p listing from before store mapping tally out n start) where
+  module _ {store mapping : List ℕ} {tally : List Place} {out : LineWriter} {n start : ℕ} (inv : Running how listing from before store mapping tally out n start) where
     all_fits : length inv.bytes + spare ≤ max_output
     all_fits = omega (arith, inv.room, inv.within)
 
@@ -181,15 +183,15 @@ module _ {p : Program} {listing : List ℕ} {from : ℕ} {before : LineWriter} (
     few_lines = let a = inv.lines in let b = inv.within in omega arith
 
     -- what was printed, and then these bytes, are all
-    finished : (last : List ℕ) (most : ℕ) (after : LineWriter) → most ≤ step_room → Writes most last out after → prints_from p listing n start (progress_of store tally) ≡ last
-        → Writes max_output (prints_from p listing 2 from at_start) before after
+    finished : (last : List ℕ) (most : ℕ) (after : LineWriter) → most ≤ step_room → Writes most last out after → prints_from how listing n start (progress_of store tally) ≡ last
+        → Writes max_output (prints_from how listing 2 from at_start) before after
     finished last most after m w e =
         let all = then (exactly inv.writes) w (omega (arith, all_fits)) in
         within (said all (sym (inv.whole ∙ ap (λ (xs : List ℕ). inv.bytes ++ xs) e))) (omega (arith, all_fits))
 
     pub ran : (last : List ℕ) (most : ℕ) (store' : List ℕ) (after : LineWriter) → store' ≡ store → most ≤ step_room → Writes most last out after
-        → prints_from p listing n start (progress_of store tally) ≡ last → leaves_from p listing start (progress_of store tally) ≡ store_in store
-        → (mapping' : List ℕ) → mapping' ≡ empty_words → Ran p listing from store' mapping' before after
+        → prints_from how listing n start (progress_of store tally) ≡ last → leaves_from how listing start (progress_of store tally) ≡ store_in store
+        → (mapping' : List ℕ) → mapping' ≡ empty_words → Ran how listing from store' mapping' before after
     ran last most store' after s m w e f mapping' q =
         record {
           writes = finished last most after m w e;
@@ -198,31 +200,31 @@ module _ {p : Program} {listing : List ℕ} {from : ℕ} {before : LineWriter} (
           empty = q;
         }
 
-    pub ran_out : (after : LineWriter) → length listing ≤ start → Writes share_room (closes p tally) out after → Ran p listing from store mapping before after
+    pub ran_out : (after : LineWriter) → length listing ≤ start → Writes share_room (closes how.program tally) out after → Ran how listing from store mapping before after
     unfolding progress_of
     ran_out after l w =
         let a = inv.within in
         let e : start ≡ length listing = omega arith in
-        ran (closes p tally) share_room store after refl (omega arith) w
-        (closes_here p listing n start (progress_of store tally) e ∙ closing p store tally)
-        (leaves_here p listing n start (progress_of store tally) e)
+        ran (closes how.program tally) share_room store after refl (omega arith) w
+        (closes_here how listing n start (progress_of store tally) e ∙ closing how.program store tally)
+        (leaves_here how listing n start (progress_of store tally) e)
         mapping inv.empty
 
     module _ (e : ℕ) (end : PieceEnd listing start line_feed e) (l : start < length listing) where
-      pub ran_unended : (after : LineWriter) → e ≡ length listing → Writes refusal_room (refusal n 11) out after → Ran p listing from store mapping before after
+      pub ran_unended : (after : LineWriter) → e ≡ length listing → Writes refusal_room (refusal n 11) out after → Ran how listing from store mapping before after
       unfolding progress_of
       ran_unended after q w =
           ran (refusal n 11) refusal_room store after refl (omega arith) w
-          (unended p listing n start e end (progress_of store tally) l q)
-          (nothing_more p listing n start e end (progress_of store tally) l q)
+          (unended how listing n start e end (progress_of store tally) l q)
+          (nothing_more how listing n start e end (progress_of store tally) l q)
           mapping inv.empty
 
       module _ (m : e ≡ length listing → ⊥) (store' : List ℕ) (tally' : List Place) (out' : LineWriter) where
         ended : e < length listing
         ended = let w : e ≤ length listing = end.within in omega arith
 
-        module _ (k : Cause) (did : LineDoes p (slice listing start e) store store' tally tally' out out' (std.Err k)) where
-          stops_there : does (program_of p) (progress_of store tally) (slice listing start e) ≡ stops (number_of k)
+        module _ (k : Cause) (did : LineDoes how (slice listing start e) store store' tally tally' out out' (std.Err k)) where
+          stops_there : does (program_of how.program) (edition_as how.edition) (progress_of store tally) (slice listing start e) ≡ stops (number_of k)
           unfolding outcome_of
           stops_there = did.step.does
 
@@ -233,16 +235,16 @@ module _ {p : Program} {listing : List ℕ} {from : ℕ} {before : LineWriter} (
           pub refusal_fits : HasRoom refusal_room out'
           refusal_fits = subst (HasRoom refusal_room) (sym same_out) (omega (arith, has_room))
 
-          pub ran_stopped : (mapping' : List ℕ) (after : LineWriter) → mapping' ≡ empty_words → Writes refusal_room (refusal n (number_of k)) out' after → Ran p listing from store' mapping' before after
+          pub ran_stopped : (mapping' : List ℕ) (after : LineWriter) → mapping' ≡ empty_words → Writes refusal_room (refusal n (number_of k)) out' after → Ran how listing from store' mapping' before after
           unfolding progress_of
           ran_stopped mapping' after q w =
               ran (refusal n (number_of k)) refusal_room store' after (did.unchanged k refl) (omega arith) (subst (λ (x : LineWriter). Writes refusal_room (refusal n (number_of k)) x after) same_out w)
-              (stops_here p listing n start e end (progress_of store tally) ended (number_of k) stops_there)
-              (left_here_lem p listing n start e end (progress_of store tally) ended (number_of k) stops_there)
+              (stops_here how listing n start e end (progress_of store tally) ended (number_of k) stops_there)
+              (left_here_lem how listing n start e end (progress_of store tally) ended (number_of k) stops_there)
               mapping' q
 
-        module _ (did : LineDoes p (slice listing start e) store store' tally tally' out out' (std.Ok tt)) where
-          goes_there : does (program_of p) (progress_of store tally) (slice listing start e) ≡ prints did.step.bytes (progress_of store' tally')
+        module _ (did : LineDoes how (slice listing start e) store store' tally tally' out out' (std.Ok tt)) where
+          goes_there : does (program_of how.program) (edition_as how.edition) (progress_of store tally) (slice listing start e) ≡ prints did.step.bytes (progress_of store' tally')
           unfolding outcome_of
           goes_there = did.step.does
 
@@ -250,11 +252,11 @@ module _ {p : Program} {listing : List ℕ} {from : ℕ} {before : LineWriter} (
           unfolding Goes
           more = did.step.goes
 
-          pub running_turn : (mapping' : List ℕ) → mapping' ≡ empty_words → Running p listing from before store' mapping' tally' out' (n + 1) (e + 1)
+          pub running_turn : (mapping' : List ℕ) → mapping' ≡ empty_words → Running how listing from before store' mapping' tally' out' (n + 1) (e + 1)
           running_turn mapping' q =
               let a = inv.room in
               let f : start ≤ e = end.behind in
-              let z : length did.step.bytes + per_byte * start ≤ per_byte * (e + 1) = line_short p listing n start e end (progress_of store tally) ended did.step.bytes (progress_of store' tally') goes_there in
+              let z : length did.step.bytes + per_byte * start ≤ per_byte * (e + 1) = line_short how listing n start e end (progress_of store tally) ended did.step.bytes (progress_of store' tally') goes_there in
               let long : length (inv.bytes ++ did.step.bytes) ≡ length inv.bytes + length did.step.bytes = length-append inv.bytes did.step.bytes in
               let t = inv.lines in
               let i = ended in
@@ -265,8 +267,8 @@ module _ {p : Program} {listing : List ℕ} {from : ℕ} {before : LineWriter} (
                 writes = within (then (exactly inv.writes) (exactly more) (omega (arith, all_fits))) (omega arith);
                 whole =
                     front inv.bytes did.step.bytes _
-                    (inv.whole ∙ ap (λ (xs : List ℕ). inv.bytes ++ xs) (printed_on p listing n start e end (progress_of store tally) ended did.step.bytes (progress_of store' tally') goes_there));
-                store_left = inv.store_left ∙ left_on_lem p listing n start e end (progress_of store tally) ended did.step.bytes (progress_of store' tally') goes_there;
+                    (inv.whole ∙ ap (λ (xs : List ℕ). inv.bytes ++ xs) (printed_on how listing n start e end (progress_of store tally) ended did.step.bytes (progress_of store' tally') goes_there));
+                store_left = inv.store_left ∙ left_on_lem how listing n start e end (progress_of store tally) ended did.step.bytes (progress_of store' tally') goes_there;
                 room = omega arith;
                 within = omega arith;
                 lines = omega arith;

@@ -1,16 +1,13 @@
--- What a line does, by its letter: the code goes by the same tests as the rules. Assumes nothing.
+-- What a line does, by what it means: the code goes by the same tests as the rules. Assumes nothing.
 use Prim.Native.Nat.{ℕ, ◌<◌, ◌≤◌}
-use mathlib.Core.Bool.{Bool, true, false, cond}
-use mathlib.Core.Option.{Option, none, some}
+use mathlib.Core.Bool.{Bool, cond}
+use mathlib.Core.Option.{Option, none}
 use Rattle.std.specs.Prelude as std
 use mathlib.Core.List.{List, []}
 use mathlib.Core.Path.{◌≡◌, refl, ap, ◌∙◌}
-use borrow.Author.Tests.{le-leb, lt-leb, eqb-true, eqb-false}
-use lib.Dec.{eqb}
+use borrow.Author.Tests.{le-leb, lt-leb}
 use lib.ListN.{length}
-use Rattle.rules.specs.Lists.{same_list}
-use Rattle.rules.specs.Bytes.{is_text}
-use Rattle.rules.specs.Lines.{Line, fields_of, field, one_of, operation_line, block_line, attribute_line, operand_line, query_line, letter, wholly, parse}
+use Rattle.rules.specs.Lines.{Edition, Line, fields_of, letter, parse}
 use Rattle.rules.specs.Listings as rules
 use Rattle.rules.specs.Listings.{LineOutcome, stops, line_does, does, max_line}
 use Rattle.layout.specs.Causes.{number_of, cause_of}
@@ -18,12 +15,12 @@ use Rattle.layout.specs.Soundness.{IsSound}
 use Rattle.layout.specs.declared.causes.Cause.{Cause}
 use Rattle.tally.specs.Tally.{tally_of}
 use Rattle.tally.specs.declared.types.Place.{Place}
-use Rattle.lines.specs.Reading.{one_byte}
+use Rattle.lines.specs.Editions.{edition_as}
 use Rattle.lines.specs.declared.writing.LineWriter.{LineWriter}
-use Rattle.listing.proofs.Letters.{no_letter, letter_is, other_letter}
-use Rattle.listing.specs.declared.types.Program.{Program}
+use Rattle.lines.proofs.Meant.{unlettered}
+use Rattle.listing.specs.declared.types.Reading.{Reading}
 use Rattle.listing.specs.Progress.{program_of, progress_of}
-use Rattle.listing.specs.Building.{building_line, led_to, LineDid}
+use Rattle.listing.specs.Building.{led_to, LineDid}
 use Rattle.listing.specs.Asking.{step_room, LineResult, outcome_of, Goes, Stepped}
 use Rattle.listing.specs.Stepping.{LineDoes}
 use Rattle.lines.proofs.Joined.{nothing}
@@ -38,68 +35,53 @@ pub same_outcome : {o p : LineOutcome} {store : List ℕ} {tally : List Place} {
     → Stepped p store tally before after r → Stepped o store tally before after r
 same_outcome e s = record { bytes = s.bytes; does = e ∙ s.does; goes = s.goes }
 
--- ---- a line by its letter
+-- ---- a line by what it means
 
-module _ (p : rules.Program) (now : rules.Progress) (line : List ℕ) where
-  pub too_long_lem : max_line < length line → does p now line ≡ stops 11
+module _ (p : rules.Program) (e : Edition) (now : rules.Progress) (line : List ℕ) where
+  pub too_long_lem : max_line < length line → does p e now line ≡ stops 11
   unfolding does
-  too_long_lem h = ap (λ (t : Bool). cond t (line_does p now (parse line)) (stops 11)) (lt-leb (length line) max_line h)
+  too_long_lem h = ap (λ (t : Bool). cond t (line_does p now (parse e line)) (stops 11)) (lt-leb (length line) max_line h)
 
   module _ (short : length line ≤ max_line) where
-    by_meaning : (meant : Option Line) → parse line ≡ meant → does p now line ≡ line_does p now meant
+    pub by_meaning : (meant : Option Line) → parse e line ≡ meant → does p e now line ≡ line_does p now meant
     unfolding does
-    by_meaning meant e = ap (λ (t : Bool). cond t (line_does p now (parse line)) (stops 11)) (le-leb (length line) max_line short) ∙ ap (line_does p now) e
+    by_meaning meant q = ap (λ (t : Bool). cond t (line_does p now (parse e line)) (stops 11)) (le-leb (length line) max_line short) ∙ ap (line_does p now) q
 
-    pub unlettered : field one_byte (fields_of line) ≡ none → does p now line ≡ stops 10
+    pub unlettered_lem : {fs : List (List ℕ)} → fs ≡ fields_of line → letter e fs ≡ none → does p e now line ≡ stops 10
     unfolding line_does
-    unlettered h = by_meaning none (no_letter line h)
-
-    module _ (b : ℕ) (gs : List (List ℕ)) (h : field one_byte (fields_of line) ≡ some (b, gs)) where
-      pub asks : b ≡ 113 → does p now line ≡ line_does p now (wholly (query_line gs))
-      unfolding letter field one_of is_text same_list
-      asks e = by_meaning _ (letter_is line gs b h 113 query_line refl e)
-
-      -- the letters that build, one after the other
-      by_letter : (o c a s : Bool) → eqb b 111 ≡ o → eqb b 98 ≡ c → eqb b 97 ≡ a → eqb b 115 ≡ s → (b ≡ 113 → ⊥)
-          → parse line ≡ cond o (wholly (operation_line gs)) (cond c (wholly (block_line gs)) (cond a (wholly (attribute_line gs)) (cond s (wholly (operand_line gs)) none)))
-      unfolding letter field one_of is_text same_list
-      by_letter true c a s x y z w n = letter_is line gs b h 111 operation_line refl (eqb-true b 111 x)
-      by_letter false true a s x y z w n = letter_is line gs b h 98 block_line refl (eqb-true b 98 y)
-      by_letter false false true s x y z w n = letter_is line gs b h 97 attribute_line refl (eqb-true b 97 z)
-      by_letter false false false true x y z w n = letter_is line gs b h 115 operand_line refl (eqb-true b 115 w)
-      by_letter false false false false x y z w n = other_letter line gs b h (eqb-false b 111 x) (eqb-false b 98 y) (eqb-false b 97 z) (eqb-false b 115 w) n
-
-      pub builds : (b ≡ 113 → ⊥) → does p now line ≡ line_does p now (building_line b gs)
-      unfolding building_line
-      builds n = by_meaning _ (by_letter (eqb b 111) (eqb b 98) (eqb b 97) (eqb b 115) refl refl refl refl n)
+    unlettered_lem all h = by_meaning none (unlettered e line all h)
 
 -- ---- what the code does
 
-module _ (p : Program) (line store : List ℕ) (tally : List Place) (out : LineWriter) (sound : IsSound store) where
-  pub line_stopped : (k : Cause) → does (program_of p) (progress_of store tally) line ≡ stops (number_of k) → LineDoes p line store store tally tally out out (std.Err k)
+module _ (how : Reading) (line store : List ℕ) (tally : List Place) (out : LineWriter) (sound : IsSound store) where
+  pub line_stopped : (k : Cause) → does (program_of how.program) (edition_as how.edition) (progress_of store tally) line ≡ stops (number_of k) → LineDoes how line store store tally tally out out (std.Err k)
   line_stopped k e = record { step = stopped _ store tally out k e; sound = sound; marks = refl; unchanged = λ cause q. refl }
 
-  pub line_asked : (tally' : List Place) (after : LineWriter) (r : LineResult) (o : LineOutcome) → does (program_of p) (progress_of store tally) line ≡ o
-      → Stepped o store tally' out after r → LineDoes p line store store tally tally' out after r
-  line_asked tally' after r o e s = record { step = same_outcome e s; sound = sound; marks = refl; unchanged = λ cause q. refl }
+  module _ (short : length line ≤ max_line) (meant : Option Line) (e : parse (edition_as how.edition) line ≡ meant) where
+    means : does (program_of how.program) (edition_as how.edition) (progress_of store tally) line ≡ line_does (program_of how.program) (progress_of store tally) meant
+    means = by_meaning (program_of how.program) (edition_as how.edition) (progress_of store tally) line short meant e
 
-  module _ (exit : List ℕ) (meant : Option Line) (e : does (program_of p) (progress_of store tally) line ≡ line_does (program_of p) (progress_of store tally) meant) where
-    led : (r : std.Result (Unit {0}) Cause) → LineDid store exit meant r → does (program_of p) (progress_of store tally) line ≡ led_to (progress_of exit tally) (cause_of r)
+    pub line_asked : (tally' : List Place) (after : LineWriter) (r : LineResult) → Stepped (line_does (program_of how.program) (progress_of store tally) meant) store tally' out after r
+        → LineDoes how line store store tally tally' out after r
+    line_asked tally' after r s = record { step = same_outcome means s; sound = sound; marks = refl; unchanged = λ cause q. refl }
+
+    led : (exit : List ℕ) (r : std.Result (Unit {0}) Cause) → LineDid store exit meant r
+        → does (program_of how.program) (edition_as how.edition) (progress_of store tally) line ≡ led_to (progress_of exit tally) (cause_of r)
     unfolding progress_of
-    led r did = e ∙ did.does (program_of p) (tally_of tally)
+    led exit r did = means ∙ did.does (program_of how.program) (tally_of tally)
 
-    pub line_built : (r : std.Result (Unit {0}) Cause) → LineDid store exit meant r → LineDoes p line store exit tally tally out out r
+    pub line_built : (exit : List ℕ) (r : std.Result (Unit {0}) Cause) → LineDid store exit meant r → LineDoes how line store exit tally tally out out r
     unfolding led_to cause_of outcome_of Goes
-    line_built (std.Ok u) did =
+    line_built exit (std.Ok u) did =
         record {
-          step = record { bytes = []; does = led (std.Ok u) did; goes = nothing step_room out };
+          step = record { bytes = []; does = led exit (std.Ok u) did; goes = nothing step_room out };
           sound = did.sound;
           marks = did.marks;
           unchanged = λ cause z. absurd (cc);
         }
-    line_built (std.Err k) did =
+    line_built exit (std.Err k) did =
         record {
-          step = stopped _ exit tally out k (led (std.Err k) did);
+          step = stopped _ exit tally out k (led exit (std.Err k) did);
           sound = did.sound;
           marks = did.marks;
           unchanged = λ cause z. did.unchanged k refl;

@@ -12,12 +12,15 @@ use Rattle.rules.specs.Bytes.{line_feed, cut_at}
 use Rattle.rules.specs.Building.{first_failed}
 use Rattle.rules.specs.Marks.{unmarked}
 use Rattle.rules.specs.Listings as rules
-use Rattle.rules.specs.Listings.{refusal, run, at_start, leaves, listing_cause, behind_first, unless, store_after, max_output}
+use Rattle.rules.specs.Lines.{Edition}
+use Rattle.rules.specs.Listings.{edition, refusal, run, at_start, leaves, listing_cause, behind_first, unless, store_after, max_output}
 use Rattle.std.specs.Prelude as std
 use Rattle.layout.specs.Causes.{number_of, cause_of}
 use Rattle.layout.specs.Columns.{buffer_length}
 use Rattle.layout.specs.declared.causes.Cause.{Cause}
 use Rattle.layout.specs.declared.causes.Cause.TheVariants.{NotSound, BadMapping}
+use Rattle.lines.specs.Editions.{edition_as}
+use Rattle.lines.specs.Header.{second_line, StartsWithHeader, Headed}
 use Rattle.lines.specs.Pieces.{pieces_from}
 use Rattle.lines.specs.Wrote.{Writes}
 use Rattle.lines.specs.declared.writing.LineWriter.{LineWriter}
@@ -27,7 +30,8 @@ use Rattle.mapping.specs.MappingWords.{mapping_length, empty_words}
 use Rattle.listing.specs.declared.types.Program.{Program}
 use Rattle.listing.specs.declared.types.Unprinted.TheVariants.{Refused, NoRoom}
 use Rattle.listing.specs.Progress.{program_of}
-use Rattle.listing.specs.Stepping.{second_line, Headed, Ran}
+use Rattle.listing.specs.declared.types.Reading.{Reading}
+use Rattle.listing.specs.Stepping.{Ran}
 use Rattle.listing.specs.Calls.{Buffers, buffer_tests, PrintsListing, told_of, Answered, buffers, Told}
 
 -- ---- the first line
@@ -44,7 +48,7 @@ module _ (p : Program) (listing store mapping out after : List ℕ) (n : ℕ) (k
   first_refused e f g i w =
       let clash : listing_cause listing ≡ none → ⊥ = λ q. none-ne-some (number_of k) (sym q ∙ refused_for) in
       record {
-        wrote = from_start e f g i (within (said w (sym (ap (λ (c : Option ℕ). unless c (run (program_of p) 2 at_start (behind_first (cut_at line_feed listing).whole) (cut_at line_feed listing).rest)) refused_for))) (omega arith));
+        wrote = from_start e f g i (within (said w (sym (ap (λ (c : Option ℕ). unless c (run (program_of p) (edition listing) 2 at_start (behind_first (cut_at line_feed listing).whole) (cut_at line_feed listing).rest)) refused_for))) (omega arith));
         leaves =
             record {
               refused = λ cause q. (refl, refl);
@@ -55,26 +59,37 @@ module _ (p : Program) (listing store mapping out after : List ℕ) (n : ℕ) (k
       }
 
 -- behind an accepted one the lines run
-module _ (p : Program) (listing store mapping out store' mapping' out' : List ℕ) (n : ℕ) (h : Headed listing (std.Ok tt)) {a b : LineWriter} (ran : Ran p listing second_line store' mapping' a b) where
+module _ (how : Reading) (listing store mapping out store' mapping' out' : List ℕ) (n : ℕ) (h : Headed listing (std.Ok how.edition)) {a b : LineWriter} (ran : Ran how listing second_line store' mapping' a b) where
   accepted : listing_cause listing ≡ none
   unfolding cause_of
   accepted = sym h.same
 
-  printed : rules.listed (program_of p) listing ≡ run (program_of p) 2 at_start (pieces_from line_feed listing second_line).whole (pieces_from line_feed listing second_line).rest
+  begun : StartsWithHeader (edition_as how.edition) listing
+  begun = h.begun
+
+  printed : rules.listed (program_of how.program) listing ≡ run (program_of how.program) (edition_as how.edition) 2 at_start (pieces_from line_feed listing second_line).whole (pieces_from line_feed listing second_line).rest
   unfolding rules.listed unless
   printed =
-      ap (λ (c : Option ℕ). unless c (run (program_of p) 2 at_start (behind_first (cut_at line_feed listing).whole) (cut_at line_feed listing).rest)) accepted
-      ∙ ap₂ (λ (ls : List (List ℕ)) (rest : List ℕ). run (program_of p) 2 at_start ls rest) (h.begun refl).lines (h.begun refl).rest
+      ap (λ (c : Option ℕ). unless c (run (program_of how.program) (edition listing) 2 at_start (behind_first (cut_at line_feed listing).whole) (cut_at line_feed listing).rest)) accepted
+      ∙ ap (λ (e : Edition). run (program_of how.program) e 2 at_start (behind_first (cut_at line_feed listing).whole) (cut_at line_feed listing).rest) begun.says
+      ∙ ap₂ (λ (ls : List (List ℕ)) (rest : List ℕ). run (program_of how.program) (edition_as how.edition) 2 at_start ls rest) begun.lines begun.rest
 
-  pub all_ran : a.lent.now ≡ out → a.at ≡ 0 → b.lent.now ≡ out' → n ≡ b.at → PrintsListing (program_of p) listing (buffers store mapping out) (buffers store' mapping' out') n
-  unfolding buffers store_after
+  left_by : unmarked (leaves (program_of how.program) (edition_as how.edition) at_start (pieces_from line_feed listing second_line).whole).store ≡ unmarked (store_after (program_of how.program) listing)
+  unfolding store_after
+  left_by =
+      sym
+      (ap (λ (e : Edition). unmarked (leaves (program_of how.program) e at_start (behind_first (cut_at line_feed listing).whole)).store) begun.says
+      ∙ ap (λ (ls : List (List ℕ)). unmarked (leaves (program_of how.program) (edition_as how.edition) at_start ls).store) begun.lines)
+
+  pub all_ran : a.lent.now ≡ out → a.at ≡ 0 → b.lent.now ≡ out' → n ≡ b.at → PrintsListing (program_of how.program) listing (buffers store mapping out) (buffers store' mapping' out') n
+  unfolding buffers
   all_ran e f g i =
       record {
         wrote = from_start e f g i (said ran.writes (sym printed));
         leaves =
             record {
               refused = λ cause q. absurd (none-ne-some cause (sym accepted ∙ q));
-              reads = λ q. ran.left ∙ ap (λ (ls : List (List ℕ)). unmarked (leaves (program_of p) at_start ls).store) (sym (h.begun refl).lines);
+              reads = λ q. ran.left ∙ left_by;
               sound = λ q. ran.sound;
               empty = λ q. ran.empty;
             };

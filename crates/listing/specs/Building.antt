@@ -2,7 +2,7 @@
 use Rattle.std.specs.Prelude as std
 use Rattle.std.specs.Prelude.{ℕ, cond, List, [], ◌≡◌, eqb}
 use Rattle.std.proofs.Math.Option.{Option, none, some}
-use Rattle.rules.specs.Lines.{Line, operation_line, block_line, attribute_line, operand_line, wholly}
+use Rattle.rules.specs.Lines.{Line}
 use Rattle.rules.specs.Listings.{Progress, Program, Tally, LineOutcome, prints, stops, line_does}
 use Rattle.layout.specs.Columns.{columns}
 use Rattle.layout.specs.Reading.{store_in}
@@ -10,12 +10,6 @@ use Rattle.layout.specs.Causes.{cause_of}
 use Rattle.layout.specs.Soundness.{IsSound}
 use Rattle.layout.specs.declared.causes.Cause.{Cause}
 use Rattle.journal.specs.Words.{mark_count}
-
--- a line that builds, by its letter: `o`, `b`, `a` or `s`
-unfoldable pub building_line : ℕ → List (List ℕ) → Option Line
-building_line letter fs =
-    cond (eqb letter 111) (wholly (operation_line fs))
-    (cond (eqb letter 98) (wholly (block_line fs)) (cond (eqb letter 97) (wholly (attribute_line fs)) (cond (eqb letter 115) (wholly (operand_line fs)) none)))
 
 -- nothing is printed, and this is left; or the line is refused
 unfoldable pub led_to : Progress → Option ℕ → LineOutcome

@@ -1,11 +1,10 @@
 -- What a line does, and what the lines from one on do.
 use Rattle.std.specs.Prelude as std
 use Rattle.std.specs.Prelude.{ℕ, ◌≤◌, true, List, [], ◌≡◌, length}
-use Rattle.rules.specs.Bytes.{line_feed, cut_at}
-use Rattle.rules.specs.Listings.{does, run, at_start, leaves, share, share_line, listing_cause, behind_first, max_listing, max_output}
+use Rattle.rules.specs.Bytes.{line_feed}
+use Rattle.rules.specs.Listings.{does, run, at_start, leaves, share, share_line, max_output}
 use Rattle.rules.specs.Marks.{unmarked}
 use Rattle.layout.specs.Columns.{columns}
-use Rattle.layout.specs.Causes.{cause_of}
 use Rattle.layout.specs.Soundness.{IsSound}
 use Rattle.layout.specs.declared.causes.Cause.{Cause}
 use Rattle.journal.specs.Words.{mark_count, marked_in, sound_lent}
@@ -15,28 +14,12 @@ use Rattle.tally.specs.declared.types.Place.{Place}
 use Rattle.lines.specs.Pieces.{pieces_from}
 use Rattle.lines.specs.Wrote.{Writes}
 use Rattle.lines.specs.declared.writing.LineWriter.{LineWriter}
+use Rattle.lines.specs.Editions.{edition_as}
 use Rattle.listing.specs.declared.types.Program.{Program}
 use Rattle.listing.specs.declared.types.Program.TheVariants.{Twins, Sums}
+use Rattle.listing.specs.declared.types.Reading.{Reading}
 use Rattle.listing.specs.Asking.{LineResult, Stepped}
 use Rattle.listing.specs.Progress.{program_of, progress_of}
-
--- ---- the first line
-
--- where the second line begins: behind the header's nine bytes and their line feed
-abbrev pub second_line : ℕ
-second_line = 10
-
--- the first line is the header, and the lines behind it begin there
-pub record StartsWithHeader (listing : List ℕ) : Type 0 where
-  pub long : second_line ≤ length listing
-  pub short : length listing ≤ max_listing
-  pub lines : behind_first (cut_at line_feed listing).whole ≡ (pieces_from line_feed listing second_line).whole
-  pub rest : (cut_at line_feed listing).rest ≡ (pieces_from line_feed listing second_line).rest
-
--- why no line behind the first is read; else it is the header
-pub record Headed (listing : List ℕ) (r : std.Result (Unit {0}) Cause) : Type 0 where
-  pub same : cause_of r ≡ listing_cause listing
-  pub begun : r ≡ std.Ok tt → StartsWithHeader listing
 
 -- what is printed behind the last line
 unfoldable pub closes : Program → List Place → List ℕ
@@ -51,17 +34,17 @@ pub record Bare (store : List ℕ) : Type 0 where
   pub unmarked : mark_count (columns store) ≡ 0
 
 -- what the code does for a line, as what the rules' program does
-pub record LineDoes (p : Program) (line store store' : List ℕ) (tally tally' : List Place) (out out' : LineWriter) (r : LineResult) : Type 0 where
-  pub step : Stepped (does (program_of p) (progress_of store tally) line) store' tally' out out' r
+pub record LineDoes (r : Reading) (line store store' : List ℕ) (tally tally' : List Place) (out out' : LineWriter) (did : LineResult) : Type 0 where
+  pub step : Stepped (does (program_of r.program) (edition_as r.edition) (progress_of store tally) line) store' tally' out out' did
   pub sound : IsSound store'
   pub marks : mark_count (columns store') ≡ mark_count (columns store)
-  pub unchanged : (cause : Cause) → r ≡ std.Err cause → store' ≡ store
+  pub unchanged : (cause : Cause) → did ≡ std.Err cause → store' ≡ store
 
 -- ---- the lines from a position on, at which the second line begins
 
 -- all that they print is written, and the store is what they leave
-pub record Ran (p : Program) (listing : List ℕ) (from : ℕ) (store mapping : List ℕ) (out out' : LineWriter) : Type 0 where
-  pub writes : Writes max_output (run (program_of p) 2 at_start (pieces_from line_feed listing from).whole (pieces_from line_feed listing from).rest) out out'
-  pub left : marked_in store ≡ unmarked (leaves (program_of p) at_start (pieces_from line_feed listing from).whole).store
+pub record Ran (r : Reading) (listing : List ℕ) (from : ℕ) (store mapping : List ℕ) (out out' : LineWriter) : Type 0 where
+  pub writes : Writes max_output (run (program_of r.program) (edition_as r.edition) 2 at_start (pieces_from line_feed listing from).whole (pieces_from line_feed listing from).rest) out out'
+  pub left : marked_in store ≡ unmarked (leaves (program_of r.program) (edition_as r.edition) at_start (pieces_from line_feed listing from).whole).store
   pub sound : sound_lent store ≡ true
   pub empty : mapping ≡ empty_words

@@ -3,19 +3,21 @@ ghost use Rattle.std.specs.Prelude.{◌+◌, ◌≤◌, length};
 ghost use Rattle.rules.specs.Listings.{max_line};
 ghost use Rattle.rules.specs.Lines.{operation_line, block_line, attribute_line, operand_line, wholly};
 ghost use Rattle.layout.specs.Soundness.{IsSound};
-ghost use Rattle.listing.specs.Building.{LineDid, building_line};
+ghost use Rattle.lines.specs.Editions.{edition_as};
+ghost use Rattle.listing.specs.Building.{LineDid};
 
-use crate::header::MAX_LINE;
 use adding::blocks::new_block;
 use adding::operations::new_operation;
 use layout::causes::Cause;
 use layout::columns::StoreWords;
+use lines::editions::Edition;
+use lines::header::MAX_LINE;
 use lines::parsing::{attribute_line, block_line, operand_line, read_lists, read_op_fields};
 use lines::reading::Fields;
 use setting::attributes::set_attribute;
 use setting::operands::set_operand;
 
-fn operation_does(store: &mut StoreWords, line: &mut Fields<'_>) -> Result<(), Cause>
+pub fn operation_does(store: &mut StoreWords, line: &mut Fields<'_>) -> Result<(), Cause>
     requires sound { IsSound store.old }
     requires line_len_bound { length line.old ≤ max_line + 1 }
     ensures { LineDid store.old store.new (wholly (operation_line line.old)) result }
@@ -39,31 +41,39 @@ fn operation_does(store: &mut StoreWords, line: &mut Fields<'_>) -> Result<(), C
     Ok(())
 }
 
-fn block_does(store: &mut StoreWords, line: &mut Fields<'_>) -> Result<(), Cause>
+pub fn block_does(
+    store: &mut StoreWords,
+    line: &mut Fields<'_>,
+    edition: Edition,
+) -> Result<(), Cause>
     requires sound { IsSound store.old }
     requires line_len_bound { length line.old ≤ max_line + 1 }
-    ensures { LineDid store.old store.new (wholly (block_line line.old)) result }
+    ensures { LineDid store.old store.new (wholly (block_line (edition_as edition) line.old)) result }
 {
     let mut types = [0; MAX_LINE];
-    let Some(block) = block_line(line, &mut types) else {
+    let Some(block) = block_line(line, &mut types, edition) else {
         return Err(Cause::BadLine);
     };
     let types = &types[..block.arguments];
-    new_block(store, block.region, block.label, block.location, types)?;
+    new_block(store, block.region, block.location, types)?;
     Ok(())
 }
 
-fn attribute_does(store: &mut StoreWords, line: &mut Fields<'_>) -> Result<(), Cause>
+pub fn attribute_does(
+    store: &mut StoreWords,
+    line: &mut Fields<'_>,
+    inherent: bool,
+) -> Result<(), Cause>
     requires { IsSound store.old }
-    ensures { LineDid store.old store.new (wholly (attribute_line line.old)) result }
+    ensures { LineDid store.old store.new (wholly (attribute_line inherent line.old)) result }
 {
-    let Some(read) = attribute_line(line) else {
+    let Some(read) = attribute_line(line, inherent) else {
         return Err(Cause::BadLine);
     };
     set_attribute(store, read.owner, read.attribute)
 }
 
-fn operand_does(store: &mut StoreWords, line: &mut Fields<'_>) -> Result<(), Cause>
+pub fn operand_does(store: &mut StoreWords, line: &mut Fields<'_>) -> Result<(), Cause>
     requires { IsSound store.old }
     ensures { LineDid store.old store.new (wholly (operand_line line.old)) result }
 {
@@ -71,19 +81,4 @@ fn operand_does(store: &mut StoreWords, line: &mut Fields<'_>) -> Result<(), Cau
         return Err(Cause::BadLine);
     };
     set_operand(store, read.operation, read.index, read.value)
-}
-
-// A line that builds, which is read behind its letter; any other letter is unknown.
-pub fn building_does(store: &mut StoreWords, letter: u8, line: &mut Fields<'_>) -> Result<(), Cause>
-    requires sound { IsSound store.old }
-    requires line_len_bound { length line.old ≤ max_line + 1 }
-    ensures { LineDid store.old store.new (building_line letter line.old) result }
-{
-    match letter {
-        b'o' => operation_does(store, line),
-        b'b' => block_does(store, line),
-        b'a' => attribute_does(store, line),
-        b's' => operand_does(store, line),
-        _ => Err(Cause::BadLine),
-    }
 }

@@ -7,7 +7,6 @@ pub mod calls;
 pub mod closing;
 pub mod comparing;
 pub mod emptying;
-pub mod header;
 pub mod running;
 pub mod summing;
 pub mod types;

@@ -6,20 +6,22 @@ ghost use Rattle.layout.specs.Columns.{buffer_length};
 ghost use Rattle.layout.specs.Reading.{store_in};
 ghost use Rattle.layout.specs.Soundness.{IsSound};
 ghost use Rattle.mapping.specs.MappingWords.{mapping_length, empty_words};
+ghost use Rattle.lines.specs.Header.{second_line};
 ghost use Rattle.lines.specs.Wrote.{HasRoom};
 ghost use Rattle.listing.specs.Progress.{program_of};
 ghost use Rattle.listing.specs.Asking.{step_room};
-ghost use Rattle.listing.specs.Stepping.{second_line, Bare, LineDoes, Ran};
+ghost use Rattle.listing.specs.Stepping.{Bare, LineDoes, Ran};
 ghost use Rattle.listing.specs.Calls.{PrintsListing, buffers};
 
 use crate::asking::query_does;
-use crate::building_lines::building_does;
+use crate::building_lines::{attribute_does, block_does, operand_does, operation_does};
 use crate::closing::close;
 use crate::emptying::{empty_mapping, empty_store};
-use crate::header::{MAX_LINE, SECOND_LINE, header_cause};
-use crate::types::Program;
+use crate::types::{Program, Reading};
 use layout::causes::Cause;
 use layout::columns::StoreWords;
+use lines::header::{MAX_LINE, SECOND_LINE, header_cause};
+use lines::letters::{Letter, read_letter};
 use lines::parsing::query_line;
 use lines::pieces::piece_end;
 use lines::printing::put_refusal;
@@ -28,39 +30,45 @@ use lines::writing::LineWriter;
 use mapping::mapping::MappingWords;
 use tally::types::{Place, TALLY_LENGTH, Tally};
 
-// One line: its length, its letter, and then what it does. The lent buffers are no struct: one of `&mut`s would need clauses of separation
+// One line: its length, its letter, and then what it does, of which only a query knows the program. The lent buffers are no struct: one of `&mut`s would need clauses of separation
 // logic at each caller, which is no plainer.
 fn line_does(
     store: &mut StoreWords,
     mapping: &mut MappingWords,
     tally: &mut Tally,
     out: &mut LineWriter,
-    program: Program,
+    reading: Reading,
     line: &[u8],
 ) -> Result<(), Cause>
     requires sound { IsSound store.old }
     requires mapping_value { mapping.old ≡ empty_words }
     requires step_room_in_bounds { HasRoom step_room out.old }
-    ensures line_does { LineDoes program line.now store.old store.new tally.old tally.new out.old out.new result }
+    ensures line_does { LineDoes reading line.now store.old store.new tally.old tally.new out.old out.new result }
     ensures mapping_after { mapping.new ≡ empty_words }
 {
     if line.len() > MAX_LINE {
         return Err(Cause::BadLength);
     }
     let mut fields = Fields::new(line);
-    let Some(letter) = fields.letter() else {
+    let Some(letter) = read_letter(&mut fields, reading.edition) else {
         return Err(Cause::BadLine);
     };
-    if letter == b'q' {
-        let query = query_line(&mut fields);
-        return query_does(store, mapping, tally, out, program, query);
+    match letter {
+        Letter::Operation => operation_does(store, &mut fields),
+        Letter::Block => block_does(store, &mut fields, reading.edition),
+        Letter::Attribute => attribute_does(store, &mut fields, false),
+        Letter::Inherent => attribute_does(store, &mut fields, true),
+        Letter::Operand => operand_does(store, &mut fields),
+        Letter::Query => {
+            let query = query_line(&mut fields);
+            query_does(store, mapping, tally, out, reading.program, query)
+        }
     }
-    building_does(store, letter, &mut fields)
 }
 
 // The lines from the second on, which begins at `from`. (No index is counted: a line ends where the next line feed is sought and found.)
 fn run(
-    program: Program,
+    reading: Reading,
     listing: &[u8],
     store: &mut StoreWords,
     mapping: &mut MappingWords,
@@ -74,7 +82,7 @@ fn run(
     requires from_in_bounds { from ≤ length listing.now }
     requires listing_len_bound { length listing.now ≤ max_listing }
     requires max_output_in_bounds { HasRoom max_output out.old }
-    ensures { Ran program listing.now from store.new mapping.new out.old out.new }
+    ensures { Ran reading listing.now from store.new mapping.new out.old out.new }
 {
     let mut tally = [Place::Outside; TALLY_LENGTH];
     let mut number = 2;
@@ -86,13 +94,13 @@ fn run(
             return put_refusal(out, number, Cause::BadLength.number());
         }
         let line = &listing[start..end];
-        if let Err(cause) = line_does(store, mapping, &mut tally, out, program, line) {
+        if let Err(cause) = line_does(store, mapping, &mut tally, out, reading, line) {
             return put_refusal(out, number, cause.number());
         }
         start = end + 1;
         number += 1;
     }
-    close(program, &tally, out);
+    close(reading.program, &tally, out);
 }
 
 // A whole listing, in buffers of the right lengths and with room enough.
@@ -107,12 +115,16 @@ pub fn listed(
     ensures { PrintsListing (program_of program) listing.now (buffers store.old mapping.old lent.old) (buffers store.new mapping.new lent.new) result }
 {
     let mut out = LineWriter::new(lent);
-    if let Err(cause) = header_cause(listing) {
-        put_refusal(&mut out, 1, cause.number());
-        return out.length();
-    }
+    let edition = match header_cause(listing) {
+        Ok(edition) => edition,
+        Err(cause) => {
+            put_refusal(&mut out, 1, cause.number());
+            return out.length();
+        }
+    };
     empty_store(store);
     empty_mapping(mapping);
-    run(program, listing, store, mapping, &mut out, SECOND_LINE);
+    let reading = Reading { program, edition };
+    run(reading, listing, store, mapping, &mut out, SECOND_LINE);
     out.length()
 }

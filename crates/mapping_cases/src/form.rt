@@ -15,7 +15,7 @@ const MARK: u32 = 5;
 
 fn build_frame(store: &mut Store) -> bool {
     new_operation(store, FORM, None, 1, 1, &[], &[], &[]) == Ok(0)
-        && new_block(store, 0, 0, 2, &[RING; 2]) == Ok(0)
+        && new_block(store, 0, 2, &[RING; 2]) == Ok(0)
 }
 
 fn build_field(store: &mut Store, value: u32, n: u32) -> bool {

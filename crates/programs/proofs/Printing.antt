@@ -2,22 +2,23 @@
 use Prim.Native.Nat.{ℕ, ◌<◌, ◌≤◌}
 use mathlib.Core.List.{List}
 use mathlib.Core.Option.{Option, none, some}
-use mathlib.Core.Path.{◌≡◌, refl, sym, subst, ◌∙◌}
+use mathlib.Core.Path.{◌≡◌, refl, sym, ◌∙◌}
 use native.Mathlib.Omega.{arith}
 use lib.ListN.{length}
 use borrow.Author.Tests.{eq-eqb}
 use Rattle.rules.specs.Building.{first_failed}
-use Rattle.rules.specs.Listings.{Program, listed, max_output}
+use Rattle.rules.specs.Listings.{Program, listed, max_listing, max_output}
 use Rattle.layout.specs.Columns.{buffer_length}
 use Rattle.mapping.specs.MappingWords.{mapping_length}
 use Rattle.lines.specs.Wrote.{Wrote}
-use Rattle.listing.specs.declared.types.Program as types
+use Rattle.rules.specs.Converting.{convert}
+use Rattle.converting.specs.Calls as Converting
+use Rattle.converting.specs.declared.types.NoRoom as converting
 use Rattle.std.specs.Prelude as std
 use Rattle.std.specs.Result.{result_unwrap_or}
 use Rattle.layout.specs.Causes.{number_of}
 use Rattle.listing.specs.declared.types.Unprinted.{Unprinted}
 use Rattle.listing.specs.declared.types.Unprinted.TheVariants.{Refused, NoRoom}
-use Rattle.listing.specs.Progress.{program_of}
 use Rattle.listing.specs.Calls.{Buffers, buffer_tests, told_of, Answered}
 
 module _ (p : Program) (listing : List ℕ) (before after : Buffers)
@@ -33,6 +34,11 @@ module _ (p : Program) (listing : List ℕ) (before after : Buffers)
   all_printed (std.Err (Refused cause)) answer = absurd (let clash : ◌≡◌ {A = Option ℕ} none (some (number_of cause)) = sym passes ∙ answer.0 in cc)
   all_printed (std.Err NoRoom) answer = absurd (let short : length before.out < max_output = answer.1 in omega arith)
 
--- what the one of two programs writes, by its name
-pub by_program : (q v : types.Program) (before after listing : List ℕ) (n : ℕ) → q ≡ v → Wrote max_output before after 0 (listed (program_of v) listing) n → Wrote max_output before after 0 (listed (program_of q) listing) n
-by_program q v before after listing n h w = subst (λ (x : types.Program). Wrote max_output before after 0 (listed (program_of x) listing) n) (sym h) w
+-- the converter's room is less
+pub all_converted : (listing before after : List ℕ) → max_output ≤ length before → (r : std.Result ℕ converting.NoRoom) → Converting.Answered listing before after r
+    → Wrote max_output before after 0 (convert listing) (result_unwrap_or r 0)
+unfolding Converting.Answered
+all_converted listing before after room (std.Ok n) answer =
+    let w = answer.1 in
+    record { written = w.written; behind = w.behind; short = omega (arith, w.short) }
+all_converted listing before after room (std.Err e) answer = absurd (let short : length before < max_listing = answer.0 in omega arith)

@@ -1,2 +1,3 @@
--- What a program has written where it failed: said by the contracts of this crate.
+-- What a program prints, and what it has written where it failed: said by the contracts of this crate.
+pub mod Commands
 pub mod Failing

@@ -1,15 +1,17 @@
 // What a program prints for a listing, in buffers of its own.
 ghost use Rattle.std.specs.Prelude.{◌≤◌, length};
-ghost use Rattle.rules.specs.Listings.{twins_program, sums_program, listed, max_output};
+ghost use Rattle.rules.specs.Listings.{twins, sums, max_output};
+ghost use Rattle.rules.specs.Converting.{convert};
 ghost use Rattle.lines.specs.Wrote.{Wrote};
-ghost use Rattle.listing.specs.Progress.{program_of};
+ghost use Rattle.programs.specs.Commands.{output_of};
 
+use crate::commands::Command;
+use converting::calls::convert;
 use listing::calls::{MAPPING, STORE, sums, twins};
-use listing::types::Program;
 
 fn twins_printed(listing: &[u8], out: &mut [u8]) -> usize
     requires { max_output ≤ length out.old }
-    ensures { Wrote max_output out.old out.new 0 (listed twins_program listing.now) result }
+    ensures { Wrote max_output out.old out.new 0 (twins listing.now) result }
 {
     let mut store = [0; STORE];
     let mut mapping = [0; MAPPING];
@@ -18,19 +20,28 @@ fn twins_printed(listing: &[u8], out: &mut [u8]) -> usize
 
 fn sums_printed(listing: &[u8], out: &mut [u8]) -> usize
     requires { max_output ≤ length out.old }
-    ensures { Wrote max_output out.old out.new 0 (listed sums_program listing.now) result }
+    ensures { Wrote max_output out.old out.new 0 (sums listing.now) result }
 {
     let mut store = [0; STORE];
     sums(listing, &mut store, out).unwrap_or(0)
 }
 
-// How many bytes of `out` are what the program prints.
-pub fn printed(program: Program, listing: &[u8], out: &mut [u8]) -> usize
+fn convert_printed(listing: &[u8], out: &mut [u8]) -> usize
     requires { max_output ≤ length out.old }
-    ensures { Wrote max_output out.old out.new 0 (listed (program_of program) listing.now) result }
+    ensures { Wrote max_output out.old out.new 0 (convert listing.now) result }
 {
-    match program {
-        Program::Twins => twins_printed(listing, out),
-        Program::Sums => sums_printed(listing, out),
+    convert(listing, out).unwrap_or(0)
+}
+
+// How many bytes of `out` are what the program prints.
+#[tactic(auto, unfolding(crate::specs::Commands::output_of))]
+pub fn printed(command: Command, listing: &[u8], out: &mut [u8]) -> usize
+    requires { max_output ≤ length out.old }
+    ensures { Wrote max_output out.old out.new 0 (output_of command listing.now) result }
+{
+    match command {
+        Command::Twins => twins_printed(listing, out),
+        Command::Sums => sums_printed(listing, out),
+        Command::Convert => convert_printed(listing, out),
     }
 }

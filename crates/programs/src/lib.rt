@@ -1,7 +1,8 @@
-// What `twins` and `sums` do around a listing: standard input is read to its end, and what is printed goes to standard output.
+// What `twins`, `sums` and `convert` do around a listing: standard input is read to its end, and what is printed goes to standard output.
 #![tactic(auto)]
 
 pub mod answers;
+pub mod commands;
 pub mod failing;
 pub mod input;
 pub mod standard;

@@ -1,6 +1,6 @@
 // What is told where a stream fails: what no contract says.
+use crate::commands::Command;
 use crate::standard::run_between;
-use listing::types::Program;
 use std::io;
 use std::io::{ErrorKind, Read, Write};
 use std::test::Fail;
@@ -35,7 +35,7 @@ impl Write for Full {
 #[test]
 fn listing_is_answered(rt: HostRuntime) -> Result<(), Fail> {
     let mut out = Vec::new(rt.alloc());
-    run_between(Program::Twins, &mut b"opstore,1\n".as_slice(), &mut out)?;
+    run_between(Command::Twins, &mut b"opstore,1\n".as_slice(), &mut out)?;
     assert_eq!(rt; out.as_slice(), b"share,0\n".as_slice());
     Ok(())
 }
@@ -43,7 +43,7 @@ fn listing_is_answered(rt: HostRuntime) -> Result<(), Fail> {
 #[test]
 fn interrupted_input_is_not_answered(rt: HostRuntime) -> Result<(), Fail> {
     let mut out = Vec::new(rt.alloc());
-    let outcome = run_between(Program::Twins, &mut Interrupted(b"opstore,1\n"), &mut out);
+    let outcome = run_between(Command::Twins, &mut Interrupted(b"opstore,1\n"), &mut out);
     let told = format!(in rt.alloc(); "{}", outcome.err().ok_or("answered")?)?;
     assert_eq!(rt; told.as_str(), "standard input: operation interrupted");
     assert!(rt; out.is_empty());
@@ -52,7 +52,7 @@ fn interrupted_input_is_not_answered(rt: HostRuntime) -> Result<(), Fail> {
 
 #[test]
 fn full_output_is_told(rt: HostRuntime) -> Result<(), Fail> {
-    let outcome = run_between(Program::Twins, &mut b"opstore,1\n".as_slice(), &mut Full);
+    let outcome = run_between(Command::Twins, &mut b"opstore,1\n".as_slice(), &mut Full);
     let told = format!(in rt.alloc(); "{}", outcome.err().ok_or("written")?)?;
     assert_eq!(rt; told.as_str(), "standard output: no storage space");
     Ok(())

@@ -26,17 +26,15 @@ pub fn new_operation(
 pub fn new_block(
     store: &mut StoreWords,
     region: u32,
-    label: u32,
     location: u32,
     types: &[u32],
 ) -> Result<u32, Cause>
     requires { IsLent store.old }
     ensures { DidMarked store.old store.new (build (new_block (record {
       region = region;
-      label = label;
       location = location;
       types = types.now;
     }))) (made_of result) }
 {
-    adding::blocks::new_block(store, region, label, location, types)
+    adding::blocks::new_block(store, region, location, types)
 }

@@ -13,6 +13,7 @@ pub mod Rust
 pub mod Starred
 pub mod Listings
 pub mod Listed
+pub mod Converting
 pub mod Needed
 pub mod MappingComputed
 pub mod CopyComputed

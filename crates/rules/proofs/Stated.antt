@@ -1,9 +1,11 @@
--- The statements of `specs/Statements`, `specs/MappingLaws` and `specs/CopyLaws`, each by the lemma that it is. (`accepted_exactly`, `unignored_same`,
--- `premise_needed`, `premise_needed_thrice` and those about keys are proved where they stand.) Assumes nothing.
+-- The statements of `specs/Statements`, `specs/MappingLaws`, `specs/CopyLaws` and `specs/ConvertLaws`, each by the lemma that it is.
+-- (`accepted_exactly`, `unignored_same`, `premise_needed`, `premise_needed_thrice` and those about keys are proved where they stand.) Assumes
+-- nothing.
 use Rattle.rules.specs.Store.{empty_store}
 use Rattle.rules.specs.Statements as stated
 use Rattle.rules.specs.MappingLaws as mapped
 use Rattle.rules.specs.CopyLaws as copies
+use Rattle.rules.specs.ConvertLaws as converts
 use Rattle.rules.proofs.Soundness.Kept as kept
 use Rattle.rules.proofs.Walking.Answered as walking
 use Rattle.rules.proofs.Walking.Paired as pairing
@@ -27,6 +29,7 @@ use Rattle.rules.proofs.Runs.FirstUses as uses
 use Rattle.rules.proofs.Keys.Kept as fields
 use Rattle.rules.proofs.Copying.Kept as copied
 use Rattle.rules.proofs.Copying.Laws as copying
+use Rattle.rules.proofs.Converting.Laws as converting
 
 pub canonical_equal : stated.CanonicalEqual
 unfolding stated.CanonicalEqual
@@ -91,11 +94,11 @@ size_most s sd f n i = sizing.size_most s sd f n i
 
 pub counted_exactly : stated.CountedExactly
 unfolding stated.CountedExactly
-counted_exactly lines m = (counting.counted_all lines m, counting.counted_equal lines m)
+counted_exactly e lines m = (counting.counted_all e lines m, counting.counted_equal e lines m)
 
 pub share_most : stated.ShareMost
 unfolding stated.ShareMost
-share_most lines = counting.share_most lines
+share_most e lines = counting.share_most e lines
 
 pub output_fits : stated.OutputFits
 unfolding stated.OutputFits
@@ -184,3 +187,18 @@ copy_premise = copying.copy_premise
 
 pub early_unequal : copies.EarlyUnequal
 early_unequal = copying.early_unequal
+
+pub converted_edition : converts.ConvertedEdition
+converted_edition = converting.converted_edition
+
+pub same_output : converts.SameOutput
+same_output = converting.same_output
+
+pub there_and_back : converts.ThereAndBack
+there_and_back = converting.there_and_back
+
+pub back_and_there : converts.BackAndThere
+back_and_there = converting.back_and_there
+
+pub convert_fits : converts.ConvertFits
+convert_fits = converting.convert_fits

@@ -7,7 +7,7 @@ use Rattle.rules.specs.Store.{Store}
 use Rattle.rules.specs.Fragments.{Sort, fragment_ops}
 use Rattle.rules.specs.Mapping.{empty_mapping}
 use Rattle.rules.specs.Answers.{Compared, eq, neq, refused, comparison}
-use Rattle.rules.specs.Lines.{Line, building, query, parse}
+use Rattle.rules.specs.Lines.{Edition, Line, building, query, parse}
 use Rattle.rules.specs.Listings.{Progress, LineOutcome, prints, stops, does, max_line, twins_program}
 
 -- a right fragment, with the store as it stood at its `q`, found equal or not
@@ -28,8 +28,8 @@ asked_by now none = []
 asked_by now (some (building c)) = []
 asked_by now (some (query f l r ig)) = answered_for (comparison true now.store [] empty_mapping ig f l r).answer now.store f r
 
-unfoldable pub asked_in : Progress → List ℕ → List Asked
-asked_in now line = cond (leb (length line) max_line) (asked_by now (parse line)) []
+unfoldable pub asked_in : Edition → Progress → List ℕ → List Asked
+asked_in e now line = cond (leb (length line) max_line) (asked_by now (parse e line)) []
 
 -- a refused line is the last one
 unfoldable pub asked_then : LineOutcome → (Progress → List Asked) → List Asked
@@ -37,9 +37,9 @@ asked_then (prints out next) more = more next
 asked_then (stops cause) more = []
 
 -- by these lines, one after the other
-unfoldable pub asked : Progress → List (List ℕ) → List Asked
-asked now [] = []
-asked now (line ∷ lines) = asked_in now line ++ asked_then (does twins_program now line) (λ next. asked next lines)
+unfoldable pub asked : Edition → Progress → List (List ℕ) → List Asked
+asked e now [] = []
+asked e now (line ∷ lines) = asked_in e now line ++ asked_then (does twins_program e now line) (λ next. asked e next lines)
 
 -- the operation was inside the right fragment at its `q`; and inside one that was found equal
 unfoldable pub inside : ℕ → Asked → Bool

@@ -15,10 +15,9 @@ pub record NewOperation : Type 0 where
   pub operands : List ℕ
   pub successors : List ℕ
 
--- "region, label, location, 0 to 16 argument types"
+-- "region, location, 0 to 16 argument types"
 pub record NewBlock : Type 0 where
   pub region : ℕ
-  pub label : ℕ
   pub location : ℕ
   pub types : List ℕ
 
@@ -123,7 +122,7 @@ op_with_attribute a o =
 
 unfoldable pub block_with_attribute : Attribute → Block → Block
 block_with_attribute a b =
-    record { region = b.region; label = b.label; location = b.location; attributes = put_attribute a b.attributes }
+    record { region = b.region; location = b.location; attributes = put_attribute a b.attributes }
 
 unfoldable pub op_with_operand : ℕ → ℕ → Op → Op
 op_with_operand i v o =
@@ -161,7 +160,7 @@ applied s (new_operation o) =
 applied s (new_block b) =
     record {
       ops = s.ops;
-      blocks = s.blocks ++ (record { region = b.region; label = b.label; location = b.location; attributes = [] } ∷ []);
+      blocks = s.blocks ++ (record { region = b.region; location = b.location; attributes = [] } ∷ []);
       regions = s.regions;
       values = s.values ++ values_for (of_block (length s.blocks)) b.types;
     }

@@ -58,7 +58,7 @@ enclosing kind regions operands =
 
 -- a block in this region, with these argument types
 unfoldable pub block_in : ℕ → List ℕ → Call
-block_in r types = new_block (record { region = r; label = 0; location = 0; types = types })
+block_in r types = new_block (record { region = r; location = 0; types = types })
 
 -- the first operand of operation n becomes value v
 unfoldable pub first_operand : ℕ → ℕ → Call
@@ -68,7 +68,7 @@ first_operand n v = set_operand (record { operation = n; index = 0; value = v })
 unfoldable pub nested : ℕ → ℕ → ℕ → List Call
 nested location n v =
     new_operation (record { kind = 7; parent = none; location = location; regions = 1; types = []; operands = []; successors = [] })
-    ∷ new_block (record { region = n; label = 0; location = location; types = 3 ∷ [] })
+    ∷ new_block (record { region = n; location = location; types = 3 ∷ [] })
     ∷ new_operation (record { kind = 8; parent = some n; location = location; regions = 0; types = 3 ∷ []; operands = v ∷ []; successors = [] })
     ∷ []
 

@@ -1,4 +1,4 @@
--- Copies in small stores: a nested form with labels, attributes and successors whose copy's tables are written out, the places that are refused,
+-- Copies in small stores: a nested form with attributes and successors whose copy's tables are written out, the places that are refused,
 -- names that come too early, a copy of the copy, and a copy at the deepest place.
 use Rattle.std.specs.Prelude.{ℕ, true, false, List, [], ◌∷◌, ◌++◌, ◌≡◌, take, drop}
 use Rattle.std.proofs.Math.Option.{Option, none, some}
@@ -21,7 +21,7 @@ unfoldable pub form : List Call
 form =
     operation 1 (3 ∷ []) []
     ∷ operation_in none 1 (4 ∷ []) (0 ∷ []) []
-    ∷ new_block (record { region = 0; label = 7; location = 8; types = 5 ∷ [] })
+    ∷ new_block (record { region = 0; location = 8; types = 5 ∷ [] })
     ∷ operation_in (some 0) 1 (6 ∷ []) (2 ∷ 0 ∷ []) []
     ∷ block_in 1 []
     ∷ operation_in (some 1) 0 [] (3 ∷ []) (0 ∷ [])
@@ -74,8 +74,8 @@ pub record CopyCases : Type 0 where
       ∷ []
   pub blocks :
       drop 2 (copied formed 1 none).blocks
-      ≡ record { region = 2; label = 7; location = 8; attributes = inherent_one 2 6 20 ∷ [] }
-      ∷ record { region = 3; label = 0; location = 0; attributes = [] }
+      ≡ record { region = 2; location = 8; attributes = inherent_one 2 6 20 ∷ [] }
+      ∷ record { region = 3; location = 0; attributes = [] }
       ∷ []
   pub regions : (copied formed 1 none).regions ≡ 1 ∷ 2 ∷ 5 ∷ 6 ∷ []
   pub values :

@@ -48,7 +48,7 @@ inner f (some b) = some (f b)
 unfoldable pub parent_copy : Store → ℕ → Option ℕ → ℕ → Option ℕ
 parent_copy s n place m = cond (eqb m n) place (inner (block_copy s n) (parent_of s m))
 
--- "names of what is defined inside become the copy's, other names are kept; locations, labels, attributes with their flags too"
+-- "names of what is defined inside become the copy's, other names are kept; locations and attributes with their flags too"
 unfoldable pub copied_op : Store → ℕ → Option ℕ → ℕ → Op
 copied_op s n place m =
     record {
@@ -64,7 +64,6 @@ unfoldable pub copied_block : Store → ℕ → ℕ → Block
 copied_block s n b =
     record {
       region = region_copy s n (block_at s b).region;
-      label = (block_at s b).label;
       location = (block_at s b).location;
       attributes = (block_at s b).attributes;
     }

@@ -15,6 +15,8 @@ pub mod Bytes
 pub mod Lines
 pub mod Listings
 pub mod Asked
+pub mod Converting
+pub mod ConvertLaws
 pub mod Rust
 pub mod Agreement
 pub mod Laws
@@ -30,6 +32,7 @@ pub mod Entered
 pub mod Statements
 pub mod Cases
 pub mod ListingCases
+pub mod ConvertCases
 pub mod KeyCases
 pub mod TypeCases
 pub mod RunCases

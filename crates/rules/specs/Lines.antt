@@ -1,5 +1,5 @@
--- 01, "Listings": what the fields of a line mean, letter by letter. A line that means nothing is cause 10: "unknown letter, bad number,
--- field missing or extra".
+-- 01, "Listings": what the fields of a line mean, letter by letter, in either edition (02, order 14: "Both editions are read"). A line that
+-- means nothing is cause 10: "unknown letter, bad number, field missing or extra".
 use Rattle.std.specs.Prelude.{ℕ, zero, suc, ◌^◌, Bool, true, false, cond, List, [], ◌∷◌, ◌++◌, eqb}
 use Prim.Native.String.{String}
 use Rattle.std.proofs.Math.Option.{Option, none, some, map}
@@ -8,6 +8,11 @@ use Rattle.rules.specs.Fragments.{Sort, op, block, region}
 use Rattle.rules.specs.Building.{Call, new_operation, new_block, set_attribute, set_operand}
 use Rattle.rules.specs.Shells.{Ignore}
 use Rattle.rules.specs.Bytes.{comma, is_text, cut_at, number_below}
+
+-- the edition of a listing, which its first line says
+pub data Edition : Type 0 where
+  edition_1 : Edition
+  edition_2 : Edition
 
 -- one of the four building calls, or a query: the sort of fragment, left, right, and the ignore rule
 pub data Line : Type 0 where
@@ -103,24 +108,31 @@ operation_line = do
     successors = successors;
   })))
 
+-- "a label in edition 1 must be a number and is then dropped"; edition 2 "has no label in a `b` line"
+unfoldable pub label : Edition → Reader (Unit {0})
+label edition_1 = do
+  dropped ← number
+  giving tt
+label edition_2 = giving tt
+
 -- "`b` region, label, location, arguments"
-unfoldable pub block_line : Reader Line
-block_line = do
+unfoldable pub block_line : Edition → Reader Line
+block_line e = do
   around ← number
-  label ← number
+  no_label ← label e
   location ← number
   types ← items
-  giving (building (new_block (record { region = around; label = label; location = location; types = types })))
+  giving (building (new_block (record { region = around; location = location; types = types })))
 
--- "`a` o or b, number, key, kind, content"
-unfoldable pub attribute_line : Reader Line
-attribute_line = do
+-- "`a` o or b, number, key, kind, content"; "`i` with the fields of `a` for an inherent attribute"
+unfoldable pub attribute_line : Bool → Reader Line
+attribute_line inherent = do
   of ← owner
   n ← number
   key ← number
   kind ← number
   content ← number
-  giving (building (set_attribute (of n) (record { key = key; kind = kind; content = content; inherent = false })))
+  giving (building (set_attribute (of n) (record { key = key; kind = kind; content = content; inherent = inherent })))
 
 -- "`s` operation, index, value"
 unfoldable pub operand_line : Reader Line
@@ -141,16 +153,21 @@ query_line = do
   bits ← ignore_bits
   giving (query f left right (record { locations = locations; bits = bits }))
 
-unfoldable pub letter : Reader (Reader Line)
-letter =
+-- the letters that edition 2 has and edition 1 has not
+unfoldable pub more_letters : Edition → List (String × Reader Line)
+more_letters edition_1 = []
+more_letters edition_2 = ("i", attribute_line true) ∷ []
+
+unfoldable pub letter : Edition → Reader (Reader Line)
+letter e =
     field
     (one_of
     (("o", operation_line)
-    ∷ ("b", block_line)
-    ∷ ("a", attribute_line)
+    ∷ ("b", block_line e)
+    ∷ ("a", attribute_line false)
     ∷ ("s", operand_line)
     ∷ ("q", query_line)
-    ∷ []))
+    ∷ more_letters e))
 
 -- nothing is left
 unfoldable pub all_read : {A : Type 0} → A → List (List ℕ) → Option A
@@ -162,5 +179,5 @@ wholly none = none
 wholly (some got) = all_read got.0 got.1
 
 -- the meaning of a line's bytes
-unfoldable pub parse : List ℕ → Option Line
-parse line = wholly ((letter >>= λ line'. line') (fields_of line))
+unfoldable pub parse : Edition → List ℕ → Option Line
+parse e line = wholly ((letter e >>= λ line'. line') (fields_of line))

@@ -38,6 +38,21 @@ example_listing =
     ∷ "q,o,0,2,0,0"
     ∷ [])
 
+-- the same in edition 2, without labels
+unfoldable pub example_2 : List ℕ
+example_2 =
+    lines
+    ("opstore,2"
+    ∷ "o,7,-,5,1,0,0,0"
+    ∷ "b,0,5,1,3"
+    ∷ "o,8,0,5,0,1,3,1,0,0"
+    ∷ "o,7,-,6,1,0,0,0"
+    ∷ "b,1,6,1,3"
+    ∷ "o,8,1,6,0,1,3,1,2,0"
+    ∷ "q,o,0,2,1,0"
+    ∷ "q,o,0,2,0,0"
+    ∷ [])
+
 -- one operation, then these lines
 unfoldable pub with_one : List String → List ℕ
 with_one ls = lines ("opstore,1" ∷ "o,1,-,0,0,0,0,0" ∷ ls)
@@ -62,7 +77,8 @@ listing_cases =
     ∷ twins_prints (lines ("opstore,1" ∷ [])) ("share,0" ∷ [])
     ∷ sums_prints (lines ("opstore,1" ∷ [])) []
     -- another first line, a header without its line feed, a header again
-    ∷ twins_prints (lines ("opstore,2" ∷ [])) ("refused,1,9" ∷ [])
+    ∷ twins_prints (lines ("opstore,3" ∷ [])) ("refused,1,9" ∷ [])
+    ∷ twins_prints (lines ("opstore,2," ∷ [])) ("refused,1,9" ∷ [])
     ∷ twins_prints (text "opstore,1") ("refused,1,11" ∷ [])
     ∷ twins_prints (lines ("opstore,1" ∷ "opstore,1" ∷ [])) ("refused,2,10" ∷ [])
     -- no last line feed, after the lines before it ran
@@ -122,6 +138,17 @@ listing_cases =
     ∷ twins_prints (with_one ("o,2,-,0,2,0,0,0" ∷ "q,r,0,1,0,0" ∷ [])) ("eq,-,-,0" ∷ "share,0" ∷ [])
     -- left fragments never count
     ∷ twins_prints (with_five ("q,o,1,0,0,0" ∷ "q,o,0,0,0,0" ∷ [])) ("op,1,0,0" ∷ "eq,-,-,1" ∷ "share,100" ∷ [])
+    -- edition 2: the example, a label that is a field too many, attributes that are inherent and never ignored, which `a` replaces by others
+    ∷ twins_prints example_2 ("eq,-,-,3" ∷ "op,0,2,0" ∷ "share,100" ∷ [])
+    ∷ sums_prints example_2 ("86d049952fe90c01,86d049952fe90c01" ∷ "c0db2bff72f7e56a,bf175687a8e326a7" ∷ [])
+    ∷ twins_prints (lines ("opstore,2" ∷ [])) ("share,0" ∷ [])
+    ∷ twins_prints (lines ("opstore,2" ∷ "o,2,-,0,1,0,0,0" ∷ "b,0,0,5,0" ∷ [])) ("refused,3,10" ∷ [])
+    ∷ twins_prints
+    (lines ("opstore,2" ∷ "o,1,-,0,0,0,0,0" ∷ "o,1,-,0,0,0,0,0" ∷ "i,o,0,1,5,10" ∷ "q,o,0,1,0,32" ∷ "a,o,0,1,5,10" ∷ "q,o,0,1,0,32" ∷ []))
+    ("op,0,1,0" ∷ "eq,-,-,1" ∷ "share,100" ∷ [])
+    -- edition 1 has no `i`, and a label is a number
+    ∷ twins_prints (with_one ("i,o,0,1,5,10" ∷ [])) ("refused,3,10" ∷ [])
+    ∷ twins_prints (with_one ("o,2,-,0,1,0,0,0" ∷ "b,0,4294967295,5,0" ∷ "b,0,4294967296,5,0" ∷ [])) ("refused,5,10" ∷ [])
     ∷ []
 
 -- ---- the per cent

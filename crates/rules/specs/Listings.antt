@@ -2,7 +2,7 @@
 -- line 1), then per line 11, 9, 10, then the call."
 use Rattle.std.specs.Prelude.{ℕ, suc, ◌+◌, ◌*◌, ◌/◌, ◌%◌, Bool, true, false, cond, ◌&&◌, ◌||◌, List, [], ◌∷◌, ◌++◌, eqb, leb, ltb, length}
 use Rattle.std.proofs.Math.Option.{Option, none, some}
-use Rattle.rules.specs.Lists.{any, count_below}
+use Rattle.rules.specs.Lists.{is_some, any, count_below}
 use Rattle.rules.specs.Store.{Store, empty_store, max_ops}
 use Rattle.rules.specs.Fragments.{Sort, op, block, region, fragment_ops}
 use Rattle.rules.specs.Building.{Built, made, accepted, refused, answer, built, first_failed}
@@ -10,8 +10,8 @@ use Rattle.rules.specs.Shells.{Ignore}
 use Rattle.rules.specs.Mapping.{empty_mapping}
 use Rattle.rules.specs.Comparison.{Pair}
 use Rattle.rules.specs.Answers.{Compared, eq, neq, refused as refused_compared, comparison, Hashed, hash_is, refused_hash, hashed}
-use Rattle.rules.specs.Bytes.{text, is_text, comma, line_feed, cut_at, decimal, hexadecimal}
-use Rattle.rules.specs.Lines.{Line, building, query, parse}
+use Rattle.rules.specs.Bytes.{text, comma, line_feed, cut_at, decimal, hexadecimal}
+use Rattle.rules.specs.Lines.{Edition, edition_1, edition_2, Line, building, query, one_of, parse}
 
 -- ---- what is printed
 
@@ -116,8 +116,8 @@ line_does p now (some (query f l r ig)) = p.ask now f l r ig
 abbrev pub max_line : ℕ
 max_line = 512
 
-unfoldable pub does : Program → Progress → List ℕ → LineOutcome
-does p now line = cond (leb (length line) max_line) (line_does p now (parse line)) (stops 11)
+unfoldable pub does : Program → Edition → Progress → List ℕ → LineOutcome
+does p e now line = cond (leb (length line) max_line) (line_does p now (parse e line)) (stops 11)
 
 -- a refused line "ends either program; what was printed before stands, and no share follows"
 unfoldable pub proceed : LineOutcome → ℕ → (Progress → List ℕ) → List ℕ
@@ -130,13 +130,16 @@ at_end p n now [] = p.close now
 at_end p n now (x ∷ rest) = refusal n 11
 
 -- the lines from number n on, and the bytes behind the last line feed
-unfoldable pub run : Program → ℕ → Progress → List (List ℕ) → List ℕ → List ℕ
-run p n now [] rest = at_end p n now rest
-run p n now (line ∷ lines) rest = proceed (does p now line) n (λ next. run p (suc n) next lines rest)
+unfoldable pub run : Program → Edition → ℕ → Progress → List (List ℕ) → List ℕ → List ℕ
+run p e n now [] rest = at_end p n now rest
+run p e n now (line ∷ lines) rest = proceed (does p e now line) n (λ next. run p e (suc n) next lines rest)
 
--- "The first is the fixed bytes `opstore,1`."
+-- "The first is the fixed bytes `opstore,1`"; and (order 14) "Edition 2 starts `opstore,2`"
+unfoldable pub edition_of : List ℕ → Option Edition
+edition_of line = one_of (("opstore,1", edition_1) ∷ ("opstore,2", edition_2) ∷ []) line
+
 unfoldable pub header_tests : List ℕ → List (Bool × ℕ)
-header_tests line = (leb (length line) max_line, 11) ∷ (is_text "opstore,1" line, 9) ∷ []
+header_tests line = (leb (length line) max_line, 11) ∷ (is_some (edition_of line), 9) ∷ []
 
 -- why the first line is refused. "An empty listing gives 9, line 1."
 unfoldable pub header_cause : List (List ℕ) → List ℕ → Option ℕ
@@ -158,6 +161,18 @@ unfoldable pub behind_first : List (List ℕ) → List (List ℕ)
 behind_first [] = []
 behind_first (line ∷ lines) = lines
 
+-- the edition that the first line says; where it says none, `listing_cause` is 9 and this may be either
+unfoldable pub or_first : Option Edition → Edition
+or_first none = edition_1
+or_first (some e) = e
+
+unfoldable pub edition_in : List (List ℕ) → Edition
+edition_in [] = edition_1
+edition_in (line ∷ lines) = or_first (edition_of line)
+
+unfoldable pub edition : List ℕ → Edition
+edition bytes = edition_in (cut_at line_feed bytes).whole
+
 unfoldable pub unless : Option ℕ → List ℕ → List ℕ
 unless none out = out
 unless (some cause) out = refusal 1 cause
@@ -165,7 +180,7 @@ unless (some cause) out = refusal 1 cause
 -- the first line has number 1
 unfoldable pub listed : Program → List ℕ → List ℕ
 listed p bytes =
-    unless (listing_cause bytes) (run p 2 at_start (behind_first (cut_at line_feed bytes).whole) (cut_at line_feed bytes).rest)
+    unless (listing_cause bytes) (run p (edition bytes) 2 at_start (behind_first (cut_at line_feed bytes).whole) (cut_at line_feed bytes).rest)
 
 -- no listing makes either program print more
 abbrev pub max_output : ℕ
@@ -177,13 +192,13 @@ unfoldable pub keeps : LineOutcome → Progress → (Progress → Progress) → 
 keeps (prints out next) now more = more next
 keeps (stops cause) now more = now
 
-unfoldable pub leaves : Program → Progress → List (List ℕ) → Progress
-leaves p now [] = now
-leaves p now (line ∷ lines) = keeps (does p now line) now (λ next. leaves p next lines)
+unfoldable pub leaves : Program → Edition → Progress → List (List ℕ) → Progress
+leaves p e now [] = now
+leaves p e now (line ∷ lines) = keeps (does p e now line) now (λ next. leaves p e next lines)
 
 -- the store, of a listing whose first line is not refused
 unfoldable pub store_after : Program → List ℕ → Store
-store_after p bytes = (leaves p at_start (behind_first (cut_at line_feed bytes).whole)).store
+store_after p bytes = (leaves p (edition bytes) at_start (behind_first (cut_at line_feed bytes).whole)).store
 
 -- ---- "`twins` prints a line for each `q`, then the share"
 

@@ -14,6 +14,7 @@ use Rattle.rules.specs.Comparison.{State, standing, compare_regions, compare, co
 use Rattle.rules.specs.Hash.{hash}
 use Rattle.rules.specs.Answers.{eq, refused, comparison_of, comparison, hash_is, hashed}
 use Rattle.rules.specs.Keys.{key, keyed, key_length, written, longest_key, same, less, compare_bytes, ordering_number, reversed, fits, fields_fit, call_fits}
+use Rattle.rules.specs.Lines.{Edition}
 use Rattle.rules.specs.Listings.{per_cent, share, at_start, leaves, twins_program, twins, sums, max_output}
 use Rattle.rules.specs.Asked.{asked, inside, inside_equal}
 use Rattle.rules.specs.Laws.{In, Equal, equal, succeeds, Laws}
@@ -391,13 +392,13 @@ SizeMost = (s : Store) → sound s ≡ true → (f : Sort) (n : ℕ) → In s f 
 -- at its `q`": what `twins` has counted after these lines: `counted_exactly`
 unfoldable pub CountedExactly : Type 0
 CountedExactly =
-    (lines : List (List ℕ)) (m : ℕ)
-    → ((leaves twins_program at_start lines).tally.all m ≡ any (inside m) (asked at_start lines))
-    × ((leaves twins_program at_start lines).tally.equal m ≡ any (inside_equal m) (asked at_start lines))
+    (e : Edition) (lines : List (List ℕ)) (m : ℕ)
+    → ((leaves twins_program e at_start lines).tally.all m ≡ any (inside m) (asked e at_start lines))
+    × ((leaves twins_program e at_start lines).tally.equal m ≡ any (inside_equal m) (asked e at_start lines))
 
 -- "Count each operation once": so the ones are a part of the others, and the share is at most 100: `share_most`
 unfoldable pub ShareMost : Type 0
-ShareMost = (lines : List (List ℕ)) → share (leaves twins_program at_start lines).tally ≤ 100
+ShareMost = (e : Edition) (lines : List (List ℕ)) → share (leaves twins_program e at_start lines).tally ≤ 100
 
 -- the output of a listing fits: `output_fits`
 unfoldable pub OutputFits : Type 0

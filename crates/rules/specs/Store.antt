@@ -27,10 +27,8 @@ pub record Op : Type 0 where
   pub successors : List ℕ
   pub attributes : List Attribute
 
--- "label (0 is none, never compared)": no rule reads it
 pub record Block : Type 0 where
   pub region : ℕ
-  pub label : ℕ
   pub location : ℕ
   pub attributes : List Attribute
 
@@ -55,7 +53,7 @@ unfoldable pub no_op : Op
 no_op = record { kind = 0; parent = none; location = 0; operands = []; successors = []; attributes = [] }
 
 unfoldable pub no_block : Block
-no_block = record { region = 0; label = 0; location = 0; attributes = [] }
+no_block = record { region = 0; location = 0; attributes = [] }
 
 unfoldable pub no_value : Value
 no_value = record { type = 0; owner = of_op 0 }

@@ -13,6 +13,7 @@ use Rattle.rules.specs.Types.{types_hold, renamed}
 use Rattle.rules.specs.Runs.{max_run, repeated, repeated_of, repeated_by, repeated_run, run_tests}
 use Rattle.rules.specs.Statements.{RepeatedIs}
 use Rattle.rules.proofs.Runs.Answered.{repeated_is}
+use Rattle.journal.specs.Words.{sound_lent}
 use Rattle.layout.specs.declared.causes.Cause.{Cause}
 use Rattle.layout.specs.declared.causes.Cause.TheVariants as causes
 use Rattle.layout.specs.Reading.{store_in}
@@ -20,14 +21,16 @@ use Rattle.layout.specs.Soundness.{IsSound}
 use Rattle.runs.specs.Calls.{found_of, Answered}
 use Rattle.runs.specs.declared.types.Starts.{Starts}
 
+-- what is found to be sound is what was lent
+pub as_found : {store w types : List ℕ} {ig : Ignore} {b n : ℕ} {q : std.Result (std.Option Starts) Cause}
+    → (w ≡ store) × (sound_lent store ≡ true) → Answered true w types ig b n q → Answered (sound_lent store) store types ig b n q
+as_found {store} {w} {types} {ig} {b} {n} {q} same h =
+    subst (λ (t : Bool). Answered t store types ig b n q) (sym same.1) (subst (λ (x : List ℕ). Answered true x types ig b n q) same.0 h)
+
 module _ (store types : List ℕ) (ig : Ignore) (b n : ℕ) where
   pub unsound : (ok : Bool) → ok ≡ false → Answered ok store types ig b n (std.Err causes.NotSound)
   unfolding repeated_run repeated_by run_tests first_failed found_of
   unsound ok e = record { told = rw e refl }
-
-  -- found to be sound, as if known to be
-  pub as_found : (ok : Bool) → ok ≡ true → {q : std.Result (std.Option Starts) Cause} → Answered true store types ig b n q → Answered ok store types ig b n q
-  as_found ok e {q} h = subst (λ (t : Bool). Answered t store types ig b n q) (sym e) h
 
   module _ (h : IsSound store) where
     pub untyped : types_hold types ≡ false → Answered true store types ig b n (std.Err causes.BadTypes)

@@ -50,7 +50,7 @@ abbrev pub op_with : Op → List ℕ → List Attribute → Op
 op_with o xs bs = record { kind = o.kind; parent = o.parent; location = o.location; operands = xs; successors = o.successors; attributes = bs }
 
 abbrev pub block_with : Block → List Attribute → Block
-block_with o bs = record { region = o.region; label = o.label; location = o.location; attributes = bs }
+block_with o bs = record { region = o.region; location = o.location; attributes = bs }
 
 -- the same three words are read as the same attribute
 pub attribute_same : {key key' word word' content content' : ℕ} → key ≡ key' → word ≡ word' → content ≡ content' → attribute_read key word content ≡ attribute_read key' word' content'

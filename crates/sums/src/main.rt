@@ -1,8 +1,8 @@
 // Reads a listing from standard input, and prints for each `q` of it both hashes.
 #![tactic(auto)]
 
-use listing::types::Program;
+use programs::commands::Command;
 
 fn main(rt: HostRuntime) {
-    programs::standard::run(&rt, Program::Sums);
+    programs::standard::run(&rt, Command::Sums);
 }

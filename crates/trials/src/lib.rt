@@ -8,7 +8,8 @@
 //     *A,B,  a line that begins with <, ~ or >, once for each number from A to the one before B
 //     +      what the listing has by now begins each case of the group
 //     :      the name of a case; the case begins here
-//     =      run `twins`, `sums` or `both`, and say whether all is printed that must be, and nothing else
+//     @      the listing becomes what `convert` prints for it, and the group keeps nothing more
+//     =      run `twins`, `sums`, `both` of these or `convert`, and say whether all is printed that must be, and nothing else
 //
 // In <, ~ and > a / stands for a line feed and a # for the number of the turn. A line that is empty or begins with # is passed over.
 #![tactic(auto)]

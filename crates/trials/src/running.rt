@@ -1,5 +1,5 @@
 // A case file, line by line.
-use crate::judging::judged;
+use crate::judging::{judged, with_converted};
 use crate::making::{CaseLengths, unknown, with_byte, with_text, with_turns};
 use crate::text::{byte_at, next, put_text_if_room};
 use lines::writing::LineWriter;
@@ -65,6 +65,7 @@ fn with_any(
         b'<' | b'~' | b'>' => Ok(with_text(case, line, listing, wanted)),
         b'*' => with_turns(rt, case, line, listing, wanted),
         b'%' => with_byte(rt, case, line, listing),
+        b'@' => Ok(with_converted(case, listing)),
         b'=' => judged(rt, case, line, name, listing, wanted),
         _ => unknown(rt, case, line),
     }

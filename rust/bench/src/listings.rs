@@ -1,4 +1,4 @@
-//! Listings of 65,536 bytes: a store, and questions as long as there is room.
+//! Listings of edition 2: a store, and questions as long as there is room for them in 65,536 bytes, with the labels that edition 1 wants.
 
 use std::fmt::Write;
 
@@ -18,12 +18,13 @@ pub struct Listing {
 
 /// A listing that builds this, and asks for these pairs of operations over and over.
 fn listing(name: &'static str, calls: &[Call], pairs: &[(u32, u32)]) -> Listing {
-    let mut text = "opstore,1\n".to_string();
+    let mut text = "opstore,2\n".to_string();
     calls.iter().for_each(|call| line(&mut text, call));
+    let room = ROOM - ",0".len() * calls.iter().filter(|call| matches!(call, Call::Block { .. })).count();
     let asked = pairs.iter().cycle().map(|(left, right)| format!("q,o,{left},{right},0,0\n"));
     let mut questions = 0;
     for question in asked {
-        if text.len() + question.len() > ROOM {
+        if text.len() + question.len() > room {
             break;
         }
         text.push_str(&question);
@@ -41,10 +42,10 @@ fn line(text: &mut String, call: &Call) {
             let lists = [&new.types, &new.operands, &new.successors].map(|items| list(items)).join(",");
             writeln!(text, "o,{},{parent},{},{},{lists}", new.kind, new.location, new.regions)
         }
-        Call::Block { region, location, types } => writeln!(text, "b,{region},0,{location},{}", list(types)),
+        Call::Block { region, location, types } => writeln!(text, "b,{region},{location},{}", list(types)),
         Call::Attribute(op, Attribute { key, kind, content, inherent }) => {
-            assert_eq!(*inherent, Inherent::No, "a listing has no line for an inherent attribute");
-            writeln!(text, "a,o,{op},{key},{kind},{content}")
+            let letter = if *inherent == Inherent::Yes { 'i' } else { 'a' };
+            writeln!(text, "{letter},o,{op},{key},{kind},{content}")
         }
         Call::Operand { op, index, value } => writeln!(text, "s,{op},{index},{value}"),
     };

@@ -7,6 +7,7 @@
 mod building;
 mod cases;
 mod checks;
+mod converting;
 mod copying;
 mod fragments;
 mod keys;
@@ -74,9 +75,9 @@ fn measure(efforts: Efforts) -> Results {
     let (mut calls, mut stores) = (building::each_call(middle), building::whole_stores(middle));
     let mut copies = copying::shapes(middle);
     let (mut soundness, mut allowed, mut emptying) = (checks::soundness(short), checks::allowed(short), checks::emptying(middle));
-    let (mut marks, mut programs) = (marks::all(middle, short), programs::all(long));
+    let (mut marks, mut programs, mut conversions) = (marks::all(middle, short), programs::all(long), converting::all(middle));
     for number in 1..=passes {
-        let parts: [&mut dyn Pass; 13] = [
+        let parts: [&mut dyn Pass; 14] = [
             &mut shapes,
             &mut around,
             &mut keys,
@@ -90,6 +91,7 @@ fn measure(efforts: Efforts) -> Results {
             &mut emptying,
             &mut marks,
             &mut programs,
+            &mut conversions,
         ];
         parts.into_iter().for_each(|part| told(number, part));
     }
@@ -108,6 +110,7 @@ fn measure(efforts: Efforts) -> Results {
         emptying: checks::emptying_rows(emptying),
         marks: marks.rows(),
         programs: programs::rows(programs),
+        conversions: converting::rows(conversions),
     }
 }
 

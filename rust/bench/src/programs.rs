@@ -8,15 +8,15 @@ use crate::listings::{self, Listing};
 use crate::race::{Effort, Runner, Series, race, runner};
 use crate::reader;
 
-/// A program on a listing, in nanoseconds.
+/// A program on a listing, in nanoseconds: ours, and what stands beside it.
 pub struct Program {
     pub ours: f64,
-    pub pliron: f64,
+    pub other: f64,
 }
 
 impl Program {
     pub fn ratio(&self) -> f64 {
-        self.ours / self.pliron
+        self.ours / self.other
     }
 }
 
@@ -41,8 +41,8 @@ pub fn rows(programs: Programs) -> Vec<Row> {
     let rows = programs.rows().map(|(listing, [a, b, c, d])| Row {
         name: listing.name,
         questions: listing.questions,
-        twins: Program { ours: a, pliron: b },
-        sums: Program { ours: c, pliron: d },
+        twins: Program { ours: a, other: b },
+        sums: Program { ours: c, other: d },
     });
     rows.collect()
 }

@@ -48,6 +48,8 @@ fn number(digits: &[u8]) -> u64 {
 #[derive(Default)]
 struct Reader {
     oracle: Oracle,
+    /// Have blocks labels, as in edition 1?
+    labelled: bool,
     types: Vec<u32>,
     operands: Vec<u32>,
     successors: Vec<u32>,
@@ -67,17 +69,21 @@ impl Reader {
     }
 
     fn block(&mut self, mut fields: Fields<'_>) {
-        let (region, label, location) = (fields.word(), fields.word(), fields.word());
+        let region = fields.word();
+        if self.labelled {
+            fields.next();
+        }
+        let location = fields.word();
         fields.list(&mut self.types);
-        self.oracle.new_block(region, label, location, &self.types);
+        self.oracle.new_block(region, location, &self.types);
     }
 
-    fn attribute(&mut self, mut fields: Fields<'_>) {
+    fn attribute(&mut self, mut fields: Fields<'_>, inherent: bool) {
         let on_block = fields.next() == b"b";
         let number = fields.word();
         let owner = if on_block { Owner::Block(number) } else { Owner::Op(number) };
         let key = fields.word();
-        self.oracle.set_attribute(owner, key, NumberAttr { kind: fields.word(), content: fields.word(), inherent: false });
+        self.oracle.set_attribute(owner, key, NumberAttr { kind: fields.word(), content: fields.word(), inherent });
     }
 
     /// A line that builds; or else what it asks.
@@ -86,7 +92,8 @@ impl Reader {
         match fields.next() {
             b"o" => self.operation(fields),
             b"b" => self.block(fields),
-            b"a" => self.attribute(fields),
+            b"a" => self.attribute(fields, false),
+            b"i" => self.attribute(fields, true),
             b"s" => self.oracle.set_operand(fields.word(), fields.word(), fields.word()),
             _ => return Some(question(fields)),
         }
@@ -106,8 +113,9 @@ fn question(mut fields: Fields<'_>) -> Question {
 
 /// Builds what the lines say, and answers their questions.
 fn read(listing: &[u8], mut answer: impl FnMut(&Oracle, &Question)) {
-    let mut reader = Reader::default();
-    for line in listing.split(|byte| *byte == b'\n').skip(1).filter(|line| !line.is_empty()) {
+    let mut lines = listing.split(|byte| *byte == b'\n');
+    let mut reader = Reader { labelled: lines.next() == Some(b"opstore,1"), ..Reader::default() };
+    for line in lines.filter(|line| !line.is_empty()) {
         if let Some(question) = reader.line(line) {
             answer(&reader.oracle, &question);
         }

@@ -9,7 +9,7 @@ use crate::race::{Effort, Runner, Series, race, runner};
 use crate::sides::{Inner, Side};
 
 /// Where the types of values begin in the words of a store.
-const VALUE_TYPE: usize = 9480;
+const VALUE_TYPE: usize = 9224;
 
 /// What a type is renamed to.
 const RENAMED: u32 = 1000;

@@ -6,6 +6,7 @@ use std::process::Command;
 use crate::building::Built;
 use crate::cases::{SIZES, Shape, each, two_fit};
 use crate::checks::{Allowed, Soundness};
+use crate::converting;
 use crate::copying;
 use crate::fragments::{Measured, Row, Times};
 use crate::keys;
@@ -32,6 +33,7 @@ pub struct Results {
     pub emptying: Vec<(String, [f64; 2])>,
     pub marks: marks::Rows,
     pub programs: Vec<programs::Row>,
+    pub conversions: Vec<converting::Row>,
 }
 
 /// How much was measured, by how long a run takes.
@@ -41,9 +43,10 @@ pub struct Efforts {
     pub passes: u32,
     /// Comparisons, hashes, keys and tests.
     pub short: Effort,
-    /// Stores that are built, copied in, or changed and gone back on, mappings that are filled to be emptied, and blocks that are searched for runs.
+    /// Stores that are built, copied in, or changed and gone back on, mappings that are filled to be emptied, blocks that are searched for runs,
+    /// and listings that are converted.
     pub middle: Effort,
-    /// Whole listings.
+    /// Listings that are answered.
     pub long: Effort,
 }
 
@@ -52,7 +55,7 @@ pub fn page(results: &Results) -> String {
     let Efforts { passes, short, middle, long } = results.efforts;
     let rounds = |effort: Effort| (passes * effort.rounds).to_string();
     let (shapes, hashed) = (&results.shapes, |shape| shape != Shape::Unequal);
-    let places: [(&str, String); 32] = [
+    let places: [(&str, String); 33] = [
         ("processor", processor()),
         ("compiler", compiler()),
         ("short rounds", rounds(short)),
@@ -85,6 +88,7 @@ pub fn page(results: &Results) -> String {
         ("marked calls", marked_calls(&results.marks).to_string()),
         ("marked soundness", marked_soundness(&results.marks).to_string()),
         ("programs", programs(&results.programs).to_string()),
+        ("conversions", conversions(&results.conversions).to_string()),
     ];
     filled(include_str!("page.md"), &places)
 }
@@ -338,9 +342,19 @@ fn marked_soundness(rows: &marks::Rows) -> Table {
 fn programs(rows: &[programs::Row]) -> Table {
     let mut table = Table::new(["Listing", "questions", "twins ms", "pliron ms", "twins ratio", "sums ms", "pliron ms", "sums ratio"]);
     for row in rows {
-        let times = |program: &programs::Program| [milliseconds(program.ours), milliseconds(program.pliron), number(program.ratio())];
+        let times = |program: &programs::Program| [milliseconds(program.ours), milliseconds(program.other), number(program.ratio())];
         let questions = [thousands(row.questions as u64)];
         table.row(row.name, questions.into_iter().chain(times(&row.twins)).chain(times(&row.sums)));
+    }
+    table
+}
+
+fn conversions(rows: &[converting::Row]) -> Table {
+    let columns = ["to edition 1, µs", "plain µs", "ratio", "to edition 2, µs", "plain µs", "ratio"];
+    let mut table = Table::new(["Listing"].into_iter().chain(columns));
+    for row in rows {
+        let times = |program: &programs::Program| [number(program.ours / 1000.0), number(program.other / 1000.0), number(program.ratio())];
+        table.row(row.name, times(&row.to_first).into_iter().chain(times(&row.to_second)));
     }
     table
 }

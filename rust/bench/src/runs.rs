@@ -77,7 +77,7 @@ impl Filled {
         let mut store = Store::new();
         let form = store.new_operation(&NewOperation { kind: 7, regions: 2, ..Default::default() }).expect("a form");
         let [region, outside] = [0, 1].map(|i| store.operation(form).expect("it").regions().nth(i).expect("its region"));
-        let block = store.new_block(region, 0, 0, &[1]).expect("a block");
+        let block = store.new_block(region, 0, &[1]).expect("a block");
         let argument = store.block(block).expect("it").arguments().next().expect("its argument");
         let others = arguments(&mut store, outside, size);
         for (i, other) in (0..size).zip(others) {
@@ -122,7 +122,7 @@ impl Filled {
 fn arguments(store: &mut Store, region: RegionId, count: u32) -> Vec<ValueId> {
     let mut values = Vec::new();
     while values.len() < count as usize {
-        let block = store.new_block(region, 0, 0, &[1; 16]).expect("a block");
+        let block = store.new_block(region, 0, &[1; 16]).expect("a block");
         values.extend(store.block(block).expect("it").arguments());
     }
     values

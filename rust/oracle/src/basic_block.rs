@@ -5,6 +5,7 @@ use crate::{
     attribute::AttributeDict,
     common_traits::Named,
     context::{Arena, Context, Ptr, private::ArenaObj},
+    identifier::Identifier,
     linked_list::{ContainsLinkedList, LinkedList, private},
     location::Location,
     operation::Operation,
@@ -44,7 +45,7 @@ struct RegionLinks {
 
 pub struct BasicBlock {
     self_ptr: Ptr<BasicBlock>,
-    pub(crate) label: u32,
+    pub(crate) label: Option<Identifier>,
     ops_list: OpsInBlock,
     pub(crate) args: Vec<BlockArgument>,
     region_links: RegionLinks,
@@ -55,15 +56,14 @@ pub struct BasicBlock {
 impl Named for BasicBlock {
     fn unique_name(&self, _ctx: &Context) -> String {
         match self.label {
-            0 => format!("block{}", self.self_ptr.number()),
-            label => format!("{label}_block{}", self.self_ptr.number()),
+            None => format!("block{}", self.self_ptr.number()),
+            Some(Identifier(label)) => format!("{label}_block{}", self.self_ptr.number()),
         }
     }
 }
 
 impl BasicBlock {
-    /// In pliron the label is an optional identifier; here 0 is none.
-    pub fn new(ctx: &mut Context, label: u32, arg_types: impl IntoIterator<Item = TypeHandle>) -> Ptr<BasicBlock> {
+    pub fn new(ctx: &mut Context, label: Option<Identifier>, arg_types: impl IntoIterator<Item = TypeHandle>) -> Ptr<BasicBlock> {
         let args = arg_types.into_iter();
         let args = args.map(|ty| BlockArgument::new(ctx, ty));
         let args = args.collect();

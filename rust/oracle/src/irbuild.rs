@@ -52,6 +52,7 @@ pub mod rewriter {
     use crate::{
         basic_block::BasicBlock,
         context::{Context, Ptr},
+        identifier::Identifier,
         operation::Operation,
         r#type::TypeHandle,
     };
@@ -67,7 +68,13 @@ pub mod rewriter {
             }
         }
 
-        fn create_block(&mut self, ctx: &mut Context, at: BlockInsertionPoint, label: u32, arg_types: Vec<TypeHandle>) -> Ptr<BasicBlock> {
+        fn create_block(
+            &mut self,
+            ctx: &mut Context,
+            at: BlockInsertionPoint,
+            label: Option<Identifier>,
+            arg_types: Vec<TypeHandle>,
+        ) -> Ptr<BasicBlock> {
             let BlockInsertionPoint::AtRegionEnd(region) = at;
             let block = BasicBlock::new(ctx, label, arg_types);
             block.insert_at_back(region, ctx);

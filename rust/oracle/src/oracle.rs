@@ -79,10 +79,10 @@ impl Oracle {
         op.number()
     }
 
-    /// Makes a block, puts it at the end of its region, and gives its number. Label 0 is none.
-    pub fn new_block(&mut self, region: u32, label: u32, location: u32, argument_types: &[u32]) -> u32 {
+    /// Makes a block, puts it at the end of its region, and gives its number. It has no label.
+    pub fn new_block(&mut self, region: u32, location: u32, argument_types: &[u32]) -> u32 {
         let types = argument_types.iter().map(|ty| TypeHandle(*ty));
-        let block = BasicBlock::new(&mut self.ctx, label, types);
+        let block = BasicBlock::new(&mut self.ctx, None, types);
         block.deref_mut(&self.ctx).set_loc(Location(location));
         self.values.extend(block.deref(&self.ctx).arguments());
         block.insert_at_back(Ptr::<Region>::from_number(region), &self.ctx);

@@ -12,7 +12,7 @@ fn listing() -> Oracle {
     let mut oracle = Oracle::new();
     for location in [5, 6] {
         let outer = oracle.new_operation(7, None, location, 1, NO_LISTS);
-        let block = oracle.new_block(outer / 2, 0, location, &[3]);
+        let block = oracle.new_block(outer / 2, location, &[3]);
         let lists = Lists { result_types: &[3], operands: &[2 * block], successors: &[] };
         oracle.new_operation(8, Some(block), location, 0, lists);
     }
@@ -99,11 +99,11 @@ fn empty_store() {
 fn one_block_too_many() {
     let mut oracle = Oracle::new();
     oracle.new_operation(7, None, 5, 2, NO_LISTS);
-    oracle.new_block(0, 0, 5, &[]);
+    oracle.new_block(0, 5, &[]);
     let compare = |oracle: &Oracle, lhs, rhs| oracle.compare(&mut Mapping::new(), Sort::Region, lhs, rhs, false, 0);
     assert_eq!(compare(&oracle, 0, 1), Verdict::Eq);
     assert_eq!(compare(&oracle, 1, 0), Verdict::FirstNEQRegions(1, 0));
-    oracle.new_block(0, 0, 5, &[]);
+    oracle.new_block(0, 5, &[]);
     assert_eq!(compare(&oracle, 0, 1), Verdict::FirstNEQRegions(0, 1));
 }
 
@@ -112,8 +112,8 @@ fn one_block_too_many() {
 fn one_operation_too_many() {
     let mut oracle = Oracle::new();
     oracle.new_operation(7, None, 5, 1, NO_LISTS);
-    oracle.new_block(0, 0, 5, &[]);
-    oracle.new_block(0, 0, 5, &[]);
+    oracle.new_block(0, 5, &[]);
+    oracle.new_block(0, 5, &[]);
     oracle.new_operation(8, Some(0), 5, 0, NO_LISTS);
     let compare = |lhs, rhs| oracle.compare(&mut Mapping::new(), Sort::Block, lhs, rhs, false, 0);
     assert_eq!(compare(0, 1), Verdict::Eq);
@@ -173,7 +173,7 @@ fn inherent_attributes_of_blocks() {
     let mut oracle = Oracle::new();
     oracle.new_operation(7, None, 5, 1, NO_LISTS);
     for _ in 0..2 {
-        oracle.new_block(0, 0, 5, &[]);
+        oracle.new_block(0, 5, &[]);
     }
     oracle.set_attribute(Owner::Block(0), 1, NumberAttr { inherent: true, ..plain(5, 10) });
     assert_eq!(compared(&oracle, Sort::Block, 1 << 5), Verdict::FirstNEQBlocks(0, 1));
@@ -186,7 +186,7 @@ fn entered_images() {
     let mut oracle = Oracle::new();
     oracle.new_operation(1, None, 0, 1, NO_LISTS);
     for _ in 0..2 {
-        oracle.new_block(0, 9, 0, &[4]);
+        oracle.new_block(0, 0, &[4]);
     }
     for number in [0, 1] {
         let lists = Lists { result_types: &[], operands: &[0], successors: &[number] };
@@ -216,7 +216,7 @@ fn fnv_vectors() {
 fn fed_bytes() {
     let mut oracle = Oracle::new();
     oracle.new_operation(0, None, 0, 1, NO_LISTS);
-    oracle.new_block(0, 0, 0, &[6]);
+    oracle.new_block(0, 0, &[6]);
     let lists = Lists { result_types: &[0x01020304], operands: &[0, 0], successors: &[0] };
     oracle.new_operation(7, None, 5, 0, lists);
     oracle.set_operand(1, 1, 1);

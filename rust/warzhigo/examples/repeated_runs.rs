@@ -27,7 +27,7 @@ fn main() -> Result<(), Refused> {
 fn variable_page(store: &mut Store, fields: u32) -> Result<BlockId, Refused> {
     let form = store.new_operation(&NewOperation { kind: PAGE, regions: 1, ..Default::default() })?;
     let region = store.operation(form)?.regions().next().expect("its region");
-    let page = store.new_block(region, 0, 0, &[])?;
+    let page = store.new_block(region, 0, &[])?;
     for i in 0..fields {
         let plain = NewOperation { parent: Some(page), location: i, ..Default::default() };
         let field = store.new_operation(&NewOperation { kind: FIELD, result_types: &[5], ..plain })?;

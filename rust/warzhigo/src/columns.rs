@@ -8,7 +8,7 @@ pub(crate) enum Column {
     OpKind, OpParent, OpLocation, OpDepth, OpRegionFirst, OpRegionEnd, OpResultFirst, OpResultEnd, OpOperandFirst, OpOperandEnd,
     OpSuccessorFirst, OpSuccessorEnd, OpAttributes,
     RegionOp, RegionBlockFirst, RegionBlockEnd,
-    BlockRegion, BlockLabel, BlockLocation, BlockArgumentFirst, BlockArgumentEnd, BlockOpFirst, BlockOpEnd, BlockAttributes,
+    BlockRegion, BlockLocation, BlockArgumentFirst, BlockArgumentEnd, BlockOpFirst, BlockOpEnd, BlockAttributes,
     ValueType, ValueOwner,
     OperandWords, SuccessorWords,
     SlotKey, SlotKind, SlotContent,
@@ -46,7 +46,7 @@ pub(crate) const BLOCK_SLOTS: usize = 512 * SLOTS;
 /// What the word of `SlotKind` is more than the kind where the attribute is inherent. No kind is over 63.
 pub(crate) const INHERENT: u32 = 64;
 
-const COLUMNS: usize = 43;
+const COLUMNS: usize = 42;
 
 #[rustfmt::skip] // as the enum above; behind it the journal's entries, which the library alone reads
 const SIZES: [usize; COLUMNS] = [
@@ -54,7 +54,7 @@ const SIZES: [usize; COLUMNS] = [
     512, 512, 512, 512, 512, 512, 512, 512, 512, 512,
     512, 512, 512,
     256, 256, 256,
-    256, 256, 256, 256, 256, 256, 256, 256,
+    256, 256, 256, 256, 256, 256, 256,
     2048, 2048,
     2048, 512,
     6144, 6144, 6144,

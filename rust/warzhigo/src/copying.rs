@@ -7,7 +7,7 @@ use crate::store::Store;
 
 impl Store {
     /// Copies an operation with all inside it, to the end of a block, or without a parent, and gives the copy. Names of what is inside
-    /// become the copy's, others are kept; so are kinds, types, locations, labels and attributes, inherent ones as such. Each thing that is
+    /// become the copy's, others are kept; so are kinds, types, locations and attributes, inherent ones as such. Each thing that is
     /// copied gets the next number of its sort, in the order in which a comparison enters them.
     ///
     /// The mapping then has an entry from each thing that the operation defines to its copy, and no others: those it had before are gone.
@@ -24,7 +24,7 @@ impl Store {
     /// let mut store = Store::new();
     /// let form = store.new_operation(&NewOperation { kind: 7, regions: 1, ..Default::default() })?;
     /// let region = store.operation(form)?.regions().next().unwrap();
-    /// let page = store.new_block(region, 0, 0, &[3])?;
+    /// let page = store.new_block(region, 0, &[3])?;
     /// let typed: Vec<_> = store.block(page)?.arguments().collect();
     /// let check = store.new_operation(&NewOperation { kind: 9, parent: Some(page), operands: &typed, ..Default::default() })?;
     ///

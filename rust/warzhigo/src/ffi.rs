@@ -69,7 +69,7 @@ pub(crate) struct Outcome {
     pub(crate) number: u32,
 }
 
-/// What `twins` and `sums` answer. Code 0 is printed, so many `bytes`; 1 is a refusal, and its cause is `cause`; 2 is too little room.
+/// What `twins`, `sums` and `convert` answer. Code 0 is printed, so many `bytes`; 1 is a refusal, and its cause is `cause`; 2 is too little room.
 #[repr(C)]
 #[derive(Clone, Copy)]
 pub(crate) struct Output {
@@ -95,6 +95,7 @@ unsafe extern "C" {
     fn wz_store_words() -> usize;
     fn wz_mapping_words() -> usize;
     fn wz_output_bytes() -> usize;
+    fn wz_converted_bytes() -> usize;
     fn wz_key_bytes() -> usize;
     fn wz_index_words() -> usize;
 
@@ -110,8 +111,8 @@ unsafe extern "C" {
         operands: *const u32, operand_count: usize, successors: *const u32, successor_count: usize) -> Outcome;
     fn wz_known_new_operation(store: *mut u32, words: usize, kind: u32, placed: bool, block: u32, location: u32, regions: u32, types: *const u32, type_count: usize,
         operands: *const u32, operand_count: usize, successors: *const u32, successor_count: usize) -> Outcome;
-    fn wz_new_block(store: *mut u32, words: usize, region: u32, label: u32, location: u32, types: *const u32, type_count: usize) -> Outcome;
-    fn wz_known_new_block(store: *mut u32, words: usize, region: u32, label: u32, location: u32, types: *const u32, type_count: usize) -> Outcome;
+    fn wz_new_block(store: *mut u32, words: usize, region: u32, location: u32, types: *const u32, type_count: usize) -> Outcome;
+    fn wz_known_new_block(store: *mut u32, words: usize, region: u32, location: u32, types: *const u32, type_count: usize) -> Outcome;
     fn wz_set_attribute(store: *mut u32, words: usize, blocks: bool, n: u32, key: u32, kind: u32, content: u32, inherent: Inherent) -> Outcome;
     fn wz_known_set_attribute(store: *mut u32, words: usize, blocks: bool, n: u32, key: u32, kind: u32, content: u32, inherent: Inherent) -> Outcome;
     fn wz_set_operand(store: *mut u32, words: usize, n: u32, i: u32, v: u32) -> Outcome;
@@ -161,4 +162,5 @@ unsafe extern "C" {
 
     fn wz_twins(listing: *const u8, length: usize, store: *mut u32, words: usize, mapping: *mut u32, entries: usize, out: *mut u8, room: usize) -> Output;
     fn wz_sums(listing: *const u8, length: usize, store: *mut u32, words: usize, out: *mut u8, room: usize) -> Output;
+    fn wz_convert(listing: *const u8, length: usize, out: *mut u8, room: usize) -> Output;
 }

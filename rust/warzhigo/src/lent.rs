@@ -30,14 +30,14 @@ pub type Owner = crate::store::Owner<u32, u32>;
 /// What a comparison says, by numbers.
 pub type EqResult = crate::equivalence::EqResult<u32, u32, u32>;
 
-/// What `twins` and `sums` answer.
+/// What `twins`, `sums` and `convert` answer.
 #[derive(Clone, Copy, PartialEq, Eq, Debug)]
 pub enum Listed {
     /// So many bytes were printed, from the first lent one on; those behind them are as they were.
     Printed(usize),
-    /// A store or a mapping of wrong length was lent: 1 or 8.
+    /// A store or a mapping of wrong length was lent: 1 or 8. `convert` is lent none.
     Refused(Refused),
-    /// Fewer than [`output_bytes`] bytes were lent for the output.
+    /// Fewer than [`output_bytes`] bytes were lent for the output, or to `convert` fewer than [`converted_bytes`].
     NoRoom,
 }
 
@@ -66,6 +66,11 @@ pub fn output_bytes() -> usize {
     lent::output_bytes()
 }
 
+/// The bytes that [`convert`] wants for what it prints.
+pub fn converted_bytes() -> usize {
+    lent::converted_bytes()
+}
+
 /// Bytes that every key fits into.
 pub fn key_bytes() -> usize {
     lent::key_bytes()
@@ -82,8 +87,8 @@ pub fn new_operation(store: &mut [u32], new: &NewOperation<'_>) -> Result<u32, R
 }
 
 /// Makes a block, and gives its number. Refused by 1, 2, 4 or 3.
-pub fn new_block(store: &mut [u32], region: u32, label: u32, location: u32, argument_types: &[u32]) -> Result<u32, Refused> {
-    lent::new_block(store, region, label, location, argument_types).accepted()
+pub fn new_block(store: &mut [u32], region: u32, location: u32, argument_types: &[u32]) -> Result<u32, Refused> {
+    lent::new_block(store, region, location, argument_types).accepted()
 }
 
 /// Sets an attribute. Refused by 1, 6, 2, 4 or 3, or by 17 where a key that is there would be replaced, and that can't be remembered.
@@ -198,4 +203,19 @@ pub fn twins(listing: &[u8], store: &mut [u32], mapping: &mut [u32], out: &mut [
 /// The program [`sums`](crate::sums) in lent buffers; as [`twins`].
 pub fn sums(listing: &[u8], store: &mut [u32], out: &mut [u8]) -> Listed {
     lent::sums(listing, store, out).listed()
+}
+
+/// The program [`convert`](crate::convert) in lent bytes: a listing, or a refused line, is printed from the first on, and the bytes behind it
+/// are as they were.
+///
+/// ```
+/// use warzhigo::lent::{self, Listed};
+///
+/// let mut out = vec![0; lent::converted_bytes()];
+/// assert_eq!(lent::convert(b"opstore,1\nb,0,9,5,0\n", &mut out), Listed::Printed(18));
+/// assert_eq!(out[..18], *b"opstore,2\nb,0,5,0\n");
+/// assert_eq!(lent::convert(b"opstore,1\n", &mut out[1..]), Listed::NoRoom);
+/// ```
+pub fn convert(listing: &[u8], out: &mut [u8]) -> Listed {
+    lent::convert(listing, out).listed()
 }

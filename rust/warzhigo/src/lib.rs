@@ -29,7 +29,8 @@
 //! - [`Store::repeated_run`] finds two equal runs of operations in one block.
 //! - [`Store::mark`] names the store as it stands, and [`Store::go_back`] returns to it.
 //! - A call outside the rules is [`Refused`] by number, and has changed nothing.
-//! - [`twins`] and [`sums`] answer the questions of a whole listing. [`lent`] has every call on words of any origin.
+//! - [`twins`] and [`sums`] answer the questions of a whole listing, and [`convert`] writes it in the other edition.
+//! - [`lent`] has every call on words of any origin.
 //!
 //! The calls are those of the static library `liblink.a`, whose functions are proved; this crate adds the types around them, and is tested.
 //! What a caller can mix up is an error: an id of another store, or of what has gone, names nothing (2); a mapping with entries of such isn't
@@ -69,7 +70,7 @@ pub use ids::{BlockId, OpId, RegionId, ValueId};
 pub use keys::{
     FragmentId, basic_block_key, basic_block_key_into, compare_keys, operation_key, operation_key_into, region_key, region_key_into,
 };
-pub use listing::{sums, twins};
+pub use listing::{convert, sums, twins};
 pub use mapping::Mapping;
 pub use marks::MarkId;
 pub use reading::{Block, Operation, Region, Totals, Value};

@@ -251,11 +251,6 @@ impl<'a> Block<'a> {
         self.store.existing(self.store.at(BlockRegion, self.n))
     }
 
-    /// Its label; 0 is none. It is never compared.
-    pub fn label(self) -> u32 {
-        self.store.at(BlockLabel, self.n)
-    }
-
     /// Its location.
     pub fn location(self) -> u32 {
         self.store.at(BlockLocation, self.n)

@@ -50,6 +50,7 @@ impl Refused {
             17 => "the replacement can't be remembered: 1,024 are since the oldest set mark",
             18 => "the block to copy to lies inside the operation",
             19 => "an operand or successor names something inside the operation too early",
+            20 => "an `i` line can't be converted to edition 1",
             _ => "a cause that this version doesn't know",
         }
     }
@@ -71,7 +72,7 @@ mod tests {
     /// All but 12, which is retired.
     #[test]
     fn every_cause_has_words_of_its_own() {
-        for cause in (1..=11).chain(13..=19) {
+        for cause in (1..=11).chain(13..=20) {
             let (refused, unknown) = (Refused::by(cause), Refused::by(0));
             assert_eq!(refused.number(), cause);
             assert_ne!(refused.meaning(), unknown.meaning());

@@ -37,7 +37,7 @@ impl Store {
     /// let mut store = Store::new();
     /// let form = store.new_operation(&NewOperation { kind: 7, regions: 1, ..Default::default() })?;
     /// let region = store.operation(form)?.regions().next().unwrap();
-    /// let page = store.new_block(region, 0, 0, &[])?;
+    /// let page = store.new_block(region, 0, &[])?;
     /// for kind in [8, 9, 4, 8, 9] {
     ///     store.new_operation(&NewOperation { kind, parent: Some(page), ..Default::default() })?;
     /// }

@@ -25,7 +25,7 @@ use crate::refused::Refused;
 /// let mut store = Store::new();
 /// let form = store.new_operation(&NewOperation { kind: 7, location: 5, regions: 1, ..Default::default() })?;
 /// let region = store.operation(form)?.regions().next().unwrap();
-/// let page = store.new_block(region, 0, 5, &[3])?;
+/// let page = store.new_block(region, 5, &[3])?;
 /// let typed = store.block(page)?.arguments().next().unwrap();
 /// let check = store.new_operation(&NewOperation { kind: 8, parent: Some(page), operands: &[typed], ..Default::default() })?;
 /// let length = Attribute { key: 2, kind: 63, content: 9, inherent: Inherent::Yes };
@@ -198,12 +198,11 @@ impl Store {
         self.sound.new_operation(&new).accepted().map(|n| OpId::existing(n, self.eras().newest()))
     }
 
-    /// Makes a block at the end of a region, with a label (0 is none; it is never compared), a location and 0 to 16 arguments, by their
-    /// types. Refused by 2, 4 or 3.
+    /// Makes a block at the end of a region, with a location and 0 to 16 arguments, by their types. Refused by 2, 4 or 3.
     #[inline]
-    pub fn new_block(&mut self, region: RegionId, label: u32, location: u32, argument_types: &[u32]) -> Result<BlockId, Refused> {
+    pub fn new_block(&mut self, region: RegionId, location: u32, argument_types: &[u32]) -> Result<BlockId, Refused> {
         let region = region.number_in(self.eras());
-        let outcome = self.sound.new_block(region, label, location, argument_types);
+        let outcome = self.sound.new_block(region, location, argument_types);
         outcome.accepted().map(|n| BlockId::existing(n, self.eras().newest()))
     }
 

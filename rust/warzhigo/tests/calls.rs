@@ -30,7 +30,7 @@ fn example(behind: &str) -> String {
 }
 
 /// Two forms with a block each, and an operation in it.
-const TWO: &str = "o,7,-,5,1,0,0,0\nb,0,0,5,1,3\no,8,0,5,0,1,3,1,0,0\no,7,-,6,1,0,0,0\nb,1,0,6,1,3\no,8,1,6,0,1,3,1,2,0\n";
+const TWO: &str = "o,7,-,5,1,0,0,0\nb,0,5,1,3\no,8,0,5,0,1,3,1,0,0\no,7,-,6,1,0,0,0\nb,1,6,1,3\no,8,1,6,0,1,3,1,2,0\n";
 
 /// What they answer.
 const MADE: &str = "0\n0\n1\n2\n1\n3\n";
@@ -43,7 +43,7 @@ fn the_documents_example() {
 #[test]
 fn building_calls_answer_numbers_or_ok() {
     assert_eq!(answers(TWO), MADE);
-    let more = "a,o,1,4,63,9\na,b,1,4,0,1\ns,1,0,3\na,o,1,4,64,9\ns,1,1,0\ns,9,0,0\no,1,9,0,0,0,0,0\nb,2,0,0,0\n";
+    let more = "a,o,1,4,63,9\na,b,1,4,0,1\ns,1,0,3\na,o,1,4,64,9\ns,1,1,0\ns,9,0,0\no,1,9,0,0,0,0,0\nb,2,0,0\n";
     assert_eq!(answers(&format!("{TWO}{more}")), format!("{MADE}ok\nok\nok\nrefused,6\nrefused,7\nrefused,2\nrefused,2\nrefused,2\n"));
     let inherent = "i,o,1,4,63,9\ni,b,1,4,0,1\ni,o,1,4,64,9\ni,o,4,4,63,9\ni,b,2,4,63,9\n";
     assert_eq!(answers(&format!("{TWO}{inherent}")), format!("{MADE}ok\nok\nrefused,6\nrefused,2\nrefused,2\n"));
@@ -92,7 +92,7 @@ fn copies_and_their_mappings() {
     let into_entries = "copy,8\nv1>8//o1>8\nrefused,8\nrefused,2\nsound\n";
     assert_eq!(answers(&format!("{TWO}{lines}")), format!("{MADE}{copied}{into_entries}"));
     // an argument in the operation's own region is named before it has a number
-    let early = "o,7,-,5,1,0,1,0,0\nb,2,0,5,1,3\nX,4,-\ns,4,0,4\nX,4,-\n";
+    let early = "o,7,-,5,1,0,1,0,0\nb,2,5,1,3\nX,4,-\ns,4,0,4\nX,4,-\n";
     assert_eq!(answers(&format!("{TWO}{early}")), format!("{MADE}4\n2\ncopy,5\nok\nrefused,19\n"));
     // marks take copies away, and remember nothing of them
     marks("M,1\nX,0,-\nX,0,1\n", "totals 4 0 0|marks [1] remembered 0");
@@ -177,7 +177,7 @@ fn marks_are_set_and_gone_back_to() {
     assert_eq!(answers(lines), "ok\nok\nok\nok\nrefused,16\nrefused,16\nrefused,16\nrefused,16\nok\n");
     marks("M,1\nM,2\nM,1\ns,1,0,3\na,o,1,4,1,9\na,o,1,4,1,9\ns,1,0,3\n", "totals 2 0 1|marks [2,1] remembered 3");
     marks("M,1\nM,2\nM,1\ns,1,0,3\ni,o,1,4,1,9\nG,1\n", "totals 2 0 0|marks [2,1] remembered 0");
-    marks("M,8\no,1,-,0,1,1,7,1,0,1,0\nM,3\nb,2,0,0,0\nG,8\n", "value 3 3 o3.0|totals 2 0 0|marks [8] remembered 0");
+    marks("M,8\no,1,-,0,1,1,7,1,0,1,0\nM,3\nb,2,0,0\nG,8\n", "value 3 3 o3.0|totals 2 0 0|marks [8] remembered 0");
     let again = "M,1\no,1,-,0,0,0,0,0\nG,1\nq,o,4,4,0,0\no,2,-,0,0,0,0,0\nE,o,4,4\nG,1\nq,o,0,0,0,0\n";
     assert_eq!(answers(&format!("{TWO}{again}")), format!("{MADE}ok\n4\nok\nrefused,2\n4\nok\nrefused,8\n"));
 }
@@ -198,9 +198,9 @@ fn empty_lines_are_passed_over() {
 
 /// Lines that `calls` doesn't take.
 #[rustfmt::skip]
-const NOT_OF_THE_FORM: [&str; 67] = [
+const NOT_OF_THE_FORM: [&str; 68] = [
     "x", "o", "O,7,-,5,1,0,0,0", "o,7,-,5,1,0,0", "o,7,-,5,1,0,0,0,0", "o,7,-,5,1,2,3,0,0", "o,-,-,5,1,0,0,0", "o,+7,-,5,1,0,0,0",
-    "o,07,-,5,1,0,0,0", "o,4294967296,-,5,1,0,0,0", "o, 7,-,5,1,0,0,0", "o,,-,5,1,0,0,0", "b,0,0,5", "b,0,-,5,0", "a,r,0,1,1,1",
+    "o,07,-,5,1,0,0,0", "o,4294967296,-,5,1,0,0,0", "o, 7,-,5,1,0,0,0", "o,,-,5,1,0,0,0", "b,0,5", "b,0,-,0", "b,0,0,5,1,3", "a,r,0,1,1,1",
     "a,o,0,1,1", "a,o,0,1,1,1,i", "i", "i,r,0,1,1,1", "i,o,0,1,1", "i,o,0,1,1,1,1", "s,0,0", "q,x,0,0,0,0", "q,o,0,0,2,0", "q,o,0,0,0",
     "q,o,0,0,0,18446744073709551616", "q,o,0,0,0,0,", "E,r,0,0", "E,v,0", "P,1", "H,o,0,0", "D,0", "S,0", "S\r", " S", "o,7,-,5,1,0,0,0 ",
     "o,7,-,5,1,4294967295,0,0", "K,o,0,0,0", "K,v,0,0,0,9", "K,o,0,0,0,-", "K,o,0,0,0,4294967296", "C,o,0,0,0", "C,o,0,0,2,0", "B,00",

@@ -19,8 +19,8 @@ const RULES: [Ignore; 5] = [
     Ignore { locations: true, bits: u64::MAX },
 ];
 
-fn block(region: u32, label: u32, location: u32, argument_types: &[u32]) -> Call {
-    Call::Block { region, label, location, argument_types: argument_types.to_vec() }
+fn block(region: u32, location: u32, argument_types: &[u32]) -> Call {
+    Call::Block { region, location, argument_types: argument_types.to_vec() }
 }
 
 fn attribute(owner: lent::Owner, key: u32, kind: u32, inherent: Inherent) -> Call {
@@ -41,13 +41,13 @@ fn form() -> Store {
     let inner = |parent| New { kind: 9, parent: Some(parent), location: 6, ..New::default() };
     built([
         Call::Operation(New { kind: 7, location: 5, regions: 2, result_types: vec![3], ..New::default() }),
-        block(0, 4, 5, &[3, 8]),
+        block(0, 5, &[3, 8]),
         Call::Operation(New { regions: 1, operands: vec![1], result_types: vec![8], ..inner(0) }),
-        block(2, 0, 6, &[9]),
+        block(2, 6, &[9]),
         Call::Operation(New { operands: vec![4, 3, 0], successors: vec![1, 0], ..inner(1) }),
         Call::Operation(New { operands: vec![2, 3], result_types: vec![5], successors: vec![0], ..inner(0) }),
         Call::Operation(New { kind: 7, regions: 1, ..New::default() }),
-        block(3, 0, 0, &[]),
+        block(3, 0, &[]),
         Call::Operation(inner(2)),
         attribute(lent::Owner::Op(2), 2, 5, Inherent::No),
         attribute(lent::Owner::Op(2), 1, 63, Inherent::Yes),
@@ -99,7 +99,6 @@ fn numbers_are_in_the_order_of_the_walk() {
     let changed: Vec<&String> = before.iter().filter(|line| !after.contains(line)).collect();
     assert_eq!(changed, ["block 2 3 0 v[] o[5] a[]", "totals 6 3 3"]);
     assert!(after.contains(&"block 2 3 0 v[] o[5,6] a[]".to_string()) && after.contains(&"totals 12 6 6".to_string()));
-    assert_eq!(store.block(store.block_id(3).unwrap()).unwrap().label(), 4);
     assert_eq!(store.operation(store.op_id(9).unwrap()).unwrap().nesting(), 3);
 }
 

@@ -101,7 +101,7 @@ fn damaged_stores() {
 fn kinds_and_flags() {
     let mut store = Store::new();
     let form = Call::Operation(New { regions: 1, ..New::default() });
-    let block = Call::Block { region: 0, label: 0, location: 0, argument_types: vec![] };
+    let block = Call::Block { region: 0, location: 0, argument_types: vec![] };
     for call in [form, block].iter().chain(&building_calls()[2..4]) {
         assert!(apply(&mut store, call, "a store made by hand").is_ok(), "{call:?}");
     }

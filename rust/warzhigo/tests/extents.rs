@@ -29,7 +29,7 @@ fn the_smallest_fragments() {
     let (op, region) = form(&mut store, None);
     extent_is(&store, Sort::Region, 0, &Ignore::NOTHING, of(8, [0, 0, 0, 0]), BY_HAND);
     extent_is(&store, Sort::Op, 0, &Ignore::NOTHING, of(56, [0, 0, 1, 0]), BY_HAND);
-    let block = store.new_block(region, 0, 0, &[3]).unwrap();
+    let block = store.new_block(region, 0, &[3]).unwrap();
     extent_is(&store, Sort::Block, 0, &Ignore::NOTHING, of(40, [1, 1, 0, 0]), BY_HAND);
     extent_is(&store, Sort::Block, 0, &Ignore::LOCATIONS, of(36, [1, 1, 0, 0]), BY_HAND);
     // by an id of whatever sort
@@ -83,7 +83,7 @@ fn nesting_is_counted_below_the_fragment() {
     let mut parent = None;
     for _ in 0..33 {
         let (_, region) = form(&mut store, parent);
-        parent = Some(store.new_block(region, 0, 0, &[]).unwrap());
+        parent = Some(store.new_block(region, 0, &[]).unwrap());
     }
     let picture = Picture::of(&store, BY_HAND);
     for n in 0..33 {

@@ -1,5 +1,6 @@
 /* The header from C: two operations built, compared, hashed, measured and filed, types renamed, a mark gone back to, attributes set, an
- * operation copied, and a listing's question answered. Gives the number of the first thing that isn't as it should be, or 0. */
+ * operation copied, a listing's question answered, and the listing converted. Gives the number of the first thing that isn't as it should be,
+ * or 0. */
 #include "warzhigo.h"
 
 #include <stdlib.h>
@@ -32,8 +33,8 @@ int main(void) {
 
     uint32_t *keyed = malloc(wz_store_words() * sizeof *keyed);
     memcpy(keyed, store, wz_store_words() * sizeof *keyed);
-    const char *listing = "opstore,1\no,7,-,5,0,0,0,0\nq,o,0,0,0,0\n";
-    const char *printed = "eq,-,-,1\nshare,100\n";
+    const char *listing = "opstore,2\no,7,-,5,1,0,0,0\nb,0,5,0\nq,o,0,0,0,0\n";
+    const char *printed = "eq,-,-,2\nshare,100\n";
     uint8_t *out = malloc(wz_output_bytes());
     wz_output answer = wz_twins((const uint8_t *)listing, strlen(listing), store, wz_store_words(), mapping, wz_mapping_words(), out,
                                 wz_output_bytes());
@@ -102,6 +103,16 @@ int main(void) {
     if (extent.code != 0 || extent.bytes != whole.length || extent.values != 1 || extent.operations != 1) return 35;
     if (extent.blocks != 0 || extent.nesting != 0 || wz_region_extent(keyed, wz_store_words(), 0, true, 0).cause != 2) return 36;
     if (wz_known_operation_extent(keyed, wz_store_words(), 1, false, 0).bytes != whole.length + 4) return 37;
+
+    const char *converted = "opstore,1\no,7,-,5,1,0,0,0\nb,0,0,5,0\nq,o,0,0,0,0\n";
+    const char *inherent_line = "opstore,2\ni,o,0,2,5,9\n", *refused_line = "refused,2,20\n";
+    wz_output older = wz_convert((const uint8_t *)listing, strlen(listing), out, wz_converted_bytes());
+    if (older.code != 0 || older.bytes != strlen(converted) || memcmp(out, converted, older.bytes) != 0) return 38;
+    wz_output newer = wz_convert((const uint8_t *)converted, strlen(converted), out, wz_converted_bytes());
+    if (newer.code != 0 || newer.bytes != strlen(listing) || memcmp(out, listing, newer.bytes) != 0) return 39;
+    wz_output unconverted = wz_convert((const uint8_t *)inherent_line, strlen(inherent_line), out, wz_converted_bytes());
+    if (unconverted.code != 0 || unconverted.bytes != strlen(refused_line) || memcmp(out, refused_line, unconverted.bytes) != 0) return 40;
+    if (wz_convert((const uint8_t *)listing, strlen(listing), out, wz_converted_bytes() - 1).code != 2) return 41;
 
     free(index);
     free(keyed);

@@ -42,7 +42,7 @@ impl Tried {
         let mut tried = Tried::default();
         for n in 0..2 {
             tried.make(Call::Operation(New { regions: 1, ..New::default() }));
-            tried.make(Call::Block { region: n, label: 0, location: 0, argument_types: vec![] });
+            tried.make(Call::Block { region: n, location: 0, argument_types: vec![] });
         }
         tried
     }

@@ -27,7 +27,7 @@ fn built(calls: impl IntoIterator<Item = Call>) -> Store {
 }
 
 fn block(region: u32, location: u32, argument_types: &[u32]) -> Call {
-    Call::Block { region, label: 0, location, argument_types: argument_types.to_vec() }
+    Call::Block { region, location, argument_types: argument_types.to_vec() }
 }
 
 fn attribute(owner: Owner, key: u32, kind: u32, content: u32, inherent: Inherent) -> Call {

@@ -1,6 +1,7 @@
-//! The examples of docs/LISTING.md: each listing, with the remarks behind its lines left out, gives the outputs in the table behind it.
+//! The examples of docs/LISTING.md: each listing, with the remarks behind its lines left out, gives the outputs in the table behind it; and the
+//! converter prints for the listings in its table what stands beside them.
 
-use warzhigo::{sums, twins};
+use warzhigo::{convert, sums, twins};
 
 const DOCUMENT: &str = include_str!("../../../docs/LISTING.md");
 
@@ -11,14 +12,24 @@ fn listing(block: &str) -> String {
 
 /// A column of a table's rows, without its empty cells, one to a line.
 fn column(rows: &[Vec<&str>], i: usize) -> String {
-    rows.iter().filter(|row| !row[i].is_empty()).map(|row| format!("{}\n", row[i].trim_matches('`'))).collect()
+    rows.iter().filter(|row| !row[i].is_empty()).map(|row| lines(row[i])).collect()
+}
+
+/// The lines in a cell.
+fn lines(cell: &str) -> String {
+    cell.split("<br>").map(|line| format!("{}\n", line.trim_matches('`'))).collect()
+}
+
+/// The rows of the table that a text begins with, if it has this head.
+fn rows<'a>(text: &'a str, head: &str) -> Option<Vec<Vec<&'a str>>> {
+    let rows = text.trim_start().strip_prefix(head)?.strip_prefix("\n|---|---|\n")?;
+    let cells = |row: &'a str| row.trim_matches('|').split('|').map(str::trim).collect();
+    Some(rows.lines().take_while(|line| line.starts_with('|')).map(cells).collect())
 }
 
 /// The table behind a listing, if it has both outputs.
-fn outputs<'a>(text: &'a str) -> Option<[String; 2]> {
-    let rows = text.trim_start().strip_prefix("| `twins` | `sums` |\n|---|---|\n")?;
-    let cells = |row: &'a str| row.trim_matches('|').split('|').map(str::trim).collect();
-    let rows: Vec<Vec<&str>> = rows.lines().take_while(|line| line.starts_with('|')).map(cells).collect();
+fn outputs(text: &str) -> Option<[String; 2]> {
+    let rows = rows(text, "| `twins` | `sums` |")?;
     Some([column(&rows, 0), column(&rows, 1)])
 }
 
@@ -33,5 +44,18 @@ fn every_example_gives_its_outputs() {
         assert_eq!(String::from_utf8(sums(listing.as_bytes())).unwrap(), sums_print, "{listing}");
         examples += 1;
     }
-    assert!(examples >= 6, "{examples} examples were found");
+    assert!(examples >= 8, "{examples} examples were found");
+}
+
+#[test]
+fn every_listing_is_converted_as_its_table_says() {
+    const HEAD: &str = "| Converted | Prints |";
+    let (_, section) = DOCUMENT.split_once("\n## The converter\n").expect("the section");
+    let table = section.find(HEAD).expect("the table");
+    let rows = rows(&section[table..], HEAD).expect("its rows");
+    for row in &rows {
+        let [listing, printed] = [lines(row[0]), lines(row[1])];
+        assert_eq!(String::from_utf8(convert(listing.as_bytes())).unwrap(), printed, "{listing}");
+    }
+    assert!(rows.len() >= 3, "{} listings were found", rows.len());
 }

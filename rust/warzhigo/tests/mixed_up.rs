@@ -15,7 +15,7 @@ fn form() -> Form {
     let mut store = Store::new();
     let outer = store.new_operation(&NewOperation { kind: 7, regions: 1, ..Default::default() }).unwrap();
     let region = store.operation(outer).unwrap().regions().next().unwrap();
-    let block = store.new_block(region, 0, 0, &[3]).unwrap();
+    let block = store.new_block(region, 0, &[3]).unwrap();
     let argument = store.block(block).unwrap().arguments().next().unwrap();
     let inner = NewOperation { kind: 8, parent: Some(block), result_types: &[3], operands: &[argument], ..Default::default() };
     let inner = store.new_operation(&inner).unwrap();
@@ -38,7 +38,7 @@ fn ids_of_another_store_are_nothing_there() {
     assert_eq!(cause(store.new_operation(&NewOperation { operands: &[form.values[0], other.values[0]], ..new })), Some(2));
     assert_eq!(cause(store.new_operation(&NewOperation { successors: &[other.block], ..new })), Some(2));
     assert_eq!(cause(store.new_operation(&NewOperation { operands: &[other.values[0]; 17], ..new })), Some(2));
-    assert_eq!(cause(store.new_block(other.region, 0, 0, &[])), Some(2));
+    assert_eq!(cause(store.new_block(other.region, 0, &[])), Some(2));
     let attribute = Attribute { key: 1, kind: 1, content: 1, inherent: Inherent::No };
     assert_eq!(cause(store.set_attribute(other.ops[0], attribute)), Some(2));
     assert_eq!(cause(store.set_attribute(other.block, attribute)), Some(2));

@@ -51,7 +51,7 @@ fn typed(store: &mut Store, result: u32) -> OpId {
 fn page(store: &mut Store, argument: u32) -> OpId {
     let op = store.new_operation(&NewOperation { kind: 7, regions: 1, ..Default::default() }).unwrap();
     let region = store.operation(op).unwrap().regions().next().unwrap();
-    store.new_block(region, 0, 0, &[argument]).unwrap();
+    store.new_block(region, 0, &[argument]).unwrap();
     op
 }
 

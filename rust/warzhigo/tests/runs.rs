@@ -15,7 +15,7 @@ impl Page {
         let mut store = Store::new();
         let form = store.new_operation(&NewOperation { kind: 7, regions: 1, ..Default::default() }).unwrap();
         let region = store.operation(form).unwrap().regions().next().unwrap();
-        let block = store.new_block(region, 0, 0, &[3]).unwrap();
+        let block = store.new_block(region, 0, &[3]).unwrap();
         Page { store, block }
     }
 
@@ -125,7 +125,7 @@ fn nested_regions_count() {
         let outer = NewOperation { kind: 8, parent: Some(page.block), regions: 1, ..Default::default() };
         let outer = page.store.new_operation(&outer).unwrap();
         let region = page.store.operation(outer).unwrap().regions().next().unwrap();
-        let block = page.store.new_block(region, 0, 0, &[]).unwrap();
+        let block = page.store.new_block(region, 0, &[]).unwrap();
         page.store.new_operation(&NewOperation { kind: inner, parent: Some(block), ..Default::default() }).unwrap();
     }
     assert_eq!(page.runs(1), run(0, 2));

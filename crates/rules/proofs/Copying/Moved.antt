@@ -94,7 +94,7 @@ module _ (s t : Store) (n : ℕ) (oc bc rc vc : ℕ → ℕ) where
         ≡ record { kind = (op_at s m).kind; parent = p; location = (op_at s m).location; operands = map vc (op_at s m).operands; successors = map bc (op_at s m).successors; attributes = (op_at s m).attributes })
     pub block_entry :
         (b : ℕ) → Memᴰ b (defines_blocks s op n)
-        → (r : ℕ) × (l : ℕ) × (block_at t (bc b) ≡ record { region = r; label = l; location = (block_at s b).location; attributes = (block_at s b).attributes })
+        → (r : ℕ) × (block_at t (bc b) ≡ record { region = r; location = (block_at s b).location; attributes = (block_at s b).attributes })
 
   module _ (sd : Sound s) (ex : op_exists s n ≡ true) (mv : Moved) where
     abbrev P : Event → Event → Type 0
@@ -130,7 +130,7 @@ module _ (s t : Store) (n : ℕ) (oc bc rc vc : ℕ → ℕ) where
     block_pair : (b : ℕ) → Memᴰ b (defines_blocks s op n) → OwnerPair s t vc bc renamed_owner (of_block b) (of_block (bc b))
     unfolding renamed_owner block_owner shell_of counts_of
     block_pair b k =
-        let e = (mv.block_entry b k).2 in
+        let e = (mv.block_entry b k).1 in
         let v = mv.values (of_block b) (block_owned s sd n ex k) in
         record {
           owner = refl;

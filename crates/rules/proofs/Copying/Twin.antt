@@ -129,7 +129,7 @@ module _ (s : Store) (sd : Sound s) (n : ℕ) (ex : op_exists s n ≡ true) (pla
         regions = λ m k. regions_new s sd n ex place pe k;
         values = λ w k. ap (values_of with) (owner_is w) ∙ values_new s sd n ex place pe k;
         op_entry = λ m k. (parent_copy s n place m, new_op s n place k);
-        block_entry = λ b k. (region_copy s n (block_at s b).region, (block_at s b).label, new_block_lem s n place k);
+        block_entry = λ b k. (region_copy s n (block_at s b).region, new_block_lem s n place k);
       }
 
   -- ---- the original
@@ -157,7 +157,7 @@ module _ (s : Store) (sd : Sound s) (n : ℕ) (ex : op_exists s n ≡ true) (pla
           regions = λ m k. regions_old s sd n ex place pe m (op_below s sd n ex k) ∙ sym (map-id _);
           values = λ w k. ap (values_of with) (self_is w) ∙ values_old s sd n ex place pe w (owner_here s sd n ex place pe k) ∙ sym (map-id _);
           op_entry = λ m k. ((op_at s m).parent, old_op s n place m (op_below s sd n ex k) ∙ op_same (op_at s m));
-          block_entry = λ b k. ((block_at s b).region, (block_at s b).label, old_block s n place b (block_below s sd n ex k));
+          block_entry = λ b k. ((block_at s b).region, old_block s n place b (block_below s sd n ex k));
         }
       where
         op_same : (o : Op) → o ≡ record { kind = o.kind; parent = o.parent; location = o.location; operands = map same o.operands; successors = map same o.successors; attributes = o.attributes }

@@ -1,5 +1,5 @@
--- How long a key is, step by step, and that it is so whatever the types: every type takes 4 bytes, a shell's attributes and location are the
--- same under every list of renamed types, and the numbers that names get don't depend on types. Assumes nothing.
+-- How long a key is doesn't depend on types: every type takes 4 bytes, a shell's attributes and location are the same under every list of
+-- renamed types, and the numbers that names get don't depend on types. Assumes nothing.
 use Prim.Native.Nat.{ℕ, ◌+◌, ◌*◌}
 use native.Mathlib.Omega.{arith}
 use mathlib.Core.List.{List, [], ◌∷◌, ◌++◌}
@@ -13,55 +13,7 @@ use Rattle.rules.specs.Hash.{leaf, count, list_bytes, location_bytes, shell_byte
 use Rattle.rules.specs.Types.{present, renamed}
 use Rattle.rules.specs.Keys.{key}
 use Rattle.rules.proofs.Types.Renamed.{shell_renamed, shell_renamed_lem, steps_renamed, numbered_renamed}
-use Rattle.rules.proofs.Form.SameShells.{types_count}
-use Rattle.rules.proofs.Keys.Longest.{leaf_length, count_length, uses_length, shell_length}
-
--- ---- what each step takes
-
-module _ (s : Store) (ig : Ignore) (N : Numbering) where
-  pub op_step_length : (n : ℕ)
-      → length (feeds count s ig (shell (of_op n)) N)
-      ≡ 28 + length (location_bytes (shell_of s ig (of_op n)).location)
-      + 13 * length (shell_of s ig (of_op n)).attributes + 4 * length (values_of s (of_op n))
-  unfolding feeds head_bytes
-  op_step_length n =
-      let head = leaf (op_at s n).kind ++ count (length (regions_of s n)) in
-      omega (
-        arith,
-        length-append head (shell_bytes count (shell_of s ig (of_op n))),
-        length-append (leaf (op_at s n).kind) (count (length (regions_of s n))),
-        leaf_length (op_at s n).kind,
-        count_length (length (regions_of s n)),
-        shell_length (shell_of s ig (of_op n)),
-        types_count s ig (of_op n),
-      )
-
-  pub block_step_length : (b : ℕ)
-      → length (feeds count s ig (shell (of_block b)) N)
-      ≡ 16 + length (location_bytes (shell_of s ig (of_block b)).location)
-      + 13 * length (shell_of s ig (of_block b)).attributes + 4 * length (values_of s (of_block b))
-  unfolding feeds head_bytes
-  block_step_length b = omega (arith, shell_length (shell_of s ig (of_block b)), types_count s ig (of_block b))
-
-  pub names_step_length : (n : ℕ)
-      → length (feeds count s ig (names n) N)
-      ≡ 16 + length (concat_map (λ (v : ℕ). name_bytes (name_of N.values v)) (op_at s n).operands)
-      + length (concat_map (λ (b : ℕ). name_bytes (name_of N.blocks b)) (op_at s n).successors)
-  unfolding feeds
-  names_step_length n =
-      omega (
-        arith,
-        length-append (list_bytes count (λ (v : ℕ). name_bytes (name_of N.values v)) (op_at s n).operands)
-            (list_bytes count (λ (b : ℕ). name_bytes (name_of N.blocks b)) (op_at s n).successors),
-        uses_length (name_of N.values) (op_at s n).operands,
-        uses_length (name_of N.blocks) (op_at s n).successors,
-      )
-
-  pub counted_step_length : (k : ℕ) → length (feeds count s ig (counted k) N) ≡ 8
-  unfolding feeds
-  counted_step_length k = count_length k
-
--- ---- under a list of types
+use Rattle.rules.proofs.Keys.Longest.{shell_length}
 
 module _ (types : List ℕ) where
   -- a shell, with present types

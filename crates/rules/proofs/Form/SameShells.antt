@@ -63,7 +63,7 @@ unfolding same_shells
     )
 
 -- a shell has a type for each value
-pub types_count : (s : Store) (ig : Ignore) (w : Owner) → length (shell_of s ig w).types ≡ length (values_of s w)
+types_count : (s : Store) (ig : Ignore) (w : Owner) → length (shell_of s ig w).types ≡ length (values_of s w)
 unfolding shell_of
 types_count s ig (of_op n) = length-map (values_of s (of_op n)) (type_of s)
 types_count s ig (of_block b) = length-map (values_of s (of_block b)) (type_of s)

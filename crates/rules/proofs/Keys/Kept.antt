@@ -80,7 +80,7 @@ applied_fits s (new_operation o) h f =
 applied_fits s (new_block b) h f =
     let p = passed _ h in
     let q = passed _ f in
-    let new : Block = record { region = b.region; label = b.label; location = b.location; attributes = [] } in
+    let new : Block = record { region = b.region; location = b.location; attributes = [] } in
     fields_of_lem (applied s (new_block b)) p.0 (all_append block_fits s.blocks (new ∷ []) p.1.0 (one_block new (every_of _ (q.0, (refl, tt))))) (all_append value_fits s.values _ p.1.1.0 (values_put _ b.types q.1.0))
 applied_fits s (set_attribute (of_op n) a) h f =
     let p = passed _ h in

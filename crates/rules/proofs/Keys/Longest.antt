@@ -92,19 +92,19 @@ unfolding bytes
 bytes_length zero n = refl
 bytes_length (suc k) n = ap suc (bytes_length k (n / 256))
 
-pub leaf_length : (n : ℕ) → length (leaf n) ≡ 4
+leaf_length : (n : ℕ) → length (leaf n) ≡ 4
 unfolding leaf
 leaf_length n = bytes_length 4 n
 
-pub count_length : (n : ℕ) → length (count n) ≡ 8
+count_length : (n : ℕ) → length (count n) ≡ 8
 unfolding count
 count_length n = bytes_length 8 n
 
-pub walk_name_length : (i : ℕ) → length (name_bytes (walk_number i)) ≡ 9
+walk_name_length : (i : ℕ) → length (name_bytes (walk_number i)) ≡ 9
 unfolding name_bytes tag
 walk_name_length i = omega (arith, length-append (bytes 1 0) (count i), bytes_length 1 0, count_length i)
 
-pub store_name_length : (n : ℕ) → length (name_bytes (store_number n)) ≡ 5
+store_name_length : (n : ℕ) → length (name_bytes (store_number n)) ≡ 5
 unfolding name_bytes tag
 store_name_length n = omega (arith, length-append (bytes 1 1) (leaf n), bytes_length 1 1, leaf_length n)
 
@@ -125,12 +125,12 @@ attribute_length a =
       leaf_length a.content,
     )
 
-pub attributes_length : (xs : List Attribute) → length (concat_map attribute_bytes xs) ≡ 13 * length xs
+attributes_length : (xs : List Attribute) → length (concat_map attribute_bytes xs) ≡ 13 * length xs
 unfolding concat_map
 attributes_length [] = refl
 attributes_length (x ∷ xs) = omega (arith, length-append (attribute_bytes x) (concat_map attribute_bytes xs), attribute_length x, attributes_length xs)
 
-pub leaves_length : (xs : List ℕ) → length (concat_map leaf xs) ≡ 4 * length xs
+leaves_length : (xs : List ℕ) → length (concat_map leaf xs) ≡ 4 * length xs
 unfolding concat_map
 leaves_length [] = refl
 leaves_length (x ∷ xs) = omega (arith, length-append (leaf x) (concat_map leaf xs), leaf_length x, leaves_length xs)
@@ -140,7 +140,7 @@ unfolding concat_map
 names_most g [] = le_refl 0
 names_most g (n ∷ ns) = omega (arith, length-append (name_bytes (g n)) (concat_map (λ (m : ℕ). name_bytes (g m)) ns), name_most (g n), names_most g ns)
 
-pub uses_length : (g : ℕ → Name) (ns : List ℕ)
+uses_length : (g : ℕ → Name) (ns : List ℕ)
     → length (list_bytes count (λ (n : ℕ). name_bytes (g n)) ns) ≡ 8 + length (concat_map (λ (n : ℕ). name_bytes (g n)) ns)
 unfolding list_bytes
 uses_length g ns = omega (arith, length-append (count (length ns)) (concat_map (λ (n : ℕ). name_bytes (g n)) ns), count_length (length ns))

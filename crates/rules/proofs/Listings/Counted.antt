@@ -14,7 +14,7 @@ use Rattle.rules.specs.Fragments.{Sort, fragment_ops}
 use Rattle.rules.specs.Building.{Built, made, accepted, refused, answer, built}
 use Rattle.rules.specs.Mapping.{empty_mapping}
 use Rattle.rules.specs.Answers.{Compared, eq, neq, refused as refused_compared, comparison}
-use Rattle.rules.specs.Lines.{Line, building, query, parse}
+use Rattle.rules.specs.Lines.{Edition, Line, building, query, parse}
 use Rattle.rules.specs.Listings.{Tally, no_tally, tallied, share, Progress, LineOutcome, prints, stops, at_start, building_does, line_does, does, max_line, keeps, leaves, twins_answer, twins_program}
 use Rattle.rules.specs.Asked.{Asked, answered_for, asked_by, asked_in, asked_then, asked, inside, inside_equal}
 use Rattle.rules.proofs.Basics.Tests.{and_right, or_cases, or_left, or_right}
@@ -72,36 +72,37 @@ meaning_counts now none = refl
 meaning_counts now (some (building c)) = building_counts (answer now.store c) (built now.store c) now
 meaning_counts now (some (query f l r ig)) = query_counts (comparison true now.store [] empty_mapping ig f l r).answer f r now
 
-line_counts : (now : Progress) (line : List ℕ) → Counts now (does twins_program now line) (asked_in now line)
+line_counts : (e : Edition) (now : Progress) (line : List ℕ) → Counts now (does twins_program e now line) (asked_in e now line)
 unfolding does asked_in
-line_counts now line = go (leb (length line) max_line)
+line_counts e now line = go (leb (length line) max_line)
   where
-    go : (b : Bool) → Counts now (cond b (line_does twins_program now (parse line)) (stops 11)) (cond b (asked_by now (parse line)) [])
-    go true = meaning_counts now (parse line)
+    go : (b : Bool) → Counts now (cond b (line_does twins_program now (parse e line)) (stops 11)) (cond b (asked_by now (parse e line)) [])
+    go true = meaning_counts now (parse e line)
     go false = refl
 
 -- ---- lines one after the other
 
-lines_count : (now : Progress) (lines : List (List ℕ)) → (leaves twins_program now lines).tally ≡ tally_all now.tally (asked now lines)
+lines_count : (e : Edition) (now : Progress) (lines : List (List ℕ))
+    → (leaves twins_program e now lines).tally ≡ tally_all now.tally (asked e now lines)
 unfolding leaves asked keeps asked_then tally_all
-lines_count now [] = refl
-lines_count now (line ∷ lines) = go (does twins_program now line) (line_counts now line) (λ next. lines_count next lines)
+lines_count e now [] = refl
+lines_count e now (line ∷ lines) = go (does twins_program e now line) (line_counts e now line) (λ next. lines_count e next lines)
   where
-    go : (o : LineOutcome) → Counts now o (asked_in now line)
-        → ((next : Progress) → (leaves twins_program next lines).tally ≡ tally_all next.tally (asked next lines))
-        → (keeps o now (λ next. leaves twins_program next lines)).tally ≡ tally_all now.tally (asked_in now line ++ asked_then o (λ next. asked next lines))
-    go (prints out next) e rest =
-        rest next ∙ ap (λ (t : Tally). tally_all t (asked next lines)) e ∙ sym (tally_append now.tally (asked_in now line) (asked next lines))
-    go (stops cause) e rest = ap (λ (qs : List Asked). tally_all now.tally (qs ++ [])) (sym e)
+    go : (o : LineOutcome) → Counts now o (asked_in e now line)
+        → ((next : Progress) → (leaves twins_program e next lines).tally ≡ tally_all next.tally (asked e next lines))
+        → (keeps o now (λ next. leaves twins_program e next lines)).tally ≡ tally_all now.tally (asked_in e now line ++ asked_then o (λ next. asked e next lines))
+    go (prints out next) h rest =
+        rest next ∙ ap (λ (t : Tally). tally_all t (asked e next lines)) h ∙ sym (tally_append now.tally (asked_in e now line) (asked e next lines))
+    go (stops cause) h rest = ap (λ (qs : List Asked). tally_all now.tally (qs ++ [])) (sym h)
 
-module _ (lines : List (List ℕ)) (m : ℕ) where
-  pub counted_all : (leaves twins_program at_start lines).tally.all m ≡ any (inside m) (asked at_start lines)
+module _ (e : Edition) (lines : List (List ℕ)) (m : ℕ) where
+  pub counted_all : (leaves twins_program e at_start lines).tally.all m ≡ any (inside m) (asked e at_start lines)
   unfolding at_start no_tally
-  counted_all = ap (λ (t : Tally). t.all m) (lines_count at_start lines) ∙ all_of_them m no_tally (asked at_start lines)
+  counted_all = ap (λ (t : Tally). t.all m) (lines_count e at_start lines) ∙ all_of_them m no_tally (asked e at_start lines)
 
-  pub counted_equal : (leaves twins_program at_start lines).tally.equal m ≡ any (inside_equal m) (asked at_start lines)
+  pub counted_equal : (leaves twins_program e at_start lines).tally.equal m ≡ any (inside_equal m) (asked e at_start lines)
   unfolding at_start no_tally
-  counted_equal = ap (λ (t : Tally). t.equal m) (lines_count at_start lines) ∙ equal_of_them m no_tally (asked at_start lines)
+  counted_equal = ap (λ (t : Tally). t.equal m) (lines_count e at_start lines) ∙ equal_of_them m no_tally (asked e at_start lines)
 
 -- ---- equal ones are a part of all, and so the share is at most 100
 
@@ -114,10 +115,10 @@ equal_part m (q ∷ qs) h = go (or_cases (inside_equal m q) (any (inside_equal m
     go (inr e) rest = or_right (inside m q) (any (inside m) qs) (rest e)
 equal_part m [] h = h
 
-pub share_most : (lines : List (List ℕ)) → share (leaves twins_program at_start lines).tally ≤ 100
+pub share_most : (e : Edition) (lines : List (List ℕ)) → share (leaves twins_program e at_start lines).tally ≤ 100
 unfolding share
-share_most lines =
-    let t = (leaves twins_program at_start lines).tally in
+share_most e lines =
+    let t = (leaves twins_program e at_start lines).tally in
     per_cent_most (count_below max_ops t.equal) (count_below max_ops t.all)
     (count_le t.equal t.all max_ops
-    (λ m l e. counted_all lines m ∙ equal_part m (asked at_start lines) (sym (counted_equal lines m) ∙ e)))
+    (λ m l h. counted_all e lines m ∙ equal_part m (asked e at_start lines) (sym (counted_equal e lines m) ∙ h)))

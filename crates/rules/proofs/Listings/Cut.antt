@@ -1,13 +1,13 @@
--- Bytes that are cut at one byte go entry by entry: what stands before the first such byte is the first piece, and nothing is lost but
--- the bytes at which they are cut. Assumes nothing.
+-- Bytes that are cut at one byte go entry by entry: what stands before the first such byte is the first piece. So nothing is lost: the pieces,
+-- each with that byte behind it, are the bytes again, and pieces that are put together so are cut into themselves. Assumes nothing.
 use Prim.Native.Nat.{ℕ, suc, ◌+◌}
 use native.Mathlib.Omega.{arith}
 use mathlib.Core.Bool.{Bool, true, false, cond, not}
 use mathlib.Core.List.{List, [], ◌∷◌, ◌++◌}
-use mathlib.Core.Path.{◌≡◌, refl}
-use borrow.Author.Tests.{eq-eqb, not-true}
+use mathlib.Core.Path.{◌≡◌, refl, sym, ap, ◌∙◌}
+use borrow.Author.Tests.{eq-eqb, eqb-true, not-true}
 use lib.Dec.{eqb}
-use lib.ListN.{length}
+use lib.ListN.{length, length-append}
 use Rattle.rules.specs.Lists.{all}
 use Rattle.rules.specs.Bytes.{comma, Pieces, new_piece, longer_by, cut_at}
 use Rattle.rules.specs.Lines.{fields_of}
@@ -15,9 +15,12 @@ use Rattle.rules.proofs.Basics.Tests.{and_left, and_right}
 
 -- ---- the first piece
 
+abbrev pub other_than : ℕ → ℕ → Bool
+other_than b x = not (eqb x b)
+
 -- b is not among these bytes
 abbrev pub Without : ℕ → List ℕ → Type 0
-Without b xs = all (λ (x : ℕ). not (eqb x b)) xs ≡ true
+Without b xs = all (other_than b) xs ≡ true
 
 -- a piece in front of others
 abbrev pub in_front : List ℕ → Pieces → Pieces
@@ -39,6 +42,38 @@ cut_none b (x ∷ xs) h =
 
 -- ---- nothing is lost
 
+-- pieces, with b behind each
+abbrev pub ended : ℕ → List (List ℕ) → List ℕ
+ended b [] = []
+ended b (p ∷ ps) = p ++ b ∷ ended b ps
+
+one_more_ended : (b x : ℕ) (t : Bool) → eqb x b ≡ t → (p : Pieces)
+    → ended b (cond t (new_piece p) (longer_by x p.whole p.rest)).whole ++ (cond t (new_piece p) (longer_by x p.whole p.rest)).rest
+    ≡ x ∷ (ended b p.whole ++ p.rest)
+unfolding new_piece longer_by
+one_more_ended b x true e p = ap (λ (y : ℕ). y ∷ (ended b p.whole ++ p.rest)) (sym (eqb-true x b e))
+one_more_ended b x false e p = go p.whole
+  where
+    go : (ps : List (List ℕ)) → ended b (longer_by x ps p.rest).whole ++ (longer_by x ps p.rest).rest ≡ x ∷ (ended b ps ++ p.rest)
+    go [] = refl
+    go (q ∷ qs) = refl
+
+pub ended_cut : (b : ℕ) (xs : List ℕ) → ended b (cut_at b xs).whole ++ (cut_at b xs).rest ≡ xs
+unfolding cut_at
+ended_cut b [] = refl
+ended_cut b (x ∷ xs) = one_more_ended b x (eqb x b) refl (cut_at b xs) ∙ ap (λ (l : List ℕ). x ∷ l) (ended_cut b xs)
+
+-- the test passes at each byte of each piece
+abbrev pub each : (ℕ → Bool) → List (List ℕ) → Bool
+each p ps = all (λ (q : List ℕ). all p q) ps
+
+pub cut_ended : (b : ℕ) (ps : List (List ℕ)) → each (other_than b) ps ≡ true → cut_at b (ended b ps) ≡ record { whole = ps; rest = [] }
+unfolding all cut_at
+cut_ended b [] h = refl
+cut_ended b (p ∷ ps) h = cut_first b p (ended b ps) (and_left _ _ h) ∙ ap (in_front p) (cut_ended b ps (and_right (all (other_than b) p) _ h))
+
+-- ---- how long they are
+
 -- the bytes of pieces, each with the byte that ends it
 abbrev pub weight : List (List ℕ) → ℕ
 weight [] = 0
@@ -48,22 +83,14 @@ weight_append : (ps qs : List (List ℕ)) → weight (ps ++ qs) ≡ weight ps + 
 weight_append [] qs = omega arith
 weight_append (p ∷ ps) qs = omega (arith, weight_append ps qs)
 
-longer_weight : (x : ℕ) (ps : List (List ℕ)) (rest : List ℕ)
-    → weight (longer_by x ps rest).whole + length (longer_by x ps rest).rest ≡ suc (weight ps + length rest)
-unfolding longer_by
-longer_weight x [] rest = omega arith
-longer_weight x (p ∷ ps) rest = omega arith
-
-one_more_lem : (t : Bool) (x n : ℕ) (p : Pieces) → weight p.whole + length p.rest ≡ n
-    → weight (cond t (new_piece p) (longer_by x p.whole p.rest)).whole + length (cond t (new_piece p) (longer_by x p.whole p.rest)).rest ≡ suc n
-unfolding new_piece
-one_more_lem true x n p e = omega arith
-one_more_lem false x n p e = omega (arith, longer_weight x p.whole p.rest)
+pub ended_length : (b : ℕ) (ps : List (List ℕ)) → length (ended b ps) ≡ weight ps
+ended_length b [] = refl
+ended_length b (p ∷ ps) = omega (arith, length-append p (b ∷ ended b ps), ended_length b ps)
 
 pub cut_weight : (b : ℕ) (bytes : List ℕ) → weight (cut_at b bytes).whole + length (cut_at b bytes).rest ≡ length bytes
-unfolding cut_at
-cut_weight b [] = refl
-cut_weight b (x ∷ xs) = one_more_lem (eqb x b) x (length xs) (cut_at b xs) (cut_weight b xs)
+cut_weight b bytes =
+    let e : length (ended b (cut_at b bytes).whole ++ (cut_at b bytes).rest) ≡ length bytes = ap length (ended_cut b bytes) in
+    omega (arith, length-append (ended b (cut_at b bytes).whole) (cut_at b bytes).rest, ended_length b (cut_at b bytes).whole)
 
 pub fields_weight : (line : List ℕ) → weight (fields_of line) ≡ suc (length line)
 unfolding fields_of

@@ -6,20 +6,21 @@ use native.Mathlib.Omega.{arith}
 use mathlib.Core.Bool.{Bool, true, false, cond}
 use mathlib.Core.Option.{Option, none, some}
 use mathlib.Core.List.{List, [], ◌∷◌}
-use mathlib.Core.Path.{◌≡◌, refl, ap}
+use mathlib.Core.Path.{◌≡◌, refl, ap, ◌∙◌}
 use borrow.Author.Tests.{leb-true}
 use lib.Dec.{leb}
 use lib.ListN.{length, length-append}
+use Rattle.rules.specs.Lists.{is_some}
 use Rattle.rules.specs.Store.{Store}
 use Rattle.rules.specs.Fragments.{Sort}
 use Rattle.rules.specs.Building.{Built, made, accepted, refused, answer, built, first_failed}
 use Rattle.rules.specs.Shells.{Ignore}
 use Rattle.rules.specs.Answers.{Compared, eq, neq, refused as refused_compared, Hashed, hash_is, refused_hash}
-use Rattle.rules.specs.Bytes.{text, is_text, line_feed, cut_at}
-use Rattle.rules.specs.Lines.{Line, building, query, parse}
-use Rattle.rules.specs.Listings.{share, Progress, LineOutcome, prints, stops, Program, building_does, line_does, max_line, does, proceed, at_end, run, at_start, header_tests, header_cause, listing_cause, behind_first, unless, max_listing, max_output, listed, twins_answer, twins_program, twins, sums_answer, sums_program, sums}
-use Rattle.rules.proofs.Basics.Tests.{numbers_same}
+use Rattle.rules.specs.Bytes.{line_feed, cut_at}
+use Rattle.rules.specs.Lines.{Edition, Line, building, query, parse}
+use Rattle.rules.specs.Listings.{share, Progress, LineOutcome, prints, stops, Program, building_does, line_does, max_line, does, proceed, at_end, run, at_start, edition_of, header_tests, header_cause, listing_cause, behind_first, edition, unless, max_listing, max_output, listed, twins_answer, twins_program, twins, sums_answer, sums_program, sums}
 use Rattle.rules.proofs.Listings.Cut.{weight, cut_weight}
+use Rattle.rules.proofs.Listings.Headers.{edition_header, header_length}
 use Rattle.rules.proofs.Listings.Written.{last_most, line_most, refusal_short, share_short, equal_short, unequal_short, hashes_short}
 use Rattle.rules.proofs.Listings.Taken.{parse_long}
 
@@ -48,19 +49,19 @@ unfolding proceed
 proceed_short j k n (prints out next) g w f h = omega (arith, length-append out (g next), f next)
 proceed_short j k n (stops cause) g w f h = omega (arith, refusal_short n cause)
 
-module _ (p : Program) (t : Terse p) where
-  line_within : (now : Progress) (line : List ℕ) (o : Option Line) → parse line ≡ o → Within (5 * suc (length line)) (line_does p now o)
+module _ (p : Program) (t : Terse p) (e : Edition) where
+  line_within : (now : Progress) (line : List ℕ) (o : Option Line) → parse e line ≡ o → Within (5 * suc (length line)) (line_does p now o)
   unfolding line_does
-  line_within now line none e = tt
-  line_within now line (some (building c)) e = building_within _ (answer now.store c) (built now.store c) now
-  line_within now line (some (query f l r ig)) e = more line_most _ (p.ask now f l r ig) (omega (arith, parse_long line (query f l r ig) e)) (t.ask now f l r ig)
+  line_within now line none h = tt
+  line_within now line (some (building c)) h = building_within _ (answer now.store c) (built now.store c) now
+  line_within now line (some (query f l r ig)) h = more line_most _ (p.ask now f l r ig) (omega (arith, parse_long e line (query f l r ig) h)) (t.ask now f l r ig)
 
-  pub does_within : (now : Progress) (line : List ℕ) → Within (5 * suc (length line)) (does p now line)
+  pub does_within : (now : Progress) (line : List ℕ) → Within (5 * suc (length line)) (does p e now line)
   unfolding does
   does_within now line = go (leb (length line) max_line)
     where
-      go : (b : Bool) → Within (5 * suc (length line)) (cond b (line_does p now (parse line)) (stops 11))
-      go true = line_within now line (parse line) refl
+      go : (b : Bool) → Within (5 * suc (length line)) (cond b (line_does p now (parse e line)) (stops 11))
+      go true = line_within now line (parse e line) refl
       go false = tt
 
   end_short : (n : ℕ) (now : Progress) (rest : List ℕ) → length (at_end p n now rest) ≤ last_most
@@ -68,43 +69,43 @@ module _ (p : Program) (t : Terse p) where
   end_short n now [] = t.close now
   end_short n now (x ∷ rest) = refusal_short n 11
 
-  run_short : (n : ℕ) (now : Progress) (lines : List (List ℕ)) (rest : List ℕ) → length (run p n now lines rest) ≤ 5 * weight lines + last_most
+  run_short : (n : ℕ) (now : Progress) (lines : List (List ℕ)) (rest : List ℕ) → length (run p e n now lines rest) ≤ 5 * weight lines + last_most
   unfolding run
   run_short n now [] rest = omega (arith, end_short n now rest)
   run_short n now (line ∷ lines) rest =
       omega (
         arith,
-        proceed_short (5 * suc (length line)) (5 * weight lines + last_most) n (does p now line) (λ next. run p (suc n) next lines rest)
+        proceed_short (5 * suc (length line)) (5 * weight lines + last_most) n (does p e now line) (λ next. run p e (suc n) next lines rest)
             (does_within now line) (λ next. run_short (suc n) next lines rest) (omega arith),
       )
 
 -- what follows a header, which has 9 bytes, or a refusal
-header_short : (line : List ℕ) (a b : Bool) (k : ℕ) (out : List ℕ) → is_text "opstore,1" line ≡ b → suc (length line) + k ≤ max_listing
+header_short : (line : List ℕ) (a : Bool) (o : Option Edition) (k : ℕ) (out : List ℕ) → edition_of line ≡ o → suc (length line) + k ≤ max_listing
     → length out ≤ 5 * k + last_most
-    → length (unless (first_failed ((a, 11) ∷ (b, 9) ∷ [])) out) ≤ max_output
-unfolding unless first_failed is_text
-header_short line false b k out e h m = omega (arith, refusal_short 1 11)
-header_short line true false k out e h m = omega (arith, refusal_short 1 9)
-header_short line true true k out e h m =
-    let q : length line ≡ 9 = ap length ((numbers_same line (text "opstore,1")).0 e) in
+    → length (unless (first_failed ((a, 11) ∷ (is_some o, 9) ∷ [])) out) ≤ max_output
+unfolding unless first_failed is_some
+header_short line false o k out e h m = omega (arith, refusal_short 1 11)
+header_short line true none k out e h m = omega (arith, refusal_short 1 9)
+header_short line true (some d) k out e h m =
+    let q : length line ≡ 9 = ap length (edition_header line d e) ∙ header_length d in
     omega arith
 
 module _ (p : Program) (t : Terse p) where
-  from_header_short : (lines : List (List ℕ)) (rest : List ℕ) → weight lines ≤ max_listing
-      → length (unless (header_cause lines rest) (run p 2 at_start (behind_first lines) rest)) ≤ max_output
+  from_header_short : (e : Edition) (lines : List (List ℕ)) (rest : List ℕ) → weight lines ≤ max_listing
+      → length (unless (header_cause lines rest) (run p e 2 at_start (behind_first lines) rest)) ≤ max_output
   unfolding header_cause header_tests behind_first unless
-  from_header_short [] [] h = omega (arith, refusal_short 1 9)
-  from_header_short [] (x ∷ rest) h = omega (arith, refusal_short 1 11)
-  from_header_short (line ∷ lines) rest h =
-      header_short line _ _ (weight lines) _ refl (omega arith) (run_short p t _ at_start lines rest)
+  from_header_short e [] [] h = omega (arith, refusal_short 1 9)
+  from_header_short e [] (x ∷ rest) h = omega (arith, refusal_short 1 11)
+  from_header_short e (line ∷ lines) rest h =
+      header_short line _ (edition_of line) (weight lines) _ refl (omega arith) (run_short p t e _ at_start lines rest)
 
   listed_short : (bytes : List ℕ) → length (listed p bytes) ≤ max_output
   unfolding listed listing_cause unless
   listed_short bytes = go (leb (length bytes) max_listing) refl
     where
       go : (b : Bool) → leb (length bytes) max_listing ≡ b
-          → length (unless (cond b (header_cause (cut_at line_feed bytes).whole (cut_at line_feed bytes).rest) (some 11)) (run p 2 at_start (behind_first (cut_at line_feed bytes).whole) (cut_at line_feed bytes).rest)) ≤ max_output
-      go true e = from_header_short _ _ (omega (arith, cut_weight line_feed bytes, leb-true (length bytes) max_listing e))
+          → length (unless (cond b (header_cause (cut_at line_feed bytes).whole (cut_at line_feed bytes).rest) (some 11)) (run p (edition bytes) 2 at_start (behind_first (cut_at line_feed bytes).whole) (cut_at line_feed bytes).rest)) ≤ max_output
+      go true e = from_header_short (edition bytes) _ _ (omega (arith, cut_weight line_feed bytes, leb-true (length bytes) max_listing e))
       go false e = omega (arith, refusal_short 1 11)
 
 -- ---- the two programs

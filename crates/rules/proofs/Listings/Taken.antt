@@ -1,5 +1,5 @@
--- Each field that is read has a byte at least, beside the one that ends it, so a line that means something is not short: the shortest is
--- `s` with three numbers. Assumes nothing.
+-- Each field that is read has a byte at least, beside the one that ends it, so a line that means something is not short: the shortest are
+-- `s` with three numbers and, in edition 2, `b` without arguments. Assumes nothing.
 use Prim.Native.Nat.{ℕ, zero, suc, ◌+◌, ◌≤◌}
 use Prim.Native.String.{String}
 use native.Mathlib.Omega.{arith}
@@ -11,7 +11,7 @@ use lib.Dec.{eqb}
 use lib.ListN.{length}
 use Rattle.rules.specs.Lists.{same_list}
 use Rattle.rules.specs.Bytes.{is_text, well_written, number_below}
-use Rattle.rules.specs.Lines.{Line, Reader, fields_of, and_then, ◌>>=◌, giving, field, one_of, number, ignore_bits, numbers, items, parent_meaning, parent_block, owner, sort, yes_or_no, operation_line, block_line, attribute_line, operand_line, query_line, letter, all_read, wholly, parse}
+use Rattle.rules.specs.Lines.{Edition, edition_1, edition_2, Line, Reader, fields_of, and_then, ◌>>=◌, giving, field, one_of, number, ignore_bits, numbers, items, parent_meaning, parent_block, owner, sort, yes_or_no, operation_line, label, block_line, attribute_line, operand_line, query_line, more_letters, letter, all_read, wholly, parse}
 use Rattle.rules.proofs.Listings.Cut.{weight, fields_weight}
 
 -- whatever the reader gives, it has taken k bytes
@@ -108,18 +108,23 @@ operation_takes =
     (λ operands. then_takes 2 0 _ _ items_takes
     (λ successors. giving_takes _)))))))
 
-block_takes : Takes 8 block_line
+label_takes : (e : Edition) → Takes 0 (label e)
+unfolding label
+label_takes edition_1 = fewer 0 2 _ (omega arith) (then_takes 2 0 _ _ number_takes (λ dropped. giving_takes tt))
+label_takes edition_2 = giving_takes tt
+
+block_takes : (e : Edition) → Takes 6 (block_line e)
 unfolding block_line
-block_takes =
-    then_takes 2 6 _ _ number_takes
-    (λ around. then_takes 2 4 _ _ number_takes
-    (λ label. then_takes 2 2 _ _ number_takes
+block_takes e =
+    then_takes 2 4 _ _ number_takes
+    (λ around. then_takes 0 4 _ _ (label_takes e)
+    (λ no_label. then_takes 2 2 _ _ number_takes
     (λ location. then_takes 2 0 _ _ items_takes
     (λ types. giving_takes _))))
 
-attribute_takes : Takes 10 attribute_line
+attribute_takes : (inherent : Bool) → Takes 10 (attribute_line inherent)
 unfolding attribute_line
-attribute_takes =
+attribute_takes inherent =
     then_takes 2 8 _ _ owner_takes
     (λ of. then_takes 2 6 _ _ number_takes
     (λ n. then_takes 2 4 _ _ number_takes
@@ -172,40 +177,46 @@ module _ {A : Type 0} (P : A → Type 0) where
           let q : b ≡ a = ap (λ (g : A × List (List ℕ)). g.0) (some-injective _ _ e₂) in
           found ws f a h (e₁ ∙ ap some q)
 
+more_letters_take : (e : Edition) → Each (Takes 6) (more_letters e)
+unfolding more_letters
+more_letters_take edition_1 = tt
+more_letters_take edition_2 = (fewer 6 10 _ (omega arith) (attribute_takes true), tt)
+
 -- the shortest of them takes 6
-letter_gives : (fs : List (List ℕ)) (r : Reader Line) (left : List (List ℕ)) → letter fs ≡ some (r, left) → Takes 6 r
+letter_gives : (e : Edition) (fs : List (List ℕ)) (r : Reader Line) (left : List (List ℕ)) → letter e fs ≡ some (r, left) → Takes 6 r
 unfolding letter
-letter_gives fs r left e =
+letter_gives e fs r left h =
     read (Takes 6) _ fs r left (
       fewer 6 14 _ (omega arith) operation_takes,
       (
-        fewer 6 8 _ (omega arith) block_takes,
+        block_takes e,
         (
-          fewer 6 10 _ (omega arith) attribute_takes,
+          fewer 6 10 _ (omega arith) (attribute_takes false),
           (
             operand_takes,
             (
               fewer 6 10 _ (omega arith) query_takes,
-              tt,
+              more_letters_take e,
             ),
           ),
         ),
       ),
     )
-    e
+    h
 
-letter_takes : Takes 2 letter
-unfolding letter one_of is_text same_list
-letter_takes = field_takes _ refl
+letter_takes : (e : Edition) → Takes 2 (letter e)
+unfolding letter one_of is_text same_list more_letters
+letter_takes edition_1 = field_takes _ refl
+letter_takes edition_2 = field_takes _ refl
 
-line_takes : Takes 8 (letter >>= λ line. line)
-line_takes = after_takes 2 6 _ _ letter_takes letter_gives
+line_takes : (e : Edition) → Takes 8 (letter e >>= λ line. line)
+line_takes e = after_takes 2 6 _ _ (letter_takes e) (letter_gives e)
 
 -- a line that means something has 7 bytes at least, before its line feed
-pub parse_long : (line : List ℕ) (l : Line) → parse line ≡ some l → 7 ≤ length line
+pub parse_long : (e : Edition) (line : List ℕ) (l : Line) → parse e line ≡ some l → 7 ≤ length line
 unfolding parse wholly all_read
-parse_long line l e = go ((letter >>= λ more. more) (fields_of line)) refl e
+parse_long e line l h = go ((letter e >>= λ more. more) (fields_of line)) refl h
   where
-    go : (o : Option (Line × List (List ℕ))) → (letter >>= λ more. more) (fields_of line) ≡ o → wholly o ≡ some l → 7 ≤ length line
+    go : (o : Option (Line × List (List ℕ))) → (letter e >>= λ more. more) (fields_of line) ≡ o → wholly o ≡ some l → 7 ≤ length line
     go none e₁ e₂ = absurd (none-ne-some _ e₂)
-    go (some got) e₁ e₂ = omega (arith, line_takes (fields_of line) got.0 got.1 e₁, fields_weight line)
+    go (some got) e₁ e₂ = omega (arith, line_takes e (fields_of line) got.0 got.1 e₁, fields_weight line)

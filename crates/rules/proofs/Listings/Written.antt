@@ -35,7 +35,7 @@ hexadecimal_length : (n : ℕ) → length (hexadecimal n) ≡ 16
 unfolding hexadecimal
 hexadecimal_length n = digits_length 16 16 n
 
-printed_length : (f : List ℕ) (fs : List (List ℕ)) → length (printed (f ∷ fs)) ≡ weight (f ∷ fs)
+pub printed_length : (f : List ℕ) (fs : List (List ℕ)) → length (printed (f ∷ fs)) ≡ weight (f ∷ fs)
 unfolding printed
 printed_length f [] = omega (arith, length-append f (line_feed ∷ []))
 printed_length f (g ∷ fs) = omega (arith, length-append f (comma ∷ printed (g ∷ fs)), printed_length g fs)

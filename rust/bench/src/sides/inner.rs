@@ -59,7 +59,7 @@ impl Side for Inner {
             Call::Operation(new) => self.operation(new),
             Call::Block { region, location, types } => {
                 let region = self.store.region_id(*region).expect("a region made before");
-                accepted(self.store.new_block(region, 0, *location, types));
+                accepted(self.store.new_block(region, *location, types));
             }
             Call::Attribute(op, attribute) => accepted(self.store.set_attribute(self.op(*op), *attribute)),
             Call::Operand { op, index, value } => {

@@ -34,7 +34,7 @@ impl Side for Offered {
         let store = &mut self.words;
         match call {
             Call::Operation(new) => accepted(lent::new_operation(store, &lent_operation(new))),
-            Call::Block { region, location, types } => accepted(lent::new_block(store, *region, 0, *location, types)),
+            Call::Block { region, location, types } => accepted(lent::new_block(store, *region, *location, types)),
             Call::Attribute(op, attribute) => accepted(lent::set_attribute(store, lent::Owner::Op(*op), *attribute)),
             Call::Operand { op, index, value } => accepted(lent::set_operand(store, *op, *index, *value)),
         }

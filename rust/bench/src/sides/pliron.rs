@@ -33,7 +33,7 @@ impl Side for Pliron {
                 black_box(oracle.new_operation(new.kind, new.parent, new.location, new.regions, lists));
             }
             Call::Block { region, location, types } => {
-                black_box(oracle.new_block(*region, 0, *location, types));
+                black_box(oracle.new_block(*region, *location, types));
             }
             Call::Attribute(op, Attribute { key, kind, content, inherent }) => {
                 let attr = NumberAttr { kind: *kind, content: *content, inherent: *inherent == Inherent::Yes };

@@ -24,7 +24,7 @@ pub fn ring_form(store: &mut Store) -> Result<[OpId; 3], Refused> {
 /// A block in an operation's first region.
 fn block_in(store: &mut Store, op: OpId, location: u32, argument_types: &[u32]) -> Result<BlockId, Refused> {
     let region = store.operation(op)?.regions().next().expect("its region");
-    store.new_block(region, 0, location, argument_types)
+    store.new_block(region, location, argument_types)
 }
 
 /// A page: a field, and a check of what is typed there.

@@ -82,10 +82,10 @@ impl SoundWords {
     }
 
     #[inline]
-    pub(crate) fn new_block(&mut self, region: u32, label: u32, location: u32, types: &[u32]) -> Outcome {
+    pub(crate) fn new_block(&mut self, region: u32, location: u32, types: &[u32]) -> Outcome {
         let (store, words) = (self.words.as_mut_ptr(), self.words.len());
         // SAFETY: as above.
-        unsafe { wz_known_new_block(store, words, region, label, location, types.as_ptr(), types.len()) }
+        unsafe { wz_known_new_block(store, words, region, location, types.as_ptr(), types.len()) }
     }
 
     #[inline]
@@ -243,7 +243,7 @@ mod tests {
         let plain = NewOperation { kind: 1, result_types: &[3], ..Default::default() };
         let op = store.new_operation(&NewOperation { regions: 1, ..plain }).unwrap();
         let region = store.operation(op).unwrap().regions().next().unwrap();
-        let block = store.new_block(region, 0, 0, &[4, 5]).unwrap();
+        let block = store.new_block(region, 0, &[4, 5]).unwrap();
         for _ in 0..strangers {
             store.new_operation(&plain).unwrap();
         }

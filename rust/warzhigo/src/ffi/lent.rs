@@ -25,6 +25,13 @@ pub(crate) fn output_bytes() -> usize {
     unsafe { wz_output_bytes() }
 }
 
+/// The bytes that `convert` wants for its output.
+#[inline]
+pub(crate) fn converted_bytes() -> usize {
+    // SAFETY: it takes nothing, and gives a constant.
+    unsafe { wz_converted_bytes() }
+}
+
 /// Bytes that every key fits into.
 #[inline]
 pub(crate) fn key_bytes() -> usize {
@@ -72,9 +79,9 @@ pub(crate) fn new_operation(store: &mut [u32], new: &NewOperation<'_, u32, u32>)
 }
 
 #[inline]
-pub(crate) fn new_block(store: &mut [u32], region: u32, label: u32, location: u32, types: &[u32]) -> Outcome {
+pub(crate) fn new_block(store: &mut [u32], region: u32, location: u32, types: &[u32]) -> Outcome {
     // SAFETY: as above.
-    unsafe { wz_new_block(store.as_mut_ptr(), store.len(), region, label, location, types.as_ptr(), types.len()) }
+    unsafe { wz_new_block(store.as_mut_ptr(), store.len(), region, location, types.as_ptr(), types.len()) }
 }
 
 #[inline]
@@ -180,4 +187,9 @@ pub(crate) fn twins(listing: &[u8], store: &mut [u32], mapping: &mut [u32], out:
 pub(crate) fn sums(listing: &[u8], store: &mut [u32], out: &mut [u8]) -> Output {
     // SAFETY: as above.
     unsafe { wz_sums(listing.as_ptr(), listing.len(), store.as_mut_ptr(), store.len(), out.as_mut_ptr(), out.len()) }
+}
+
+pub(crate) fn convert(listing: &[u8], out: &mut [u8]) -> Output {
+    // SAFETY: as above.
+    unsafe { wz_convert(listing.as_ptr(), listing.len(), out.as_mut_ptr(), out.len()) }
 }

@@ -17,7 +17,7 @@ impl Picture {
         self.allows(call)?;
         match call {
             Call::Operation(new) => Ok(Some(self.new_operation(new))),
-            Call::Block { region, label, location, argument_types } => Ok(Some(self.new_block(*region, *label, *location, argument_types))),
+            Call::Block { region, location, argument_types } => Ok(Some(self.new_block(*region, *location, argument_types))),
             Call::Attribute(owner, attribute) => {
                 self.set_attribute(*owner, *attribute);
                 Ok(None)
@@ -127,11 +127,11 @@ impl Picture {
         n
     }
 
-    pub fn new_block(&mut self, region: u32, label: u32, location: u32, argument_types: &[u32]) -> u32 {
+    pub fn new_block(&mut self, region: u32, location: u32, argument_types: &[u32]) -> u32 {
         let n = self.blocks.len() as u32;
         let arguments = self.new_values(Owner::Block(n), argument_types);
         self.regions[region as usize].blocks.push(n);
-        self.blocks.push(Block { region, label, location, arguments, operations: Vec::new(), attributes: Vec::new() });
+        self.blocks.push(Block { region, location, arguments, operations: Vec::new(), attributes: Vec::new() });
         n
     }
 

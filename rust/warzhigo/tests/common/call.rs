@@ -9,7 +9,7 @@ use super::question::no_entries;
 #[derive(Clone, Debug)]
 pub enum Call {
     Operation(New),
-    Block { region: u32, label: u32, location: u32, argument_types: Vec<u32> },
+    Block { region: u32, location: u32, argument_types: Vec<u32> },
     Attribute(Owner, Attribute),
     Operand { op: u32, index: u32, value: u32 },
     Copy { op: u32, parent: Option<u32> },
@@ -39,9 +39,7 @@ impl Call {
     pub fn lent_into(&self, words: &mut [u32], mapping: &mut [u32]) -> Answer {
         let answer = match self {
             Call::Operation(new) => lent::new_operation(words, &new.lent()).map(Some),
-            Call::Block { region, label, location, argument_types } => {
-                lent::new_block(words, *region, *label, *location, argument_types).map(Some)
-            }
+            Call::Block { region, location, argument_types } => lent::new_block(words, *region, *location, argument_types).map(Some),
             Call::Attribute(owner, attribute) => lent::set_attribute(words, *owner, *attribute).map(|()| None),
             Call::Operand { op, index, value } => lent::set_operand(words, *op, *index, *value).map(|()| None),
             Call::Copy { op, parent } => lent::clone_operation(words, *op, *parent, mapping).map(Some),
@@ -58,9 +56,9 @@ impl Call {
     pub fn by_ids_into(&self, store: &mut Store, mapping: &mut Mapping) -> Option<Answer> {
         let answer = match self {
             Call::Operation(new) => new.by_ids(store)?,
-            Call::Block { region, label, location, argument_types } => {
+            Call::Block { region, location, argument_types } => {
                 let region = store.region_id(*region)?;
-                store.new_block(region, *label, *location, argument_types).map(|block| Some(block.number()))
+                store.new_block(region, *location, argument_types).map(|block| Some(block.number()))
             }
             Call::Attribute(Owner::Op(op), attribute) => store.set_attribute(store.op_id(*op)?, *attribute).map(|()| None),
             Call::Attribute(Owner::Block(block), attribute) => store.set_attribute(store.block_id(*block)?, *attribute).map(|()| None),
@@ -86,7 +84,7 @@ impl Call {
             Call::Operation(New { kind, parent, location, regions, result_types, operands, successors }) => {
                 Some(oracle.new_operation(*kind, *parent, *location, *regions, Lists { result_types, operands, successors }))
             }
-            Call::Block { region, label, location, argument_types } => Some(oracle.new_block(*region, *label, *location, argument_types)),
+            Call::Block { region, location, argument_types } => Some(oracle.new_block(*region, *location, argument_types)),
             Call::Attribute(owner, Attribute { key, kind, content, inherent }) => {
                 let owner = match owner {
                     Owner::Op(n) => oracle::Owner::Op(*n),

@@ -31,12 +31,9 @@ impl Instance {
                 successors: new.successors.iter().map(|block| named(&self.blocks, *block)).collect(),
                 ..new.clone()
             }),
-            Call::Block { region, label, location, argument_types } => Call::Block {
-                region: named(&self.regions, *region),
-                label: *label,
-                location: *location,
-                argument_types: argument_types.clone(),
-            },
+            Call::Block { region, location, argument_types } => {
+                Call::Block { region: named(&self.regions, *region), location: *location, argument_types: argument_types.clone() }
+            }
             Call::Attribute(Owner::Op(n), attribute) => Call::Attribute(Owner::Op(named(&self.ops, *n)), *attribute),
             Call::Attribute(Owner::Block(n), attribute) => Call::Attribute(Owner::Block(named(&self.blocks, *n)), *attribute),
             Call::Operand { op, index, value } => {

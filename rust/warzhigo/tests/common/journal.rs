@@ -9,17 +9,17 @@ use super::picture::Picture;
 
 /// The word that says how many marks are set.
 pub const MARKS: usize = 7;
-pub const MARK_NUMBER: usize = 35336;
-pub const MARK_PLACE: usize = 35344;
-pub const MARK_COUNTS: usize = 35352;
+pub const MARK_NUMBER: usize = 35080;
+pub const MARK_PLACE: usize = 35088;
+pub const MARK_COUNTS: usize = 35096;
 /// How many entries there are, and how many of them are replacements.
-pub const JOURNAL_COUNTS: usize = 35416;
+pub const JOURNAL_COUNTS: usize = 35160;
 /// Where the ranges of an operation's regions and results and of a block's arguments end.
 const OP_REGION_END: usize = 2568;
 const OP_RESULT_END: usize = 3592;
-const BLOCK_ARGUMENT_END: usize = 8456;
+const BLOCK_ARGUMENT_END: usize = 8200;
 /// Sort, owner, key, kind and content of an entry. The word of the kind is 64 more where the attribute was inherent.
-pub const JOURNAL: [usize; 5] = [35424, 37472, 39520, 41568, 43616];
+pub const JOURNAL: [usize; 5] = [35168, 37216, 39264, 41312, 43360];
 
 /// The store with its marks that these words are, where `now` are its tables; none where a mark can't be gone back to.
 pub fn read(words: &[u32], now: &Picture) -> Option<Marked> {

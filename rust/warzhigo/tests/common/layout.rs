@@ -9,15 +9,15 @@ pub const OPERAND_FIRST: usize = 4104;
 pub const OPERAND_END: usize = 4616;
 pub const SUCCESSOR_FIRST: usize = 5128;
 pub const SUCCESSOR_END: usize = 5640;
-pub const VALUE_TYPE: usize = 9480;
+pub const VALUE_TYPE: usize = 9224;
 
 /// Columns side by side: where the first begins, the length of each, how many, and by which count they are filled.
 const COLUMNS: [(usize, usize, usize, usize); 6] =
-    [(8, 512, 13, 0), (6664, 256, 3, 2), (7432, 256, 8, 1), (9480, 2048, 2, 3), (13576, 2048, 1, 4), (15624, 512, 1, 5)];
+    [(8, 512, 13, 0), (6664, 256, 3, 2), (7432, 256, 7, 1), (9224, 2048, 2, 3), (13320, 2048, 1, 4), (15368, 512, 1, 5)];
 
 /// Slots of attributes, of operations and of blocks: where they begin in the first of their three columns, how many owners there may be,
 /// and by which count.
-const SLOTS: [(usize, u32, usize); 2] = [(16136, 512, 0), (16136 + 4096, 256, 1)];
+const SLOTS: [(usize, u32, usize); 2] = [(15880, 512, 0), (15880 + 4096, 256, 1)];
 const SLOT_COLUMN: usize = 6144;
 
 /// Where the words of an attribute's kind and flag begin: those of operations, and those of blocks.

@@ -4,6 +4,7 @@
 pub mod building;
 pub mod bytes_model;
 pub mod call;
+pub mod converter_model;
 pub mod copying;
 pub mod defined;
 pub mod document;

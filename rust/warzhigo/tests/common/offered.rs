@@ -14,7 +14,7 @@ pub fn building_calls() -> [Call; 6] {
     let attribute = Attribute { key: 1, kind: 2, content: 3, inherent: Inherent::No };
     [
         Call::Operation(New::default()),
-        Call::Block { region: 0, label: 0, location: 0, argument_types: vec![1] },
+        Call::Block { region: 0, location: 0, argument_types: vec![1] },
         Call::Attribute(Owner::Op(0), attribute),
         Call::Attribute(Owner::Block(0), Attribute { inherent: Inherent::Yes, ..attribute }),
         Call::Operand { op: 0, index: 0, value: 0 },

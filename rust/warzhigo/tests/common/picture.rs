@@ -27,7 +27,6 @@ pub struct Op {
 #[derive(Clone, PartialEq, Eq, Debug)]
 pub struct Block {
     pub region: u32,
-    pub label: u32,
     pub location: u32,
     pub arguments: Vec<u32>,
     pub operations: Vec<u32>,
@@ -123,7 +122,6 @@ impl Block {
     fn of(block: warzhigo::Block<'_>) -> Block {
         Block {
             region: block.region().number(),
-            label: block.label(),
             location: block.location(),
             arguments: block.arguments().map(|value| value.number()).collect(),
             operations: block.operations().map(|op| op.number()).collect(),

@@ -159,7 +159,7 @@ impl Plan {
                 successors: self.numbers(8, blocks),
                 ..New::default()
             }),
-            1 => Call::Block { region: self.number(regions), label: 0, location: 0, argument_types: self.numbers(16, 3) },
+            1 => Call::Block { region: self.number(regions), location: 0, argument_types: self.numbers(16, 3) },
             2 => {
                 let owner = if self.random.chance(50) { Owner::Op(self.number(ops)) } else { Owner::Block(self.number(blocks)) };
                 let (key, kind) = (self.random.word(), self.number(64));

@@ -63,8 +63,8 @@ impl<'a> Sketch<'a> {
                 let parent = new.parent.filter(|block| block & OUTSIDE == 0);
                 self.picture.new_operation(&New { parent, ..new.clone() });
             }
-            Call::Block { region, label, location, argument_types } => {
-                self.picture.new_block(*region, *label, *location, argument_types);
+            Call::Block { region, location, argument_types } => {
+                self.picture.new_block(*region, *location, argument_types);
             }
             Call::Attribute(owner, attribute) => self.picture.set_attribute(*owner, *attribute),
             Call::Operand { .. } => {}
@@ -129,8 +129,8 @@ impl<'a> Sketch<'a> {
 
     pub fn block(&mut self) -> Option<Call> {
         let region = self.recent(self.picture.regions.len())?;
-        let (label, location) = (self.letter(), self.letter());
-        Some(Call::Block { region, label, location, argument_types: self.letters(self.shape.arguments) })
+        let location = self.letter();
+        Some(Call::Block { region, location, argument_types: self.letters(self.shape.arguments) })
     }
 
     pub fn attribute(&mut self) -> Call {

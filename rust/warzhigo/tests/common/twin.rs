@@ -80,9 +80,8 @@ fn change(sketch: &mut Sketch<'_>, calls: &mut [Call]) {
     let place = sketch.random.below(calls.len() as u32) as usize;
     match &mut calls[place] {
         Call::Operation(new) => change_operation(sketch, new),
-        Call::Block { label, location, argument_types, .. } => match sketch.random.below(3) {
-            0 => *label ^= 1,
-            1 => *location ^= 1,
+        Call::Block { location, argument_types, .. } => match sketch.random.below(2) {
+            0 => *location ^= 1,
             _ => flip_one(sketch, argument_types),
         },
         Call::Attribute(_, Attribute { key, kind, content, inherent }) => match sketch.random.below(4) {

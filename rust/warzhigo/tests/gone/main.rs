@@ -22,7 +22,7 @@ struct Form {
 fn form(store: &mut Store) -> Form {
     let outer = store.new_operation(&NewOperation { kind: 7, regions: 1, ..Default::default() }).unwrap();
     let region = store.operation(outer).unwrap().regions().next().unwrap();
-    let block = store.new_block(region, 0, 0, &[3]).unwrap();
+    let block = store.new_block(region, 0, &[3]).unwrap();
     let argument = store.block(block).unwrap().arguments().next().unwrap();
     let inner = NewOperation { kind: 8, parent: Some(block), result_types: &[3], operands: &[argument], ..Default::default() };
     let inner = store.new_operation(&inner).unwrap();
@@ -80,7 +80,7 @@ fn all_calls(store: &mut Store, form: &Form, good: &Form) -> Vec<Option<u32>> {
         cause(store.new_operation(&NewOperation { parent: Some(form.block), ..new })),
         cause(store.new_operation(&NewOperation { operands: &[good.values[0], form.values[0]], ..new })),
         cause(store.new_operation(&NewOperation { successors: &[form.block], ..new })),
-        cause(store.new_block(form.region, 0, 0, &[])),
+        cause(store.new_block(form.region, 0, &[])),
         cause(store.set_attribute(form.ops[0], some)),
         cause(store.set_attribute(form.block, some)),
         cause(store.set_operand(form.ops[1], 0, good.values[0])),

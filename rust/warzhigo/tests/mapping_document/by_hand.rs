@@ -140,7 +140,7 @@ fn a_full_store() {
         store.new_operation(&NewOperation { regions, result_types: &[3; 4], ..Default::default() }).unwrap();
     }
     for n in 0..256 {
-        store.new_block(store.region_id(n).unwrap(), 0, 0, &[]).unwrap();
+        store.new_block(store.region_id(n).unwrap(), 0, &[]).unwrap();
     }
     let mut mapping = Mapping::new();
     for (l, r) in [(0, 2047), (2047, 1), (1, 0)] {

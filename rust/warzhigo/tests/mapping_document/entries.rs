@@ -96,7 +96,7 @@ fn tangled<const N: usize>(named: [usize; N]) -> (Store, [OpId; N], [BlockId; N]
         store.set_operand(op, 0, result(&store, ops[place])).unwrap();
     }
     let regions = ops.map(|op| store.operation(op).unwrap().regions().next().unwrap());
-    let blocks = regions.map(|region| store.new_block(region, 0, 0, &[]).unwrap());
+    let blocks = regions.map(|region| store.new_block(region, 0, &[]).unwrap());
     (store, ops, blocks)
 }
 

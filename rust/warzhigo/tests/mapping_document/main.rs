@@ -23,7 +23,7 @@ struct Page {
 fn page_of(store: &mut Store, location: u32, ty: u32) -> Page {
     let outer = store.new_operation(&NewOperation { kind: 7, location, regions: 1, ..Default::default() }).unwrap();
     let region = store.operation(outer).unwrap().regions().next().unwrap();
-    let block = store.new_block(region, 0, location, &[ty]).unwrap();
+    let block = store.new_block(region, location, &[ty]).unwrap();
     let argument = store.block(block).unwrap().arguments().next().unwrap();
     let inner = NewOperation { kind: 8, location, parent: Some(block), result_types: &[ty], operands: &[argument], ..Default::default() };
     let inner = store.new_operation(&inner).unwrap();

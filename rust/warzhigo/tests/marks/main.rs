@@ -35,7 +35,7 @@ fn operation(new: New) -> Step {
 }
 
 fn block(region: u32, arguments: usize) -> Step {
-    Step::Build(Call::Block { region, label: 0, location: 0, argument_types: vec![4; arguments] })
+    Step::Build(Call::Block { region, location: 0, argument_types: vec![4; arguments] })
 }
 
 /// In block 0, with an operand, a result and a successor.

@@ -74,7 +74,7 @@ fn marks_in_words() {
 fn words_behind_no_mark_are_not_read() {
     let mut tried = Tried::small();
     let mut words = std::mem::take(&mut tried.store).into_words();
-    words[35336..].fill(u32::MAX);
+    words[35080..].fill(u32::MAX);
     tried.store = Store::from_words(words).unwrap();
     tried.model.is(&tried.store, "words that are not read");
     assert_eq!([tried.back(1), tried.mark(1), tried.ask(operand(1, 0, 1)), tried.back(1)], [Err(16), OK, OK, OK]);

@@ -122,7 +122,7 @@ fn block(random: &mut Random, picture: &Picture) -> Step {
     let (region, location) = (number(random, picture.regions.len()), random.below(2));
     let arguments = if random.chance(2) { 17 } else { random.below(3) };
     let argument_types = (0..arguments).map(|_| random.below(3)).collect();
-    Step::Build(Call::Block { region, label: random.below(2), location, argument_types })
+    Step::Build(Call::Block { region, location, argument_types })
 }
 
 fn operand(random: &mut Random, picture: &Picture) -> Step {

@@ -27,8 +27,8 @@ fn line(step: &Step) -> String {
             let lists = [result_types, operands, successors].map(|items| list(items)).concat();
             format!("o,{kind},{parent},{location},{regions}{lists}")
         }
-        Step::Build(Call::Block { region, label, location, argument_types }) => {
-            format!("b,{region},{label},{location}{}", list(argument_types))
+        Step::Build(Call::Block { region, location, argument_types }) => {
+            format!("b,{region},{location}{}", list(argument_types))
         }
         Step::Build(Call::Attribute(owner, Attribute { key, kind, content, inherent })) => {
             let owner = match owner {

@@ -26,7 +26,7 @@ fn plain(picture: &Picture, block: u32, length: usize, ignore: Ignore) -> Option
 fn block_in(store: &mut Store, new: &NewOperation<'_>) -> BlockId {
     let op = store.new_operation(new).expect("an operation");
     let region = store.operation(op).expect("it").regions().next().expect("its region");
-    store.new_block(region, 0, 0, &[3, 3]).expect("a block")
+    store.new_block(region, 0, &[3, 3]).expect("a block")
 }
 
 /// The block of a new store, filled at random.

@@ -1,4 +1,4 @@
-//! How a refusal presents itself. Causes 9, 10 and 11 are only printed: no call gives them as a value.
+//! How a refusal presents itself. Causes 9, 10, 11 and 20 are only printed: no call gives them as a value.
 
 use warzhigo::{Attribute, Ignore, Inherent, Mapping, MarkId, NewOperation, Refused, Renamed, Store, operation_eq, operation_key_into};
 
@@ -21,7 +21,7 @@ fn not_copied() -> [Option<Refused>; 2] {
     let inner = NewOperation { regions: 1, operands: &[value.unwrap()], ..Default::default() };
     let early = store.new_operation(&inner).unwrap();
     let region = store.operation(early).unwrap().regions().next().unwrap();
-    let block = store.new_block(region, 0, 0, &[1]).unwrap();
+    let block = store.new_block(region, 0, &[1]).unwrap();
     let argument = store.block(block).unwrap().arguments().next().unwrap();
     store.set_operand(early, 0, argument).unwrap();
     let into_itself = store.clone_operation(outer.unwrap(), inside, &mut mapping).err();

@@ -1,9 +1,10 @@
-//! Causes 9, 10 and 11, and a refused call of a line: what `twins` and `sums` print.
+//! Causes 9, 10 and 11, and a refused call of a line: what `twins` and `sums` print, in both editions.
 
 use warzhigo::lent::{self, Listed};
 use warzhigo::{sums, twins};
 
-const HEADER: &str = "opstore,1\n";
+const HEADER_1: &str = "opstore,1\n";
+const HEADER: &str = "opstore,2\n";
 
 /// Asserts that both programs print only that this line is refused by this cause.
 fn refused(listing: &str, line: usize, cause: u32) {
@@ -21,30 +22,80 @@ fn accepted(listing: &str) {
 }
 
 /// Line 4, behind the header, an operation with a result, and one with a region and an operand.
+fn fourth_in(header: &str, line: &str) -> String {
+    format!("{header}o,7,-,5,0,1,3,0,0\no,7,-,5,1,0,1,0,0\n{line}\n")
+}
+
 fn fourth(line: &str) -> String {
-    format!("{HEADER}o,7,-,5,0,1,3,0,0\no,7,-,5,1,0,1,0,0\n{line}\n")
+    fourth_in(HEADER, line)
 }
 
 #[test]
 fn cause_9_header() {
-    for first in ["", "\n", "opstore,2\n", "opstore,1 \n", " opstore,1\n", "Opstore,1\n", "opstore\n", "opstore,1,\n", "opstore,1\r\n"] {
+    let others = ["opstore,3\n", "opstore,0\n", "opstore,12\n", "opstore,02\n", "opstore,\n", "opstore\n", "Opstore,2\n", "\n", ""];
+    let more =
+        ["opstore,1 \n", " opstore,1\n", "opstore,1,\n", "opstore,1\r\n", "opstore,2 \n", " opstore,2\n", "opstore,2,\n", "opstore,2\r\n"];
+    for first in others.into_iter().chain(more) {
         refused(first, 1, 9);
     }
-    refused("q,o,0,0,0,0\nopstore,1\n", 1, 9);
-    assert_eq!(twins(HEADER.as_bytes()), b"share,0\n");
-    assert_eq!(sums(HEADER.as_bytes()), b"");
+    for header in [HEADER_1, HEADER] {
+        refused(&format!("q,o,0,0,0,0\n{header}"), 1, 9);
+        refused(&format!("{header}{HEADER_1}"), 2, 10);
+        refused(&format!("{header}{HEADER}"), 2, 10);
+        assert_eq!(twins(header.as_bytes()), b"share,0\n");
+        assert_eq!(sums(header.as_bytes()), b"");
+    }
 }
 
 #[test]
 fn cause_10_letters_and_fields() {
-    let unknown = ["", "x", "O,7,-,5,0,0,0,0", " o,7,-,5,0,0,0,0", "opstore,1", "q,v,0,0,0,0", "a,r,0,1,1,1", ","];
-    let missing = ["o", "o,7,-,5,0,0,0", "o,7,-,5,0,2,1,0,0", "b,0,0,5", "b,0,0,5,1", "a,o,0,1,1", "s,1,0", "q,o,0,0,1"];
-    let extra = ["o,7,-,5,0,0,0,0,0", "o,7,-,5,0,0,0,0,", "b,0,0,5,0,1", "a,o,0,1,1,1,1", "s,1,0,0,0", "q,o,0,0,1,0,0"];
-    for line in unknown.into_iter().chain(missing).chain(extra) {
-        refused(&fourth(line), 4, 10);
+    let unknown = ["", "x", "O,7,-,5,0,0,0,0", " o,7,-,5,0,0,0,0", "q,v,0,0,0,0", "a,r,0,1,1,1", "I,o,0,1,1,1", ","];
+    let missing = ["o", "o,7,-,5,0,0,0", "o,7,-,5,0,2,1,0,0", "a,o,0,1,1", "s,1,0", "q,o,0,0,1"];
+    let extra = ["o,7,-,5,0,0,0,0,0", "o,7,-,5,0,0,0,0,", "a,o,0,1,1,1,1", "s,1,0,0,0", "q,o,0,0,1,0,0"];
+    let good = ["o,7,-,5,0,0,0,0", "o,7,-,5,0,2,1,0,0,0", "a,o,0,1,1,1", "s,1,0,0", "q,o,0,0,1,0"];
+    for header in [HEADER_1, HEADER] {
+        unknown.iter().chain(&missing).chain(&extra).for_each(|line| refused(&fourth_in(header, line), 4, 10));
+        good.iter().for_each(|line| accepted(&fourth_in(header, line)));
     }
-    for line in ["o,7,-,5,0,0,0,0", "o,7,-,5,0,2,1,0,0,0", "b,0,0,5,1,1", "a,o,0,1,1,1", "s,1,0,0", "q,o,0,0,1,0"] {
-        accepted(&fourth(line));
+}
+
+/// Fields of a `b` line that are missing or extra by the edition, and the letter of edition 2.
+#[test]
+fn cause_10_by_edition() {
+    for line in ["b", "b,0,5,0", "b,0,0,5", "b,0,0,5,1", "b,0,0,5,0,1", "b,0,0,5,0,", "i,o,0,1,1,1", "i,b,9,1,64,1", "i"] {
+        refused(&fourth_in(HEADER_1, line), 4, 10);
+    }
+    for line in ["b", "b,0,0,5,0", "b,0,5", "b,0,5,1", "b,0,5,0,1", "b,0,5,0,", "i,o,0,1,1", "i,o,0,1,1,1,1", "i,r,0,1,1,1", "i"] {
+        refused(&fourth_in(HEADER, line), 4, 10);
+    }
+    for line in ["b,0,0,5,0", "b,0,0,5,1,1"] {
+        accepted(&fourth_in(HEADER_1, line));
+    }
+    for line in ["b,0,5,0", "b,0,5,1,1", "i,o,0,1,1,1"] {
+        accepted(&fourth_in(HEADER, line));
+    }
+}
+
+/// A line that is good in both editions: without arguments in edition 1, and with one, value 1, in edition 2.
+#[test]
+fn the_header_says_the_edition_of_every_line() {
+    let line = "b,0,9,1,0\ns,1,0,1";
+    refused(&fourth_in(HEADER_1, line), 5, 2);
+    accepted(&fourth_in(HEADER, line));
+}
+
+/// A label of edition 1 is a number within 32 bits, and makes no difference.
+#[test]
+fn labels_of_edition_1() {
+    for bad in ["4294967296", "07", "00", "+7", "-7", "-", "", "7 ", "seven"] {
+        refused(&fourth_in(HEADER_1, &format!("b,0,{bad},5,0")), 4, 10);
+    }
+    let questions = "q,b,0,0,0,0\nq,r,0,0,0,0";
+    let without = fourth(&format!("b,0,5,1,3\n{questions}"));
+    for good in ["0", "7", "4294967295"] {
+        let labelled = fourth_in(HEADER_1, &format!("b,0,{good},5,1,3\n{questions}"));
+        assert_eq!(twins(labelled.as_bytes()), b"eq,-,-,1\neq,-,-,1\nshare,0\n", "{good}");
+        assert_eq!(sums(labelled.as_bytes()), sums(without.as_bytes()), "{good}");
     }
 }
 
@@ -52,9 +103,13 @@ fn cause_10_letters_and_fields() {
 fn cause_10_numbers() {
     for bad in ["4294967296", "99999999999999999999", "07", "00", "+7", "-7", "", "7 ", "0x7", "-", "7.0", "seven"] {
         refused(&fourth(&format!("o,{bad},-,5,0,0,0,0")), 4, 10);
+        refused(&fourth(&format!("b,0,{bad},0")), 4, 10);
+        refused(&fourth(&format!("i,o,0,1,1,{bad}")), 4, 10);
     }
     for good in ["0", "7", "4294967295"] {
         accepted(&fourth(&format!("o,{good},-,5,0,0,0,0")));
+        accepted(&fourth(&format!("b,0,{good},0")));
+        accepted(&fourth(&format!("i,o,0,1,1,{good}")));
     }
     for (locations, bits) in [("2", "0"), ("-", "0"), ("01", "0"), ("0", "18446744073709551616"), ("0", "-1"), ("0", "00")] {
         refused(&fourth(&format!("q,o,0,0,{locations},{bits}")), 4, 10);
@@ -76,10 +131,11 @@ fn cause_11_lines() {
 #[test]
 fn cause_11_no_last_line_feed() {
     refused("opstore,1", 1, 11);
+    refused("opstore,2", 1, 11);
     refused("o", 1, 11);
     refused(fourth("o,7,-,5,0,0,0,0").trim_end(), 4, 11);
     refused(fourth("x").trim_end(), 4, 11);
-    refused("opstore,2\nx", 1, 9);
+    refused("opstore,3\nx", 1, 9);
 }
 
 /// A good listing of so many bytes: an operation whose one attribute is set again and again.
@@ -107,7 +163,7 @@ fn cause_11_listing() {
 #[test]
 fn calls_of_lines() {
     for (line, cause) in [
-        ("b,1,0,5,0", 2),
+        ("b,1,5,0", 2),
         ("o,7,0,5,0,0,0,0", 2),
         ("o,7,-,5,0,0,1,9,0", 2),
         ("a,o,9,1,1,1", 2),
@@ -118,17 +174,33 @@ fn calls_of_lines() {
         ("o,7,-,5,9,0,0,0", 4),
         ("a,o,0,1,64,1", 6),
         ("a,o,9,1,64,1", 6),
+        ("i,o,9,1,1,1", 2),
+        ("i,b,0,1,1,1", 2),
+        ("i,o,0,1,64,1", 6),
         ("s,1,1,0", 7),
         ("a,o,0,1,64,1,1", 10),
     ] {
         refused(&fourth(line), 4, cause);
     }
+    refused(&fourth_in(HEADER_1, "b,1,0,5,0"), 4, 2);
+}
+
+/// A key is one key, whether it is set by `a` or by `i`.
+#[test]
+fn eight_keys_by_both_letters() {
+    let line = |letter: &str, key: u32| format!("{letter},o,0,{key},1,1\n");
+    let eight: String = (0..8).map(|key| line(if key % 2 == 0 { "a" } else { "i" }, key)).collect();
+    let listing = fourth(&eight).trim_end().to_string();
+    for letter in ["a", "i"] {
+        accepted(&format!("{listing}\n{}{}", line(letter, 0), line(letter, 1)));
+        refused(&format!("{listing}\n{}", line(letter, 8)), 12, 4);
+    }
 }
 
 #[test]
 fn lines_of_a_full_listing() {
-    let inside = |n: u32| format!("o,7,{},5,1,0,0,0\nb,{},0,5,0\n", n - 1, n);
-    let nested = format!("{HEADER}o,7,-,5,1,0,0,0\nb,0,0,5,0\n{}", (1..=32).map(inside).collect::<String>());
+    let inside = |n: u32| format!("o,7,{},5,1,0,0,0\nb,{},5,0\n", n - 1, n);
+    let nested = format!("{HEADER}o,7,-,5,1,0,0,0\nb,0,5,0\n{}", (1..=32).map(inside).collect::<String>());
     accepted(&nested);
     refused(&format!("{nested}{}", inside(33)), 68, 5);
     let operations = format!("{HEADER}{}", "o,7,-,5,0,0,0,0\n".repeat(512));
@@ -178,7 +250,13 @@ fn lent_buffers() {
 /// Where the first line is refused, store and mapping are as they were; where a later one is, the store holds what was built before.
 #[test]
 fn store_after_a_refused_line() {
-    for (listing, same) in [("", true), ("opstore,2\n", true), ("opstore,1", true), ("opstore,1\no,7,-,5,0,0,0,0\nx\n", false)] {
+    for (listing, same) in [
+        ("", true),
+        ("opstore,3\n", true),
+        ("opstore,2", true),
+        ("opstore,1\no,7,-,5,0,0,0,0\ni\n", false),
+        ("opstore,2\no,7,-,5,0,0,0,0\nx\n", false),
+    ] {
         let (mut store, mut mapping) = (vec![9; lent::store_words()], vec![9; lent::mapping_words()]);
         let mut out = vec![0; lent::output_bytes()];
         let answer = lent::twins(listing.as_bytes(), &mut store, &mut mapping, &mut out);

@@ -76,7 +76,7 @@ fn cause_2_ids_of_another_store() {
         store.new_operation(&NewOperation { parent: Some(block), ..Default::default() }).err(),
         store.new_operation(&NewOperation { operands: &[value], ..Default::default() }).err(),
         store.new_operation(&NewOperation { successors: &[block], ..Default::default() }).err(),
-        store.new_block(region, 0, 0, &[]).err(),
+        store.new_block(region, 0, &[]).err(),
         store.set_attribute(op, some).err(),
         store.set_attribute(block, some).err(),
         store.set_operand(op, 0, store.value_id(0).unwrap()).err(),

@@ -21,7 +21,7 @@ pub fn small() -> Store {
 }
 
 pub fn block(region: u32, arguments: usize) -> Call {
-    Call::Block { region, label: 0, location: 0, argument_types: vec![0; arguments] }
+    Call::Block { region, location: 0, argument_types: vec![0; arguments] }
 }
 
 pub fn attribute(owner: Owner, key: u32, kind: u32) -> Call {

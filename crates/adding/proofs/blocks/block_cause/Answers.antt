@@ -15,16 +15,16 @@ use Rattle.adding.proofs.blocks.block_cause.Goals.{then-number-ge256-via-then-nu
 
 pub returns-then-not-region_exists : goal.returns-then-not-region_exists
 unfolding cause_of tests first_failed
-returns-then-not-region_exists c = λ label location. grind (arith, nat_tests)
+returns-then-not-region_exists c = λ location. grind (arith, nat_tests)
 
 pub returns-then-types-gt16 : goal.returns-then-types-gt16
 unfolding cause_of tests first_failed
-returns-then-types-gt16 c = λ label location. grind (arith, nat_tests)
+returns-then-types-gt16 c = λ location. grind (arith, nat_tests)
 
 pub returns-then-number-ge256 : goal.returns-then-number-ge256
 unfolding cause_of tests first_failed block_room every block_count value_count
 returns-then-number-ge256 c =
-    λ label location.
+    λ location.
     let C = columns c.args.store.now in
     let blocks = blocks_length C in
     let values = values_length C in
@@ -36,7 +36,7 @@ returns-then-number-ge256 c =
 pub returns : goal.returns
 unfolding cause_of tests first_failed block_room every block_count value_count
 returns c =
-    λ label location.
+    λ location.
     let blocks = blocks_length (columns c.args.store.now) in
     let values = values_length (columns c.args.store.now) in
     grind (arith, nat_tests, blocks, values)

@@ -19,16 +19,16 @@ returns-in_err-block_cause c =
     let a = c.args in
     let e = c.in_err-block_cause.field-0.0 in
     let told : c.from_residual.result ≡ std.Err e = search rules in
-    let new : NewBlock = record { region = a.region; label = a.label; location = a.location; types = a.types.now } in
-    did_refuse a.store.now c.requires (new_block new) _ (number_of e) (sym (c.in_err-block_cause.ensures a.label a.location)) (ap made_of told)
+    let new : NewBlock = record { region = a.region; location = a.location; types = a.types.now } in
+    did_refuse a.store.now c.requires (new_block new) _ (number_of e) (sym (c.in_err-block_cause.ensures a.location)) (ap made_of told)
 
 pub put_block-requires : goal.put_block-requires
 unfolding cause_of
 put_block-requires c =
     let a = c.args in
     let b = a.store.now in
-    let new : NewBlock = record { region = a.region; label = a.label; location = a.location; types = a.types.now } in
-    let f = fits_block b c.requires new (sym (c.in_ok-block_cause.ensures a.label a.location)) in
+    let new : NewBlock = record { region = a.region; location = a.location; types = a.types.now } in
+    let f = fits_block b c.requires new (sym (c.in_ok-block_cause.ensures a.location)) in
     record {
       region_bound = omega (arith, f.named, (laid b c.requires).counts.regions);
       store_bound = f.room.blocks;
@@ -39,6 +39,6 @@ pub returns : goal.returns
 unfolding cause_of made_of block_count
 returns c =
     let a = c.args in
-    let new : NewBlock = record { region = a.region; label = a.label; location = a.location; types = a.types.now } in
+    let new : NewBlock = record { region = a.region; location = a.location; types = a.types.now } in
     block_done a.store.now c.requires c.put_block.new.store omega arith _ new
-    (sym (c.in_ok-block_cause.ensures a.label a.location)) c.put_block.ensures (ap made c.at-m.ensures)
+    (sym (c.in_ok-block_cause.ensures a.location)) c.put_block.ensures (ap made c.at-m.ensures)

@@ -11,23 +11,23 @@ use Rattle.adding.proofs.NewBlock.{counts_placed}
 use Rattle.adding.proofs.blocks.put_block.Goals as goal
 
 -- the columns once the row and the place in the region are written
-placed : (C X Y : Cols) (m region label location : ℕ) (types : List ℕ) → X ≡ block_written C m region label location (length types) → Y ≡ block_placed X region m
+placed : (C X Y : Cols) (m region location : ℕ) (types : List ℕ) → X ≡ block_written C m region location (length types) → Y ≡ block_placed X region m
     → m ≡ block_count C
-    → Y ≡ block_placed (block_written C (block_count C) region label location (length types)) region (block_count C)
-placed C X Y m region label location types row place e =
+    → Y ≡ block_placed (block_written C (block_count C) region location (length types)) region (block_count C)
+placed C X Y m region location types row place e =
     place
     ∙ ap₂ (λ (Z : Cols) (k : ℕ). block_placed Z region k)
-    (row ∙ ap (λ (k : ℕ). block_written C k region label location (length types)) e) e
+    (row ∙ ap (λ (k : ℕ). block_written C k region location (length types)) e) e
 
 pub put_values-requires : goal.put_values-requires
 unfolding block_count value_count
 put_values-requires c =
     let a = c.args in
-    let there = placed (columns a.store.now) _ _ _ a.region a.label a.location a.types.now c.put_block_row.ensures
+    let there = placed (columns a.store.now) _ _ _ a.region a.location a.types.now c.put_block_row.ensures
     c.place_block.ensures c.number-m.ensures in
     let e : value_count (columns c.place_block.new.store) ≡ value_count (columns a.store.now)
     = ap value_count there ∙ counts_placed (columns a.store.now)
-    (record { region = a.region; label = a.label; location = a.location; types = a.types.now }) 3 in
+    (record { region = a.region; location = a.location; types = a.types.now }) 3 in
     omega arith
 
 pub returns : goal.returns

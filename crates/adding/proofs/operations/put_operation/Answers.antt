@@ -58,11 +58,11 @@ put_slice-requires-2 c =
     let layer₀ : Cols = op_written cols new.kind new.parent new.location new.regions (length new.types) (length new.operands) (length new.successors) in
     let layer₁ : Cols = with_regions layer₀ (op_count cols) new.regions in
     let layer₂ : Cols = with_values_by layer₁ (2 * op_count cols) new.types in
-    let layer₃ : Cols = with_slice layer₂ 27 4 new.operands in
+    let layer₃ : Cols = with_slice layer₂ 26 4 new.operands in
     let made₀ : columns c.put_op.new.store ≡ layer₀ = c.put_op.ensures in
     let made₁ : columns c.put_regions.new.store ≡ layer₁ = c.put_regions.ensures ∙ ap₂ (λ (X : Cols) (k : ℕ). with_regions X k new.regions) made₀ c.number-n.ensures in
     let made₂ : columns c.put_values.new.store ≡ layer₂ = c.put_values.ensures ∙ ap₂ (λ (X : Cols) (k : ℕ). with_values_by X (2 * k) new.types) made₁ c.number-n.ensures in
-    let made₃ : columns c.put_slice.new.store ≡ layer₃ = c.put_slice.ensures ∙ ap (λ (X : Cols). with_slice X 27 4 new.operands) made₂ in
+    let made₃ : columns c.put_slice.new.store ≡ layer₃ = c.put_slice.ensures ∙ ap (λ (X : Cols). with_slice X 26 4 new.operands) made₂ in
     let room = subst (λ (X : Cols). at X 0 5 + length new.successors ≤ 512) (sym made₃) (r₄ cols new (columns_shaped c.args.store.now c.requires.arranged.sized) c.requires.op_room) in
     record { column_lt_column_count = omega arith; word_bound = omega arith; list_bound = room; column_bound = omega arith }
 
@@ -74,11 +74,11 @@ returns c =
     let layer₀ : Cols = op_written cols new.kind new.parent new.location new.regions (length new.types) (length new.operands) (length new.successors) in
     let layer₁ : Cols = with_regions layer₀ (op_count cols) new.regions in
     let layer₂ : Cols = with_values_by layer₁ (2 * op_count cols) new.types in
-    let layer₃ : Cols = with_slice layer₂ 27 4 new.operands in
-    let layer₄ : Cols = with_slice layer₃ 28 5 new.successors in
+    let layer₃ : Cols = with_slice layer₂ 26 4 new.operands in
+    let layer₄ : Cols = with_slice layer₃ 27 5 new.successors in
     let made₀ : columns c.put_op.new.store ≡ layer₀ = c.put_op.ensures in
     let made₁ : columns c.put_regions.new.store ≡ layer₁ = c.put_regions.ensures ∙ ap₂ (λ (X : Cols) (k : ℕ). with_regions X k new.regions) made₀ c.number-n.ensures in
     let made₂ : columns c.put_values.new.store ≡ layer₂ = c.put_values.ensures ∙ ap₂ (λ (X : Cols) (k : ℕ). with_values_by X (2 * k) new.types) made₁ c.number-n.ensures in
-    let made₃ : columns c.put_slice.new.store ≡ layer₃ = c.put_slice.ensures ∙ ap (λ (X : Cols). with_slice X 27 4 new.operands) made₂ in
-    let made₄ : columns c.put_slice-2.new.store ≡ layer₄ = c.put_slice-2.ensures ∙ ap (λ (X : Cols). with_slice X 28 5 new.successors) made₃ in
+    let made₃ : columns c.put_slice.new.store ≡ layer₃ = c.put_slice.ensures ∙ ap (λ (X : Cols). with_slice X 26 4 new.operands) made₂ in
+    let made₄ : columns c.put_slice-2.new.store ≡ layer₄ = c.put_slice-2.ensures ∙ ap (λ (X : Cols). with_slice X 27 5 new.successors) made₃ in
     c.put.ensures ∙ ap₂ (λ (X : Cols) (k : ℕ). write X 0 0 (k + 1)) made₄ c.number-n.ensures

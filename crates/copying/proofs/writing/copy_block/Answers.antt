@@ -21,13 +21,12 @@ region_read c = c.at.ensures ∙ sym (ap (λ (x : Block). x.region) (block_read 
 
 -- what is read of the block, and what becomes of it
 taken : (c : After-at-location)
-    → BlockTaken c.args.store.now c.args.mapping.now c.args.b c.region_copy-region.result c.at-label.result c.at-location.result c.types_of-arguments.result.now
+    → BlockTaken c.args.store.now c.args.mapping.now c.args.b c.region_copy-region.result c.at-location.result c.types_of-arguments.result.now
 unfolding block_of
 taken c =
     let region : c.at.result ≡ (block_at (store_in c.args.store.now) c.args.b).region =
     c.at.ensures ∙ sym (ap (λ (x : Block). x.region) (block_read (columns c.args.store.now) c.args.b c.requires.b_bound)) in
     record {
-      label_read = c.at-label.ensures;
       location_read = c.at-location.ensures;
       types = c.types_of-arguments.ensures;
       region_read = c.region_copy-region.ensures ∙ ap (region_by (store_in c.args.store.now) (mapping_of c.args.mapping.now)) region;
@@ -54,10 +53,6 @@ types_of-arguments-requires-clause-room c =
 
 pub at-requires-clause-n_bound : goal.at-requires-clause-n_bound
 at-requires-clause-n_bound c =
-    block_low c.args.store.now c.requires.arranged (mapping_of c.args.mapping.now) c.args.b c.requires.b_bound c.requires.ready
-
-pub at-label-requires-clause-n_bound : goal.at-label-requires-clause-n_bound
-at-label-requires-clause-n_bound c =
     block_low c.args.store.now c.requires.arranged (mapping_of c.args.mapping.now) c.args.b c.requires.b_bound c.requires.ready
 
 pub at-location-requires-clause-n_bound : goal.at-location-requires-clause-n_bound

@@ -2,14 +2,10 @@
 use Prim.Native.Nat.{ℕ}
 use mathlib.Core.Bool.{true}
 use mathlib.Core.List.{List}
-use mathlib.Core.Path.{◌≡◌, refl, sym, ap, subst, ◌∙◌}
-use Rattle.rules.specs.Fragments.{Sort}
-use Rattle.rules.specs.Shells.{Ignore}
-use Rattle.rules.specs.Answers.{Compared}
+use mathlib.Core.Path.{refl, sym, subst, ◌∙◌}
 use Rattle.layout.specs.Reading.{store_in}
 use Rattle.mapping.proofs.Entries.{wrong_length}
-use Rattle.journal.specs.Words.{sound_lent}
-use Rattle.marks.proofs.Lent.{lent_facts}
+use Rattle.lending.proofs.Offering.{words_sound}
 use Rattle.fragments.specs.Ignoring.{ignore_of}
 use Rattle.fragments.specs.Sorts.{sort_of}
 use Rattle.std.proofs.Common.{rules}
@@ -32,28 +28,18 @@ returns-in_default-as_mut_array c =
     unallowed a.store.now a.types.now a.mapping.now (ignore_of a.ignore) (sort_of a.of.sort) a.of.lhs a.of.rhs _ c.in-Some.ensures.1
     (wrong_length (store_in a.store.now) a.mapping.now c.in_default-as_mut_array.ensures.cases)
 
--- what is found to be sound, of a mapping of the right length, is what was lent
-found : (b words types m entries z : List ℕ) (ig : Ignore) (f : Sort) (l r : ℕ) {q : Compared} → (words ≡ b) × (sound_lent b ≡ true) → entries ≡ m
-    → Answered true words types entries z ig f l r q → Answered (sound_lent b) b types m z ig f l r q
-found b words types m entries z ig f l r {q} w same h =
-    as_found b types m ig f l r _ w.1
-    (subst (λ (x : List ℕ). Answered true x types m z ig f l r q) w.0
-    (subst (λ (x : List ℕ). Answered true words types x z ig f l r q) same h))
-
 pub is_allowed-requires : goal.is_allowed-requires
 is_allowed-requires c =
     let w = c.in-Some.ensures in
-    let h = (lent_facts _ (ap sound_lent w.0 ∙ w.1)).tables in
+    let h = words_sound w in
     record { sized = h.sized; laid = h.laid }
 
 pub returns-then-not-is_allowed : goal.returns-then-not-is_allowed
 unfolding compared_of
 returns-then-not-is_allowed c =
     let a = c.args in
-    let w = c.in-Some.ensures in
     let z = c.in-Some-as_mut_array.entries.now in
-    found a.store.now c.in-Some.words.now a.types.now a.mapping.now z z (ignore_of a.ignore) (sort_of a.of.sort) a.of.lhs a.of.rhs w
-    c.in-Some-as_mut_array.ensures.cases.same
+    as_found c.in-Some.ensures c.in-Some-as_mut_array.ensures.cases.same
     (unallowed c.in-Some.words.now a.types.now z (ignore_of a.ignore) (sort_of a.of.sort) a.of.lhs a.of.rhs true refl
     (sym c.is_allowed.ensures ∙ c.if-not-is_allowed.true))
 
@@ -62,7 +48,7 @@ invariant_of-terms c =
     let w = c.in-Some.ensures in
     record {
       readable = record {
-        sound = (lent_facts _ (ap sound_lent w.0 ∙ w.1)).tables;
+        sound = words_sound w;
         indexed = (no_types c.args.types.now (search (rules, tests, c.is_empty.ensures))).0;
       };
     }
@@ -76,18 +62,14 @@ returns-then-is_empty c =
     let r = c.fragments_eq in
     let words = c.in-Some.words.now in
     let z = c.in-Some-as_mut_array.entries.now in
-    found a.store.now words a.types.now a.mapping.now z r.new.mapping (ignore_of a.ignore) (sort_of a.of.sort) a.of.lhs a.of.rhs c.in-Some.ensures
-    c.in-Some-as_mut_array.ensures.cases.same
+    as_found c.in-Some.ensures c.in-Some-as_mut_array.ensures.cases.same
     (subst (λ (types : List ℕ). Answered true words types z r.new.mapping (ignore_of a.ignore) (sort_of a.of.sort) a.of.lhs a.of.rhs (compared_of r.result))
     (no_types a.types.now (search (rules, tests, c.is_empty.ensures))).1 r.ensures)
 
 pub indexed_eq-requires : goal.indexed_eq-requires
 indexed_eq-requires c =
     let w = c.in-Some.ensures in
-    record { sound = (lent_facts _ (ap sound_lent w.0 ∙ w.1)).tables; mapping_value = sym c.is_allowed.ensures ∙ c.if-not-is_allowed.false }
+    record { sound = words_sound w; mapping_value = sym c.is_allowed.ensures ∙ c.if-not-is_allowed.false }
 
 pub returns : goal.returns
-returns c =
-    let a = c.args in
-    found a.store.now c.in-Some.words.now a.types.now a.mapping.now c.in-Some-as_mut_array.entries.now c.indexed_eq.new.mapping (ignore_of a.ignore)
-    (sort_of a.of.sort) a.of.lhs a.of.rhs c.in-Some.ensures c.in-Some-as_mut_array.ensures.cases.same c.indexed_eq.ensures
+returns c = as_found c.in-Some.ensures c.in-Some-as_mut_array.ensures.cases.same c.indexed_eq.ensures

@@ -1,11 +1,10 @@
 -- `lent_key` meets its contract: cause 1 comes first, then cause 14, and a list that holds is the one that its index stands for. Assumes nothing.
 use Rattle.std.proofs.Common.{rules}
-use mathlib.Core.Path.{◌≡◌, refl, ap, subst, ◌∙◌}
+use mathlib.Core.Path.{◌≡◌, refl, subst}
 use lib.ListN.{length}
 use Rattle.std.specs.Prelude as std
 use Rattle.layout.specs.declared.causes.Cause.TheVariants as causes
-use Rattle.journal.specs.Words.{sound_lent}
-use Rattle.marks.proofs.Lent.{lent_facts}
+use Rattle.lending.proofs.Offering.{words_sound}
 use Rattle.renaming.specs.Index.{Indexes, IsIndexed}
 use Rattle.fragments.specs.Sorts.{sort_of}
 use Rattle.fragments.specs.Ignoring.{ignore_of}
@@ -23,7 +22,7 @@ pub fragment_key-requires : goal.fragment_key-requires
 fragment_key-requires c =
     let w = c.in-Some.ensures in
     let none : length c.args.types.now ≡ 0 = search rules in
-    record { sound = (lent_facts _ (ap sound_lent w.0 ∙ w.1)).tables; indexed = empty_index c.args.types.now none }
+    record { sound = words_sound w; indexed = empty_index c.args.types.now none }
 
 pub returns-then-is_empty : goal.returns-then-is_empty
 returns-then-is_empty c =
@@ -39,7 +38,7 @@ returns-in_err-words c =
     let none : c.index_types.result ≡ std.None = search rules in
     let told : c.from_residual.result ≡ std.Err causes.BadTypes = search rules in
     rw told (answered_as w.1 w.0 refl
-    (unlisted c.in-Some.sound.now a.types.now (ignore_of a.ignore) (sort_of a.sort) a.n a.key.now (lent_facts _ (ap sound_lent w.0 ∙ w.1)).tables
+    (unlisted c.in-Some.sound.now a.types.now (ignore_of a.ignore) (sort_of a.sort) a.n a.key.now (words_sound w)
     (subst (Indexes a.types.now c.index_types.new.index) none c.index_types.ensures)))
 
 pub fragment_key-requires-2 : goal.fragment_key-requires-2
@@ -48,7 +47,7 @@ fragment_key-requires-2 c =
     let some : c.index_types.result ≡ std.Some c.in_ok-words.words = search rules in
     let indexed : IsIndexed c.args.types.now c.index_types.new.index c.in_ok-words.words =
     subst (Indexes c.args.types.now c.index_types.new.index) some c.index_types.ensures in
-    record { sound = (lent_facts _ (ap sound_lent w.0 ∙ w.1)).tables; indexed = indexed.is_index }
+    record { sound = words_sound w; indexed = indexed.is_index }
 
 pub returns : goal.returns
 returns c =

@@ -6,8 +6,7 @@ use Prim.Native.Nat.{ℕ}
 use Rattle.rules.specs.Building.{first_failed}
 use Rattle.rules.specs.Extents.{extent_tests, sized_by, sized}
 use Rattle.layout.specs.Reading.{store_in}
-use Rattle.journal.specs.Words.{sound_lent}
-use Rattle.marks.proofs.Lent.{lent_facts}
+use Rattle.lending.proofs.Offering.{words_sound}
 use Rattle.fragments.specs.Ignoring.{ignore_of}
 use Rattle.fragments.specs.Sorts.{sort_of}
 use Rattle.keys.specs.Extents.{sized_of}
@@ -18,7 +17,7 @@ unfolding sized_of sized sized_by extent_tests first_failed
 returns-in_default c = rw c.in_default.ensures refl
 
 pub sound_extent-requires : goal.sound_extent-requires
-sound_extent-requires c = let w = c.in-Some.ensures in (lent_facts _ (ap sound_lent w.0 ∙ w.1)).tables
+sound_extent-requires c = words_sound c.in-Some.ensures
 
 pub returns : goal.returns
 returns c =

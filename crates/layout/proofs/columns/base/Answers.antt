@@ -127,35 +127,35 @@ returns-in-24 c = begins c.args.column 24 9224 c.in-24.is refl
 
 pub returns-in-25 : goal.returns-in-25
 unfolding base sum
-returns-in-25 c = begins c.args.column 25 9480 c.in-25.is refl
+returns-in-25 c = begins c.args.column 25 11272 c.in-25.is refl
 
 pub returns-in-26 : goal.returns-in-26
 unfolding base sum
-returns-in-26 c = begins c.args.column 26 11528 c.in-26.is refl
+returns-in-26 c = begins c.args.column 26 13320 c.in-26.is refl
 
 pub returns-in-27 : goal.returns-in-27
 unfolding base sum
-returns-in-27 c = begins c.args.column 27 13576 c.in-27.is refl
+returns-in-27 c = begins c.args.column 27 15368 c.in-27.is refl
 
 pub returns-in-28 : goal.returns-in-28
 unfolding base sum
-returns-in-28 c = begins c.args.column 28 15624 c.in-28.is refl
+returns-in-28 c = begins c.args.column 28 15880 c.in-28.is refl
 
 pub returns-in-29 : goal.returns-in-29
 unfolding base sum
-returns-in-29 c = begins c.args.column 29 16136 c.in-29.is refl
+returns-in-29 c = begins c.args.column 29 22024 c.in-29.is refl
 
 pub returns-in-30 : goal.returns-in-30
 unfolding base sum
-returns-in-30 c = begins c.args.column 30 22280 c.in-30.is refl
+returns-in-30 c = begins c.args.column 30 28168 c.in-30.is refl
 
 pub returns-in-31 : goal.returns-in-31
 unfolding base sum
-returns-in-31 c = begins c.args.column 31 28424 c.in-31.is refl
+returns-in-31 c = begins c.args.column 31 34312 c.in-31.is refl
 
 pub returns-in-32 : goal.returns-in-32
 unfolding base sum
-returns-in-32 c = begins c.args.column 32 34568 c.in-32.is refl
+returns-in-32 c = begins c.args.column 32 34824 c.in-32.is refl
 
 pub returns-in-33 : goal.returns-in-33
 unfolding base sum
@@ -163,36 +163,32 @@ returns-in-33 c = begins c.args.column 33 35080 c.in-33.is refl
 
 pub returns-in-34 : goal.returns-in-34
 unfolding base sum
-returns-in-34 c = begins c.args.column 34 35336 c.in-34.is refl
+returns-in-34 c = begins c.args.column 34 35088 c.in-34.is refl
 
 pub returns-in-35 : goal.returns-in-35
 unfolding base sum
-returns-in-35 c = begins c.args.column 35 35344 c.in-35.is refl
+returns-in-35 c = begins c.args.column 35 35096 c.in-35.is refl
 
 pub returns-in-36 : goal.returns-in-36
 unfolding base sum
-returns-in-36 c = begins c.args.column 36 35352 c.in-36.is refl
+returns-in-36 c = begins c.args.column 36 35160 c.in-36.is refl
 
 pub returns-in-37 : goal.returns-in-37
 unfolding base sum
-returns-in-37 c = begins c.args.column 37 35416 c.in-37.is refl
+returns-in-37 c = begins c.args.column 37 35168 c.in-37.is refl
 
 pub returns-in-38 : goal.returns-in-38
 unfolding base sum
-returns-in-38 c = begins c.args.column 38 35424 c.in-38.is refl
+returns-in-38 c = begins c.args.column 38 37216 c.in-38.is refl
 
 pub returns-in-39 : goal.returns-in-39
 unfolding base sum
-returns-in-39 c = begins c.args.column 39 37472 c.in-39.is refl
+returns-in-39 c = begins c.args.column 39 39264 c.in-39.is refl
 
 pub returns-in-40 : goal.returns-in-40
 unfolding base sum
-returns-in-40 c = begins c.args.column 40 39520 c.in-40.is refl
-
-pub returns-in-41 : goal.returns-in-41
-unfolding base sum
-returns-in-41 c = begins c.args.column 41 41568 c.in-41.is refl
+returns-in-40 c = begins c.args.column 40 41312 c.in-40.is refl
 
 pub returns-in_default : goal.returns-in_default
 unfolding base sum Rest
-returns-in_default c = begins c.args.column 42 43616 (only_left c.args.column 42 c.in_default.in_default-own.rest c.requires) refl
+returns-in_default c = begins c.args.column 41 43360 (only_left c.args.column 41 c.in_default.in_default-own.rest c.requires) refl

@@ -2,7 +2,7 @@
 use Rattle.std.proofs.lemmas.Result.{err_from_is_err_and}
 use Rattle.lines.specs.Parsing.{operation_line_of}
 use Rattle.listing.proofs.Built.{unread, line_made, line_refused}
-use Rattle.listing.proofs.Meant.{headless, listless, operation_meant}
+use Rattle.lines.proofs.Meant.{headless, listless, operation_meant}
 use Rattle.listing.proofs.building_lines.operation_does.Goals as goal
 
 pub returns-in_default : goal.returns-in_default

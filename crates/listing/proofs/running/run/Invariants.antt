@@ -6,7 +6,7 @@ use Rattle.listing.proofs.running.run.Given as goal
 
 abbrev pub invariant-loop-start : goal.invariant-loop-start
 invariant-loop-start l =
-    Running l.program l.listing l.from l.initial.out l.store l.mapping l.tally l.out l.number l.start
+    Running l.reading l.listing l.from l.initial.out l.store l.mapping l.tally l.out l.number l.start
 
 abbrev pub decreases-loop-start : goal.decreases-loop-start
 decreases-loop-start l =

@@ -15,8 +15,8 @@ overflow_sub-place c =
     let i = c.loop-i.i in
     let C = columns a.store.now in
     let low : i < mark_count C = omega (arith, c.number-count.ensures, c.loop-i-test.true) in
-    let e : c.at-place.result ≡ at C 35 i =
-    c.at-place.ensures ∙ ap (λ (X : Cols). at X 35 i) c.loop-i.invariant
+    let e : c.at-place.result ≡ at C 34 i =
+    c.at-place.ensures ∙ ap (λ (X : Cols). at X 34 i) c.loop-i.invariant
     ∙ lower_word C a.n (columns_shaped a.store.now c.told-store) c.requires.store_bound i low in
     omega (arith, c.requires.set_from i low)
 
@@ -28,7 +28,7 @@ loop-i-preserved c =
     let C = columns a.store.now in
     let e = c.loop-i.invariant in
     c.put.ensures
-    ∙ ap₂ (λ (X : Cols) (x : ℕ). write X 35 i (x - a.n)) e (c.at-place.ensures ∙ ap (λ (X : Cols). at X 35 i) e)
+    ∙ ap₂ (λ (X : Cols) (x : ℕ). write X 34 i (x - a.n)) e (c.at-place.ensures ∙ ap (λ (X : Cols). at X 34 i) e)
     ∙ lower_turn C a.n (columns_shaped a.store.now c.told-store) c.requires.store_bound i
     (omega (arith, c.number-count.ensures, c.loop-i-test.true))
 

@@ -1,7 +1,7 @@
 -- `twins_printed` meets its contract: in buffers of their lengths, with room enough, the listing is printed. Assumes nothing.
 use Rattle.std.proofs.Common.{ℕ}
 use lib.ListN.{length-replicate}
-use Rattle.rules.specs.Listings.{twins_program}
+use Rattle.rules.specs.Listings.{twins_program, twins}
 use Rattle.layout.specs.Columns.{buffer_length}
 use Rattle.mapping.specs.MappingWords.{mapping_length}
 use Rattle.listing.specs.Calls.{buffers}
@@ -9,7 +9,7 @@ use Rattle.programs.proofs.Printing.{all_printed}
 use Rattle.programs.proofs.answers.twins_printed.Goals as goal
 
 pub returns : goal.returns
-unfolding buffers
+unfolding twins buffers
 returns c =
     let printed =
     all_printed twins_program c.args.listing.now _ _ (length-replicate {A = ℕ} buffer_length 0) (length-replicate {A = ℕ} mapping_length 0) c.requires in

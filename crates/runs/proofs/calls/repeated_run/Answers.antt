@@ -5,8 +5,7 @@ use Rattle.std.proofs.Common.{rules}
 use mathlib.Core.Bool.{true}
 use mathlib.Core.List.{List, []}
 use mathlib.Core.Path.{◌≡◌, sym, ap, subst, ◌∙◌}
-use Rattle.journal.specs.Words.{sound_lent}
-use Rattle.marks.proofs.Lent.{lent_facts}
+use Rattle.lending.proofs.Offering.{words_sound}
 use Rattle.renaming.specs.Index.{list_in, IsIndex}
 use Rattle.renaming.proofs.Indexed.{no_words_lem, no_list}
 use Rattle.fragments.specs.Ignoring.{ignore_of}
@@ -26,28 +25,22 @@ invariant_of-terms c =
     let few : length c.args.types.now ≡ 0 = search rules in
     record {
       readable = record {
-        sound = (lent_facts _ (ap sound_lent w.0 ∙ w.1)).tables;
+        sound = words_sound w;
         indexed = subst IsIndex (sym (no_children c.args.types.now few)) no_words_lem;
       };
     }
 
 pub returns-then-is_empty : goal.returns-then-is_empty
 returns-then-is_empty c =
-    let w = c.in-Some.ensures in
     let a = c.args in
     let few : length a.types.now ≡ 0 = search rules in
     let none : a.types.now ≡ [] = no_children a.types.now few in
-    as_found a.store.now a.types.now (ignore_of a.ignore) a.block a.length _ w.1
-    (subst (λ (x : List ℕ). Answered true x a.types.now (ignore_of a.ignore) a.block a.length c.block_runs.result) w.0
+    as_found c.in-Some.ensures
     (subst (λ (types : List ℕ). Answered true c.in-Some.words.now types (ignore_of a.ignore) a.block a.length c.block_runs.result)
-    (ap list_in none ∙ no_list ∙ sym none) c.block_runs.ensures))
+    (ap list_in none ∙ no_list ∙ sym none) c.block_runs.ensures)
 
 pub indexed_runs-requires : goal.indexed_runs-requires
-indexed_runs-requires c = let w = c.in-Some.ensures in (lent_facts _ (ap sound_lent w.0 ∙ w.1)).tables
+indexed_runs-requires c = words_sound c.in-Some.ensures
 
 pub returns : goal.returns
-returns c =
-    let w = c.in-Some.ensures in
-    let a = c.args in
-    as_found a.store.now a.types.now (ignore_of a.ignore) a.block a.length _ w.1
-    (subst (λ (x : List ℕ). Answered true x a.types.now (ignore_of a.ignore) a.block a.length c.indexed_runs.result) w.0 c.indexed_runs.ensures)
+returns c = as_found c.in-Some.ensures c.indexed_runs.ensures

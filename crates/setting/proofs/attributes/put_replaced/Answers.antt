@@ -10,5 +10,5 @@ unfolding replaced attribute_of
 returns c =
     let a = c.args in
     c.put-2.ensures
-    ∙ ap (λ (X : Cols). write X 31 a.slot a.attribute.content)
-    (c.put.ensures ∙ ap (write (columns a.store.now) 30 a.slot) c.kind_code-word.ensures)
+    ∙ ap (λ (X : Cols). write X 30 a.slot a.attribute.content)
+    (c.put.ensures ∙ ap (write (columns a.store.now) 29 a.slot) c.kind_code-word.ensures)

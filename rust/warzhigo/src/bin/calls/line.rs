@@ -33,7 +33,6 @@ pub enum Line {
     },
     Block {
         region: u32,
-        label: u32,
         location: u32,
         argument_types: Vec<u32>,
     },
@@ -101,7 +100,7 @@ impl Line {
         let f = &mut fields;
         let line = match f.word()? {
             "o" => operation(f)?,
-            "b" => Line::Block { region: f.number()?, label: f.number()?, location: f.number()?, argument_types: f.list()? },
+            "b" => Line::Block { region: f.number()?, location: f.number()?, argument_types: f.list()? },
             "a" => attribute(f, Inherent::No)?,
             "i" => attribute(f, Inherent::Yes)?,
             "s" => Line::Operand { op: f.number()?, index: f.number()?, value: f.number()? },

@@ -53,9 +53,7 @@ impl Replay {
                 let new = NewOperation { kind, parent, location, regions, result_types, operands, successors };
                 answered(lent::new_operation(store, &new))
             }
-            Line::Block { region, label, location, argument_types } => {
-                answered(lent::new_block(store, *region, *label, *location, argument_types))
-            }
+            Line::Block { region, location, argument_types } => answered(lent::new_block(store, *region, *location, argument_types)),
             Line::Attribute(owner, attribute) => answered(lent::set_attribute(store, *owner, *attribute).map(|()| "ok")),
             Line::Operand { op, index, value } => answered(lent::set_operand(store, *op, *index, *value).map(|()| "ok")),
             Line::Copy { op, parent } => answered(self.copy(*op, *parent).map(|copy| format!("copy,{copy}"))),

@@ -1,0 +1,7 @@
+// The three programs.
+#[derive(Clone, Copy, PartialEq, Eq, Debug)]
+pub enum Command {
+    Twins,
+    Sums,
+    Convert,
+}
