@@ -7,8 +7,8 @@
  * 0; a mapping has wz_mapping_words() words and is empty when all are 4294967295. What the words mean is in docs/STORE.md, what each cause
  * of a refusal is, in docs/CAUSES.md. A refused call has changed nothing.
  *
- * Comparisons, hashes, keys and the search for repeated runs are lent a list of renamed types: words old type, present type, old type,
- * present type; two types are the same where their present types are. It may be empty (NULL and 0).
+ * Comparisons, hashes, keys and the searches for repeated runs and for twins are lent a list of renamed types: words old type, present type,
+ * old type, present type; two types are the same where their present types are. It may be empty (NULL and 0).
  *
  * wz_...        anything may be lent: the call tests it, and refuses by 1, 8 or 14.
  * wz_known_...  the store must be sound, with its marks, and the mapping allowed beside it, as wz_is_sound and wz_known_is_allowed tell, and
@@ -71,6 +71,20 @@ typedef struct {
     uint32_t left;
     uint32_t right;
 } wz_run_answer;
+
+/* What a question for independence answers. 0: the two are not independent; 1: they are; 2: refused by `cause`. */
+typedef struct {
+    uint32_t code;
+    uint32_t cause;
+} wz_independence;
+
+/* What the search for twins answers. 0: the store has so many `operations`, and as many words were written, from the first lent one on, and
+ * those behind them are as they were; 1: refused by `cause`, and no word was written. */
+typedef struct {
+    size_t operations;
+    uint32_t code;
+    uint32_t cause;
+} wz_grouped;
 
 /* What a building call answers, and likewise the copier, and a call that sets a mark or goes back. 0: `number` is the new one's; 1:
  * accepted; 2: refused, and `number` is the cause. */
@@ -307,6 +321,34 @@ wz_run_answer wz_repeated_run(const uint32_t *store, size_t words, const uint32_
 /* The same, on a store known to be sound. */
 wz_run_answer wz_known_repeated_run(const uint32_t *store, size_t words, const uint32_t *types, size_t type_words, uint32_t block,
                                     uint32_t length, bool locations, uint64_t bits);
+
+/* Are operations lhs and rhs independent, each with all inside it? They are where they are the same one, or share no operation or block and
+ * neither names a value or block that the other defines. No type is read. */
+wz_independence wz_operations_independent(const uint32_t *store, size_t words, uint32_t lhs, uint32_t rhs);
+
+/* The same, on a store known to be sound. */
+wz_independence wz_known_operations_independent(const uint32_t *store, size_t words, uint32_t lhs, uint32_t rhs);
+
+/* Are blocks lhs and rhs independent? Likewise. */
+wz_independence wz_basic_blocks_independent(const uint32_t *store, size_t words, uint32_t lhs, uint32_t rhs);
+
+/* The same, on a store known to be sound. */
+wz_independence wz_known_basic_blocks_independent(const uint32_t *store, size_t words, uint32_t lhs, uint32_t rhs);
+
+/* Are regions lhs and rhs independent? Likewise. */
+wz_independence wz_regions_independent(const uint32_t *store, size_t words, uint32_t lhs, uint32_t rhs);
+
+/* The same, on a store known to be sound. */
+wz_independence wz_known_regions_independent(const uint32_t *store, size_t words, uint32_t lhs, uint32_t rhs);
+
+/* Writes the twin of each operation, by rising number: the first operation before it that is independent of it and, compared from an empty
+ * mapping, equal to it; or 4294967295 where there is none. Refused by 13 where the lent words are fewer than the operations; 512 suffice. */
+wz_grouped wz_twins_of_operations(const uint32_t *store, size_t words, const uint32_t *types, size_t type_words, bool locations,
+                                  uint64_t bits, uint32_t *twins, size_t room);
+
+/* The same, on a store known to be sound. */
+wz_grouped wz_known_twins_of_operations(const uint32_t *store, size_t words, const uint32_t *types, size_t type_words, bool locations,
+                                        uint64_t bits, uint32_t *twins, size_t room);
 
 /* Compares two keys byte by byte, a proper beginning first: -1, 0 or 1. Any bytes may be lent. */
 int32_t wz_compare_keys(const uint8_t *lhs, size_t lhs_length, const uint8_t *rhs, size_t rhs_length);

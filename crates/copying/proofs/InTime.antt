@@ -1,27 +1,21 @@
 -- What an operation names comes in time: the words tell whether a name has a walk number, and a scan of the names ends at the first one that lies
 -- inside and has none. The steps of a walk are gone through one after the other: what is left of them, with the numbering that the words stand for,
 -- tells of the whole. Assumes nothing.
-use Rattle.std.proofs.Common.{◌≡◌, ℕ, ◌+◌, ◌<◌, ◌≤◌, Bool, true, false, not, ltb, ◌&&◌, ◌||◌, List, [], ◌∷◌, ◌++◌, length, get_or, refl, sym, ap, subst, ◌∙◌, arith}
+use Rattle.std.proofs.Common.{◌≡◌, ℕ, ◌+◌, ◌<◌, ◌≤◌, Bool, true, false, not, ◌&&◌, ◌||◌, List, [], ◌∷◌, ◌++◌, length, get_or, refl, sym, ap, subst, ◌∙◌, arith}
 use Rattle.std.proofs.Math.Option.{Option, none, some}
 use mathlib.Core.Bool.{and-true}
 use Rattle.rules.specs.Lists.{all, is_some, position, concat_map}
-use Rattle.rules.specs.Store.{Store, Owner, op_at, op_exists, block_exists, values_of, sound}
+use Rattle.rules.specs.Store.{Store, Owner, op_at, op_exists, values_of, sound}
 use Rattle.rules.specs.Fragments.{Step, shell, names, op, exists, steps, step_defines, block_owner, defines_values, defines_blocks}
 use Rattle.rules.specs.Hash as rules
 use Rattle.rules.specs.Hash.{Numbering, no_numbers, numbered, name_at, name_of}
 use Rattle.rules.specs.Copying.{has_place, numbered_names, step_in_time, in_time}
-use Rattle.rules.proofs.Soundness.Sound.{facts}
-use Rattle.layout.specs.Columns.{columns}
-use Rattle.layout.specs.Reading.{op_count, block_count, value_count, store_in}
-use Rattle.layout.specs.Soundness.{IsSound}
-use Rattle.layout.proofs.Tabulate.{ops_length, blocks_length, values_length}
 use Rattle.layout.proofs.Scans.{Scanned, passes_at, scan_on, entry_fails, entries_done}
 use Rattle.numbering.specs.Words.{Stands, rule_name}
 use Rattle.numbering.specs.Numbered.{numbered_all, values_in, blocks_in, Numbers, DefinitionsFit}
 use Rattle.numbering.specs.declared.words.Name.{Name}
 use Rattle.numbering.specs.declared.words.Name.TheVariants.{WalkNumber, StoreNumber}
 use Rattle.numbering.proofs.Counting.{no_words, room_start, room_first, room_rest, stands_start}
-use Rattle.numbering.proofs.Rounds.{below_at, operands_there}
 use Rattle.copying.proofs.Told.{told, told_lists, told_in_time, left, all_left}
 
 -- ---- one name
@@ -94,29 +88,6 @@ module _ (inside sofar ns : List ℕ) where
       pub name_late : r ≡ false → false ≡ numbered_names inside sofar ns
       unfolding numbered_names
       name_late f = entry_fails (comes_in_time inside sofar) ns p l (alone inside sofar (get_or ns i 0) ∙ sym e ∙ f)
-
--- the names of an operation are numbers of the store
-module _ (store : List ℕ) (sd : IsSound store) (m : ℕ) (b : m < op_count (columns store)) where
-  abbrev S : Store
-  S = store_in store
-
-  in_table : m < length S.ops
-  in_table = subst (λ (k : ℕ). m < k) (sym (ops_length (columns store))) b
-
-  below : (count : ℕ) (list xs : List ℕ) → list ≡ xs → all (λ (v : ℕ). ltb v count) xs ≡ true → (i : ℕ) → i < length list → get_or list i 0 < count
-  below count list xs e h i l = below_at count list (subst (λ (ys : List ℕ). all (λ (v : ℕ). ltb v count) ys ≡ true) (sym e) h) i l
-
-  module _ {list : List ℕ} where
-    pub operand_there : list ≡ (op_at S m).operands → (i : ℕ) → i < length list → get_or list i 0 < value_count (columns store)
-    operand_there e i l =
-        subst (λ (k : ℕ). get_or list i 0 < k) (values_length (columns store))
-        (below (length S.values) list (op_at S m).operands e (operands_there S sd.ruled m in_table) i l)
-
-    pub successor_there : list ≡ (op_at S m).successors → (i : ℕ) → i < length list → get_or list i 0 < block_count (columns store)
-    unfolding block_exists
-    successor_there e i l =
-        subst (λ (k : ℕ). get_or list i 0 < k) (blocks_length (columns store))
-        (below (length S.blocks) list (op_at S m).successors e ((facts S sd.ruled).op m in_table).successors_in i l)
 
 -- operands, then successors
 module _ (s : Store) (n m : ℕ) (N : Numbering) where

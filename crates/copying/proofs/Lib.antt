@@ -2,7 +2,6 @@
 pub mod Listing
 pub mod Told
 pub mod FewSteps
-pub mod Upward
 pub mod Standing
 pub mod Spans
 pub mod Totalled

@@ -7,35 +7,37 @@ ghost use Rattle.rules.specs.Fragments.{defines_values, defines_blocks};
 ghost use Rattle.rules.specs.Copying.{numbered_names, step_in_time, in_time};
 ghost use Rattle.layout.specs.Columns.{columns};
 ghost use Rattle.layout.specs.Reading.{op_count, block_count, value_count, store_in};
+ghost use Rattle.fragments.specs.Sorts.{sort_of};
 ghost use Rattle.numbering.specs.Words.{Stands};
 
-use crate::inside::{block_inside, value_inside};
 use crate::original::Original;
 use crate::steps::Step;
+use fragments::inside::Fragment;
+use fragments::types::Sort;
 use layout::slices::{operands_of, successors_of};
 use numbering::words::{
     NUMBERS_LENGTH, Name, WalkNumbers, block_name, define_block, define_op, value_name,
 };
 
-// Value v is numbered, or lies outside the original.
-fn value_in_time(original: &Original, numbers: &WalkNumbers, v: u32) -> bool
-    requires { v < value_count (columns original.now.store.now) }
-    ensures { (N : Numbering) → Stands (store_in original.now.store.now) N numbers.now → result ≡ numbered_names (defines_values (store_in original.now.store.now) op original.now.n) N.values (v ∷ []) }
+// Value v is numbered, or lies outside the whole.
+fn value_in_time(whole: &Fragment, numbers: &WalkNumbers, v: u32) -> bool
+    requires { v < value_count (columns whole.now.store.now) }
+    ensures { (N : Numbering) → Stands (store_in whole.now.store.now) N numbers.now → result ≡ numbered_names (defines_values (store_in whole.now.store.now) (sort_of whole.now.sort) whole.now.n) N.values (v ∷ []) }
 {
-    match value_name(original.store, numbers, v) {
+    match value_name(whole.store, numbers, v) {
         Name::WalkNumber(_) => true,
-        Name::StoreNumber(_) => !value_inside(original, v as usize),
+        Name::StoreNumber(_) => !whole.value_inside(v as usize),
     }
 }
 
 // Block b likewise.
-fn block_in_time(original: &Original, numbers: &WalkNumbers, b: u32) -> bool
-    requires { b < block_count (columns original.now.store.now) }
-    ensures { (N : Numbering) → Stands (store_in original.now.store.now) N numbers.now → result ≡ numbered_names (defines_blocks (store_in original.now.store.now) op original.now.n) N.blocks (b ∷ []) }
+fn block_in_time(whole: &Fragment, numbers: &WalkNumbers, b: u32) -> bool
+    requires { b < block_count (columns whole.now.store.now) }
+    ensures { (N : Numbering) → Stands (store_in whole.now.store.now) N numbers.now → result ≡ numbered_names (defines_blocks (store_in whole.now.store.now) (sort_of whole.now.sort) whole.now.n) N.blocks (b ∷ []) }
 {
     match block_name(numbers, b) {
         Name::WalkNumber(_) => true,
-        Name::StoreNumber(_) => !block_inside(original, b as usize),
+        Name::StoreNumber(_) => !whole.block_inside(b as usize),
     }
 }
 
@@ -44,13 +46,18 @@ fn names_in_time(original: &Original, numbers: &WalkNumbers, m: usize) -> bool
     requires { m < op_count (columns original.now.store.now) }
     ensures { (N : Numbering) → Stands (store_in original.now.store.now) N numbers.now → result ≡ step_in_time (store_in original.now.store.now) original.now.n (names m) N }
 {
+    let whole = Fragment {
+        store: original.store,
+        sort: Sort::Op,
+        n: original.n,
+    };
     for v in operands_of(original.store, m) {
-        if !value_in_time(original, numbers, *v) {
+        if !value_in_time(&whole, numbers, *v) {
             return false;
         }
     }
     for b in successors_of(original.store, m) {
-        if !block_in_time(original, numbers, *b) {
+        if !block_in_time(&whole, numbers, *b) {
             return false;
         }
     }

@@ -29,7 +29,7 @@ use pairing::types::{Pair, Unequal};
 
 // Two fragments are compared if both exist.
 #[tactic(auto, unfolding(layout::specs::Causes::cause_of, crate::specs::Calls::pair_tests, rules::specs::Building::first_failed))]
-fn both_exist(store: &StoreWords, sort: Sort, lhs: u32, rhs: u32) -> Result<(), Cause>
+pub fn both_exist(store: &StoreWords, sort: Sort, lhs: u32, rhs: u32) -> Result<(), Cause>
     ensures { cause_of result ≡ first_failed (pair_tests (store_in store.now) (sort_of sort) lhs rhs) }
 {
     if exists(store, sort, lhs) && exists(store, sort, rhs) {
@@ -40,7 +40,7 @@ fn both_exist(store: &StoreWords, sort: Sort, lhs: u32, rhs: u32) -> Result<(), 
 
 // Compare two operations: they are mapped, and then everything else about them is compared. The pair is put together anew, so that calls
 // take it in registers.
-fn ops_eq(terms: &Terms, mapping: &mut MappingWords, pair: Pair) -> EqResult
+pub fn ops_eq(terms: &Terms, mapping: &mut MappingWords, pair: Pair) -> EqResult
     requires lhs_bound { pair.lhs < op_count (columns terms.now.store.now) }
     requires rhs_bound { pair.rhs < op_count (columns terms.now.store.now) }
     requires paired_fits { PairedFits (fragments_walk (store_read terms.now) (options_in terms.now) op pair.lhs pair.rhs (state_of mapping.old 0)) }

@@ -2,13 +2,13 @@
 -- Assumes nothing.
 use Prim.Native.Nat.{ℕ, ◌<◌}
 use mathlib.Core.Bool.{true}
-use mathlib.Core.Path.{◌≡◌, subst}
-use borrow.Author.Tests.{ltb-true}
+use mathlib.Core.Path.{◌≡◌, subst, ◌∙◌}
+use borrow.Author.Tests.{ltb-true, lt-ltb}
 use Rattle.rules.specs.Store.{op_exists, block_exists, region_exists}
 use Rattle.rules.specs.Fragments.{Sort, op, block, region, exists}
 use Rattle.layout.specs.Columns.{Cols}
 use Rattle.layout.specs.Reading.{op_count, block_count, region_count, store_of}
-use Rattle.layout.proofs.Tabulate.{ops_length, blocks_length, regions_length}
+use Rattle.layout.proofs.Tabulate.{ops_length, blocks_length, regions_length, op_exists_lem, block_exists_lem, region_exists_lem}
 
 -- how many there are of a sort
 abbrev pub count_of : Cols → Sort → ℕ
@@ -21,3 +21,10 @@ unfolding exists op_exists block_exists region_exists
 there C op n h = subst (λ (k : ℕ). n < k) (ops_length C) (ltb-true n _ h)
 there C block n h = subst (λ (k : ℕ). n < k) (blocks_length C) (ltb-true n _ h)
 there C region n h = subst (λ (k : ℕ). n < k) (regions_length C) (ltb-true n _ h)
+
+-- and the other way round
+pub is_there : (C : Cols) (f : Sort) (n : ℕ) → n < count_of C f → exists (store_of C) f n ≡ true
+unfolding exists
+is_there C op n l = op_exists_lem C n ∙ lt-ltb n _ l
+is_there C block n l = block_exists_lem C n ∙ lt-ltb n _ l
+is_there C region n l = region_exists_lem C n ∙ lt-ltb n _ l

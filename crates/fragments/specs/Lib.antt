@@ -1,4 +1,4 @@
--- What is told of a fragment, what an ignore rule leaves of it, and the order in which a walk goes through it.
+-- What is told of a fragment, what an ignore rule leaves of it, the order in which a walk goes through it, and what lies inside it.
 pub mod Sorts
 pub mod Ignoring
 pub mod Options
@@ -7,3 +7,4 @@ pub mod Rows
 pub mod Order
 pub mod BlocksLeft
 pub mod SlotsLeft
+pub mod Inside

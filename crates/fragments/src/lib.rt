@@ -1,8 +1,9 @@
-// The fragments of a store: which there are, what an operation or a block has by itself, what an ignore rule leaves of it, and the order
-// in which a walk goes through a fragment.
+// The fragments of a store: which there are, what an operation or a block has by itself, what an ignore rule leaves of it, the order in
+// which a walk goes through a fragment, and what lies inside one.
 #![tactic(auto)]
 
 pub mod ignoring;
+pub mod inside;
 pub mod kept_slots;
 pub mod order;
 pub mod rows;

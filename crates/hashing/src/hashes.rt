@@ -4,10 +4,12 @@ ghost use Rattle.rules.specs.Building.{first_failed};
 ghost use Rattle.layout.specs.Reading.{op_count, store_in};
 ghost use Rattle.layout.specs.Causes.{cause_of};
 ghost use Rattle.rules.specs.Fragments.{op, steps};
+ghost use Rattle.rules.specs.Hash.{hash};
 ghost use Rattle.layout.specs.Columns.{columns};
 ghost use Rattle.layout.specs.Soundness.{IsSound};
 ghost use Rattle.renaming.specs.Index.{list_in};
 ghost use Rattle.fragments.specs.Ignoring.{ignore_of};
+ghost use Rattle.fragments.specs.Options.{under};
 ghost use Rattle.fragments.specs.Terms.{options_in, store_read};
 ghost use Rattle.fragments.specs.Sorts.{sort_of};
 ghost use Rattle.numbering.specs.Numbered.{DefinitionsFit};
@@ -66,16 +68,24 @@ fn hash_steps(
     }
 }
 
-// Compute a structural hash for a fragment.
+// Compute a structural hash for a fragment that exists.
+pub fn existing_hash(terms: &Terms, sort: Sort, n: usize) -> u64
+    requires { Rattle.rules.specs.Fragments.exists (store_read terms.now) (sort_of sort) n ≡ true }
+    ensures { result ≡ hash (under (options_in terms.now) (store_read terms.now)) (ignore_of terms.now.ignore) (sort_of sort) n }
+{
+    if holds_nothing(terms.store, sort, n) {
+        return hash_alone(terms, n);
+    }
+    let mut numbers = [0; NUMBERS_LENGTH];
+    let mut state = RunningHash::new();
+    hash_steps(terms, &mut numbers, sort, n, &mut state);
+    state.word
+}
+
+// The same of a fragment that may not exist.
 pub fn fragment_hash(terms: &Terms, sort: Sort, n: u32) -> Result<u64, Cause>
     ensures { Answered true terms.now.store.now (list_in terms.now.types.now) (ignore_of terms.now.ignore) (sort_of sort) n result }
 {
     hash_cause(terms.store, sort, n)?;
-    if holds_nothing(terms.store, sort, n as usize) {
-        return Ok(hash_alone(terms, n as usize));
-    }
-    let mut numbers = [0; NUMBERS_LENGTH];
-    let mut state = RunningHash::new();
-    hash_steps(terms, &mut numbers, sort, n as usize, &mut state);
-    Ok(state.word)
+    Ok(existing_hash(terms, sort, n as usize))
 }

@@ -1,6 +1,6 @@
 -- What the numbers that cross to another language mean: the answers of the calls, which are the rules' own, and two of their arguments.
 use Rattle.std.specs.Prelude as std
-use Rattle.std.specs.Prelude.{ℕ, Bool, cond, not, List, eqb}
+use Rattle.std.specs.Prelude.{ℕ, Bool, true, false, cond, not, List, eqb}
 use Rattle.std.proofs.Math.Option.{Option, none, some}
 use Rattle.rules.specs.Store as rules
 use Rattle.rules.specs.Fragments.{op, block, region}
@@ -10,6 +10,10 @@ use Rattle.rules.specs.Answers.{Compared, eq, neq, refused, Hashed, hash_is, ref
 use Rattle.rules.specs.Keys.{Keyed, key_length, refused_key}
 use Rattle.rules.specs.Extents.{Sized, extent_is, refused_extent}
 use Rattle.rules.specs.Runs.{Repeated, run_found, no_run, refused_run}
+use Rattle.rules.specs.Independence as independence
+use Rattle.rules.specs.Independence.{independence_is, refused_independence}
+use Rattle.rules.specs.Grouping as grouping
+use Rattle.rules.specs.Grouping.{grouped, refused_twins}
 use Rattle.rules.specs.Building as building
 use Rattle.rules.specs.Building.{Built}
 use Rattle.mapping.specs.declared.types.Entries as found
@@ -23,6 +27,8 @@ use Rattle.link.specs.declared.answers.Sum.{Sum}
 use Rattle.link.specs.declared.answers.KeyAnswer.{KeyAnswer}
 use Rattle.link.specs.declared.answers.ExtentAnswer.{ExtentAnswer}
 use Rattle.link.specs.declared.answers.RunAnswer.{RunAnswer}
+use Rattle.link.specs.declared.answers.Independence.{Independence}
+use Rattle.link.specs.declared.answers.Grouped.{Grouped}
 use Rattle.link.specs.declared.answers.Outcome.{Outcome}
 use Rattle.link.specs.declared.answers.Output.{Output}
 use Rattle.link.specs.declared.answers.Entries.{Entries}
@@ -57,6 +63,17 @@ run_means r =
     cond (eqb r.code 0) (run_found (record { left = r.left; right = r.right }))
     (cond (eqb r.code 1) no_run
     (refused_run r.left))
+
+-- code 0 is no, 1 yes, any other a refusal
+unfoldable pub independence_means : Independence → independence.Independence
+independence_means i =
+    cond (eqb i.code 0) (independence_is false)
+    (cond (eqb i.code 1) (independence_is true)
+    (refused_independence i.cause))
+
+-- code 0 is a word for each of so many operations, any other a refusal
+unfoldable pub grouped_means : Grouped → grouping.Grouped
+grouped_means g = cond (eqb g.code 0) (grouped g.operations) (refused_twins g.cause)
 
 -- code 0 is a new number, 1 accepted, any other a refusal
 unfoldable pub outcome_means : Outcome → Built

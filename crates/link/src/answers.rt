@@ -7,8 +7,9 @@ ghost use Rattle.hashing.specs.Calls.{hashed_of};
 ghost use Rattle.keys.specs.Calls.{keyed_of};
 ghost use Rattle.keys.specs.Extents.{sized_of};
 ghost use Rattle.runs.specs.Calls.{found_of};
+ghost use Rattle.grouping.specs.Calls.{independence_of, grouped_of};
 ghost use Rattle.listing.specs.Calls.{told_of};
-ghost use Rattle.link.specs.Codes.{entries_mean, verdict_means, sum_means, key_answer_means, extent_answer_means, run_means, outcome_means, output_means, converted_told, parent_from, owner_from};
+ghost use Rattle.link.specs.Codes.{entries_mean, verdict_means, sum_means, key_answer_means, extent_answer_means, run_means, independence_means, grouped_means, outcome_means, output_means, converted_told, parent_from, owner_from};
 
 use converting::types::NoRoom;
 use equivalence::types::EqResult;
@@ -29,6 +30,13 @@ const NEQ_BLOCKS: u32 = 2;
 const NEQ_REGIONS: u32 = 3;
 
 const NO_VERDICT: u32 = 4;
+
+// The codes of independence: no, yes, and a refusal.
+const DEPENDENT: u32 = 0;
+
+const INDEPENDENT: u32 = 1;
+
+const NO_ANSWER: u32 = 2;
 
 // The codes of an outcome: a new number, accepted, and a refusal.
 const MADE: u32 = 0;
@@ -86,6 +94,23 @@ pub struct RunAnswer {
     pub code: u32,
     pub left: u32,
     pub right: u32,
+}
+
+// Code 0 is no, 1 is yes. 2 is a refusal, and its cause is `cause`.
+#[repr(C)]
+#[derive(Clone, Copy)]
+pub struct Independence {
+    pub code: u32,
+    pub cause: u32,
+}
+
+// Code 0 is a word for each of so many `operations`. 1 is a refusal, and its cause is `cause`.
+#[repr(C)]
+#[derive(Clone, Copy)]
+pub struct Grouped {
+    pub operations: usize,
+    pub code: u32,
+    pub cause: u32,
 }
 
 // Code 0 is a new number, `number`. 1 is accepted. 2 is a refusal, and its cause is `number`.
@@ -247,6 +272,44 @@ pub fn of_run(r: Result<Option<Starts>, Cause>) -> RunAnswer
             code: 2,
             left: cause.number(),
             right: 0,
+        },
+    }
+}
+
+#[tactic(auto, unfolding(crate::specs::Codes::independence_means, grouping::specs::Calls::independence_of))]
+pub fn of_independence(r: Result<bool, Cause>) -> Independence
+    ensures { independence_means result ≡ independence_of r }
+{
+    match r {
+        Ok(false) => Independence {
+            code: DEPENDENT,
+            cause: 0,
+        },
+        Ok(true) => Independence {
+            code: INDEPENDENT,
+            cause: 0,
+        },
+        Err(cause) => Independence {
+            code: NO_ANSWER,
+            cause: cause.number(),
+        },
+    }
+}
+
+#[tactic(auto, unfolding(crate::specs::Codes::grouped_means, grouping::specs::Calls::grouped_of))]
+pub fn of_grouped(g: Result<usize, Cause>) -> Grouped
+    ensures { grouped_means result ≡ grouped_of g }
+{
+    match g {
+        Ok(operations) => Grouped {
+            operations,
+            code: 0,
+            cause: 0,
+        },
+        Err(cause) => Grouped {
+            operations: 0,
+            code: 1,
+            cause: cause.number(),
         },
     }
 }

@@ -3,6 +3,7 @@
 #![tactic(auto)]
 
 pub mod answers;
+pub mod groups;
 pub mod known;
 pub mod lengths;
 pub mod listings;

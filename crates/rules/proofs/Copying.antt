@@ -3,7 +3,7 @@ pub mod Renumbered
 pub mod Walked
 pub mod Inside
 pub mod Shelled
-pub mod Climbed
+pub mod Within
 pub mod Amounts
 pub mod Tables
 pub mod Children

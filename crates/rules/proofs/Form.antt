@@ -2,8 +2,10 @@
 pub mod Images
 pub mod SameShells
 pub mod Ancestors
+pub mod Roots
 pub mod OnceInLists
 pub mod Once
+pub mod Owned
 pub mod Counted
 pub mod Tested
 pub mod Events
@@ -11,6 +13,7 @@ pub mod LockStep
 pub mod Tokens
 pub mod Hashes
 pub mod Canonical
+pub mod Outside
 pub mod Passed
 pub mod Inherent
 pub mod SideBySide

@@ -18,6 +18,12 @@ unfolding Premise
 one_way s f a b (inl e) = inl e
 one_way s f a b (inr p) = inr p.1
 
+-- the premise is the same in both orders
+pub premise_back : (s : Store) (f : Sort) (a b : ℕ) → Premise s f a b → Premise s f b a
+unfolding Premise
+premise_back s f a b (inl e) = inl (sym e)
+premise_back s f a b (inr p) = inr (λ w m k. p.0 w k m, p.2, p.1)
+
 pub laws_of_sound : LawsOfSound
 unfolding LawsOfSound
 laws_of_sound s sd ig f =

@@ -20,4 +20,5 @@ pub mod CopyComputed
 pub mod Marks
 pub mod Copying
 pub mod Extents
+pub mod Grouping
 pub mod Stated

@@ -1,11 +1,12 @@
--- The statements of `specs/Statements`, `specs/MappingLaws`, `specs/CopyLaws` and `specs/ConvertLaws`, each by the lemma that it is.
--- (`accepted_exactly`, `unignored_same`, `premise_needed`, `premise_needed_thrice` and those about keys are proved where they stand.) Assumes
--- nothing.
+-- The statements of `specs/Statements`, `specs/MappingLaws`, `specs/CopyLaws`, `specs/GroupingLaws` and `specs/ConvertLaws`, each by the lemma
+-- that it is. (`accepted_exactly`, `unignored_same`, `premise_needed`, `premise_needed_thrice` and those about keys are proved where they
+-- stand.) Assumes nothing.
 use Rattle.rules.specs.Store.{empty_store}
 use Rattle.rules.specs.Statements as stated
 use Rattle.rules.specs.MappingLaws as mapped
 use Rattle.rules.specs.CopyLaws as copies
 use Rattle.rules.specs.ConvertLaws as converts
+use Rattle.rules.specs.GroupingLaws as groups
 use Rattle.rules.proofs.Soundness.Kept as kept
 use Rattle.rules.proofs.Walking.Answered as walking
 use Rattle.rules.proofs.Walking.Paired as pairing
@@ -30,6 +31,11 @@ use Rattle.rules.proofs.Keys.Kept as fields
 use Rattle.rules.proofs.Copying.Kept as copied
 use Rattle.rules.proofs.Copying.Laws as copying
 use Rattle.rules.proofs.Converting.Laws as converting
+use Rattle.rules.proofs.Grouping.Independent as testing
+use Rattle.rules.proofs.Grouping.Along as following
+use Rattle.rules.proofs.Grouping.Twins as twins
+use Rattle.rules.proofs.Grouping.Groups as grouping
+use Rattle.rules.proofs.Grouping.Computed as computed
 
 pub canonical_equal : stated.CanonicalEqual
 unfolding stated.CanonicalEqual
@@ -202,3 +208,30 @@ back_and_there = converting.back_and_there
 
 pub convert_fits : converts.ConvertFits
 convert_fits = converting.convert_fits
+
+pub independent_is : groups.IndependentIs
+independent_is = testing.independent_is
+
+pub independent_along : groups.IndependentAlong
+independent_along = following.independent_along
+
+pub twin_found : groups.TwinFound
+twin_found = twins.twin_found
+
+pub twin_none : groups.TwinNone
+twin_none = twins.twin_none
+
+pub twin_alike : groups.TwinAlike
+twin_alike = twins.twin_alike
+
+pub twin_stays : groups.TwinStays
+twin_stays = grouping.twin_stays
+
+pub twins_together : groups.TwinsTogether
+twins_together = grouping.twins_together
+
+pub twins_share : groups.TwinsShare
+twins_share = grouping.twins_share
+
+pub twinless_equal : groups.TwinlessEqual
+twinless_equal = computed.twinless_equal

@@ -26,11 +26,14 @@ pub mod CopyLaws
 pub mod Extents
 pub mod ExtentLaws
 pub mod Runs
+pub mod Independence
+pub mod Grouping
 pub mod Marks
 pub mod Form
 pub mod Entered
 pub mod Statements
 pub mod Cases
+pub mod GroupingLaws
 pub mod ListingCases
 pub mod ConvertCases
 pub mod KeyCases
@@ -41,3 +44,4 @@ pub mod MappingCases
 pub mod NestingCases
 pub mod CopyCases
 pub mod ExtentCases
+pub mod GroupingCases

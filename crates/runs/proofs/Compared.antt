@@ -1,19 +1,17 @@
 -- Two runs of a block's operations: the walk through them is the rules' comparison, it enters no more than fits, what it answers is whether
 -- they are equal, and what it has entered can be taken out again. Assumes nothing.
 use Prim.Native.Nat.{ℕ, ◌<◌}
-use Rattle.std.specs.Prelude.{Bool, Result, Ok, Err, is_ok}
-use mathlib.Core.Bool.{true, false}
+use Rattle.std.specs.Prelude.{Result, is_ok}
+use mathlib.Core.Bool.{true}
 use mathlib.Core.List.{List, Memᴰ}
-use mathlib.Core.Path.{◌≡◌, refl, sym, ap, subst, ◌∙◌}
+use mathlib.Core.Path.{◌≡◌, sym, ap, subst, ◌∙◌}
 use lib.ListN.{length}
 use Rattle.rules.specs.Store.{Store, ops_of}
 use Rattle.rules.specs.Fragments.{block, exists}
 use Rattle.rules.specs.Mapping.{Mapping}
 use Rattle.rules.specs.Types.{renamed}
-use Rattle.rules.specs.Comparison.{unequal, one_longer, Walk, on, ended, standing, start}
-use Rattle.rules.specs.Answers.{Comparison, comparison_of}
+use Rattle.rules.specs.Comparison.{Walk, start}
 use Rattle.rules.specs.Entered.{EnteredBy, paired_in}
-use Rattle.rules.specs.Laws.{succeeds}
 use Rattle.rules.specs.Runs.{compare_runs, run_of, same_runs}
 use Rattle.rules.proofs.Soundness.Children.{ops_in_lem}
 use Rattle.rules.proofs.Types.Renamed.{exists_renamed, entered_renamed, renamed_sound}
@@ -25,10 +23,10 @@ use Rattle.layout.specs.Soundness.{IsSound}
 use Rattle.fragments.specs.Options.{Options, under}
 use Rattle.numbering.proofs.Reading.{block_there}
 use Rattle.mapping.specs.MappingWords.{mapping_of, empty_words}
-use Rattle.pairing.specs.Told.{answer_of, state_of, outcome, Told, PairedFits}
+use Rattle.pairing.specs.Told.{answer_of, state_of, Told, PairedFits}
 use Rattle.equivalence.specs.Walked.{op_walk}
 use Rattle.pairing.specs.declared.types.Unequal.{Unequal}
-use Rattle.equivalence.proofs.Telling.{told_on, not_equal}
+use Rattle.equivalence.proofs.AfterEmpty.{told_succeeds, told_entered}
 use Rattle.mapping.proofs.Unmapped.{empty_words_lem}
 use Rattle.runs.specs.Walked.{RunsIn, runs_walk}
 use Rattle.runs.specs.declared.types.TwoRuns.{TwoRuns}
@@ -38,31 +36,6 @@ use Rattle.runs.proofs.Listed.{run_in}
 
 op_in_run : (s : Store) (b n i x : ℕ) → Memᴰ x (run_of (ops_of s b) n i) → x < length s.ops
 op_in_run s b n i x m = (ops_in_lem s b (run_in (ops_of s b) n i m)).0
-
--- ---- what is told
-
--- an answer that is equal is one of a walk that goes on
-pub told_succeeds : (w : Walk) (b : List ℕ) {q : Result ℕ Unequal} {n : ℕ} → q ≡ Ok n → Told w q b → true ≡ succeeds w
-unfolding succeeds
-told_succeeds w b {q} {n} e h = sym (ap succeeds (told_on w n b (subst (λ (r : Result ℕ Unequal). Told w r b) e h)))
-
--- and another is not
-pub told_fails : (w : Walk) (q : Result ℕ Unequal) (b : List ℕ) (u : Unequal) → q ≡ Err u → Told w q b → false ≡ succeeds w
-unfolding succeeds Told outcome comparison_of standing
-told_fails (on st) q b u k h = absurd (not_equal u st.paired (ap (λ (x : Comparison). x.answer) h ∙ ap answer_of k))
-told_fails (ended why st) q b u k h = refl
-
--- words and count are where the walk has come to
-told_entered : (s : Store) (w : Walk) (q : Result ℕ Unequal) (b : List ℕ)
-    → EnteredBy s (standing w).mapping (standing w).paired → Told w q b → EnteredBy s (mapping_of b) (paired_in (answer_of q))
-unfolding Told outcome comparison_of standing paired_in
-told_entered s w q b h t = subst (λ (c : Comparison). EnteredBy s c.mapping (paired_in c.answer)) t (by w h)
-  where
-    by : (w : Walk) → EnteredBy s (standing w).mapping (standing w).paired
-        → EnteredBy s (comparison_of w (standing w).mapping).mapping (paired_in (comparison_of w (standing w).mapping).answer)
-    by (on st) e = e
-    by (ended (unequal p) st) e = e
-    by (ended (one_longer p) st) e = e
 
 -- ---- the walk through two runs
 
@@ -97,21 +70,10 @@ module _ {store ops : List ℕ} {x : TwoRuns} (o : Options) (sd : IsSound store)
     told_runs : Told runs q b
     told_runs = subst (λ (w : Walk). Told w q b) (ap (λ (l : List ℕ). runs_walk (store_in store) o ops x (state_of l 0)) e ∙ walk_is) told
 
-    pub runs_same : {n : ℕ} → q ≡ Ok n → true ≡ same_runs s o.ignore x.runs.block x.runs.n x.left x.right
-    unfolding same_runs
-    runs_same k = told_succeeds runs b k told_runs
-
-    pub runs_differ : {u : Unequal} → q ≡ Err u → false ≡ same_runs s o.ignore x.runs.block x.runs.n x.left x.right
-    unfolding same_runs
-    runs_differ {u} k = told_fails runs q b u k told_runs
-
     -- whether it is an answer is whether the runs are equal
-    pub runs_told : {r : Bool} → r ≡ is_ok q → r ≡ same_runs s o.ignore x.runs.block x.runs.n x.left x.right
-    runs_told k = k ∙ by q refl
-      where
-        by : (p : Result ℕ Unequal) → q ≡ p → is_ok p ≡ same_runs s o.ignore x.runs.block x.runs.n x.left x.right
-        by (Ok n) e = runs_same e
-        by (Err u) e = runs_differ e
+    pub runs_told : is_ok q ≡ same_runs s o.ignore x.runs.block x.runs.n x.left x.right
+    unfolding same_runs
+    runs_told = told_succeeds runs q b told_runs
 
     pub runs_unmap : EnteredBy (store_in store) (mapping_of b) (paired_in (answer_of q))
     runs_unmap =

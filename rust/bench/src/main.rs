@@ -10,6 +10,7 @@ mod checks;
 mod converting;
 mod copying;
 mod fragments;
+mod grouping;
 mod keys;
 mod listings;
 mod marks;
@@ -72,17 +73,19 @@ fn measure(efforts: Efforts) -> Results {
     let Efforts { passes, short, middle, long } = efforts;
     let (mut shapes, mut around) = (fragments::shapes(short), fragments::around(short));
     let (mut keys, mut lists, mut runs) = (keys::shapes(short), renaming::lists(short), runs::runs(middle));
+    let mut twins = grouping::twins(middle);
     let (mut calls, mut stores) = (building::each_call(middle), building::whole_stores(middle));
     let mut copies = copying::shapes(middle);
     let (mut soundness, mut allowed, mut emptying) = (checks::soundness(short), checks::allowed(short), checks::emptying(middle));
     let (mut marks, mut programs, mut conversions) = (marks::all(middle, short), programs::all(long), converting::all(middle));
     for number in 1..=passes {
-        let parts: [&mut dyn Pass; 14] = [
+        let parts: [&mut dyn Pass; 15] = [
             &mut shapes,
             &mut around,
             &mut keys,
             &mut lists,
             &mut runs,
+            &mut twins,
             &mut calls,
             &mut stores,
             &mut copies,
@@ -102,6 +105,7 @@ fn measure(efforts: Efforts) -> Results {
         keys: keys::by_shape(keys),
         lists: renaming::rows(lists),
         runs: runs::rows(runs),
+        twins: grouping::rows(twins),
         calls: building::built(calls),
         stores: building::built(stores),
         copies: copying::by_shape(copies),

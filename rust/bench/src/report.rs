@@ -9,6 +9,7 @@ use crate::checks::{Allowed, Soundness};
 use crate::converting;
 use crate::copying;
 use crate::fragments::{Measured, Row, Times};
+use crate::grouping;
 use crate::keys;
 use crate::marks;
 use crate::programs;
@@ -25,6 +26,7 @@ pub struct Results {
     pub keys: Vec<keys::Row>,
     pub lists: Vec<renaming::Times>,
     pub runs: Vec<runs::Row>,
+    pub twins: Vec<grouping::Row>,
     pub calls: Vec<Built>,
     pub stores: Vec<Built>,
     pub copies: Vec<copying::Row>,
@@ -44,7 +46,7 @@ pub struct Efforts {
     /// Comparisons, hashes, keys and tests.
     pub short: Effort,
     /// Stores that are built, copied in, or changed and gone back on, mappings that are filled to be emptied, blocks that are searched for runs,
-    /// and listings that are converted.
+    /// stores that are searched for twins, and listings that are converted.
     pub middle: Effort,
     /// Listings that are answered.
     pub long: Effort,
@@ -55,7 +57,7 @@ pub fn page(results: &Results) -> String {
     let Efforts { passes, short, middle, long } = results.efforts;
     let rounds = |effort: Effort| (passes * effort.rounds).to_string();
     let (shapes, hashed) = (&results.shapes, |shape| shape != Shape::Unequal);
-    let places: [(&str, String); 33] = [
+    let places: [(&str, String); 34] = [
         ("processor", processor()),
         ("compiler", compiler()),
         ("short rounds", rounds(short)),
@@ -76,6 +78,7 @@ pub fn page(results: &Results) -> String {
         ("flat keys", flat_keys(&results.keys[0]).to_string()),
         ("lists", lists(&results.lists).to_string()),
         ("runs", repeated(&results.runs).to_string()),
+        ("twins", twins(&results.twins).to_string()),
         ("calls", building("One sort", &results.calls).to_string()),
         ("stores", building("Whole store", &results.stores).to_string()),
         ("copies inner", copies(&results.copies, Times::inner_ratio).to_string()),
@@ -118,7 +121,8 @@ fn in_short(results: &Results) -> Table {
     let unequal = |ratio: Ratio| of_shapes(&results.shapes, |shape| shape == Shape::Unequal, ratio);
     let built = |ratio: fn(Times) -> f64| results.calls.iter().map(|built| ratio(built.times)).collect();
     let copied = |ratio: fn(Times) -> f64| results.copies.iter().flat_map(|row| &row.sizes).map(|times| ratio(*times)).collect();
-    let rows: [(&str, Vec<f64>); 12] = [
+    let grouped = |ratio: fn(Times) -> f64| results.twins.iter().map(|row| ratio(row.times)).collect();
+    let rows: [(&str, Vec<f64>); 14] = [
         ("comparison of equal fragments, inner", equal(|m| m.comparison.inner_ratio())),
         ("comparison of equal fragments, offered", equal(|m| m.comparison.offered_ratio())),
         ("comparison, unequal at first sight, inner", unequal(|m| m.comparison.inner_ratio())),
@@ -129,6 +133,8 @@ fn in_short(results: &Results) -> Table {
         ("a building call, offered", built(Times::offered_ratio)),
         ("a copy, inner", copied(Times::inner_ratio)),
         ("a copy, offered", copied(Times::offered_ratio)),
+        ("the twins of a store, inner", grouped(Times::inner_ratio)),
+        ("the twins of a store, offered", grouped(Times::offered_ratio)),
         ("`twins` on a listing", results.programs.iter().map(|row| row.twins.ratio()).collect()),
         ("`sums` on a listing", results.programs.iter().map(|row| row.sums.ratio()).collect()),
     ];
@@ -235,6 +241,15 @@ fn repeated(rows: &[runs::Row]) -> Table {
     for row in rows {
         let micros = row.nanos.iter().flatten().map(|nanos| number(nanos / 1000.0));
         table.row(format!("{} operations, {}", row.size, row.filling.name()), micros);
+    }
+    table
+}
+
+fn twins(rows: &[grouping::Row]) -> Table {
+    let columns = ["inner µs", "offered µs", "pliron µs", "inner ratio", "offered ratio"];
+    let mut table = Table::new([format!("{} operations", grouping::OPERATIONS)].into_iter().chain(columns.map(str::to_string)));
+    for row in rows {
+        table.row(row.name, sides(row.times, 1000));
     }
     table
 }

@@ -1,56 +1,37 @@
-//! The twins among a form's operations: grouped by hash first, and then by comparison, since different operations may have one hash. Both
-//! sides of each merge are printed.
+//! The twins among a form's operations: each with the first operation that is equal to it and independent of it. Both sides of each merge are
+//! printed.
 //!
 //!     cargo run --offline --example find_twins
 
 mod form;
 
-use std::collections::BTreeMap;
-
-use warzhigo::{Ignore, Mapping, OpId, Refused, Store, operation_eq, operation_hash};
+use warzhigo::{Ignore, OpId, Refused, Store};
 
 fn main() -> Result<(), Refused> {
     let mut store = Store::new();
-    form::ring_form(&mut store)?;
-    let groups = twins(&store, &Ignore::LOCATIONS)?;
-    for group in &groups {
-        for twin in &group[1..] {
-            println!("merge\n    {}\nwith\n    {}", described(&store, group[0])?, described(&store, *twin)?);
-        }
+    let [first, second, third] = form::ring_form(&mut store)?;
+    let merges = merges(&store, &Ignore::LOCATIONS)?;
+    for (stays, goes) in &merges {
+        println!("merge\n    {}\nwith\n    {}", described(&store, *stays)?, described(&store, *goes)?);
     }
+    let field = |page| field_of(&store, page);
     // the first two pages, and the fields of all three
-    assert_eq!(groups.iter().map(Vec::len).collect::<Vec<_>>(), [2, 3]);
+    assert_eq!(merges, [(first, second), (field(first)?, field(second)?), (field(first)?, field(third)?)]);
     Ok(())
 }
 
-/// The operations that are equal to one another both ways, by their first; those without a twin are left out.
-///
-/// `operation_eq` has a direction only where one operation names what the other defines; asking both ways leaves such pairs out.
-fn twins(store: &Store, ignore: &Ignore) -> Result<Vec<Vec<OpId>>, Refused> {
-    let mut by_hash: BTreeMap<u64, Vec<Vec<OpId>>> = BTreeMap::new();
-    let mut mapping = Mapping::new();
-    let mut equal = |lhs, rhs| -> Result<bool, Refused> {
-        let answer = operation_eq(store, &mut mapping, lhs, rhs, ignore)?;
-        mapping.clear();
-        Ok(answer.is_eq())
-    };
-    for op in store.operations().map(|op| op.id()) {
-        let groups = by_hash.entry(operation_hash(store, op, ignore)?).or_default();
-        let mut twin = None;
-        for (i, group) in groups.iter().enumerate() {
-            if equal(group[0], op)? && equal(op, group[0])? {
-                twin = Some(i);
-                break;
-            }
-        }
-        match twin {
-            Some(i) => groups[i].push(op),
-            None => groups.push(vec![op]),
-        }
-    }
-    let mut groups: Vec<_> = by_hash.into_values().flatten().filter(|group| group.len() > 1).collect();
-    groups.sort();
-    Ok(groups)
+/// The operation that stays and the one that goes, of each merge.
+fn merges(store: &Store, ignore: &Ignore) -> Result<Vec<(OpId, OpId)>, Refused> {
+    let twins = store.twins_of_operations(ignore)?;
+    let ops = store.operations().map(|op| op.id());
+    Ok(twins.into_iter().zip(ops).filter_map(|(twin, op)| Some((twin?, op))).collect())
+}
+
+/// The first operation in a page.
+fn field_of(store: &Store, page: OpId) -> Result<OpId, Refused> {
+    let region = store.operation(page)?.regions().next().expect("its region");
+    let inside = store.region(region)?.blocks().next().expect("its block");
+    Ok(store.block(inside)?.operations().next().expect("its field"))
 }
 
 /// An operation in a line.

@@ -60,6 +60,23 @@ pub(crate) struct RunAnswer {
     pub(crate) right: u32,
 }
 
+/// What a question for independence answers. Code 0 is no; 1 is yes; 2 is a refusal, and its cause is `cause`.
+#[repr(C)]
+#[derive(Clone, Copy)]
+pub(crate) struct Independence {
+    pub(crate) code: u32,
+    pub(crate) cause: u32,
+}
+
+/// What the search for twins answers. Code 0 is a word for each of so many `operations`; 1 is a refusal, and its cause is `cause`.
+#[repr(C)]
+#[derive(Clone, Copy)]
+pub(crate) struct Grouped {
+    pub(crate) operations: usize,
+    pub(crate) code: u32,
+    pub(crate) cause: u32,
+}
+
 /// What a building call answers, and likewise the copier, and a call that sets a mark or goes back. Code 0 is a new number, `number`; 1
 /// is accepted; 2 is a refusal, and its cause is `number`.
 #[repr(C)]
@@ -158,6 +175,14 @@ unsafe extern "C" {
     fn wz_known_region_extent(store: *const u32, words: usize, n: u32, locations: bool, bits: u64) -> ExtentAnswer;
     fn wz_repeated_run(store: *const u32, words: usize, types: *const u32, type_words: usize, block: u32, length: u32, locations: bool, bits: u64) -> RunAnswer;
     fn wz_known_repeated_run(store: *const u32, words: usize, types: *const u32, type_words: usize, block: u32, length: u32, locations: bool, bits: u64) -> RunAnswer;
+    fn wz_operations_independent(store: *const u32, words: usize, lhs: u32, rhs: u32) -> Independence;
+    fn wz_known_operations_independent(store: *const u32, words: usize, lhs: u32, rhs: u32) -> Independence;
+    fn wz_basic_blocks_independent(store: *const u32, words: usize, lhs: u32, rhs: u32) -> Independence;
+    fn wz_known_basic_blocks_independent(store: *const u32, words: usize, lhs: u32, rhs: u32) -> Independence;
+    fn wz_regions_independent(store: *const u32, words: usize, lhs: u32, rhs: u32) -> Independence;
+    fn wz_known_regions_independent(store: *const u32, words: usize, lhs: u32, rhs: u32) -> Independence;
+    fn wz_twins_of_operations(store: *const u32, words: usize, types: *const u32, type_words: usize, locations: bool, bits: u64, twins: *mut u32, room: usize) -> Grouped;
+    fn wz_known_twins_of_operations(store: *const u32, words: usize, types: *const u32, type_words: usize, locations: bool, bits: u64, twins: *mut u32, room: usize) -> Grouped;
     fn wz_compare_keys(lhs: *const u8, lhs_length: usize, rhs: *const u8, rhs_length: usize) -> i32;
 
     fn wz_twins(listing: *const u8, length: usize, store: *mut u32, words: usize, mapping: *mut u32, entries: usize, out: *mut u8, room: usize) -> Output;

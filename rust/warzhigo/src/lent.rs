@@ -194,6 +194,42 @@ pub fn repeated_run(store: &[u32], types: &[u32], block: u32, length: u32, ignor
     lent::repeated_run(store, types, block, length, ignore).result()
 }
 
+/// Are two operations independent? As [`Store::independent`](crate::Store::independent). Refused by 1 or 2.
+pub fn operations_independent(store: &[u32], lhs: u32, rhs: u32) -> Result<bool, Refused> {
+    lent::independent(Sort::Op, store, (lhs, rhs)).result()
+}
+
+/// Are two blocks independent? Refused by 1 or 2.
+pub fn basic_blocks_independent(store: &[u32], lhs: u32, rhs: u32) -> Result<bool, Refused> {
+    lent::independent(Sort::Block, store, (lhs, rhs)).result()
+}
+
+/// Are two regions independent? Refused by 1 or 2.
+pub fn regions_independent(store: &[u32], lhs: u32, rhs: u32) -> Result<bool, Refused> {
+    lent::independent(Sort::Region, store, (lhs, rhs)).result()
+}
+
+/// Writes the twin of each operation into lent words, or 4294967295 where it has none, from the first word on, and gives how many operations
+/// there are; words behind them are as they were. As [`Store::twins_of_operations`](crate::Store::twins_of_operations). Refused by 1 or 14, or
+/// by 13 where the words are fewer than the operations, and then nothing is written; 512 suffice.
+///
+/// ```
+/// use warzhigo::Ignore;
+/// use warzhigo::lent::{self, NewOperation};
+///
+/// let mut store = vec![0; lent::store_words()];
+/// for kind in [8, 9, 8] {
+///     lent::new_operation(&mut store, &NewOperation { kind, ..Default::default() })?;
+/// }
+/// let mut twins = [7; 4];
+/// assert_eq!(lent::twins_of_operations(&store, &[], &Ignore::NOTHING, &mut twins), Ok(3));
+/// assert_eq!(twins, [u32::MAX, u32::MAX, 0, 7]);
+/// # Ok::<(), warzhigo::Refused>(())
+/// ```
+pub fn twins_of_operations(store: &[u32], types: &[u32], ignore: &Ignore, twins: &mut [u32]) -> Result<usize, Refused> {
+    lent::twins_of_operations(store, types, ignore, twins).result()
+}
+
 /// The program [`twins`](crate::twins) in lent buffers: store and mapping may hold anything, and are emptied first. Afterwards the store is
 /// what the listing's lines have built.
 pub fn twins(listing: &[u8], store: &mut [u32], mapping: &mut [u32], out: &mut [u8]) -> Listed {

@@ -43,7 +43,7 @@ impl Refused {
             9 => "the listing's first line isn't the header, or is missing",
             10 => "a line with an unknown letter, a bad number, or a field missing or extra",
             11 => "the listing or a line is too long, or the last line feed is missing",
-            13 => "the lent key is too short",
+            13 => "the lent key or list of twins is too short",
             14 => "the list of renamed types has a half row, over 64 rows, an old type twice, or a present type that has a row itself",
             15 => "the run's length is 0 or over 256",
             16 => "the mark is not one of 1 to 8, or is not set",

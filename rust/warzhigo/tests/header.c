@@ -1,6 +1,6 @@
 /* The header from C: two operations built, compared, hashed, measured and filed, types renamed, a mark gone back to, attributes set, an
- * operation copied, a listing's question answered, and the listing converted. Gives the number of the first thing that isn't as it should be,
- * or 0. */
+ * operation copied, twins found, a listing's question answered, and the listing converted. Gives the number of the first thing that isn't
+ * as it should be, or 0. */
 #include "warzhigo.h"
 
 #include <stdlib.h>
@@ -104,15 +104,35 @@ int main(void) {
     if (extent.blocks != 0 || extent.nesting != 0 || wz_region_extent(keyed, wz_store_words(), 0, true, 0).cause != 2) return 36;
     if (wz_known_operation_extent(keyed, wz_store_words(), 1, false, 0).bytes != whole.length + 4) return 37;
 
+    uint32_t twins[5] = {7, 7, 7, 7, 7};
+    wz_grouped short_list = wz_twins_of_operations(keyed, wz_store_words(), NULL, 0, true, 0, twins, 3);
+    wz_grouped half_row = wz_twins_of_operations(keyed, wz_store_words(), half, 1, true, 0, twins, 3);
+    if (short_list.code != 1 || short_list.cause != 13 || half_row.cause != 14 || twins[0] != 7) return 38;
+    wz_grouped grouped = wz_twins_of_operations(keyed, wz_store_words(), list, 2, true, 0, twins, 5);
+    if (grouped.code != 0 || grouped.operations != 4) return 39;
+    if (twins[0] != UINT32_MAX || twins[1] != 0 || twins[2] != 0 || twins[3] != 0 || twins[4] != 7) return 40;
+    wz_grouped located = wz_known_twins_of_operations(keyed, wz_store_words(), NULL, 0, false, 0, twins, 4);
+    if (located.code != 0 || twins[0] != UINT32_MAX || twins[1] != UINT32_MAX || twins[2] != 0 || twins[3] != 1) return 41;
+
+    const uint32_t operand = 0;
+    wz_outcome naming = wz_new_operation(keyed, wz_store_words(), 8, false, 0, 1, 1, &type, 1, &operand, 1, NULL, 0);
+    wz_independence named = wz_operations_independent(keyed, wz_store_words(), 0, naming.number);
+    wz_independence apart = wz_known_operations_independent(keyed, wz_store_words(), 1, naming.number);
+    if (naming.code != 0 || named.code != 0 || apart.code != 1) return 42;
+    wz_independence unasked = wz_operations_independent(keyed, wz_store_words(), 0, 5);
+    wz_independence no_block = wz_known_basic_blocks_independent(keyed, wz_store_words(), 0, 0);
+    if (unasked.code != 2 || unasked.cause != 2 || no_block.code != 2 || no_block.cause != 2) return 43;
+    if (wz_regions_independent(keyed, wz_store_words(), 0, 0).code != 1 || wz_regions_independent(keyed, 1, 0, 0).cause != 1) return 44;
+
     const char *converted = "opstore,1\no,7,-,5,1,0,0,0\nb,0,0,5,0\nq,o,0,0,0,0\n";
     const char *inherent_line = "opstore,2\ni,o,0,2,5,9\n", *refused_line = "refused,2,20\n";
     wz_output older = wz_convert((const uint8_t *)listing, strlen(listing), out, wz_converted_bytes());
-    if (older.code != 0 || older.bytes != strlen(converted) || memcmp(out, converted, older.bytes) != 0) return 38;
+    if (older.code != 0 || older.bytes != strlen(converted) || memcmp(out, converted, older.bytes) != 0) return 45;
     wz_output newer = wz_convert((const uint8_t *)converted, strlen(converted), out, wz_converted_bytes());
-    if (newer.code != 0 || newer.bytes != strlen(listing) || memcmp(out, listing, newer.bytes) != 0) return 39;
+    if (newer.code != 0 || newer.bytes != strlen(listing) || memcmp(out, listing, newer.bytes) != 0) return 46;
     wz_output unconverted = wz_convert((const uint8_t *)inherent_line, strlen(inherent_line), out, wz_converted_bytes());
-    if (unconverted.code != 0 || unconverted.bytes != strlen(refused_line) || memcmp(out, refused_line, unconverted.bytes) != 0) return 40;
-    if (wz_convert((const uint8_t *)listing, strlen(listing), out, wz_converted_bytes() - 1).code != 2) return 41;
+    if (unconverted.code != 0 || unconverted.bytes != strlen(refused_line) || memcmp(out, refused_line, unconverted.bytes) != 0) return 47;
+    if (wz_convert((const uint8_t *)listing, strlen(listing), out, wz_converted_bytes() - 1).code != 2) return 48;
 
     free(index);
     free(keyed);

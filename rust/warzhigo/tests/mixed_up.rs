@@ -92,6 +92,9 @@ fn fragments_of_another_store_are_not_compared_hashed_or_filed() {
     assert_eq!(cause(operation_extent(&form.store, other.ops[0], &ignore)), Some(2));
     assert_eq!(cause(basic_block_extent(&form.store, other.block, &ignore)), Some(2));
     assert_eq!(cause(region_extent(&form.store, other.region, &ignore)), Some(2));
+    assert_eq!(cause(form.store.independent(form.ops[0], other.ops[0])), Some(2));
+    assert_eq!(cause(form.store.independent(other.block, form.block)), Some(2));
+    assert_eq!(cause(form.store.independent(other.region, other.region)), Some(2));
     let mut bytes = [7; 100];
     assert_eq!(cause(operation_key_into(&form.store, other.ops[0], &ignore, &mut bytes)), Some(2));
     assert_eq!(cause(basic_block_key_into(&form.store, other.block, &ignore, &mut bytes)), Some(2));

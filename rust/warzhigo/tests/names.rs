@@ -6,8 +6,9 @@ use warzhigo::Inherent;
 
 const HEADER: &str = include_str!("../../../include/warzhigo.h");
 const RUST: &str = include_str!("../src/ffi.rs");
-const RATTLE: [&str; 6] = [
+const RATTLE: [&str; 7] = [
     include_str!("../../../crates/link/src/answers.rt"),
+    include_str!("../../../crates/link/src/groups.rt"),
     include_str!("../../../crates/link/src/known.rt"),
     include_str!("../../../crates/link/src/lengths.rt"),
     include_str!("../../../crates/link/src/listings.rt"),
@@ -93,6 +94,8 @@ fn from_c(declaration: &str) -> (String, String) {
         "wz_key_answer" => "KeyAnswer",
         "wz_extent_answer" => "ExtentAnswer",
         "wz_run_answer" => "RunAnswer",
+        "wz_independence" => "Independence",
+        "wz_grouped" => "Grouped",
         "wz_outcome" => "Outcome",
         "wz_output" => "Output",
         "wz_entries" => "Entries",
@@ -169,7 +172,7 @@ fn inherent_has_the_same_numbers() {
 #[test]
 fn structs_are_the_same() {
     let rattle = structs(&RATTLE.concat());
-    assert_eq!(rattle.len(), 8);
+    assert_eq!(rattle.len(), 10);
     assert_eq!(rattle, structs(RUST));
     assert_eq!(rattle, header_structs());
 }

@@ -46,6 +46,14 @@ module _ {A B : Type 0} where
       (λ y k l. let w = mem_concat_map f xs l in
       d.0 (Memᴰ.cast (same x w.0 (Memᴰ.head refl) (Memᴰ.tail w.1) y k w.2) w.1))
 
+  -- without a common entry, where what stands in two parts tells that they are the same
+  pub apart_concat_map : (f : A → List B) (xs ys : List A) → ((x x' : A) (z : B) → Memᴰ z (f x) → Memᴰ z (f x') → x ≡ x')
+      → Disjoint xs ys → Disjoint (concat_map f xs) (concat_map f ys)
+  apart_concat_map f xs ys same apart z m k =
+      let v = mem_concat_map f xs m in
+      let w = mem_concat_map f ys k in
+      apart w.0 (Memᴰ.cast (sym (same v.0 w.0 z v.2 w.2)) v.1) w.1
+
   -- mapped by a function that tells its arguments apart
   pub distinct_map : (f : A → B) (xs : List A) → Distinct xs → ((x x' : A) → f x ≡ f x' → x ≡ x') → Distinct (map f xs)
   distinct_map f [] d inj = tt

@@ -3,10 +3,11 @@ use Prim.Native.Nat.{suc, ◌+◌, ◌≤◌}
 use native.Mathlib.Omega.{arith}
 use mathlib.Core.Bool.{Bool, true, false, cond, not, ◌&&◌, ◌||◌}
 use mathlib.Core.List.{List, [], ◌∷◌, ◌++◌, map, Memᴰ}
+use mathlib.Core.Logic.{⊎_elim}
 use mathlib.Core.Path.{◌≡◌, refl, ap, subst}
 use lib.ListN.{length}
 use Rattle.rules.specs.Lists.{all, any, filter}
-use Rattle.rules.proofs.Basics.Tests.{and_left, and_right, and_both, or_left, or_right, or_false_left, or_false_right, or_neither, clash}
+use Rattle.rules.proofs.Basics.Tests.{and_left, and_right, and_both, or_cases, or_left, or_right, or_false_left, or_false_right, or_neither, clash}
 
 module _ {A : Type 0} where
   -- ---- some entry passes
@@ -24,6 +25,12 @@ module _ {A : Type 0} where
   unfolding any
   any_at p (Memᴰ.head {x = y} {xs = ys} e) h = or_left (p y) (any p ys) (subst (λ (z : A). p z ≡ true) e h)
   any_at p (Memᴰ.tail {x = y} {xs = ys} m) h = or_right (p y) (any p ys) (any_at p m h)
+
+  pub any_where : (p : A → Bool) (xs : List A) → any p xs ≡ true → (x : A) × Memᴰ x xs × (p x ≡ true)
+  unfolding any
+  any_where p [] h = clash h refl
+  any_where p (x ∷ xs) h =
+      ⊎_elim (λ e. (x, Memᴰ.head refl, e)) (λ e. let w = any_where p xs e in (w.0, Memᴰ.tail w.1, w.2)) (or_cases (p x) (any p xs) h)
 
   -- none passes, and so none of those that are kept
   pub none_kept : (p q : A → Bool) (xs : List A) → any p xs ≡ false → any p (filter q xs) ≡ false

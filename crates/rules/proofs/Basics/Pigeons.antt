@@ -27,7 +27,7 @@ module _ {A : Type 0} where
   without_others (Memᴰ.tail m) y ne k = ⊎_elim (λ f. Memᴰ.head f) (λ k'. Memᴰ.tail (without_others m y ne k')) (Memᴰ.cases_cons k)
 
   -- distinct entries that all stand in another list are at most as many as that has
-  distinct_most : (xs ys : List A) → Distinct xs → ((x : A) → Memᴰ x xs → Memᴰ x ys) → length xs ≤ length ys
+  pub distinct_most : (xs ys : List A) → Distinct xs → ((x : A) → Memᴰ x xs → Memᴰ x ys) → length xs ≤ length ys
   distinct_most [] ys d h = omega arith
   distinct_most (x ∷ xs) ys d h =
       let m = h x (Memᴰ.head refl) in

@@ -11,20 +11,21 @@ use borrow.Author.Tests.{ltb-true, eq-eqb}
 use lib.Dec.{eqb}
 use lib.ListN.{length, get_or}
 use Rattle.rules.specs.Lists.{numbers_from, numbers_where}
-use Rattle.rules.specs.Store.{Store, Owner, of_op, of_block, op_exists, region_exists, parent_of, op_around, block_at, value_at, regions_of, values_of}
+use Rattle.rules.specs.Store.{Store, Owner, of_op, of_block, op_exists, region_exists, parent_of, op_around, block_at, value_at, regions_of}
 use Rattle.rules.specs.Fragments.{op, exists, op_owner, block_owner, defines_owners, defines_blocks, defines_values, fragment_ops}
 use Rattle.rules.specs.Copying.{copied_regions, op_copy, block_copy}
 use Rattle.rules.proofs.Soundness.Sound.{Sound}
-use Rattle.rules.proofs.Soundness.Children.{regions_in_lem, regions_distinct, values_in_lem}
+use Rattle.rules.proofs.Soundness.Children.{regions_in_lem, regions_distinct}
 use Rattle.rules.proofs.Basics.Tests.{impossible}
-use Rattle.rules.proofs.Basics.Distinct.{Distinct, mem_concat_map, distinct_concat_map}
+use Rattle.rules.proofs.Basics.Distinct.{Distinct, distinct_concat_map}
 use Rattle.rules.proofs.Form.Ancestors.{up}
-use Rattle.rules.proofs.Form.Once.{op_owner_lem, block_owner_lem, owners_once, ops_once, blocks_once_lem, values_once_lem, ops_here, blocks_here}
+use Rattle.rules.proofs.Form.Once.{owners_once, ops_once, blocks_once_lem, values_once_lem, ops_here, blocks_here}
+use Rattle.rules.proofs.Form.Owned as owned
 use Rattle.rules.proofs.Copying.Renumbered.{Before, first_in, before_trans, before_between, before_less, in_concat_map}
 use Rattle.rules.proofs.Copying.Walked.{around_before}
 
 -- a place where the test passes is listed
-pub numbers_in : {A : Type 0} (p : A → Bool) (d : A) (n : ℕ) (xs : List A) (i : ℕ) → i < length xs → p (get_or xs i d) ≡ true → Memᴰ (n + i) (numbers_from n p xs)
+numbers_in : {A : Type 0} (p : A → Bool) (d : A) (n : ℕ) (xs : List A) (i : ℕ) → i < length xs → p (get_or xs i d) ≡ true → Memᴰ (n + i) (numbers_from n p xs)
 unfolding numbers_from
 numbers_in p d n [] i l h = absurd (omega arith)
 numbers_in p d n (x ∷ xs) zero l h = let e : n + 0 ≡ n = omega arith in rw (h, e) (Memᴰ.head refl)
@@ -36,12 +37,13 @@ numbers_in p d n (x ∷ xs) (suc i) l h =
     later true m = Memᴰ.tail m
     later false m = m
 
+pub number_in : {A : Type 0} (p : A → Bool) (d : A) (xs : List A) (i : ℕ) → i < length xs → p (get_or xs i d) ≡ true → Memᴰ i (numbers_where p xs)
+unfolding numbers_where
+number_in p d xs i l h = let e : 0 + i ≡ i = omega arith in subst (λ (k : ℕ). Memᴰ k (numbers_from 0 p xs)) e (numbers_in p d 0 xs i l h)
+
 pub region_listed : (s : Store) (r : ℕ) → r < length s.regions → Memᴰ r (regions_of s (get_or s.regions r 0))
-unfolding regions_of numbers_where
-region_listed s r l =
-    let e : 0 + r ≡ r = omega arith in
-    subst (λ (k : ℕ). Memᴰ k (numbers_from 0 (λ (o : ℕ). eqb o (get_or s.regions r 0)) s.regions)) e
-    (numbers_in (λ (o : ℕ). eqb o (get_or s.regions r 0)) 0 0 s.regions r l (eq-eqb (get_or s.regions r 0) (get_or s.regions r 0) refl))
+unfolding regions_of
+region_listed s r l = number_in (λ (o : ℕ). eqb o (get_or s.regions r 0)) 0 s.regions r l (eq-eqb (get_or s.regions r 0) (get_or s.regions r 0) refl)
 
 module _ (s : Store) (sd : Sound s) (n : ℕ) (ex : op_exists s n ≡ true) where
   existing : exists s op n ≡ true
@@ -73,21 +75,16 @@ module _ (s : Store) (sd : Sound s) (n : ℕ) (ex : op_exists s n ≡ true) wher
   -- ---- operations and blocks among the owners
 
   pub op_owned : {m : ℕ} → Memᴰ m (fragment_ops s op n) → Memᴰ (of_op m) (defines_owners s op n)
-  unfolding fragment_ops
-  op_owned {m} k = let w = mem_concat_map op_owner (defines_owners s op n) k in subst (λ (x : Owner). Memᴰ x (defines_owners s op n)) (op_owner_lem w.0 m w.2) w.1
+  op_owned k = owned.op_owned s op n k
 
   pub owned_op : {m : ℕ} → Memᴰ (of_op m) (defines_owners s op n) → Memᴰ m (fragment_ops s op n)
-  unfolding fragment_ops op_owner
-  owned_op k = in_concat_map op_owner (defines_owners s op n) k (Memᴰ.head refl)
+  owned_op k = owned.owned_op s op n k
 
   pub block_owned : {b : ℕ} → Memᴰ b (defines_blocks s op n) → Memᴰ (of_block b) (defines_owners s op n)
-  unfolding defines_blocks
-  block_owned {b} k =
-      let w = mem_concat_map block_owner (defines_owners s op n) k in subst (λ (x : Owner). Memᴰ x (defines_owners s op n)) (block_owner_lem w.0 b w.2) w.1
+  block_owned k = owned.block_owned s op n k
 
   pub owned_block : {b : ℕ} → Memᴰ (of_block b) (defines_owners s op n) → Memᴰ b (defines_blocks s op n)
-  unfolding defines_blocks block_owner
-  owned_block k = in_concat_map block_owner (defines_owners s op n) k (Memᴰ.head refl)
+  owned_block k = owned.owned_block s op n k
 
   -- ---- what is around it
 
@@ -144,8 +141,4 @@ module _ (s : Store) (sd : Sound s) (n : ℕ) (ex : op_exists s n ≡ true) wher
 
   -- the owner of a value inside
   pub value_owner_lem : {v : ℕ} → Memᴰ v (defines_values s op n) → (v < length s.values) × Memᴰ (value_at s v).owner (defines_owners s op n)
-  unfolding defines_values
-  value_owner_lem {v} k =
-      let w = mem_concat_map (values_of s) (defines_owners s op n) k in
-      let i = values_in_lem s w.0 w.2 in
-      (i.0, subst (λ (x : Owner). Memᴰ x (defines_owners s op n)) (sym i.1) w.1)
+  value_owner_lem k = owned.value_owner_lem s op n k

@@ -14,11 +14,12 @@ use Rattle.rules.specs.Lists.{later, position}
 use Rattle.rules.specs.Store.{Store, Owner, of_op, op_at, type_of, values_of}
 use Rattle.rules.specs.Fragments.{shell, names, counted, block_owner}
 use Rattle.rules.specs.Shells.{Ignore, shell_of, counts_of}
-use Rattle.rules.specs.Hash.{Numbering, numbered, Name, name_at, name_of}
+use Rattle.rules.specs.Hash.{Numbering, numbered, name_at, name_of}
 use Rattle.rules.specs.Form.{Event, step, more, done, shell_token, names_token, numbered_by, token, tokens}
 use Rattle.rules.proofs.Basics.Cut.{map_through}
 use Rattle.rules.proofs.Basics.Tests.{decided}
 use Rattle.rules.proofs.Soundness.Children.{values_in_lem}
+use Rattle.rules.proofs.Form.Outside.{typed}
 use Rattle.rules.proofs.Copying.Along.{Along, over, pair}
 
 -- ---- places of renamed numbers
@@ -53,10 +54,6 @@ module _ (c : ℕ → ℕ) (v : ℕ) (xs : List ℕ) (once : (x : ℕ) → Mem�
   name_keeps e p =
       let f : name_at none v ≡ name_at none (c v) = ap (λ (o : Option ℕ). name_at o v) (sym p) ∙ e ∙ ap (λ (o : Option ℕ). name_at o (c v)) (position_renamed c v xs once ∙ p) in
       cc
-
--- a name with its type
-abbrev typed : Store → List ℕ → ℕ → Name × ℕ
-typed s xs v = (name_of xs v, type_of s v)
 
 map_each : {A B C : Type 0} (f : A → C) (h : B → C) (g : A → B) (xs : List A) → map f xs ≡ map h (map g xs) → (x : A) → Memᴰ x xs → f x ≡ h (g x)
 map_each f h g [] e x m = absurd (Memᴰ.not-nil m)

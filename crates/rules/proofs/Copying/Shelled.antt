@@ -135,9 +135,12 @@ module _ (s : Store) where
 
   -- ---- owners
 
-  pub shell_owner : (n : ℕ) (w : Owner) → Memᴰ (shell w) (steps s op n) → Memᴰ w (defines_owners s op n)
+  pub shell_defined : (f : Sort) (n : ℕ) (w : Owner) → Memᴰ (shell w) (steps s f n) → Memᴰ w (defines_owners s f n)
   unfolding defines_owners step_defines
-  shell_owner n w k = in_concat_map step_defines (steps s op n) k (Memᴰ.head refl)
+  shell_defined f n w k = in_concat_map step_defines (steps s f n) k (Memᴰ.head refl)
+
+  pub shell_owner : (n : ℕ) (w : Owner) → Memᴰ (shell w) (steps s op n) → Memᴰ w (defines_owners s op n)
+  shell_owner n w k = shell_defined op n w k
 
   pub names_owner : (n m : ℕ) → Memᴰ (names m) (steps s op n) → Memᴰ (of_op m) (defines_owners s op n)
   names_owner n m k = shell_owner n (of_op m) (in_steps op n m k)
@@ -148,6 +151,6 @@ module _ (s : Store) where
   of_step (names m) w k = absurd (Memᴰ.not-nil k)
   of_step (counted m) w k = absurd (Memᴰ.not-nil k)
 
-  pub owner_shell : (n : ℕ) (w : Owner) → Memᴰ w (defines_owners s op n) → Memᴰ (shell w) (steps s op n)
+  pub owner_shell : (f : Sort) (n : ℕ) (w : Owner) → Memᴰ w (defines_owners s f n) → Memᴰ (shell w) (steps s f n)
   unfolding defines_owners
-  owner_shell n w k = let x = mem_concat_map step_defines (steps s op n) k in subst (λ (y : Step). Memᴰ y (steps s op n)) (of_step x.0 w x.2) x.1
+  owner_shell f n w k = let x = mem_concat_map step_defines (steps s f n) k in subst (λ (y : Step). Memᴰ y (steps s f n)) (of_step x.0 w x.2) x.1

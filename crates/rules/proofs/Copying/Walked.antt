@@ -10,7 +10,7 @@ use mathlib.Core.Path.{◌≡◌, refl, sym, ap, ap₂, subst, ◌∙◌}
 use lib.ListN.{length, get_or}
 use Rattle.rules.specs.Lists.{concat_map}
 use Rattle.rules.specs.Store.{Store, Owner, of_op, of_block, ops_of, blocks_of, regions_of, op_around}
-use Rattle.rules.specs.Fragments.{Step, shell, names, counted, op, full_op, shells, list_steps, region_steps, levels, steps, step_defines, op_owner, block_owner, defines_owners, defines_blocks, fragment_ops}
+use Rattle.rules.specs.Fragments.{Sort, block, region, Step, shell, names, counted, op, full_op, shells, list_steps, region_steps, levels, steps, step_defines, op_owner, block_owner, defines_owners, defines_blocks, fragment_ops}
 use Rattle.rules.proofs.Basics.Distinct.{mem_concat_map, concat_map_append, concat_map_concat_map, concat_map_same}
 use Rattle.rules.proofs.Soundness.Children.{ops_in_lem, blocks_in_lem, regions_in_lem}
 use Rattle.rules.proofs.Form.Ancestors.{up}
@@ -123,14 +123,18 @@ module _ (s : Store) where
       of_full (ops_of s) step_ops no_ops in_region (λ (r : ℕ). concat_map step_blocks (in_region r)) same m
       ∙ ap (concat_map (ops_of s)) (sym (ap₂ ◌++◌ (no_blocks m) (concat_map_concat_map step_blocks in_region (regions_of s m))))
 
+  ops_of_list : (in_region : ℕ → List Step) → ((r : ℕ) → concat_map step_ops (in_region r) ≡ concat_map (ops_of s) (concat_map step_blocks (in_region r)))
+      → (bs : List ℕ) → concat_map step_ops (list_steps s (full_op s in_region) bs) ≡ concat_map (ops_of s) (concat_map step_blocks (list_steps s (full_op s in_region) bs))
+  ops_of_list in_region same bs =
+      ops_parts (full_op s in_region) bs
+      ∙ ap (λ (l : List ℕ). concat_map (ops_of s) bs ++ l) (through (ops_of s) _ _ bs (λ b. through (ops_of s) _ _ (ops_of s b) (ops_of_full in_region same)))
+      ∙ sym (concat_map_append (ops_of s) bs _)
+      ∙ sym (ap (concat_map (ops_of s)) (blocks_parts (full_op s in_region) bs))
+
   ops_of_blocks_lem : (k r : ℕ) → concat_map step_ops (region_steps k s r) ≡ concat_map (ops_of s) (concat_map step_blocks (region_steps k s r))
   unfolding region_steps concat_map
   ops_of_blocks_lem zero r = refl
-  ops_of_blocks_lem (suc k) r =
-      ops_parts (full_op s (region_steps k s)) (blocks_of s r)
-      ∙ ap (λ (l : List ℕ). concat_map (ops_of s) (blocks_of s r) ++ l) (through (ops_of s) _ _ (blocks_of s r) (λ b. through (ops_of s) _ _ (ops_of s b) (ops_of_full (region_steps k s) (ops_of_blocks_lem k))))
-      ∙ sym (concat_map_append (ops_of s) (blocks_of s r) _)
-      ∙ sym (ap (concat_map (ops_of s)) (blocks_parts (full_op s (region_steps k s)) (blocks_of s r)))
+  ops_of_blocks_lem (suc k) r = ops_of_list (region_steps k s) (ops_of_blocks_lem k) (blocks_of s r)
 
   -- ---- of the whole operation
 
@@ -147,6 +151,23 @@ module _ (s : Store) where
       ∙ ap (λ (l : List ℕ). n ∷ l)
       (ops_of_full (region_steps levels s) (ops_of_blocks_lem levels) n
       ∙ ap (concat_map (ops_of s)) (sym (concat_map_concat_map block_owner step_defines (steps s op n))))
+
+  -- of any fragment
+  pub ops_of_blocks : (f : Sort) (n : ℕ) {m : ℕ} → Memᴰ m (concat_map (ops_of s) (defines_blocks s f n)) → Memᴰ m (fragment_ops s f n)
+  unfolding defines_blocks fragment_ops defines_owners steps step_blocks step_ops
+  ops_of_blocks op n {m} k = subst (Memᴰ m) (sym (ops_by_block n)) (Memᴰ.tail k)
+  ops_of_blocks block n {m} k =
+      subst (Memᴰ m)
+      (ap (concat_map (ops_of s)) (concat_map_concat_map block_owner step_defines (steps s block n))
+      ∙ sym (ops_of_list (region_steps levels s) (ops_of_blocks_lem levels) (n ∷ []))
+      ∙ sym (concat_map_concat_map op_owner step_defines (steps s block n)))
+      k
+  ops_of_blocks region n {m} k =
+      subst (Memᴰ m)
+      (ap (concat_map (ops_of s)) (concat_map_concat_map block_owner step_defines (steps s region n))
+      ∙ sym (ops_of_blocks_lem levels n)
+      ∙ sym (concat_map_concat_map op_owner step_defines (steps s region n)))
+      k
 
   -- ---- what is next around a thing comes before it
 

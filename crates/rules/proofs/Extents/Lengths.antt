@@ -1,15 +1,14 @@
 -- How long a key is doesn't depend on types: every type takes 4 bytes, a shell's attributes and location are the same under every list of
 -- renamed types, and the numbers that names get don't depend on types. Assumes nothing.
-use Prim.Native.Nat.{ℕ, ◌+◌, ◌*◌}
+use Prim.Native.Nat.{ℕ}
 use native.Mathlib.Omega.{arith}
-use mathlib.Core.List.{List, [], ◌∷◌, ◌++◌}
+use mathlib.Core.List.{List, [], ◌∷◌}
 use mathlib.Core.Path.{◌≡◌, refl, ap, ◌∙◌}
 use lib.ListN.{length, length-append, length-map}
-use Rattle.rules.specs.Lists.{concat_map}
-use Rattle.rules.specs.Store.{Store, Owner, of_op, of_block, op_at, regions_of, values_of}
+use Rattle.rules.specs.Store.{Store, Owner, of_op, of_block, op_at, regions_of}
 use Rattle.rules.specs.Fragments.{Sort, Step, shell, names, counted, steps}
 use Rattle.rules.specs.Shells.{Ignore, Shell, shell_of}
-use Rattle.rules.specs.Hash.{leaf, count, list_bytes, location_bytes, shell_bytes, head_bytes, Numbering, no_numbers, numbered, name_of, name_bytes, feeds, all_bytes}
+use Rattle.rules.specs.Hash.{count, shell_bytes, head_bytes, Numbering, no_numbers, numbered, feeds, all_bytes}
 use Rattle.rules.specs.Types.{present, renamed}
 use Rattle.rules.specs.Keys.{key}
 use Rattle.rules.proofs.Types.Renamed.{shell_renamed, shell_renamed_lem, steps_renamed, numbered_renamed}

@@ -22,7 +22,7 @@ use Rattle.rules.proofs.Types.Under.{owners}
 use Rattle.rules.proofs.Walking.Answered.{comparison_is}
 
 -- how many are entered
-passed_count : {s : Store} {ig : Ignore} {ls rs : List Owner} {st st' : State} → Passed s ig ls rs st st'
+pub passed_count : {s : Store} {ig : Ignore} {ls rs : List Owner} {st st' : State} → Passed s ig ls rs st st'
     → (st'.paired ≡ st.paired + length ls) × (length ls ≡ length rs)
 unfolding enter_owners
 passed_count over = (omega arith, refl)

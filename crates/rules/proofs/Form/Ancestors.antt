@@ -34,6 +34,23 @@ pub around_from : {s : Store} {a b x : Owner} → Around s a b → From s b x �
 around_from {s} {a} h (inl e) = subst (Around s a) (sym e) h
 around_from h (inr k) = around_trans h k
 
+-- and around a sibling of the thing
+pub around_sibling : {s : Store} {a x y : Owner} → up s x ≡ up s y → Around s a x → Around s a y
+around_sibling e (next k) = next (sym e ∙ k)
+around_sibling e (beyond k r) = beyond (sym e ∙ k) r
+
+-- of two that are around one thing, one is around the other, or they are the same
+around_both : {s : Store} {a b x : Owner} → Around s a x → Around s b x → From s a b ⊎ From s b a
+around_both {s} {a} {b} (next k) (next k') = inl (inl (some-injective b a (sym k' ∙ k)))
+around_both {s} {a} {b} (next k) (beyond {p = p} k' r) = inr (inr (subst (Around s b) (some-injective p a (sym k' ∙ k)) r))
+around_both {s} {a} {b} (beyond {p = p} k r) (next k') = inl (inr (subst (Around s a) (some-injective p b (sym k ∙ k')) r))
+around_both {s} {a} {b} (beyond {p = p} k r) (beyond {p = p'} k' r') = around_both r (subst (Around s b) (some-injective p' p (sym k' ∙ k)) r')
+
+pub one_from_other : {s : Store} {a b x : Owner} → From s a x → From s b x → From s a b ⊎ From s b a
+one_from_other {s} {a} {b} (inl e) q = inr (subst (From s b) e q)
+one_from_other {s} {a} {b} (inr p) (inl e) = inl (inr (subst (Around s a) e p))
+one_from_other (inr p) (inr q) = around_both p q
+
 rank : Store → Owner → ℕ
 rank s (of_op n) = 2 * n
 rank s (of_block b) = 2 * op_around s b + 1
@@ -57,6 +74,9 @@ module _ (s : Store) (sd : Sound s) where
       let f : of_op (op_around s b) ≡ p = some-injective (of_op (op_around s b)) p e in
       subst (λ (w : Owner). (owner_exists s w ≡ true) × (rank s w < 2 * op_around s b + 1)) f
       (owner_op s sd (op_around s b) (around_in s sd b (ltb-true _ _ h)), omega arith)
+
+  pub up_in_store : (x p : Owner) → owner_exists s x ≡ true → up s x ≡ some p → owner_exists s p ≡ true
+  up_in_store x p h e = (up_smaller x p h e).0
 
   around_in_store : {a x : Owner} → owner_exists s x ≡ true → Around s a x → owner_exists s a ≡ true
   around_in_store {a} {x} h (next e) = (up_smaller x a h e).0

@@ -4,9 +4,9 @@ use Prim.Native.Nat.{ℕ, zero, suc, ◌<◌}
 use mathlib.Core.Bool.{true}
 use mathlib.Core.List.Memᴰ
 use mathlib.Core.List.{List, [], ◌∷◌, Memᴰ}
-use mathlib.Core.Logic.{⊎_elim}
+use mathlib.Core.Logic.{inl, inr, ⊎_elim}
 use mathlib.Core.Option.{some}
-use mathlib.Core.Path.{◌≡◌, sym, ap, subst, ◌∙◌}
+use mathlib.Core.Path.{◌≡◌, refl, sym, ap, subst, ◌∙◌}
 use borrow.Author.Tests.{ltb-true}
 use lib.ListN.{length, get_or}
 use Rattle.rules.specs.Lists.{concat_map}
@@ -16,7 +16,8 @@ use Rattle.rules.proofs.Soundness.Sound.{Sound}
 use Rattle.rules.proofs.Soundness.Grown.{owner_op}
 use Rattle.rules.proofs.Basics.Distinct.{Distinct, distinct_concat_map, mem_concat_map, concat_map_concat_map}
 use Rattle.rules.proofs.Soundness.Children.{blocks_in_lem, regions_in_lem, values_in_lem, blocks_distinct, regions_distinct, values_distinct}
-use Rattle.rules.proofs.Form.Ancestors.{up, next, around_from, not_around_itself, same_from}
+use Rattle.rules.proofs.Form.Ancestors.{up, next, From, around_from, not_around_itself, same_from}
+use Rattle.rules.proofs.Form.Roots.{Root}
 use Rattle.rules.proofs.Form.OnceInLists.{defined, OpPart, BlocksPart, Blocks, list_part}
 
 -- ---- an owner that is an operation, or a block, by its number
@@ -102,10 +103,13 @@ module _ (s : Store) (sd : Sound s) where
   op_once k n h = (λ m. not_around_itself s sd (owner_op s sd n (ltb-true _ _ h)) ((full_part_lem k n).inside (of_op n) m).1, (full_part_lem k n).once)
 
   op_here : (k n : ℕ) → op_exists s n ≡ true
-      → (w : Owner) → Memᴰ w (of_op n ∷ defined (full_op s (region_steps k s) n)) → owner_exists s w ≡ true
+      → (w : Owner) → Memᴰ w (of_op n ∷ defined (full_op s (region_steps k s) n)) → (owner_exists s w ≡ true) × From s (of_op n) w
   unfolding op_exists
   op_here k n h w m =
-      ⊎_elim (λ e. subst (λ (x : Owner). owner_exists s x ≡ true) (sym e) (owner_op s sd n (ltb-true _ _ h))) (λ i. ((full_part_lem k n).inside w i).0) (Memᴰ.cases_cons m)
+      ⊎_elim
+      (λ e. (subst (λ (x : Owner). owner_exists s x ≡ true) (sym e) (owner_op s sd n (ltb-true _ _ h)), inl e))
+      (λ i. let q = (full_part_lem k n).inside w i in (q.0, inr q.1))
+      (Memᴰ.cases_cons m)
 
   one_block_alone : (b : ℕ) → b < length s.blocks → Blocks s (b ∷ [])
   one_block_alone b l =
@@ -123,11 +127,18 @@ module _ (s : Store) (sd : Sound s) where
   owners_once block n h = (list_part s sd (full_op s (region_steps levels s)) (λ m l. full_part_lem levels m) (n ∷ []) (one_block_alone n (ltb-true _ _ h))).once
   owners_once region n h = (region_part levels n).once
 
+  -- each exists, and is what the fragment begins with or inside that
+  pub owners_from : (f : Sort) (n : ℕ) → exists s f n ≡ true → (w : Owner) → Memᴰ w (defines_owners s f n)
+      → (owner_exists s w ≡ true) × ((r : Owner) × Root s f n r × From s r w)
+  unfolding defines_owners steps exists block_exists concat_map step_defines defined Root
+  owners_from op n h w m = let i = op_here levels n h w m in (i.0, (of_op n, refl, i.1))
+  owners_from block n h w m =
+      let i = (list_part s sd (full_op s (region_steps levels s)) (λ m l. full_part_lem levels m) (n ∷ []) (one_block_alone n (ltb-true _ _ h))).inside w m in
+      (i.0, (of_block i.1.0, ap of_block (Memᴰ.eq_of_singleton i.1.1), i.1.2))
+  owners_from region n h w m = let i = (region_part levels n).inside w m in (i.0, (of_block i.1.0, (i.1.0, i.1.1, refl), i.1.2))
+
   pub owners_here : (f : Sort) (n : ℕ) → exists s f n ≡ true → (w : Owner) → Memᴰ w (defines_owners s f n) → owner_exists s w ≡ true
-  unfolding defines_owners steps exists block_exists concat_map step_defines defined
-  owners_here op n h w m = op_here levels n h w m
-  owners_here block n h w m = ((list_part s sd (full_op s (region_steps levels s)) (λ m l. full_part_lem levels m) (n ∷ []) (one_block_alone n (ltb-true _ _ h))).inside w m).0
-  owners_here region n h w m = ((region_part levels n).inside w m).0
+  owners_here f n h w m = (owners_from f n h w m).0
 
   pub values_once_lem : (f : Sort) (n : ℕ) → exists s f n ≡ true → Distinct (defines_values s f n)
   unfolding defines_values

@@ -15,7 +15,7 @@ use Rattle.rules.specs.Runs.{Run, first_of, left_start, or_later, first_run, sam
 use Rattle.rules.specs.Statements.{Apart, Same, Before, RepeatedFound, RepeatedNone}
 use Rattle.rules.proofs.Basics.Tests.{decided, clash, impossible}
 
-below_or : (a b : ℕ) → (a < b) ⊎ (b ≤ a)
+pub below_or : (a b : ℕ) → (a < b) ⊎ (b ≤ a)
 below_or a b = go (decided (ltb a b))
   where
     go : (ltb a b ≡ true) ⊎ (ltb a b ≡ false) → (a < b) ⊎ (b ≤ a)
@@ -24,14 +24,14 @@ below_or a b = go (decided (ltb a b))
 
 -- ---- the first that passes
 
-record First (k i : ℕ) (p : ℕ → Bool) (v : ℕ) : Type 0 where
-  low : i ≤ v
-  high : v < i + k
-  passes : p v ≡ true
-  fails : (u : ℕ) → i ≤ u → u < v → p u ≡ false
+pub record First (k i : ℕ) (p : ℕ → Bool) (v : ℕ) : Type 0 where
+  pub low : i ≤ v
+  pub high : v < i + k
+  pub passes : p v ≡ true
+  pub fails : (u : ℕ) → i ≤ u → u < v → p u ≡ false
 
 -- none of them passes
-abbrev AllFail : ℕ → ℕ → (ℕ → Bool) → Type 0
+abbrev pub AllFail : ℕ → ℕ → (ℕ → Bool) → Type 0
 AllFail k i p = (u : ℕ) → i ≤ u → u < i + k → p u ≡ false
 
 -- a number is i, or passed in the rest
@@ -49,7 +49,7 @@ some_is e = cc
 run_is : {r q : Run} → some r ≡ some q → r ≡ q
 run_is {r} {q} e = cc
 
-first_found : (k i : ℕ) (p : ℕ → Bool) (v : ℕ) → first_of k i p ≡ some v → First k i p v
+pub first_found : (k i : ℕ) (p : ℕ → Bool) (v : ℕ) → first_of k i p ≡ some v → First k i p v
 unfolding first_of
 first_found zero i p v h = impossible cc
 first_found (suc k) i p v h = go (decided (p i)) (first_found k (suc i) p v)
@@ -64,7 +64,7 @@ first_found (suc k) i p v h = go (decided (p i)) (first_found k (suc i) p v)
         let high : v < suc i + k = f.high in
         record { low = omega arith; high = omega arith; passes = f.passes; fails = λ u l m. from_next i p e u l (λ n. f.fails u n m) }
 
-first_none : (k i : ℕ) (p : ℕ → Bool) → first_of k i p ≡ none → AllFail k i p
+pub first_none : (k i : ℕ) (p : ℕ → Bool) → first_of k i p ≡ none → AllFail k i p
 unfolding first_of
 first_none zero i p h = λ u l m. absurd (omega arith)
 first_none (suc k) i p h = go (decided (p i)) (first_none k (suc i) p)

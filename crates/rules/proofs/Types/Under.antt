@@ -1,15 +1,16 @@
 -- The laws under a list of renamed types. A renamed store is sound, and so every law of sound stores is one of it. Assumes nothing.
 use Prim.Native.Nat.{ℕ}
-use mathlib.Core.Bool.{Bool, true, false, cond, not}
+use mathlib.Core.Bool.{Bool, true, false, cond, not, ◌&&◌, ◌||◌}
 use mathlib.Core.List.{List, [], ◌∷◌, map}
 use mathlib.Core.Logic.{◌⊎◌, inl, inr}
 use mathlib.Core.Path.{◌≡◌, refl, sym, ap, ap₂, transport, transport⁻¹, ◌∙◌}
 use borrow.Author.Tests.{eqb-true, eq-eqb, not-true}
 use lib.Dec.{eqb}
-use Rattle.rules.specs.Lists.{all, any, concat_map}
-use Rattle.rules.specs.Store.{Store, Value, Owner, empty_store, op_at}
+use Rattle.rules.specs.Lists.{every, all, any, concat_map}
+use Rattle.rules.specs.Store.{Store, Value, Owner, empty_store, op_at, same_owner}
 use Rattle.rules.specs.Fragments.{Sort, Step, shell, names, counted, step_defines, step_operands, step_successors, op_owner, block_owner, defines_owners, defines_values, defines_blocks, fragment_ops, names_values, names_blocks, Disjoint, NamesNothingOf, Premise}
 use Rattle.rules.specs.Building.{after}
+use Rattle.rules.specs.Independence.{disjoint, names_nothing_of, independent}
 use Rattle.rules.specs.Types.{old_types, present_types, stands_in, types_hold, present, renamed_value, renamed}
 use Rattle.rules.specs.Keys.{fits, value_fits, fields_fit}
 use Rattle.rules.specs.Laws.{LawsOfSound}
@@ -80,6 +81,17 @@ module _ (types : List ℕ) (s : Store) where
     named_blocks : names_blocks other f n ≡ names_blocks s f n
     unfolding names_blocks
     named_blocks = λ i. concat_map (λ (x : Step). successors_same x i) (steps_renamed types s f n i)
+
+  -- the test of independence
+  pub independent_renamed : (f : Sort) (a b : ℕ) → independent other f a b ≡ independent s f a b
+  unfolding independent names_nothing_of
+  independent_renamed f a b = λ i.
+      eqb a b
+      || every
+      (disjoint same_owner (owners f a i) (owners f b i)
+      ∷ (disjoint eqb (named_values f a i) (values f b i) && disjoint eqb (named_blocks f a i) (blocks f b i))
+      ∷ (disjoint eqb (named_values f b i) (values f a i) && disjoint eqb (named_blocks f b i) (blocks f a i))
+      ∷ [])
 
   premise_same : (f : Sort) (a b : ℕ) → Premise other f a b ≡ Premise s f a b
   unfolding Premise NamesNothingOf

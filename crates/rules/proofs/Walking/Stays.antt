@@ -6,17 +6,16 @@ use native.Mathlib.Omega.{arith}
 use mathlib.Core.Bool.{true}
 use mathlib.Core.List.{Memᴰ}
 use mathlib.Core.Option.{some}
-use mathlib.Core.Path.{◌≡◌, refl}
+use mathlib.Core.Path.{◌≡◌}
 use borrow.Author.Tests.{ltb-true}
 use Rattle.rules.specs.Store.{Store, Owner, of_op, op_exists, owner_exists, parent_of, op_around, levels_left, max_nesting, sound}
-use Rattle.rules.specs.Fragments.{Sort, exists, shell, steps, step_defines, defines_owners}
+use Rattle.rules.specs.Fragments.{Sort, exists, shell, steps}
 use Rattle.rules.specs.Statements.{Around, NestedAtMost, WalkStays}
 use Rattle.rules.proofs.Basics.Tests.{impossible}
 use Rattle.rules.proofs.Soundness.Sound.{facts}
 use Rattle.rules.proofs.Form.Once.{owners_here}
 use Rattle.rules.proofs.Walking.Levels.{Leaves, op_leaves}
-use Rattle.rules.proofs.Copying.Renumbered.{in_concat_map}
-use Rattle.rules.proofs.Copying.Shelled.{in_steps}
+use Rattle.rules.proofs.Copying.Shelled.{in_steps, shell_defined}
 
 around_most : (s : Store) (m k n j : ℕ) → Leaves s m (parent_of s n) j → Around k s n → k ≤ m
 unfolding Around levels_left
@@ -35,8 +34,7 @@ nested_at_most s sd n h =
 
 module _ (s : Store) (sd : sound s ≡ true) (f : Sort) (n : ℕ) (h : exists s f n ≡ true) where
   shell_here : (w : Owner) → Memᴰ (shell w) (steps s f n) → owner_exists s w ≡ true
-  unfolding defines_owners step_defines
-  shell_here w k = owners_here s (facts s sd) f n h w (in_concat_map step_defines (steps s f n) k (Memᴰ.head refl))
+  shell_here w k = owners_here s (facts s sd) f n h w (shell_defined s f n w k)
 
 pub walk_stays : WalkStays
 unfolding WalkStays owner_exists

@@ -196,6 +196,25 @@ impl SoundWords {
         // SAFETY: as above.
         unsafe { wz_known_repeated_run(store, words, index, rows, block, length, options.ignore.locations, options.ignore.bits) }
     }
+
+    #[inline]
+    pub(crate) fn independent(&self, sort: Sort, pair: (u32, u32)) -> Independence {
+        let call = match sort {
+            Sort::Op => wz_known_operations_independent,
+            Sort::Block => wz_known_basic_blocks_independent,
+            Sort::Region => wz_known_regions_independent,
+        };
+        // SAFETY: as above.
+        unsafe { call(self.words.as_ptr(), self.words.len(), pair.0, pair.1) }
+    }
+
+    pub(crate) fn twins_of_operations(&self, options: Options, twins: &mut [u32]) -> Grouped {
+        let (store, words) = (self.words.as_ptr(), self.words.len());
+        let (index, rows) = options.types.index.lent();
+        let (found, room) = (twins.as_mut_ptr(), twins.len());
+        // SAFETY: as above.
+        unsafe { wz_known_twins_of_operations(store, words, index, rows, options.ignore.locations, options.ignore.bits, found, room) }
+    }
 }
 
 /// An index of a list of renamed types: no words for the empty list, or as the library has made it. Nothing writes to it.

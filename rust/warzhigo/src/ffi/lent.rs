@@ -173,6 +173,25 @@ pub(crate) fn repeated_run(store: &[u32], types: &[u32], block: u32, length: u32
 }
 
 #[inline]
+pub(crate) fn independent(sort: Sort, store: &[u32], pair: (u32, u32)) -> Independence {
+    let call = match sort {
+        Sort::Op => wz_operations_independent,
+        Sort::Block => wz_basic_blocks_independent,
+        Sort::Region => wz_regions_independent,
+    };
+    // SAFETY: as above.
+    unsafe { call(store.as_ptr(), store.len(), pair.0, pair.1) }
+}
+
+#[inline]
+pub(crate) fn twins_of_operations(store: &[u32], types: &[u32], ignore: &Ignore, twins: &mut [u32]) -> Grouped {
+    let (list, rows) = (types.as_ptr(), types.len());
+    let (found, room) = (twins.as_mut_ptr(), twins.len());
+    // SAFETY: as above.
+    unsafe { wz_twins_of_operations(store.as_ptr(), store.len(), list, rows, ignore.locations, ignore.bits, found, room) }
+}
+
+#[inline]
 pub(crate) fn compare_keys(lhs: &[u8], rhs: &[u8]) -> i32 {
     // SAFETY: as above.
     unsafe { wz_compare_keys(lhs.as_ptr(), lhs.len(), rhs.as_ptr(), rhs.len()) }

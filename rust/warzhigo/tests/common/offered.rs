@@ -5,7 +5,7 @@ use warzhigo::{Attribute, Ignore, Inherent, Refused, Store};
 
 use super::call::{Call, New};
 use super::marked::Step;
-use super::question::{LENT, Question, Sort, extent_lent, hash_lent, key_lent};
+use super::question::{LENT, Question, Sort, extent_lent, hash_lent, independent_lent, key_lent};
 
 pub const SORTS: [Sort; 3] = [Sort::Op, Sort::Block, Sort::Region];
 
@@ -36,8 +36,10 @@ pub fn all_refuse(store: &[u32], mapping: &[u32], context: &str) {
         assert_eq!(hash_lent(store, sort, 0, &Ignore::NOTHING).map_err(Refused::number), Err(1), "{context}: hash of {sort:?}");
         key_refused(store, sort, 0, 100, 1, context);
         assert_eq!(extent_lent(store, sort, 0, &Ignore::NOTHING).map_err(Refused::number), Err(1), "{context}: extent of {sort:?}");
+        assert_eq!(independent_lent(store, sort, 0, 0).map_err(Refused::number), Err(1), "{context}: independence of {sort:?}");
         comparison_refused(store, mapping, sort, 1, context);
     }
+    twins_refused(store, &[], 512, 1, context);
 }
 
 /// Asserts that the comparison of number 0 with itself is refused by this cause, and leaves the mapping as it was.
@@ -54,4 +56,12 @@ pub fn key_refused(store: &[u32], sort: Sort, n: u32, room: usize, cause: u32, c
     let answer = key_lent(store, sort, n, &Ignore::NOTHING, &mut bytes);
     assert_eq!(answer.map_err(Refused::number), Err(cause), "{context}: key of {sort:?} {n} in {room} bytes");
     assert!(bytes.iter().all(|byte| *byte == LENT), "{context}: the refused key of {sort:?} {n} was written");
+}
+
+/// Asserts that twins in so many lent words, under a list of renamed types, are refused by this cause, and leave the words as they were.
+pub fn twins_refused(store: &[u32], types: &[u32], room: usize, cause: u32, context: &str) {
+    let mut words = vec![7; room];
+    let answer = lent::twins_of_operations(store, types, &Ignore::NOTHING, &mut words);
+    assert_eq!(answer.map_err(Refused::number), Err(cause), "{context}: twins in {room} words");
+    assert!(words.iter().all(|word| *word == 7), "{context}: the refused twins were written");
 }

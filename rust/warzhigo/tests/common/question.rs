@@ -192,6 +192,33 @@ pub fn extent_is(store: &Store, sort: Sort, n: u32, ignore: &Ignore, extent: Ext
     assert_eq!(found, [Ok(extent); 2], "{context}: extent of {sort:?} {n}, {ignore:?}");
 }
 
+/// Are two independent, by ids? They have to exist.
+pub fn independent_inner(store: &Store, sort: Sort, lhs: u32, rhs: u32) -> Result<bool, Refused> {
+    match sort {
+        Sort::Op => {
+            let [l, r] = [lhs, rhs].map(|n| store.op_id(n).expect("an operation that exists"));
+            store.independent(l, r)
+        }
+        Sort::Block => {
+            let [l, r] = [lhs, rhs].map(|n| store.block_id(n).expect("a block that exists"));
+            store.independent(l, r)
+        }
+        Sort::Region => {
+            let [l, r] = [lhs, rhs].map(|n| store.region_id(n).expect("a region that exists"));
+            store.independent(l, r)
+        }
+    }
+}
+
+/// Are two independent, on lent words?
+pub fn independent_lent(store: &[u32], sort: Sort, lhs: u32, rhs: u32) -> Result<bool, Refused> {
+    match sort {
+        Sort::Op => lent::operations_independent(store, lhs, rhs),
+        Sort::Block => lent::basic_blocks_independent(store, lhs, rhs),
+        Sort::Region => lent::regions_independent(store, lhs, rhs),
+    }
+}
+
 /// Asserts that a key is this one in every way: by ids, in lent bytes that are more than it needs, of which those behind it stay as they
 /// were, and refused by 13 in lent bytes that are fewer, which stay as they were.
 pub fn key_is(store: &Store, sort: Sort, n: u32, ignore: &Ignore, key: &[u8], context: &str) {

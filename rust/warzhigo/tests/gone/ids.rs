@@ -8,7 +8,7 @@ use crate::{EVERYTHING, ONE, TWO, all_calls, cause, form, gone};
 fn an_id_of_what_has_gone_names_nothing() {
     let (mut store, stays, gone) = gone();
     let before = store.words().to_vec();
-    assert_eq!(all_calls(&mut store, &gone, &stays), [Some(2); 30]);
+    assert_eq!(all_calls(&mut store, &gone, &stays), [Some(2); 33]);
     assert!(store.words() == before);
     // also where there is another of the same number
     let next = form(&mut store);
@@ -16,26 +16,26 @@ fn an_id_of_what_has_gone_names_nothing() {
     assert_eq!(next.values.map(ValueId::number), gone.values.map(ValueId::number));
     assert_ne!(next, gone);
     let before = store.words().to_vec();
-    assert_eq!(all_calls(&mut store, &gone, &stays), [Some(2); 30]);
+    assert_eq!(all_calls(&mut store, &gone, &stays), [Some(2); 33]);
     assert!(store.words() == before);
-    assert_eq!(all_calls(&mut store, &next, &stays), [None; 30]);
+    assert_eq!(all_calls(&mut store, &next, &stays), [None; 33]);
 }
 
 #[test]
 fn an_id_of_what_stays_is_good() {
     let (mut store, stays, _) = gone();
-    assert_eq!(all_calls(&mut store, &stays, &stays), [None; 30]);
+    assert_eq!(all_calls(&mut store, &stays, &stays), [None; 33]);
     let next = form(&mut store);
-    assert_eq!(all_calls(&mut store, &stays, &next), [None; 30]);
+    assert_eq!(all_calls(&mut store, &stays, &next), [None; 33]);
     store.mark(TWO).unwrap();
     form(&mut store);
     store.go_back(TWO).unwrap();
     for form in [&stays, &next] {
-        assert_eq!(all_calls(&mut store, form, &stays), [None; 30]);
+        assert_eq!(all_calls(&mut store, form, &stays), [None; 33]);
     }
     store.go_back(ONE).unwrap();
-    assert_eq!(all_calls(&mut store, &stays, &stays), [None; 30]);
-    assert_eq!(all_calls(&mut store, &next, &stays), [Some(2); 30]);
+    assert_eq!(all_calls(&mut store, &stays, &stays), [None; 33]);
+    assert_eq!(all_calls(&mut store, &next, &stays), [Some(2); 33]);
 }
 
 /// Going back to where nothing was made since takes no id away.
@@ -51,7 +51,7 @@ fn replacements_take_no_id_away() {
     store.go_back(ONE).unwrap();
     assert_eq!(mapping.lookup_op(form.ops[1]), Some(form.ops[1]));
     assert!(operation_eq(&store, &mut mapping, form.ops[0], form.ops[0], &EVERYTHING).unwrap().is_eq());
-    assert_eq!(all_calls(&mut store, &form, &form), [None; 30]);
+    assert_eq!(all_calls(&mut store, &form, &form), [None; 33]);
 }
 
 #[test]

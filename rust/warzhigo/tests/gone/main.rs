@@ -46,7 +46,7 @@ fn cause<T>(answer: Result<T, Refused>) -> Option<u32> {
 }
 
 /// What every call answers that reads, given ids of a form, beside one that is good.
-fn reading_calls(store: &Store, form: &Form, good: &Form) -> [Option<u32>; 20] {
+fn reading_calls(store: &Store, form: &Form, good: &Form) -> [Option<u32>; 23] {
     let mut bytes = [0; 500];
     [
         cause(operation_eq(store, &mut Mapping::new(), form.ops[0], good.ops[0], &EVERYTHING)),
@@ -65,6 +65,9 @@ fn reading_calls(store: &Store, form: &Form, good: &Form) -> [Option<u32>; 20] {
         cause(store.key(form.ops[0], &EVERYTHING)),
         cause(store.extent(form.block, &EVERYTHING)),
         cause(store.repeated_run(form.block, 1, &EVERYTHING)),
+        cause(store.independent(form.ops[0], good.ops[0])),
+        cause(store.independent(good.block, form.block)),
+        cause(store.independent(form.region, form.region)),
         cause(store.operation(form.ops[0])),
         cause(store.block(form.block)),
         cause(store.region(form.region)),

@@ -164,12 +164,12 @@ fn many_times_back() {
         assert_eq!(lend(&store, &mut mapping, &next), None, "{n}");
         mapping.clear();
         if let Some(before) = gone.last() {
-            assert_eq!(all_calls(&mut store, before, &stays), [Some(2); 30], "{n}");
+            assert_eq!(all_calls(&mut store, before, &stays), [Some(2); 33], "{n}");
         }
         gone.push(next);
         store.go_back(ONE).unwrap();
     }
     let next = form(&mut store);
     assert!(gone.iter().all(|form| store.operation(form.ops[0]).is_err() && operation_key(&store, form.ops[1], &EVERYTHING).is_err()));
-    assert_eq!(all_calls(&mut store, &next, &stays), [None; 30]);
+    assert_eq!(all_calls(&mut store, &next, &stays), [None; 33]);
 }

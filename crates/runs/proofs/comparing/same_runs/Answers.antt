@@ -31,6 +31,6 @@ pub returns : goal.returns
 returns c =
     let q = c.compare_runs-result in
     record {
-      value = runs_told (options_in c.args.terms.now) c.args.terms.now.readable.sound c.requires.runs_in c.requires.mapping_value q.result q.new.mapping q.ensures c.is_ok.ensures.value;
+      value = c.is_ok.ensures.value ∙ runs_told (options_in c.args.terms.now) c.args.terms.now.readable.sound c.requires.runs_in c.requires.mapping_value q.result q.new.mapping q.ensures;
       mapping_after = c.unmap_entered.ensures;
     }

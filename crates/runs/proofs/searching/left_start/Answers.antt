@@ -1,31 +1,51 @@
 -- `left_start` meets its contract: a start is tried, or passed over where its bucket is another. Assumes nothing.
-use Prim.Native.Nat.{ℕ, ◌+◌, ◌<◌}
+use Prim.Native.Nat.{ℕ, ◌+◌, ◌<◌, ◌≤◌}
 use native.Mathlib.Omega.{arith}
-use mathlib.Core.Bool.{false}
+use mathlib.Core.Bool.{Bool, false}
 use mathlib.Core.Path.{◌≡◌, sym, subst, ◌∙◌}
-use lib.ListN.{length}
+use lib.ListN.{length, get_or}
 use Rattle.std.specs.Prelude as std
 use Rattle.layout.specs.Reading.{store_in}
 use Rattle.fragments.specs.Terms.{options_in}
+use Rattle.windows.proofs.Tried.{Tried, tried_none, tried_all, tried_here, tried_over, tried_found, tried_next, to_go, fewer_to_go}
 use Rattle.runs.specs.Walked.{start_of}
 use Rattle.runs.proofs.Listed.{few}
-use Rattle.runs.proofs.Searched.{Tried, equals, tried_none, tried_all, tried_here, tried_over, tried_found, tried_next, tried_unlike, to_go, fewer_to_go}
+use Rattle.runs.proofs.Searched.{equals, left_all, run_unlike}
 use Rattle.runs.proofs.searching.left_start.Goals as goal
-use Rattle.runs.proofs.searching.left_start.Goals.{In-Some, else-sums-left-via-then-sums-left+else-equal_runs, else-sums-left-via-else-sums-left}
+use Rattle.runs.proofs.searching.left_start.Goals.{Start, In-Some, else-sums-left-via-then-sums-left+else-equal_runs, else-sums-left-via-else-sums-left}
 
-tried : (c : In-Some) → Tried (store_in c.args.terms.now.store.now) c.args.sums.now (options_in c.args.terms.now) c.args.runs.block c.args.runs.n c.args.right c.loop-next.invariant.1 (std.Some c.in-Some.left)
-tried c =
-    subst (Tried (store_in c.args.terms.now.store.now) c.args.sums.now (options_in c.args.terms.now) c.args.runs.block c.args.runs.n c.args.right c.loop-next.invariant.1) c.in-Some.is c.loop-next.invariant.2
+module _ (c : Start) where
+  abbrev sum : ℕ
+  sum = get_or c.args.sums.now c.args.right 0
+
+  -- the run from a start on is the right one
+  abbrev test : ℕ → Bool
+  test = equals (store_in c.args.terms.now.store.now) (options_in c.args.terms.now) c.args.runs.block c.args.runs.n c.args.right
+
+  abbrev TriedTo : ℕ → std.Option ℕ → Type 0
+  TriedTo = Tried c.args.sums.now sum test c.args.runs.n c.args.right
+
+  -- there are as many sums as starts
+  enough : c.args.right < length c.args.sums.now + c.args.runs.n
+  enough = let r = c.requires in omega (arith, r.chained_starts.long, r.le_n, r.right_in_bounds)
+
+  unlike : (i : ℕ) → i + c.args.runs.n ≤ c.args.right → (get_or c.args.sums.now i 0 ≡ sum → ⊥) → test i ≡ false
+  unlike =
+      let r = c.requires in
+      run_unlike c.args.sums.now (options_in c.args.terms.now) c.args.runs.n r.ops_of r.sums_of c.args.right r.right_in_bounds
+
+tried : (c : In-Some) → TriedTo ((goal.at.In-Some c).Start) c.loop-next.invariant.1 (std.Some c.in-Some.left)
+tried c = subst (TriedTo ((goal.at.In-Some c).Start) c.loop-next.invariant.1) c.in-Some.is c.loop-next.invariant.2
 
 -- a start is among the sums
 here : (c : In-Some) → c.in-Some.left < length c.args.sums.now
 here c =
-    let r = c.requires in
-    tried_here c.args.sums.now _ c.args.runs.n r.ops_of r.sums_of r.chained_starts.long r.le_n c.args.right r.right_in_bounds c.loop-next.invariant.1 c.in-Some.left (tried c)
+    let s = (goal.at.In-Some c).Start in
+    tried_here c.args.sums.now (sum s) (test s) c.args.runs.n c.args.right (enough s) (unlike s) c.loop-next.invariant.1 c.in-Some.left (tried c)
 
 pub loop-next-init : goal.loop-next-init
 loop-next-init c =
-    (c.requires.mapping_value, 0, tried_none _ _ _ _ _ _ _ (c.first_start-next.ensures c.args.sums.now c.requires.chained_starts.chained))
+    (c.requires.mapping_value, 0, tried_none _ _ _ _ _ _ (c.first_start-next.ensures c.args.sums.now c.requires.chained_starts.chained))
 
 pub overflow_add-left : goal.overflow_add-left
 overflow_add-left c =
@@ -36,10 +56,11 @@ overflow_add-left c =
 pub returns-then-left-runs : goal.returns-then-left-runs
 unfolding start_of
 returns-then-left-runs c =
-    let r = c.requires in
-    let t = tried ((goal.at.returns-then-left-runs c).In-Some) in
+    let at = goal.at.returns-then-left-runs c in
+    let s = at.Start in
+    let t = tried (at.In-Some) in
     record {
-      result_value = sym (tried_over c.args.sums.now _ c.args.runs.n r.ops_of r.sums_of r.chained_starts.long r.le_n c.args.right r.right_in_bounds c.loop-next.invariant.1 c.in-Some.left t c.if-left-runs.true);
+      result_value = sym (left_all _ _ _ _ _ ∙ tried_over c.args.sums.now (sum s) (test s) c.args.runs.n c.args.right (enough s) (unlike s) c.loop-next.invariant.1 c.in-Some.left t c.if-left-runs.true);
       mapping_after = c.loop-next.invariant.0;
     }
 
@@ -49,10 +70,15 @@ bounds-sums-left c = here ((goal.at.bounds-sums-left c).In-Some)
 pub returns-then-equal_runs : goal.returns-then-equal_runs
 unfolding start_of
 returns-then-equal_runs c =
-    let r = c.requires in
-    let t = tried ((goal.at.returns-then-equal_runs c).In-Some) in
+    let at = goal.at.returns-then-equal_runs c in
+    let s = at.Start in
+    let t = tried (at.In-Some) in
     record {
-      result_value = sym (tried_found c.args.sums.now _ c.args.runs.n r.ops_of r.sums_of r.chained_starts.long r.le_n c.args.right r.right_in_bounds c.loop-next.invariant.1 c.in-Some.left t c.if-left-runs.false (sym c.equal_runs.ensures.value ∙ c.if-equal_runs.true));
+      result_value =
+          sym
+          (left_all _ _ _ _ _
+          ∙ tried_found c.args.sums.now (sum s) (test s) c.args.runs.n c.args.right (enough s) (unlike s) c.loop-next.invariant.1 c.in-Some.left t
+          c.if-left-runs.false (sym c.equal_runs.ensures.value ∙ c.if-equal_runs.true));
       mapping_after = c.equal_runs.ensures.mapping_after;
     }
 
@@ -71,24 +97,23 @@ loop-next-smaller c =
 
 pub loop-next-preserved : goal.loop-next-preserved
 loop-next-preserved c =
-    let r = c.requires in
-    let at = (goal.at.loop-next-preserved c).In-Some in
-    let follows = c.next_start-next.ensures c.args.sums.now r.chained_starts.chained (here at) in
-    let unlike = tried_unlike c.args.sums.now _ c.args.runs.n r.ops_of r.sums_of r.chained_starts.long r.le_n c.args.right r.right_in_bounds c.loop-next.invariant.1 c.in-Some.left (tried at) c.if-left-runs.false in
-    let next : equals (store_in c.args.terms.now.store.now) (options_in c.args.terms.now) c.args.runs.block c.args.runs.n c.args.right c.in-Some.left ≡ false → Tried (store_in c.args.terms.now.store.now) c.args.sums.now (options_in c.args.terms.now) c.args.runs.block c.args.runs.n c.args.right (c.in-Some.left + 1) c.next_start-next.result =
-    λ e. tried_next c.args.sums.now _ c.args.runs.n r.ops_of r.sums_of r.chained_starts.long r.le_n c.args.right r.right_in_bounds c.loop-next.invariant.1 c.in-Some.left (tried at) c.if-left-runs.false e c.next_start-next.result follows in
+    let at = goal.at.loop-next-preserved c in
+    let s = at.Start in
+    let some = at.In-Some in
+    let follows = c.next_start-next.ensures c.args.sums.now c.requires.chained_starts.chained (here some) in
+    let next : test s c.in-Some.left ≡ false → TriedTo s (c.in-Some.left + 1) c.next_start-next.result =
+    λ e. tried_next c.args.sums.now (sum s) (test s) c.args.runs.n c.args.right (enough s) (unlike s) c.loop-next.invariant.1 c.in-Some.left (tried some) c.if-left-runs.false e c.next_start-next.result follows in
     elim c.else-sums-left.branch [
       | else-sums-left-via-then-sums-left+else-equal_runs w ↦ (w.mapping-is ∙ w.equal_runs.ensures.mapping_after, c.in-Some.left + 1, next (sym w.equal_runs.ensures.value ∙ w.if-equal_runs.false))
-      | else-sums-left-via-else-sums-left w ↦ (w.mapping-is ∙ c.loop-next.invariant.0, c.in-Some.left + 1, next (unlike w.if-sums-left.false))
+      | else-sums-left-via-else-sums-left w ↦ (w.mapping-is ∙ c.loop-next.invariant.0, c.in-Some.left + 1, next (unlike s c.in-Some.left c.if-left-runs.false w.if-sums-left.false))
     ]
 
 pub returns : goal.returns
 unfolding start_of
 returns c =
-    let r = c.requires in
-    let t : Tried (store_in c.args.terms.now.store.now) c.args.sums.now (options_in c.args.terms.now) c.args.runs.block c.args.runs.n c.args.right c.loop-next.invariant.1 std.None =
-    subst (Tried (store_in c.args.terms.now.store.now) c.args.sums.now (options_in c.args.terms.now) c.args.runs.block c.args.runs.n c.args.right c.loop-next.invariant.1) c.in_default.is c.loop-next.invariant.2 in
+    let s = (goal.at.returns c).Start in
+    let t : TriedTo s c.loop-next.invariant.1 std.None = subst (TriedTo s c.loop-next.invariant.1) c.in_default.is c.loop-next.invariant.2 in
     record {
-      result_value = sym (tried_all c.args.sums.now _ c.args.runs.n r.ops_of r.sums_of r.chained_starts.long r.le_n c.args.right r.right_in_bounds c.loop-next.invariant.1 t);
+      result_value = sym (left_all _ _ _ _ _ ∙ tried_all c.args.sums.now (sum s) (test s) c.args.runs.n c.args.right (enough s) (unlike s) c.loop-next.invariant.1 t);
       mapping_after = c.loop-next.invariant.0;
     }

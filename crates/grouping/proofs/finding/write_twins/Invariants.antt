@@ -1,0 +1,15 @@
+-- The words of the operations that came so far are in their places, and the mapping is empty between two of them. Assumes nothing.
+use Prim.Native.Nat.{ℕ, ◌<◌}
+use mathlib.Core.Path.{◌≡◌}
+use lib.ListN.{get_or}
+use Rattle.rules.specs.Grouping.{twin_of, twin_word}
+use Rattle.layout.specs.Reading.{store_in}
+use Rattle.fragments.specs.Options.{under}
+use Rattle.fragments.specs.Terms.{options_in}
+use Rattle.mapping.specs.MappingWords.{empty_words}
+use Rattle.grouping.proofs.finding.write_twins.Given as goal
+
+abbrev pub invariant-loop-n : goal.invariant-loop-n
+invariant-loop-n l =
+    (l.mapping ≡ empty_words)
+    × ((k : ℕ) → k < l.n → get_or l.twins k 0 ≡ twin_word (twin_of (under (options_in l.terms) (store_in l.terms.store.now)) (options_in l.terms).ignore k))

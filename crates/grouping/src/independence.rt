@@ -1,0 +1,34 @@
+// Two fragments of one sort are independent: they share no operation or block, and neither names a value or block that is defined in the other.
+ghost use Rattle.std.specs.Prelude.{true, ◌≡◌};
+ghost use Rattle.rules.specs.Fragments.{exists};
+ghost use Rattle.rules.specs.Independence.{independent};
+ghost use Rattle.layout.specs.Reading.{store_in};
+ghost use Rattle.layout.specs.Soundness.{IsSound};
+ghost use Rattle.fragments.specs.Sorts.{sort_of};
+ghost use Rattle.grouping.specs.Reaching.{fragment_reaches};
+
+use crate::reaching::fragment_reaches;
+use fragments::inside::Fragment;
+use fragments::types::Sort;
+use layout::columns::StoreWords;
+
+// The first reaches into the second.
+fn reaches(store: &StoreWords, sort: Sort, x: usize, n: usize) -> bool
+    requires sound { IsSound store.now }
+    requires x_value { exists (store_in store.now) (sort_of sort) x ≡ true }
+    requires n_value { exists (store_in store.now) (sort_of sort) n ≡ true }
+    ensures { result ≡ fragment_reaches (store_in store.now) (sort_of sort) n x }
+{
+    let other = Fragment { store, sort, n };
+    fragment_reaches(&other, x)
+}
+
+// Two fragments that exist are the same, or neither reaches into the other.
+pub fn are_independent(store: &StoreWords, sort: Sort, a: usize, b: usize) -> bool
+    requires sound { IsSound store.now }
+    requires a_value { exists (store_in store.now) (sort_of sort) a ≡ true }
+    requires b_value { exists (store_in store.now) (sort_of sort) b ≡ true }
+    ensures { result ≡ independent (store_in store.now) (sort_of sort) a b }
+{
+    a == b || (!reaches(store, sort, a, b) && !reaches(store, sort, b, a))
+}
