@@ -1,20 +1,29 @@
 /* Warzhigo for C: structural equality, mapping, hash and key of IR operations, blocks and regions, proved.
  *
  * Link crates/link/out/liblink.a, which `rt lib` in crates/link writes. The functions allocate nothing, keep no pointer and end; they use
- * nothing but memcpy and memset.
+ * nothing but memcpy, memmove and memset.
  *
- * A lent buffer is a pointer and its length, in words of 32 bits or in bytes. A store has wz_store_words() words and is empty when all are
- * 0; a mapping has wz_mapping_words() words and is empty when all are 4294967295. What the words mean is in docs/STORE.md, what each cause
- * of a refusal is, in docs/CAUSES.md. A refused call has changed nothing.
+ * A lent buffer is a pointer and its length, in words of 32 bits or in bytes: memory of the caller's, of which what is written to overlaps
+ * no other buffer of the same call. NULL and 0 lend an empty one, wherever a buffer is taken. A store has wz_store_words() words and is
+ * empty when all are 0; a mapping has wz_mapping_words() words and is empty when all are 4294967295. What the words mean is in
+ * docs/STORE.md, what each cause of a refusal is, in docs/CAUSES.md.
+ *
+ * A call that refuses, or finds too little room, has changed nothing; wz_known_index_types alone may have written to the index that it was
+ * lent. A field that an answer doesn't use holds 0: where nothing is refused `cause`, `left` and `right` of an equal verdict and of a search that
+ * finds no runs, and `number` of a call that makes nothing; and beside a refusal's cause all fields but `code`.
  *
  * Comparisons, hashes, keys and the searches for repeated runs and for twins are lent a list of renamed types: words old type, present type,
- * old type, present type; two types are the same where their present types are. It may be empty (NULL and 0).
+ * old type, present type; two types are the same where their present types are. It may be empty.
  *
- * wz_...        anything may be lent: the call tests it, and refuses by 1, 8 or 14.
- * wz_known_...  the store must be sound, with its marks, and the mapping allowed beside it, as wz_is_sound and wz_known_is_allowed tell, and
- *               `types` an index that wz_known_index_types has made, or no words at all for the empty list; anything else is undefined
- *               behaviour. A store stays sound under every call. A mapping stays allowed while its store only grows, so not when the store
- *               goes back to a mark (wz_go_back, wz_known_go_back): what it names may have gone. An index is for any store.
+ * wz_...        the offered calls, which ask for nothing: any words, bytes and numbers may be lent. The call tests them, and refuses by 1, 8
+ *               or 14.
+ * wz_known_...  no offered calls: they don't test that. Each asks for a sound store, with its marks, as wz_is_sound tells; for a mapping that is
+ *               allowed beside it, as wz_known_is_allowed tells; and in place of a list of renamed types for its index, which
+ *               wz_known_index_types has made, or for no words at all, the index of the empty list. What else one asks for stands with it.
+ *               Where that doesn't hold, nothing is promised, not even that the call ends or stays within its buffers: undefined
+ *               behaviour. A store stays sound under every call. A mapping stays allowed while its store only grows, though that is not
+ *               among what is proved; not so when the store goes back to a mark (wz_go_back, wz_known_go_back): what it names may have
+ *               gone. An index is for any store.
  */
 #ifndef WARZHIGO_H
 #define WARZHIGO_H
@@ -44,7 +53,7 @@ typedef struct {
 } wz_sum;
 
 /* What a key call answers. 0: `length` is the number of bytes written, from the first lent one on, and those behind them are as they were;
- * 1: refused by `cause`, and no byte was written. */
+ * 1: refused by `cause`, and all bytes are as they were. */
 typedef struct {
     uint32_t length;
     uint32_t code;
@@ -79,7 +88,7 @@ typedef struct {
 } wz_independence;
 
 /* What the search for twins answers. 0: the store has so many `operations`, and as many words were written, from the first lent one on, and
- * those behind them are as they were; 1: refused by `cause`, and no word was written. */
+ * those behind them are as they were; 1: refused by `cause`, and all words are as they were. */
 typedef struct {
     size_t operations;
     uint32_t code;
@@ -134,14 +143,16 @@ size_t wz_index_words(void);
 /* Is it a sound store, and would it be one after going back to any of its marks? */
 bool wz_is_sound(const uint32_t *store, size_t words);
 
-/* Are the marks and the journal of this store sound, whose tables are? For whoever takes these words alone from elsewhere. */
+/* Are the marks and the journal of this store sound, whose tables are? It asks for no more than that. For whoever takes these words alone from
+ * elsewhere. */
 bool wz_known_marks_are_sound(const uint32_t *store, size_t words);
 
-/* Is the mapping allowed beside this store? */
+/* Is the mapping allowed beside this store? Any words may be lent as the mapping. */
 bool wz_known_is_allowed(const uint32_t *store, size_t words, const uint32_t *mapping, size_t entries);
 
-/* Tests a list of renamed types (old, present, old, present) and makes its index in `index`, which must have wz_index_words() words: it is as
- * many of them, from the first on, as this returns; 0 for a list that is refused, by 14. */
+/* Tests a list of renamed types (old, present, old, present), any words, and makes its index in `index`, which must have wz_index_words()
+ * words: it is as many of them, from the first on, as this returns; 0 for a list that is refused, by 14, and the words may hold anything
+ * then. */
 size_t wz_known_index_types(const uint32_t *types, size_t type_words, uint32_t *index, size_t index_words);
 
 /* Where the entries are that one comparison, which answered `paired`, has made in an empty mapping: to set these words to 4294967295 empties it.
@@ -353,7 +364,8 @@ wz_grouped wz_known_twins_of_operations(const uint32_t *store, size_t words, con
 /* Compares two keys byte by byte, a proper beginning first: -1, 0 or 1. Any bytes may be lent. */
 int32_t wz_compare_keys(const uint8_t *lhs, size_t lhs_length, const uint8_t *rhs, size_t rhs_length);
 
-/* What the program `twins` prints for a listing. Store and mapping may hold anything; afterwards the store is what the lines have built. */
+/* What the program `twins` prints for a listing. Store and mapping may hold anything; afterwards the store is what the lines have built, up to
+ * a refused one, and the mapping is empty. Where the first line is refused, both are as they were. */
 wz_output wz_twins(const uint8_t *listing, size_t length, uint32_t *store, size_t words, uint32_t *mapping, size_t entries,
                    uint8_t *out, size_t room);
 

@@ -10,3 +10,6 @@ pub mod Few
 pub mod Named
 pub mod Climbed
 pub mod Upward
+pub mod LevelsEnough
+pub mod NestedCounted
+mod Sizing

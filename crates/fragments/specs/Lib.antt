@@ -8,3 +8,4 @@ pub mod Order
 pub mod BlocksLeft
 pub mod SlotsLeft
 pub mod Inside
+pub mod Sizes

@@ -34,3 +34,11 @@ pub enum Blocks {
     InRegion(usize),
     Alone(usize),
 }
+
+// A fragment's size: how many operations are in it, and its deepest nesting, the most regions between it, itself not counted, and an
+// operation inside it.
+#[derive(Clone, Copy, PartialEq, Eq, Debug)]
+pub struct Size {
+    pub operations: u32,
+    pub nesting: u32,
+}

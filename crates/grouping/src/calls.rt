@@ -10,8 +10,7 @@ ghost use Rattle.fragments.specs.Sorts.{sort_of};
 ghost use Rattle.grouping.specs.Calls.{Answered, Grouped};
 
 use crate::finding::find_twins;
-use crate::independence::are_independent;
-use equivalence::comparison::both_exist;
+use crate::independence::sound_independent;
 use fragments::ignoring::Ignore;
 use fragments::terms::Terms;
 use fragments::types::Sort;
@@ -19,15 +18,6 @@ use layout::causes::Cause;
 use layout::columns::StoreWords;
 use lending::lent::sound_words;
 use renaming::indexing::{INDEX_LENGTH, index_types};
-
-// Whether two fragments of a sound store are independent, unless one does not exist.
-pub fn sound_independent(store: &StoreWords, sort: Sort, lhs: u32, rhs: u32) -> Result<bool, Cause>
-    requires { IsSound store.now }
-    ensures { Answered true store.now (sort_of sort) lhs rhs result }
-{
-    both_exist(store, sort, lhs, rhs)?;
-    Ok(are_independent(store, sort, lhs as usize, rhs as usize))
-}
 
 // Of a buffer that may hold any words.
 fn lent_independent(store: &[u32], sort: Sort, lhs: u32, rhs: u32) -> Result<bool, Cause>

@@ -5,11 +5,14 @@ ghost use Rattle.rules.specs.Independence.{independent};
 ghost use Rattle.layout.specs.Reading.{store_in};
 ghost use Rattle.layout.specs.Soundness.{IsSound};
 ghost use Rattle.fragments.specs.Sorts.{sort_of};
+ghost use Rattle.grouping.specs.Calls.{Answered};
 ghost use Rattle.grouping.specs.Reaching.{fragment_reaches};
 
 use crate::reaching::fragment_reaches;
+use equivalence::comparison::both_exist;
 use fragments::inside::Fragment;
 use fragments::types::Sort;
+use layout::causes::Cause;
 use layout::columns::StoreWords;
 
 // The first reaches into the second.
@@ -31,4 +34,13 @@ pub fn are_independent(store: &StoreWords, sort: Sort, a: usize, b: usize) -> bo
     ensures { result ≡ independent (store_in store.now) (sort_of sort) a b }
 {
     a == b || (!reaches(store, sort, a, b) && !reaches(store, sort, b, a))
+}
+
+// Whether two fragments of a sound store are independent, unless one does not exist.
+pub fn sound_independent(store: &StoreWords, sort: Sort, lhs: u32, rhs: u32) -> Result<bool, Cause>
+    requires { IsSound store.now }
+    ensures { Answered true store.now (sort_of sort) lhs rhs result }
+{
+    both_exist(store, sort, lhs, rhs)?;
+    Ok(are_independent(store, sort, lhs as usize, rhs as usize))
 }

@@ -3,6 +3,8 @@
 ghost use Rattle.std.specs.Prelude.{◌≡◌};
 ghost use Rattle.rules.specs.Hash.{fnv_byte, fnv_from, bytes, tag, leaf, count};
 
+use crate::product::wrapping_mul;
+
 // FNV's offset basis: the word before anything is fed.
 pub const START: u64 = 14695981039346656037;
 
@@ -17,10 +19,11 @@ const PRIME_4: u64 = 11527715348014283921;
 const PRIME_8: u64 = 2232315406967589409;
 
 // Feeds one byte: it is xored in, and then the word is multiplied.
+#[tactic(auto, unfolding(rules::specs::Hash::fnv_byte))]
 pub fn fnv_byte(word: u64, byte: u8) -> u64
     ensures { result ≡ fnv_byte word byte }
 {
-    (word ^ byte as u64).wrapping_mul(PRIME)
+    wrapping_mul(word ^ byte as u64, PRIME)
 }
 
 // Feeds a number of 1 byte.
@@ -51,11 +54,11 @@ pub fn feed_leaf(word: u64, n: u32) -> u64
     ensures { result ≡ fnv_from word (leaf n) }
 {
     if n < 256 {
-        return (word ^ n as u64).wrapping_mul(PRIME_4);
+        return wrapping_mul(word ^ n as u64, PRIME_4);
     }
     if n < 65536 {
         let fed = feed_tag(word, (n % 256) as u8);
-        return (fed ^ (n / 256) as u64).wrapping_mul(PRIME_3);
+        return wrapping_mul(fed ^ (n / 256) as u64, PRIME_3);
     }
     feed_wide(word, n)
 }
@@ -65,7 +68,7 @@ pub fn feed_count(word: u64, n: u32) -> u64
     ensures { result ≡ fnv_from word (count n) }
 {
     if n < 256 {
-        return (word ^ n as u64).wrapping_mul(PRIME_8);
+        return wrapping_mul(word ^ n as u64, PRIME_8);
     }
-    feed_leaf(word, n).wrapping_mul(PRIME_4)
+    wrapping_mul(feed_leaf(word, n), PRIME_4)
 }

@@ -11,6 +11,7 @@ pub mod fnv;
 pub mod hashes;
 pub mod names;
 pub mod passes;
+pub mod product;
 pub mod shells;
 pub mod state;
 pub mod walk;

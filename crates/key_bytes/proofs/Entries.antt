@@ -1,5 +1,5 @@
 -- A list is put entry by entry: what is put so far are the bytes of the entries up to the next one. Assumes nothing.
-use Prim.Native.Nat.{ℕ, ◌+◌, ◌<◌, ◌≤◌}
+use Prim.Native.Nat.{ℕ, ◌+◌, ◌^◌, ◌<◌, ◌≤◌}
 use native.Mathlib.Numerals.{add-one}
 use mathlib.Core.List.{List, [], ◌∷◌, ◌++◌, map, append-nil}
 use mathlib.Core.Path.{◌≡◌, refl, sym, ap, ap₂, ◌∙◌}
@@ -8,31 +8,33 @@ use lib.Seq.{take-suc, take_all}
 use Rattle.rules.specs.Lists.{concat_map}
 use Rattle.rules.specs.Hash.{count, list_bytes}
 use Rattle.rules.proofs.Basics.Distinct.{concat_map_append}
-use Rattle.key_bytes.specs.Put.{Puts}
-use Rattle.key_bytes.specs.declared.sink.Sink.{Sink}
-use Rattle.key_bytes.proofs.Putting.{puts_none, puts_then, puts_as}
+use Rattle.key_bytes.specs.Put.{Put}
+use Rattle.key_bytes.proofs.Putting.{Puts, puts_none, puts_then, puts_as, puts_first, put_all}
 
 module _ (bytes : ℕ → List ℕ) where
-  pub none_put : (a : Sink) → Puts (concat_map bytes []) a a
+  pub none_put : (a : List ℕ) (i : ℕ) → Puts (concat_map bytes []) a i a i
   unfolding concat_map
-  none_put a = puts_none a
+  none_put a i = puts_none a i
 
-  pub more_put : (came : List ℕ) (x : ℕ) {a b c : Sink} → Puts (concat_map bytes came) a b → Puts (bytes x) b c → Puts (concat_map bytes (came ++ x ∷ [])) a c
+  pub more_put : (came : List ℕ) (x : ℕ) {a b c : List ℕ} {i j l : ℕ} → Puts (concat_map bytes came) a i b j → Puts (bytes x) b j c l → Puts (concat_map bytes (came ++ x ∷ [])) a i c l
   unfolding concat_map
   more_put came x f g =
       puts_as (ap (λ (bs : List ℕ). concat_map bytes came ++ bs) (sym (append-nil (bytes x))) ∙ sym (concat_map_append bytes came (x ∷ [])))
       (puts_then (concat_map bytes came) (bytes x) f g)
 
-  module _ (list : List ℕ) (i : ℕ) where
-    pub entries_next : {a b c : Sink} → i < length list → Puts (concat_map bytes (take i list)) a b → Puts (bytes (get_or list i 0)) b c → Puts (concat_map bytes (take (i + 1) list)) a c
+  module _ (list : List ℕ) (n : ℕ) where
+    pub entries_next : {a b c : List ℕ} {i j l : ℕ} → n < length list → Puts (concat_map bytes (take n list)) a i b j → Puts (bytes (get_or list n 0)) b j c l
+        → Puts (concat_map bytes (take (n + 1) list)) a i c l
     entries_next l f g =
-        puts_as (ap (concat_map bytes) (sym (take-suc list i 0 l) ∙ ap (λ (n : ℕ). take n list) (sym (add-one i))))
-        (more_put (take i list) (get_or list i 0) f g)
+        puts_as (ap (concat_map bytes) (sym (take-suc list n 0 l) ∙ ap (λ (k : ℕ). take k list) (sym (add-one n))))
+        (more_put (take n list) (get_or list n 0) f g)
 
     -- behind how many there are
-    pub counted_list : {a b c : Sink} → length list ≤ i → Puts (count (length list)) a b → Puts (concat_map bytes (take i list)) b c → Puts (list_bytes count bytes list) a c
+    pub counted_list : {a b c : List ℕ} {i j : ℕ} → length a < 2 ^ 64 → length list ≤ n → Put (count (length list)) a b i → Puts (concat_map bytes (take n list)) b i c j
+        → Put (list_bytes count bytes list) a c j
     unfolding list_bytes
-    counted_list l f g = puts_then (count (length list)) (concat_map bytes list) f (puts_as (ap (concat_map bytes) (take_all i list l)) g)
+    counted_list short l f g =
+        put_all short (puts_then (count (length list)) (concat_map bytes list) (puts_first f) (puts_as (ap (concat_map bytes) (take_all n list l)) g))
 
 -- a list of which each is put through f is put as the list of what f gives
 pub each_mapped : {A : Type 0} (bytes : A → List ℕ) (f : ℕ → A) (list : List ℕ) → concat_map (λ (n : ℕ). bytes (f n)) list ≡ concat_map bytes (map f list)

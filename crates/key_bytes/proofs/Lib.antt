@@ -2,6 +2,6 @@
 pub mod Putting
 pub mod Entries
 mod Comparing
-mod Numbers
+mod LittleEndian
 mod Shelling
 mod Counting

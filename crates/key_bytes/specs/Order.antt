@@ -1,10 +1,10 @@
 -- What the comparison of keys answers.
+use Rattle.std.specs.Prelude.{ℤ, pos, negsuc}
 use Rattle.std.specs.declared.cmp.Ordering.{Ordering}
 use Rattle.std.specs.declared.cmp.Ordering.TheVariants.{Less, Equal, Greater}
-use Rattle.rules.specs.Keys as rules
 
--- the rules' answer for each case
-unfoldable pub ordering_of : Ordering → rules.Ordering
-ordering_of Less = rules.less
-ordering_of Equal = rules.same
-ordering_of Greater = rules.greater
+-- the number of each case: -1, 0 or 1
+unfoldable pub number_of_ordering : Ordering → ℤ
+number_of_ordering Less = negsuc 0
+number_of_ordering Equal = pos 0
+number_of_ordering Greater = pos 1

@@ -1,5 +1,5 @@
--- What is put into the lent bytes of a key.
-use Rattle.std.specs.Prelude.{ℕ, ◌+◌, ◌^◌, ◌<◌, ◌≤◌, List, ◌++◌, ◌≡◌, length, take, drop}
+-- What is put into the rest of a lent key.
+use Rattle.std.specs.Prelude.{ℕ, ◌+◌, ◌-◌, ◌^◌, ◌≤◌, min, List, ◌++◌, ◌≡◌, length, take, drop}
 use Rattle.rules.specs.Lists.{concat_map}
 use Rattle.rules.specs.Store.{Store, Owner, Attribute}
 use Rattle.rules.specs.Shells.{Ignore, shell_of, unignored_location}
@@ -8,23 +8,20 @@ use Rattle.layout.specs.Columns.{Cols}
 use Rattle.fragments.specs.Ignoring.{kept_from}
 use Rattle.fragments.specs.Options.{Options, under}
 use Rattle.fragments.specs.declared.types.Row.{Row}
-use Rattle.key_bytes.specs.declared.sink.Sink.{Sink}
 
--- bytes from place `at` on, up to `end`, as long as a usize counts so many: all of them if they fit; if not, no place is promised to hold one,
--- and `end` is the same
-pub record Put (bytes before : List ℕ) (at : ℕ) (after : List ℕ) (end : ℕ) : Type 0 where
-  pub long : length after ≡ length before
-  pub many : at + length bytes < 2 ^ 64 → end ≡ at + length bytes
-  pub fits : at + length bytes < 2 ^ 64 → end ≤ length before → after ≡ take at before ++ (bytes ++ drop end before)
-
--- the same of a sink, which stays over the same lent bytes
-pub record Puts (bytes : List ℕ) (a b : Sink) : Type 0 where
-  pub same_reference : b.lent.ghost_name ≡ a.lent.ghost_name
-  pub put : Put bytes a.lent.now a.at b.lent.now b.at
+-- bytes put at the beginning of the rest of a lent key. The answer is how many they are, up to the largest number there is. So many of them
+-- are written, from the first on, and what is behind those is as it was; where all of them fit, all are written
+pub record Put (bytes before after : List ℕ) (answer : ℕ) : Type 0 where
+  pub many : answer ≡ min (length bytes) (2 ^ 64 - 1)
+  pub written : ℕ
+  pub of_bytes : written ≤ length bytes
+  pub of_rest : written ≤ length before
+  pub whole : length bytes ≤ length before → written ≡ length bytes
+  pub rest : after ≡ take written bytes ++ drop written before
 
 -- a count is put, if it is the one that is given where it is asked for
-abbrev pub PutsCounted : (ℕ → Type 0) → Sink → Sink → Type 0
-PutsCounted given a b = (n : ℕ) → ((r : ℕ) → given r → r ≡ n) → Puts (count n) a b
+abbrev pub PutCounted : (ℕ → Type 0) → List ℕ → List ℕ → ℕ → Type 0
+PutCounted given before after answer = (n : ℕ) → ((r : ℕ) → given r → r ≡ n) → Put (count n) before after answer
 
 -- ---- lists
 

@@ -3,12 +3,12 @@
 use Prim.Native.Nat.{ℕ, ◌≤◌}
 use native.Mathlib.Omega.{arith}
 use mathlib.Core.Bool.{Bool, true, false}
-use mathlib.Core.List.{List, [], ◌∷◌, ◌++◌}
+use mathlib.Core.List.{List, [], ◌∷◌}
 use mathlib.Core.Option.{Option, none, some}
 use mathlib.Core.Path.{◌≡◌, refl, sym, ap, subst, ◌∙◌}
 use borrow.Author.Tests.{leb-true}
 use lib.Dec.{leb}
-use lib.ListN.{length, drop}
+use lib.ListN.{length}
 use Rattle.rules.specs.Store.{Store, sound}
 use Rattle.rules.specs.Fragments.{Sort, exists, Step, steps}
 use Rattle.rules.specs.Building.{first_failed}
@@ -27,11 +27,10 @@ use Rattle.renaming.proofs.Indexed.{no_words_lem, no_list}
 use Rattle.fragments.specs.Options.{Options, under}
 use Rattle.numbering.specs.Words.{Stands}
 use Rattle.numbering.proofs.Counting.{no_words, stands_start}
-use Rattle.key_bytes.specs.Put.{Put, Puts}
-use Rattle.key_bytes.specs.declared.sink.Sink.{Sink}
+use Rattle.key_bytes.specs.Put.{Put}
 use Rattle.keys.specs.Written.{Place, steps_bytes, Wrote}
 use Rattle.keys.specs.Calls.{Answered}
-use Rattle.key_bytes.proofs.Putting.{puts_as}
+use Rattle.key_bytes.proofs.Putting.{put_as, put_fits}
 
 -- ---- the whole
 
@@ -42,19 +41,19 @@ module _ (s : Store) (o : Options) (f : Sort) (n : ℕ) where
   key_steps = ap (λ (xs : List Step). steps_bytes s o xs no_numbers) (sym (steps_renamed o.types s f n))
 
   -- what they write with nothing numbered is the key
-  pub wrote_whole : {a b : Place} → a.walked.numbers ≡ no_words → Wrote s o (steps s f n) a b → Puts (key (under o s) o.ignore f n) a.key b.key
-  wrote_whole e w = puts_as key_steps (w.put no_numbers (subst (Stands s no_numbers) (sym e) (stands_start s)))
+  pub wrote_whole : {a b : Place} {r : ℕ} → a.numbers ≡ no_words → Wrote s o (steps s f n) a b r → Put (key (under o s) o.ignore f n) a.key b.key r
+  wrote_whole e w = put_as key_steps (w.put no_numbers (subst (Stands s no_numbers) (sym e) (stands_start s)))
 
   module _ (sd : sound s ≡ true) (e : exists s f n ≡ true) where
     pub longest : length (key (under o s) o.ignore f n) ≤ longest_key
     unfolding KeyLongest
     longest = key_longest (under o s) (renamed_sound o.types s sd) o.ignore f n (exists_renamed o.types s f n ∙ e)
 
-    -- where nothing was put before, so many bytes are
-    pub whole_length : {a b : Sink} → a.at ≡ 0 → Puts (key (under o s) o.ignore f n) a b → (b.at ≡ length (key s o.ignore f n)) × (b.at ≤ longest_key)
-    whole_length z p =
+    -- so many bytes are put
+    pub whole_length : {a b : List ℕ} {r : ℕ} → Put (key (under o s) o.ignore f n) a b r → (r ≡ length (key s o.ignore f n)) × (r ≤ longest_key)
+    whole_length p =
         let same : length (key (under o s) o.ignore f n) ≡ length (key s o.ignore f n) = key_length_renamed o.types s o.ignore f n in
-        (omega (arith, longest, p.put.many, z, same), omega (arith, longest, p.put.many, z))
+        (omega (arith, longest, p.many, same), omega (arith, longest, p.many))
 
 -- ---- lists of types
 
@@ -116,14 +115,13 @@ module _ (b types : List ℕ) (ig : Ignore) (f : Sort) (n : ℕ) (before : List 
           unfolding key_tests first_failed
           none_failed = rw (t, e, l) refl
 
-          pub given : {after : List ℕ} {r : ℕ} → length its ≤ longest_key → Put its before 0 after r → Answered true b types ig f n before after (key_length r)
+          pub given : {after : List ℕ} {r : ℕ} → length its ≤ longest_key → Put its before after r → Answered true b types ig f n before after (key_length r)
           unfolding keyed keyed_by written
           given {after} {r} small p =
-              let end : r ≡ length its = omega (arith, p.many (omega (arith, small))) in
+              let end : r ≡ length its = omega (arith, p.many, small) in
               record {
                 told = ap (λ (o : Option ℕ). (keyed_by o its before).answer) none_failed ∙ ap key_length (sym end);
                 bytes =
                     ap (λ (o : Option ℕ). (keyed_by o its before).bytes) none_failed
-                    ∙ ap (λ (m : ℕ). its ++ drop m before) (sym end)
-                    ∙ sym (p.fits (omega (arith, small)) (omega (arith, end, leb-true (length its) (length before) l)));
+                    ∙ sym (put_fits its p (leb-true (length its) (length before) l));
               }

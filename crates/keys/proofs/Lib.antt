@@ -1,8 +1,6 @@
 -- Why steps of a walk, written one after the other, are written at once; and what a key call answers.
 mod Naming
-mod Counted
 mod Writing
-mod Depths
 mod Sizing
 mod Lone
 mod Answering

@@ -9,16 +9,15 @@ use Rattle.rules.specs.Store.{Store}
 use Rattle.numbering.specs.Words.{rule_name, Stands, NamesBlock}
 use Rattle.numbering.specs.declared.words.Name.{Name}
 use Rattle.numbering.specs.declared.words.Name.TheVariants.{StoreNumber}
-use Rattle.key_bytes.specs.Put.{Puts}
-use Rattle.key_bytes.specs.declared.sink.Sink.{Sink}
-use Rattle.key_bytes.proofs.Putting.{puts_as}
+use Rattle.key_bytes.specs.Put.{Put}
+use Rattle.key_bytes.proofs.Putting.{put_as}
 
 -- the bytes of a use by a rule
 abbrev pub named_bytes : (ℕ → rules.Name) → ℕ → List ℕ
 named_bytes named n = name_bytes (named n)
 
-pub name_put : (x : Name) {y : rules.Name} {a b : Sink} → rule_name x ≡ y → Puts (name_bytes (rule_name x)) a b → Puts (name_bytes y) a b
-name_put x e f = puts_as (ap name_bytes e) f
+pub name_put : (x : Name) {y : rules.Name} {a b : List ℕ} {r : ℕ} → rule_name x ≡ y → Put (name_bytes (rule_name x)) a b r → Put (name_bytes y) a b r
+name_put x e f = put_as (ap name_bytes e) f
 
 -- a use of a block, whatever store the numbering is of
 pub block_named : (s : Store) (N : Numbering) {numbers : List ℕ} (b : ℕ) (x : Name) {z : Name} → Stands s N numbers → x ≡ z → NamesBlock numbers b z → rule_name x ≡ name_of N.blocks b

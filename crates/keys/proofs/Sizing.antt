@@ -1,26 +1,21 @@
--- What a walk counts is the fragment's extent. Assumes nothing.
-use Prim.Native.Nat.{ℕ, suc, ◌-◌, ◌≤◌}
+-- The length of a fragment's key, what its walk has numbered, and its size are its extent. Assumes nothing.
+use Prim.Native.Nat.{ℕ, suc}
 use native.Mathlib.Omega.{arith}
-use mathlib.Core.Bool.{true}
-use mathlib.Core.List.{[], ◌∷◌, append-nil}
+use mathlib.Core.List.{List, [], ◌∷◌, append-nil}
 use mathlib.Core.Path.{◌≡◌, sym, ap, ◌∙◌}
 use lib.ListN.{length}
 use Rattle.rules.specs.Lists.{concat_map}
-use Rattle.rules.specs.Store.{Store, of_op, blocks_of, regions_of, values_of, max_nesting, sound}
-use Rattle.rules.specs.Fragments.{Sort, op, steps, step_defines, op_owner, block_owner, exists, outermost, ops_in_blocks, ops_inside, defines_owners, defines_values, defines_blocks, fragment_ops}
+use Rattle.rules.specs.Store.{Store, of_op, blocks_of, regions_of, values_of, max_nesting}
+use Rattle.rules.specs.Fragments.{Sort, op, steps, step_defines, op_owner, block_owner, outermost, ops_in_blocks, ops_inside, defines_owners, defines_values, defines_blocks, fragment_ops}
 use Rattle.rules.specs.Shells.{Ignore}
 use Rattle.rules.specs.Hash.{no_numbers}
 use Rattle.rules.specs.Keys.{key}
 use Rattle.rules.specs.Extents.{deepest, op_nesting, deepest_nesting, extent}
-use Rattle.rules.specs.ExtentLaws.{ExtentMost}
-use Rattle.rules.proofs.Extents.Laws.{extent_most}
 use Rattle.numbering.specs.Words.{values_numbered, blocks_numbered}
 use Rattle.numbering.specs.Numbered.{values_in, blocks_in, Numbers}
 use Rattle.numbering.proofs.Counting.{no_words, stands_start}
 use Rattle.numbering.proofs.Lone.{two_steps}
 use Rattle.keys.specs.Extents.{of_numbers}
-use Rattle.keys.specs.Written.{depth, ops_in, Counts}
-use Rattle.keys.specs.declared.types.Walked.{Walked}
 
 -- ---- an operation without regions
 
@@ -54,39 +49,16 @@ module _ (s : Store) (ig : Ignore) (n : ℕ) (none : regions_of s n ≡ []) wher
 
 -- ---- any other fragment
 
--- where a walk begins
-abbrev pub nothing_walked : Walked
-nothing_walked = record { numbers = no_words; operations = 0; deepest = 0 }
+module _ (s : Store) (ig : Ignore) (f : Sort) (n : ℕ) {numbers : List ℕ} (m : Numbers s (steps s f n) no_words numbers) where
+  values_walked : values_numbered numbers ≡ length (defines_values s f n)
+  unfolding no_numbers values_in defines_values defines_owners
+  values_walked = omega (arith, m.values, (stands_start s).value_count)
 
-module _ (s : Store) (sd : sound s ≡ true) (ig : Ignore) (f : Sort) (n : ℕ) (there : exists s f n ≡ true) (w : Walked) where
-  module _ (m : Numbers s (steps s f n) no_words w.numbers) where
-    values_walked : values_numbered w.numbers ≡ length (defines_values s f n)
-    unfolding no_numbers values_in defines_values defines_owners
-    values_walked = omega (arith, m.values, (stands_start s).value_count)
+  blocks_walked : blocks_numbered numbers ≡ length (defines_blocks s f n)
+  unfolding no_numbers blocks_in defines_blocks defines_owners
+  blocks_walked = omega (arith, m.blocks, (stands_start s).block_count)
 
-    blocks_walked : blocks_numbered w.numbers ≡ length (defines_blocks s f n)
-    unfolding no_numbers blocks_in defines_blocks defines_owners
-    blocks_walked = omega (arith, m.blocks, (stands_start s).block_count)
-
-  module _ (c : Counts s (steps s f n) nothing_walked w) where
-    ops_walked : w.operations ≡ length (fragment_ops s f n)
-    unfolding ops_in fragment_ops defines_owners ExtentMost extent
-    ops_walked =
-        let most : length (fragment_ops s f n) ≤ 512 = (extent_most s sd ig f n there).3 in
-        omega (arith, c.many)
-
-    deepest_walked : w.deepest ≡ deepest (depth s) (fragment_ops s f n)
-    unfolding ops_in fragment_ops defines_owners
-    deepest_walked = omega (arith, c.deep)
-
-  pub extent_walked : Numbers s (steps s f n) no_words w.numbers
-      → Counts s (steps s f n) nothing_walked w
-      → (outside : ℕ)
-      → deepest_nesting s f n ≡ deepest (depth s) (fragment_ops s f n) - outside
-      → (bytes : ℕ)
-      → bytes ≡ length (key s ig f n)
-      → of_numbers bytes (values_numbered w.numbers) (blocks_numbered w.numbers) w.operations (w.deepest - outside) ≡ extent s ig f n
+  pub extent_walked : {bytes operations nesting : ℕ} → bytes ≡ length (key s ig f n) → operations ≡ length (fragment_ops s f n) → nesting ≡ deepest_nesting s f n
+      → of_numbers bytes (values_numbered numbers) (blocks_numbered numbers) operations nesting ≡ extent s ig f n
   unfolding extent of_numbers
-  extent_walked m c outside d bytes e =
-      let nested : w.deepest - outside ≡ deepest_nesting s f n = omega (arith, d, deepest_walked c) in
-      λ i. of_numbers (e i) (values_walked m i) (blocks_walked m i) (ops_walked c i) (nested i)
+  extent_walked e o d = λ i. of_numbers (e i) (values_walked i) (blocks_walked i) (o i) (d i)

@@ -1,11 +1,13 @@
--- To write steps one after the other is to write them all: each takes up the numbering and the key where the one before left them. A shell puts
--- what its owner is, an operation's names are its operands and then its successors, and where a list begins its count is put. Assumes nothing.
-use Prim.Native.Nat.{ℕ}
+-- To write steps one after the other is to write them all: each takes up the numbering where the one before left it, and the rest of the key
+-- behind its bytes. A shell puts what its owner is, an operation's names are its operands and then its successors, and where a list begins its
+-- count is put. Assumes nothing.
+use Prim.Native.Nat.{ℕ, ◌+◌, ◌-◌, ◌^◌, ◌<◌, min}
 use mathlib.Core.List.{List, [], ◌∷◌, ◌++◌, append-nil, append_assoc}
 use mathlib.Core.Path.{◌≡◌, refl, sym, ap, subst, ◌∙◌}
-use Rattle.rules.specs.Lists.{concat_map}
+use lib.ListN.{length, take, drop}
 use Rattle.rules.specs.Store.{Store, Owner, op_at}
 use Rattle.rules.specs.Fragments.{Step, shell, names, counted, step_defines}
+use Rattle.rules.specs.Lists.{concat_map}
 use Rattle.rules.specs.Hash.{count, Numbering, numbered, feeds, all_bytes}
 use Rattle.rules.specs.Types.{renamed}
 use Rattle.rules.proofs.Types.Renamed.{numbered_renamed}
@@ -14,12 +16,23 @@ use Rattle.numbering.specs.Words.{Stands}
 use Rattle.numbering.specs.Numbered.{numbered_all, values_in, blocks_in, Numbers, DefinitionsFit}
 use Rattle.numbering.proofs.Counting.{numbers_none, numbers_then, numbers_counted, room_first, room_rest}
 use Rattle.numbering.proofs.Passing.{StepRelation}
-use Rattle.key_bytes.specs.Put.{Puts, owner_bytes}
-use Rattle.key_bytes.proofs.Putting.{puts_none, puts_then, puts_as}
-use Rattle.key_bytes.specs.declared.sink.Sink.{Sink}
-use Rattle.keys.specs.Written.{Counts, Place, names_bytes, steps_bytes, Wrote}
-use Rattle.keys.specs.declared.types.Walked.{Walked}
-use Rattle.keys.proofs.Counted.{counts_none, counts_list, counts_names, counts_then}
+use Rattle.key_bytes.specs.Put.{Put, owner_bytes}
+use Rattle.key_bytes.proofs.Putting.{Puts, puts_none, puts_then, puts_as, puts_first, puts_rest, put_all, put_as}
+use Rattle.keys.specs.Written.{Place, place, names_bytes, steps_bytes, Wrote}
+
+-- the words of a walk's numbers, a lent key, and where in it the next bytes go
+pub record Spot : Type 0 where
+  pub numbers : List ℕ
+  pub key : List ℕ
+  pub at : ℕ
+
+abbrev pub spot : List ℕ → List ℕ → ℕ → Spot
+spot ns k i = record { numbers = ns; key = k; at = i }
+
+-- between these steps are numbered, and their bytes are put from the one on, up to the other
+pub record WroteOn (s : Store) (o : Options) (xs : List Step) (a b : Spot) : Type 0 where
+  pub numbers : Numbers s xs a.numbers b.numbers
+  pub put : (N : Numbering) → Stands s N a.numbers → Puts (steps_bytes s o xs N) a.key a.at b.key b.at
 
 module _ (s : Store) (o : Options) where
   bytes_append : (xs ys : List Step) (N : Numbering) → steps_bytes s o (xs ++ ys) N ≡ steps_bytes s o xs N ++ steps_bytes s o ys (numbered_all s xs N)
@@ -32,27 +45,25 @@ module _ (s : Store) (o : Options) where
       ∙ sym (append_assoc own (steps_bytes s o xs next) (steps_bytes s o ys (numbered_all s xs next)))
       ∙ ap (λ (M : Numbering). (own ++ steps_bytes s o xs next) ++ steps_bytes s o ys (numbered_all s xs M)) (numbered_renamed o.types s x N)
 
-  pub wrote_none : (a : Place) → Wrote s o [] a a
+  pub wrote_none : (a : Spot) → WroteOn s o [] a a
   unfolding all_bytes
-  wrote_none a = record { numbers = numbers_none s a.walked.numbers; counts = counts_none s a.walked; same_reference = refl; put = λ N h. puts_none a.key }
+  wrote_none a = record { numbers = numbers_none s a.numbers; put = λ N h. puts_none a.key a.at }
 
-  pub wrote_then : (xs ys : List Step) {a b c : Place} → Wrote s o xs a b → Wrote s o ys b c → Wrote s o (xs ++ ys) a c
+  pub wrote_then : (xs ys : List Step) {a b c : Spot} → WroteOn s o xs a b → WroteOn s o ys b c → WroteOn s o (xs ++ ys) a c
   wrote_then xs ys f g =
       record {
         numbers = numbers_then s xs ys f.numbers g.numbers;
-        counts = counts_then s xs ys f.counts g.counts;
-        same_reference = g.same_reference ∙ f.same_reference;
         put =
             λ N h. puts_as (sym (bytes_append xs ys N))
             (puts_then (steps_bytes s o xs N) (steps_bytes s o ys (numbered_all s xs N)) (f.put N h) (g.put (numbered_all s xs N) (f.numbers.stands N h)));
       }
 
   -- what is written is a walk of its kind
-  abbrev pub key_walk : StepRelation Place
+  abbrev pub key_walk : StepRelation Spot
   key_walk =
       record {
-        Does = λ xs a b. Wrote s o xs a b;
-        Room = λ xs a. DefinitionsFit s xs a.walked.numbers;
+        Does = λ xs a b. WroteOn s o xs a b;
+        Room = λ xs a. DefinitionsFit s xs a.numbers;
         none = λ a. wrote_none a;
         both = λ xs ys f g. wrote_then xs ys f g;
         first = λ xs ys r. room_first s xs ys r;
@@ -60,46 +71,44 @@ module _ (s : Store) (o : Options) where
       }
 
   -- the same steps
-  pub wrote_as : {xs ys : List Step} {a b : Place} → xs ≡ ys → Wrote s o xs a b → Wrote s o ys a b
-  wrote_as {xs} {ys} {a} {b} e f = subst (λ (zs : List Step). Wrote s o zs a b) e f
+  pub wrote_as : {xs ys : List Step} {a b : Spot} → xs ≡ ys → WroteOn s o xs a b → WroteOn s o ys a b
+  wrote_as {xs} {ys} {a} {b} e f = subst (λ (zs : List Step). WroteOn s o zs a b) e f
+
+  -- the first that are written into the rest of a key
+  pub wrote_first : {xs : List Step} {a b : Place} {r : ℕ} → Wrote s o xs a b r → WroteOn s o xs (spot a.numbers a.key 0) (spot b.numbers b.key r)
+  wrote_first f = record { numbers = f.numbers; put = λ N h. puts_first (f.put N h) }
+
+  -- what is written into the rest from place i on
+  pub wrote_rest : {xs : List Step} {ns ms b r : List ℕ} {i p m l : ℕ} → p ≡ min i (length b)
+      → Wrote s o xs (place ns (take (length b - p) (drop p b))) (place ms r) m
+      → l ≡ min (i + m) (2 ^ 64 - 1)
+      → WroteOn s o xs (spot ns b i) (spot ms (take p b ++ (r ++ drop (length b - p) (drop p b))) l)
+  wrote_rest at f e = record { numbers = f.numbers; put = λ N h. puts_rest at (f.put N h) e }
+
+  -- all that is written from the beginning on
+  pub wrote_all : {xs : List Step} {ns ms a b : List ℕ} {r : ℕ} → length a < 2 ^ 64 → WroteOn s o xs (spot ns a 0) (spot ms b r)
+      → Wrote s o xs (place ns a) (place ms b) r
+  wrote_all short f = record { numbers = f.numbers; put = λ N h. put_all short (f.put N h) }
 
   -- ---- one step
 
-  pub wrote_shell : (w : Owner) {a b : Place} → Numbers s (shell w ∷ []) a.walked.numbers b.walked.numbers
-      → Counts s (shell w ∷ []) a.walked b.walked
-      → Puts (owner_bytes s o w) a.key b.key
-      → Wrote s o (shell w ∷ []) a b
+  pub wrote_shell : (w : Owner) {a b : Place} {r : ℕ} → Numbers s (shell w ∷ []) a.numbers b.numbers → Put (owner_bytes s o w) a.key b.key r
+      → Wrote s o (shell w ∷ []) a b r
   unfolding all_bytes feeds owner_bytes
-  wrote_shell w f c g =
-      record { numbers = f; counts = c; same_reference = g.same_reference; put = λ N h. puts_as (sym (append-nil (owner_bytes s o w))) g }
+  wrote_shell w f g = record { numbers = f; put = λ N h. put_as (sym (append-nil (owner_bytes s o w))) g }
 
-  pub wrote_counted : (n : ℕ) {a b : Place} → a.walked ≡ b.walked → Puts (count n) a.key b.key → Wrote s o (counted n ∷ []) a b
+  pub wrote_counted : (n : ℕ) {ns a b : List ℕ} {r : ℕ} → Put (count n) a b r → Wrote s o (counted n ∷ []) (place ns a) (place ns b) r
   unfolding all_bytes feeds
-  wrote_counted n {a} {b} same g =
-      record {
-        numbers = subst (λ (w : Walked). Numbers s (counted n ∷ []) a.walked.numbers w.numbers) same (numbers_counted s n [] (numbers_none s a.walked.numbers));
-        counts = subst (λ (w : Walked). Counts s (counted n ∷ []) a.walked w) same (counts_list s n a.walked);
-        same_reference = g.same_reference;
-        put = λ N h. puts_as (sym (append-nil (count n))) g;
-      }
+  wrote_counted n {ns} g =
+      record { numbers = numbers_counted s n [] (numbers_none s ns); put = λ N h. put_as (sym (append-nil (count n))) g }
 
   -- an operation's names: its operands, then its successors
-  pub wrote_names : (n : ℕ) {a b : Place} {k : Sink} → a.walked ≡ b.walked
-      → k.lent.ghost_name ≡ a.key.lent.ghost_name
-      → b.key.lent.ghost_name ≡ k.lent.ghost_name
-      → ((N : Numbering) → Stands s N a.walked.numbers → Puts (names_bytes N.values (op_at s n).operands) a.key k)
-      → ((N : Numbering) → Stands s N a.walked.numbers → Puts (names_bytes N.blocks (op_at s n).successors) k b.key)
-      → Wrote s o (names n ∷ []) a b
+  pub wrote_names : (n : ℕ) {ns a b : List ℕ} {r : ℕ}
+      → ((N : Numbering) → Stands s N ns → Put (names_bytes N.values (op_at s n).operands ++ names_bytes N.blocks (op_at s n).successors) a b r)
+      → Wrote s o (names n ∷ []) (place ns a) (place ns b) r
   unfolding renamed op_at all_bytes feeds names_bytes numbered_all numbered values_in blocks_in concat_map step_defines
-  wrote_names n {a} {b} {k} same d e f g =
+  wrote_names n {ns} f =
       record {
-        numbers = subst (λ (w : Walked). Numbers s (names n ∷ []) a.walked.numbers w.numbers) same
-            (record { long = refl; stands = λ N h. h; values = (numbers_none s a.walked.numbers).values; blocks = (numbers_none s a.walked.numbers).blocks });
-        counts = subst (λ (w : Walked). Counts s (names n ∷ []) a.walked w) same (counts_names s n a.walked);
-        same_reference = e ∙ d;
-        put =
-            λ N h.
-            let vs : List ℕ = names_bytes N.values (op_at s n).operands in
-            let bs : List ℕ = names_bytes N.blocks (op_at s n).successors in
-            puts_as (sym (append-nil (vs ++ bs))) (puts_then vs bs (f N h) (g N h));
+        numbers = record { long = refl; stands = λ N h. h; values = (numbers_none s ns).values; blocks = (numbers_none s ns).blocks };
+        put = λ N h. put_as (sym (append-nil (names_bytes N.values (op_at s n).operands ++ names_bytes N.blocks (op_at s n).successors))) (f N h);
       }

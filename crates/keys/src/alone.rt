@@ -9,7 +9,7 @@ ghost use Rattle.layout.specs.Reading.{op_count, store_in};
 ghost use Rattle.layout.specs.Soundness.{IsSound};
 ghost use Rattle.renaming.specs.Index.{list_in};
 ghost use Rattle.fragments.specs.Ignoring.{ignore_of};
-ghost use Rattle.key_bytes.specs.Put.{Puts};
+ghost use Rattle.key_bytes.specs.Put.{Put};
 ghost use Rattle.fragments.specs.Terms.{store_read};
 ghost use Rattle.keys.specs.Written.{names_bytes};
 
@@ -17,31 +17,33 @@ use crate::names::put_uses;
 use fragments::rows::op_row;
 use fragments::terms::Terms;
 use key_bytes::shells::put_own_op;
-use key_bytes::sink::Sink;
 use layout::columns::StoreWords;
 use layout::slices::{operands_of, successors_of};
 use numbering::alone::own_name;
 use numbering::words::Name;
 
 // The operands, of which the operation's own results are numbered, and the successors, of which none is.
-fn put_own_uses(store: &StoreWords, key: &mut Sink, n: usize)
+fn put_own_uses(store: &StoreWords, key: &mut [u8], n: usize) -> usize
     requires sound { IsSound store.now }
     requires n_bound { n < op_count (columns store.now) }
-    ensures { Puts (names_bytes (values_of (store_in store.now) (of_op n)) (op_at (store_in store.now) n).operands ++ names_bytes [] (op_at (store_in store.now) n).successors) key.old key.new }
+    ensures { Put (names_bytes (values_of (store_in store.now) (of_op n)) (op_at (store_in store.now) n).operands ++ names_bytes [] (op_at (store_in store.now) n).successors) key.old key.new result }
 {
     let row = op_row(store, n);
     let first = row.value;
     let end = first + row.values;
-    put_uses(key, operands_of(store, n), |v| own_name(first, end, v));
-    put_uses(key, successors_of(store, n), |b| Name::StoreNumber(b));
+    let at = put_uses(key, operands_of(store, n), |v| own_name(first, end, v));
+    let rest = at.min(key.len());
+    let successors = successors_of(store, n);
+    at.saturating_add(put_uses(&mut key[rest..], successors, |b| Name::StoreNumber(b)))
 }
 
 // The key of an operation without regions: its shell, its operands, its successors.
-pub fn put_alone(terms: &Terms, key: &mut Sink, n: usize)
+pub fn put_alone(terms: &Terms, key: &mut [u8], n: usize) -> usize
     requires n_bound { n < op_count (columns terms.now.store.now) }
     requires n_value { regions_of (store_read terms.now) n ≡ [] }
-    ensures { Puts (Keys.key (renamed (list_in terms.now.types.now) (store_read terms.now)) (ignore_of terms.now.ignore) op n) key.old key.new }
+    ensures { Put (Keys.key (renamed (list_in terms.now.types.now) (store_read terms.now)) (ignore_of terms.now.ignore) op n) key.old key.new result }
 {
-    put_own_op(terms, key, n);
-    put_own_uses(terms.store, key, n);
+    let at = put_own_op(terms, key, n);
+    let rest = at.min(key.len());
+    at.saturating_add(put_own_uses(terms.store, &mut key[rest..], n))
 }

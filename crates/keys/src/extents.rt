@@ -1,34 +1,20 @@
 // How large a key will be: the three offered extents. Each refuses a buffer that is not sound, then a fragment that does not exist. No type
 // is read, so no list of renamed types is lent.
-ghost use Rattle.std.specs.Prelude.{true, ◌≡◌};
+ghost use Rattle.std.specs.Prelude.{◌≡◌};
 ghost use Rattle.rules.specs.Fragments.{op, block, region};
 ghost use Rattle.rules.specs.Extents.{sized};
 ghost use Rattle.layout.specs.Reading.{store_in};
-ghost use Rattle.layout.specs.Soundness.{IsSound};
 ghost use Rattle.journal.specs.Words.{sound_lent};
 ghost use Rattle.fragments.specs.Ignoring.{ignore_of};
 ghost use Rattle.fragments.specs.Sorts.{sort_of};
 ghost use Rattle.keys.specs.Extents.{sized_of};
 
-use crate::keys::fragment_extent;
+use crate::measuring::sound_extent;
 use crate::types::Extent;
 use fragments::ignoring::Ignore;
-use fragments::sorts::exists;
 use fragments::types::Sort;
 use layout::causes::Cause;
-use layout::columns::StoreWords;
 use lending::lent::sound_words;
-
-// The extent of a fragment of a sound store, unless it does not exist.
-pub fn sound_extent(store: &StoreWords, sort: Sort, n: u32, ignore: Ignore) -> Result<Extent, Cause>
-    requires { IsSound store.now }
-    ensures { sized_of result ≡ sized true (store_in store.now) (ignore_of ignore) (sort_of sort) n }
-{
-    if !exists(store, sort, n) {
-        return Err(Cause::NotThere);
-    }
-    Ok(fragment_extent(store, sort, n as usize, ignore))
-}
 
 // Of a buffer that may hold any words.
 fn lent_extent(store: &[u32], sort: Sort, n: u32, ignore: Ignore) -> Result<Extent, Cause>

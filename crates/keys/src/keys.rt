@@ -1,5 +1,5 @@
-// The key of a fragment on a sound store, under an index of renamed types, and how large a fragment is. One walk gives both: into no bytes
-// at all it only counts. So where a key may not fit, its length is found first, and nothing is written before a refusal.
+// The key of a fragment on a sound store, under an index of renamed types, and how large a fragment is. Into no bytes at all a key is only
+// counted. So where it may not fit, its length is found first, and nothing is written before a refusal.
 ghost use Rattle.std.specs.Prelude.{List, ℕ, true, ◌≡◌, ◌<◌, leb, length};
 ghost use Rattle.rules.specs.Fragments.{op, steps};
 ghost use Rattle.rules.specs.Types.{renamed};
@@ -13,95 +13,103 @@ ghost use Rattle.fragments.specs.Ignoring.{ignore_of};
 ghost use Rattle.fragments.specs.Options.{Readable};
 ghost use Rattle.fragments.specs.Sorts.{sort_of};
 ghost use Rattle.numbering.specs.Numbered.{DefinitionsFit};
-ghost use Rattle.key_bytes.specs.Put.{Puts};
+ghost use Rattle.key_bytes.specs.Put.{Put};
 ghost use Rattle.fragments.specs.Terms.{store_read, options_in};
 ghost use Rattle.keys.specs.Written.{place, Wrote};
 ghost use Rattle.keys.specs.Calls.{keyed_of, Answered};
 ghost use Rattle.keys.specs.Extents.{extent_means};
 
 use crate::alone::put_alone;
-use crate::counting::{depth_outside, lone_extent, walked_extent};
+use crate::counting::{lone_extent, walked_extent};
 use crate::shells::put_op_shell;
-use crate::types::{Extent, Walked};
+use crate::types::Extent;
 use crate::walk::{put_blocks_full, put_op_full};
 use fragments::ignoring::Ignore;
+use fragments::sizes::fragment_size;
 use fragments::sorts::exists;
 use fragments::terms::Terms;
 use fragments::types::{Blocks, Sort};
-use key_bytes::sink::Sink;
 use layout::causes::Cause;
 use layout::columns::StoreWords;
 use numbering::alone::holds_nothing;
-use numbering::words::NUMBERS_LENGTH;
+use numbering::words::{NUMBERS_LENGTH, WalkNumbers};
 
 // No key is longer.
 pub const LONGEST_KEY: usize = 78344;
 
 // An operation: its shell, then its operands, successors and nested regions.
-fn put_op(terms: &Terms, walked: &mut Walked, key: &mut Sink, n: usize)
+fn put_op(terms: &Terms, numbers: &mut WalkNumbers, key: &mut [u8], n: usize) -> usize
     requires n_bound { n < op_count (columns terms.now.store.now) }
-    requires definitions_fit { DefinitionsFit (store_read terms.now) (steps (store_read terms.now) op n) walked.old.numbers }
-    ensures { Wrote (store_read terms.now) (options_in terms.now) (steps (store_read terms.now) op n) (place walked.old key.old) (place walked.new key.new) }
+    requires definitions_fit { DefinitionsFit (store_read terms.now) (steps (store_read terms.now) op n) numbers.old }
+    ensures { Wrote (store_read terms.now) (options_in terms.now) (steps (store_read terms.now) op n) (place numbers.old key.old) (place numbers.new key.new) result }
 {
-    put_op_shell(terms, walked, key, n);
-    put_op_full(terms, walked, key, n);
+    let at = put_op_shell(terms, numbers, key, n);
+    let rest = at.min(key.len());
+    at.saturating_add(put_op_full(terms, numbers, &mut key[rest..], n))
 }
 
 // A fragment by its sort. A block is a list of one block. (The walk that hashes has the same three cases, with other steps in each.)
-fn put_steps(terms: &Terms, walked: &mut Walked, key: &mut Sink, sort: Sort, n: usize)
+fn put_steps(
+    terms: &Terms,
+    numbers: &mut WalkNumbers,
+    key: &mut [u8],
+    sort: Sort,
+    n: usize,
+) -> usize
     requires n_value { Rattle.rules.specs.Fragments.exists (store_read terms.now) (sort_of sort) n ≡ true }
-    requires definitions_fit { DefinitionsFit (store_read terms.now) (steps (store_read terms.now) (sort_of sort) n) walked.old.numbers }
-    ensures { Wrote (store_read terms.now) (options_in terms.now) (steps (store_read terms.now) (sort_of sort) n) (place walked.old key.old) (place walked.new key.new) }
+    requires definitions_fit { DefinitionsFit (store_read terms.now) (steps (store_read terms.now) (sort_of sort) n) numbers.old }
+    ensures { Wrote (store_read terms.now) (options_in terms.now) (steps (store_read terms.now) (sort_of sort) n) (place numbers.old key.old) (place numbers.new key.new) result }
 {
     match sort {
-        Sort::Op => put_op(terms, walked, key, n),
-        Sort::Block => put_blocks_full(terms, walked, key, Blocks::Alone(n)),
-        Sort::Region => put_blocks_full(terms, walked, key, Blocks::InRegion(n)),
+        Sort::Op => put_op(terms, numbers, key, n),
+        Sort::Block => put_blocks_full(terms, numbers, key, Blocks::Alone(n)),
+        Sort::Region => put_blocks_full(terms, numbers, key, Blocks::InRegion(n)),
     }
 }
 
-// A fragment's key, as far as it fits, and its extent in any case. It begins with nothing put and nothing numbered.
-fn put_fragment(terms: &Terms, key: &mut Sink, sort: Sort, n: usize) -> Extent
-    requires nothing_put { key.old.at ≡ 0 }
+// A fragment's key, as far as it fits. Where an operation has no regions, no words are cleared to number what it defines.
+fn put_fragment(terms: &Terms, key: &mut [u8], sort: Sort, n: usize) -> usize
     requires n_value { Rattle.rules.specs.Fragments.exists (store_read terms.now) (sort_of sort) n ≡ true }
-    ensures puts { Puts (Keys.key (renamed (list_in terms.now.types.now) (store_read terms.now)) (ignore_of terms.now.ignore) (sort_of sort) n) key.old key.new }
-    ensures extent { extent_means result ≡ extent (store_read terms.now) (ignore_of terms.now.ignore) (sort_of sort) n }
+    ensures { Put (Keys.key (renamed (list_in terms.now.types.now) (store_read terms.now)) (ignore_of terms.now.ignore) (sort_of sort) n) key.old key.new result }
 {
     if holds_nothing(terms.store, sort, n) {
-        put_alone(terms, key, n);
-        return lone_extent(terms.store, n, key.length() as u32);
+        return put_alone(terms, key, n);
     }
-    let mut walked = Walked {
-        numbers: [0; NUMBERS_LENGTH],
-        operations: 0,
-        deepest: 0,
-    };
-    put_steps(terms, &mut walked, key, sort, n);
-    let outside = depth_outside(terms.store, sort, n);
-    walked_extent(&walked, outside, key.length() as u32)
+    let mut numbers = [0; NUMBERS_LENGTH];
+    put_steps(terms, &mut numbers, key, sort, n)
 }
 
-// How large a fragment is: its key is written into no bytes at all, and no type is looked up.
-pub fn fragment_extent(store: &StoreWords, sort: Sort, n: usize, ignore: Ignore) -> Extent
+// The length of a fragment's key, which is the same under every list of types: it is written into no bytes, and no type is looked up.
+pub fn key_length(store: &StoreWords, sort: Sort, n: usize, ignore: Ignore) -> usize
     requires sound { IsSound store.now }
     requires n_value { Rattle.rules.specs.Fragments.exists (store_in store.now) (sort_of sort) n ≡ true }
-    ensures { extent_means result ≡ extent (store_in store.now) (ignore_of ignore) (sort_of sort) n }
+    ensures { (types : List ℕ) → result ≡ length (Keys.key (renamed types (store_in store.now)) (ignore_of ignore) (sort_of sort) n) }
 {
     let terms = Terms {
         store,
         types: &[],
         ignore,
     };
-    put_fragment(&terms, &mut Sink::new(&mut []), sort, n)
+    put_fragment(&terms, &mut [], sort, n)
 }
 
-// The length of a fragment's key, which is the same under every list of types.
-pub fn key_length(store: &StoreWords, sort: Sort, n: usize, ignore: Ignore) -> usize
+// How large a fragment is: its key is written into no bytes, which tells its length and numbers what it defines, and its size is found.
+pub fn fragment_extent(store: &StoreWords, sort: Sort, n: usize, ignore: Ignore) -> Extent
     requires sound { IsSound store.now }
     requires n_value { Rattle.rules.specs.Fragments.exists (store_in store.now) (sort_of sort) n ≡ true }
-    ensures { (types : List ℕ) → result ≡ length (Keys.key (renamed types (store_in store.now)) (ignore_of ignore) (sort_of sort) n) }
+    ensures { extent_means result ≡ extent (store_in store.now) (ignore_of ignore) (sort_of sort) n }
 {
-    fragment_extent(store, sort, n, ignore).bytes as usize
+    if holds_nothing(store, sort, n) {
+        return lone_extent(store, n, key_length(store, sort, n, ignore) as u32);
+    }
+    let terms = Terms {
+        store,
+        types: &[],
+        ignore,
+    };
+    let mut numbers = [0; NUMBERS_LENGTH];
+    let bytes = put_steps(&terms, &mut numbers, &mut [], sort, n);
+    walked_extent(&numbers, fragment_size(store, sort, n), bytes as u32)
 }
 
 // Whether a fragment's key fits into so many bytes. Where they are enough for any key, its length is not asked for.
@@ -136,7 +144,6 @@ pub fn fragment_key(
         types,
         ignore,
     };
-    let mut key = Sink::new(lent);
-    let extent = put_fragment(&terms, &mut key, sort, n as usize);
-    Ok(extent.bytes)
+    let bytes = put_fragment(&terms, lent, sort, n as usize);
+    Ok(bytes as u32)
 }

@@ -4,50 +4,46 @@ ghost use Rattle.rules.specs.Hash.{name_bytes};
 ghost use Rattle.layout.specs.Columns.{columns};
 ghost use Rattle.layout.specs.Reading.{op_count};
 ghost use Rattle.numbering.specs.Words.{rule_name};
-ghost use Rattle.key_bytes.specs.Put.{Puts};
+ghost use Rattle.key_bytes.specs.Put.{Put};
 ghost use Rattle.fragments.specs.Terms.{store_read};
-ghost use Rattle.keys.specs.Written.{NamesAllowed, PutsNames, WroteNames};
+ghost use Rattle.keys.specs.Written.{NamesAllowed, PutNames, WroteNames};
 
-use crate::types::Walked;
 use fragments::terms::Terms;
-use key_bytes::sink::Sink;
+use key_bytes::numbers::{put_count, put_store_number, put_walk_number};
 use layout::slices::{operands_of, successors_of};
-use numbering::words::{Name, block_name, value_name};
+use numbering::words::{Name, WalkNumbers, block_name, value_name};
 
 // A use by its name: tag 0 and the walk number, or tag 1 and the number in the store.
-fn put_name(key: &mut Sink, name: Name)
-    ensures { Puts (name_bytes (rule_name name)) key.old key.new }
+fn put_name(key: &mut [u8], name: Name) -> usize
+    ensures { Put (name_bytes (rule_name name)) key.old key.new result }
 {
     match name {
-        Name::WalkNumber(i) => key.put_walk_number(i),
-        Name::StoreNumber(n) => key.put_store_number(n),
+        Name::WalkNumber(i) => put_walk_number(key, i),
+        Name::StoreNumber(n) => put_store_number(key, n),
     }
 }
 
 // How many uses there are, then each, as it is named.
-pub fn put_uses<F: Fn(u32) -> Name>(key: &mut Sink, list: &[u32], name_of: F)
+pub fn put_uses<F: Fn(u32) -> Name>(key: &mut [u8], list: &[u32], name_of: F) -> usize
     requires { NamesAllowed (F.pre name_of) list.now }
-    ensures { PutsNames (F.post name_of) list.now key.old key.new }
+    ensures { PutNames (F.post name_of) list.now key.old key.new result }
 {
-    key.put_count(list.len());
+    let mut at = put_count(key, list.len());
     for n in list {
-        put_name(key, name_of(*n));
+        let rest = at.min(key.len());
+        at = at.saturating_add(put_name(&mut key[rest..], name_of(*n)));
     }
+    at
 }
 
 // What an operation uses: its operands, then its successors.
-pub fn put_names(terms: &Terms, walked: &Walked, key: &mut Sink, n: usize)
+pub fn put_names(terms: &Terms, numbers: &WalkNumbers, key: &mut [u8], n: usize) -> usize
     requires { n < op_count (columns terms.now.store.now) }
-    ensures { WroteNames (store_read terms.now) n walked.now key.old key.new }
+    ensures { WroteNames (store_read terms.now) n numbers.now key.old key.new result }
 {
-    put_uses(
-        key,
-        operands_of(terms.store, n),
-        |v| value_name(terms.store, &walked.numbers, v),
-    );
-    put_uses(
-        key,
-        successors_of(terms.store, n),
-        |b| block_name(&walked.numbers, b),
-    );
+    let operands = operands_of(terms.store, n);
+    let at = put_uses(key, operands, |v| value_name(terms.store, numbers, v));
+    let rest = at.min(key.len());
+    let successors = successors_of(terms.store, n);
+    at.saturating_add(put_uses(&mut key[rest..], successors, |b| block_name(numbers, b)))
 }

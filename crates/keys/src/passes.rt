@@ -10,45 +10,62 @@ ghost use Rattle.fragments.specs.Terms.{store_read, options_in};
 ghost use Rattle.keys.specs.Written.{place, Wrote};
 
 use crate::shells::{put_block_shell, put_op_shell};
-use crate::types::Walked;
 use fragments::order::BlocksIn;
 use fragments::terms::Terms;
 use fragments::types::Blocks;
 use key_bytes::counts::{count_blocks, count_ops};
-use key_bytes::sink::Sink;
+use key_bytes::numbers::put_counted;
 use layout::ops_in::OpsIn;
+use numbering::words::WalkNumbers;
 
 // Pass 1: how many blocks there are, then every block's shell.
-pub fn put_block_shells(terms: &Terms, walked: &mut Walked, key: &mut Sink, blocks: Blocks)
+pub fn put_block_shells(
+    terms: &Terms,
+    numbers: &mut WalkNumbers,
+    key: &mut [u8],
+    blocks: Blocks,
+) -> usize
     requires blocks_exist { BlocksExist (columns terms.now.store.now) blocks }
-    requires definitions_fit { DefinitionsFit (store_read terms.now) (block_shells (block_list (store_read terms.now) blocks)) walked.old.numbers }
-    ensures { Wrote (store_read terms.now) (options_in terms.now) (block_shells (block_list (store_read terms.now) blocks)) (place walked.old key.old) (place walked.new key.new) }
+    requires definitions_fit { DefinitionsFit (store_read terms.now) (block_shells (block_list (store_read terms.now) blocks)) numbers.old }
+    ensures { Wrote (store_read terms.now) (options_in terms.now) (block_shells (block_list (store_read terms.now) blocks)) (place numbers.old key.old) (place numbers.new key.new) result }
 {
-    key.put_counted(|| count_blocks(terms.store, blocks));
+    let mut at = put_counted(key, || count_blocks(terms.store, blocks));
     for b in BlocksIn::new(terms.store, blocks) {
-        put_block_shell(terms, walked, key, b);
+        let rest = at.min(key.len());
+        at = at.saturating_add(put_block_shell(terms, numbers, &mut key[rest..], b));
     }
+    at
 }
 
 // Pass 2 of one block: how many operations it has, then their shells.
-fn put_op_shells_in(terms: &Terms, walked: &mut Walked, key: &mut Sink, b: usize)
+fn put_op_shells_in(terms: &Terms, numbers: &mut WalkNumbers, key: &mut [u8], b: usize) -> usize
     requires b_bound { b < block_count (columns terms.now.store.now) }
-    requires definitions_fit { DefinitionsFit (store_read terms.now) (op_shells (store_read terms.now) b) walked.old.numbers }
-    ensures { Wrote (store_read terms.now) (options_in terms.now) (op_shells (store_read terms.now) b) (place walked.old key.old) (place walked.new key.new) }
+    requires definitions_fit { DefinitionsFit (store_read terms.now) (op_shells (store_read terms.now) b) numbers.old }
+    ensures { Wrote (store_read terms.now) (options_in terms.now) (op_shells (store_read terms.now) b) (place numbers.old key.old) (place numbers.new key.new) result }
 {
-    key.put_counted(|| count_ops(terms.store, b));
+    let mut at = put_counted(key, || count_ops(terms.store, b));
     for n in OpsIn::new(terms.store, b) {
-        put_op_shell(terms, walked, key, n);
+        let rest = at.min(key.len());
+        at = at.saturating_add(put_op_shell(terms, numbers, &mut key[rest..], n));
     }
+    at
 }
 
 // Pass 2: the shells of every block's operations.
-pub fn put_op_shells(terms: &Terms, walked: &mut Walked, key: &mut Sink, blocks: Blocks)
+pub fn put_op_shells(
+    terms: &Terms,
+    numbers: &mut WalkNumbers,
+    key: &mut [u8],
+    blocks: Blocks,
+) -> usize
     requires blocks_exist { BlocksExist (columns terms.now.store.now) blocks }
-    requires definitions_fit { DefinitionsFit (store_read terms.now) (concat_map (op_shells (store_read terms.now)) (block_list (store_read terms.now) blocks)) walked.old.numbers }
-    ensures { Wrote (store_read terms.now) (options_in terms.now) (concat_map (op_shells (store_read terms.now)) (block_list (store_read terms.now) blocks)) (place walked.old key.old) (place walked.new key.new) }
+    requires definitions_fit { DefinitionsFit (store_read terms.now) (concat_map (op_shells (store_read terms.now)) (block_list (store_read terms.now) blocks)) numbers.old }
+    ensures { Wrote (store_read terms.now) (options_in terms.now) (concat_map (op_shells (store_read terms.now)) (block_list (store_read terms.now) blocks)) (place numbers.old key.old) (place numbers.new key.new) result }
 {
+    let mut at: usize = 0;
     for b in BlocksIn::new(terms.store, blocks) {
-        put_op_shells_in(terms, walked, key, b);
+        let rest = at.min(key.len());
+        at = at.saturating_add(put_op_shells_in(terms, numbers, &mut key[rest..], b));
     }
+    at
 }

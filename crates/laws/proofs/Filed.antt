@@ -31,7 +31,7 @@ use Rattle.journal.specs.Journal.{marked_of}
 use Rattle.journal.specs.Words.{journaled_of, sound_lent}
 use Rattle.building.specs.Calls.{AfterCalls}
 use Rattle.building.proofs.Answering.{after_calls}
-use Rattle.key_bytes.specs.Order.{ordering_of}
+use Rattle.key_bytes.specs.Order.{number_of_ordering}
 use Rattle.keys.specs.Calls.{keyed_of}
 use Rattle.laws.specs.Filing.{Writes, AnswersFile, FilingOfCode, WordsFit}
 use Rattle.laws.proofs.Obeyed.{ruled, here, apart, says, said}
@@ -64,10 +64,10 @@ module _ (b : List ℕ) (sd : sound_lent b ≡ true) (types : List ℕ) (th : ty
   unfolding AnswersFile FilersLaw FiledAsEqual RenamedSound
   answers_file fit x y ix iy p q c k l wk wl r o =
       let law = filers_law read (renamed_sound types (store_in b) (ruled b sd types th ig f)) fit ig f x y (here b sd types th ig f x ix) (here b sd types th ig f y iy) (apart b sd types th ig f x y p) in
-      let same : compare_bytes (key read ig f x) (key read ig f y) ≡ ordering_of r =
-      (λ i. compare_bytes (sym (key_said x k wk) i) (sym (key_said y l wl) i)) ∙ sym o in (
-        λ e. says b sd types th ig f x y ix iy q c (law.0 (ap ordering_number same ∙ e)),
-        λ e. ap ordering_number (sym same) ∙ law.1 (said b sd types th ig f x y ix iy q c e),
+      let same : ordering_number (compare_bytes (key read ig f x) (key read ig f y)) ≡ number_of_ordering r =
+      (λ i. ordering_number (compare_bytes (sym (key_said x k wk) i) (sym (key_said y l wl) i))) ∙ sym o in (
+        λ e. says b sd types th ig f x y ix iy q c (law.0 (same ∙ e)),
+        λ e. sym same ∙ law.1 (said b sd types th ig f x y ix iy q c e),
       )
 
 pub filing_of_code : FilingOfCode

@@ -14,7 +14,7 @@ use Rattle.layout.specs.Reading.{store_in}
 use Rattle.journal.specs.Words.{sound_lent}
 use Rattle.building.specs.Calls.{Made, IsEmpty}
 use Rattle.keys.specs.Calls as keys
-use Rattle.key_bytes.specs.Order.{ordering_of}
+use Rattle.key_bytes.specs.Order.{number_of_ordering}
 use Rattle.laws.specs.Answers.{EqAnswer, Compares, SaysEqual}
 
 -- the offered key call of a has written this key into some lent bytes (`operation_key`, `basic_block_key`, `region_key`)
@@ -27,7 +27,7 @@ pub record Writes (buffer types : List ℕ) (ig : Ignore) (f : Sort) (a : ℕ) (
 
 -- two such keys compare as r (`compare_keys`)
 abbrev pub Compare : List ℕ → List ℕ → Ordering → Type 0
-Compare k l r = ordering_of r ≡ compare_bytes k l
+Compare k l r = number_of_ordering r ≡ ordering_number (compare_bytes k l)
 
 -- 0 comes exactly when the comparison of the two says that they are equal
 unfoldable pub AnswersFile : List ℕ → List ℕ → Ignore → Sort → Type 0
@@ -35,7 +35,7 @@ AnswersFile buffer types ig f =
     (a b : ℕ) → In (store_in buffer) f a → In (store_in buffer) f b → Premise (store_in buffer) f a b
     → (q : EqAnswer) → Compares buffer types ig f a b q
     → (k l : List ℕ) → Writes buffer types ig f a k → Writes buffer types ig f b l → (r : Ordering) → Compare k l r
-    → (ordering_number (ordering_of r) ≡ pos 0) ↔ SaysEqual q
+    → (number_of_ordering r ≡ pos 0) ↔ SaysEqual q
 
 -- from every empty store, after every list of building calls, marks set and goings back made through the offered functions with arguments
 -- of 32 bits, refused ones among them, under every list of types of 32 bits that is not refused: `filing_of_code`

@@ -1,22 +1,18 @@
 -- Bytes up to the first one at which a piece ends are the first piece; and so the fields of bytes are those before the first comma, and then
 -- the fields of what follows it. Assumes nothing.
-use Rattle.std.proofs.Common.{◌≡◌, ℕ, suc, ◌+◌, ◌-◌, ◌<◌, ◌≤◌, Bool, true, false, cond, not, List, [], ◌∷◌, ◌++◌, Option, None, Some, eqb, length, take, drop, refl, sym, ap, subst, ◌∙◌, arith}
+use Rattle.std.proofs.Common.{◌≡◌, ℕ, suc, ◌+◌, ◌-◌, ◌<◌, ◌≤◌, Bool, true, false, cond, List, [], ◌∷◌, ◌++◌, None, Some, eqb, nat_lt, if◌then◌else◌, length, take, drop, refl, sym, ap, subst, ◌∙◌, arith}
 use Rattle.std.specs.List.{position_or_len, position}
-use borrow.Author.Tests.{ltb-true, ltb-false}
+use borrow.Author.Tests.{ltb-true, ltb-false, le-ltb, lt-ltb}
 use lib.Dec.{ltb}
 use lib.ListN.{length-append, length-drop, drop_of_length-le}
 use lib.Seq.{drop-drop, take_all}
 use Rattle.rules.specs.Bytes.{Pieces, comma, new_piece, longer_by, cut_at}
 use Rattle.rules.specs.Lines.{fields_of}
 use Rattle.layout.specs.Reading.{slice}
+use Rattle.layout.proofs.Scans.{slice_length}
 use Rattle.lines.specs.Pieces.{pieces_from, PieceEnd}
-use Rattle.lines.specs.Fields.{fields_in}
+use Rattle.lines.specs.Fields.{fields_left, FieldRead}
 use Rattle.lines.specs.Reading.{nothing_left}
-use Rattle.std.specs.Option.{is_some, option_copied, unwrap_or}
-use Rattle.std.specs.Slice.{IsGetRangeResult}
-use denote.Ref.{Bor}
-use native.Mathlib.Numerals.{unary_clauses}
-use Rattle.std.proofs.Common.{inl, inr}
 
 abbrev pub place : ℕ → List ℕ → ℕ
 place b xs = position_or_len (λ x. eqb x b) xs
@@ -127,27 +123,40 @@ pub few_fields : (xs : List ℕ) → length (fields_of xs) ≤ length xs + 1
 unfolding fields_of
 few_fields xs = omega (arith, few_pieces comma xs, length-append (cut_at comma xs).whole ((cut_at comma xs).rest ∷ []))
 
-pub is_none_left : (r : Option (Bor (List ℕ))) (t : Bool) → is_some r ≡ not t → t ≡ nothing_left (fields_in (option_copied r))
-is_none_left None true e = refl
-is_none_left None false e = absurd (cc)
-is_none_left (Some xs) true e = absurd (cc)
-is_none_left (Some xs) false e = sym (some_field xs.now)
+-- no field is left behind the line's end alone
+pub none_behind : (line : List ℕ) (at : ℕ) → nat_lt (length line) at ≡ nothing_left (fields_left line at)
+none_behind line at = go (nat_lt (length line) at)
+  where
+    go : (t : Bool) → t ≡ nothing_left (if t then [] else fields_of (drop at line))
+    go true = refl
+    go false = sym (some_field (drop at line))
 
--- no byte is left where no field is
-pub nothing_more : (r : Option (Bor (List ℕ))) (d : Bor (List ℕ)) → d.now ≡ [] → fields_in (option_copied r) ≡ [] → (unwrap_or r d).now ≡ []
-nothing_more None d e h = e
-nothing_more (Some xs) d e h = absurd (let f : nothing_left (fields_of xs.now) ≡ true = ap nothing_left h in let g = some_field xs.now in cc)
+pub none_left_behind : (line : List ℕ) (at : ℕ) → fields_left line at ≡ [] → length line < at
+none_left_behind line at h = ltb-true _ _ (none_behind line at ∙ ap nothing_left h)
 
--- the first field, and those of what follows its comma
-module _ (bytes : List ℕ) (e : ℕ) (h : PieceEnd bytes 0 comma e) where
-  field_ended : e < length bytes → fields_of bytes ≡ take e bytes ∷ fields_of (drop (e + 1) bytes)
+pub left_within : (line : List ℕ) (at : ℕ) → at ≤ length line → fields_left line at ≡ fields_of (drop at line)
+left_within line at l = ap (λ (t : Bool). if t then [] else fields_of (drop at line)) (le-ltb _ _ l)
+
+pub left_behind : (line : List ℕ) (at : ℕ) → length line < at → fields_left line at ≡ []
+left_behind line at l = ap (λ (t : Bool). if t then [] else fields_of (drop at line)) (lt-ltb _ _ l)
+
+-- the field that ends at e
+module _ (line : List ℕ) (at e : ℕ) (h : PieceEnd line at comma e) where
+  field_ended : e < length line → fields_of (drop at line) ≡ slice line at e ∷ fields_left line (e + 1)
+  unfolding fields_of pieces_from
+  field_ended l = ap (λ (p : Pieces). p.whole ++ (p.rest ∷ [])) (h.ended l) ∙ ap (λ (fs : List (List ℕ)). slice line at e ∷ fs) (sym (left_within line (e + 1) (omega arith)))
+
+  field_last : length line ≤ e → fields_of (drop at line) ≡ slice line at e ∷ fields_left line (e + 1)
   unfolding fields_of pieces_from slice
-  field_ended l = ap (λ (p : Pieces). p.whole ++ (p.rest ∷ [])) (h.ended l) ∙ simp unary_clauses
+  field_last l =
+      ap (λ (p : Pieces). p.whole ++ (p.rest ∷ [])) (h.unended l)
+      ∙ (λ i. sym (take_all (e - at) (drop at line) (omega (arith, length-drop at line))) i ∷ sym (left_behind line (e + 1) (omega arith)) i)
 
-  field_last : length bytes ≤ e → fields_of bytes ≡ take e bytes ∷ []
-  unfolding fields_of pieces_from slice
-  field_last l = ap (λ (p : Pieces). p.whole ++ (p.rest ∷ [])) (h.unended l) ∙ ap (λ (f : List ℕ). f ∷ []) (sym (take_all e bytes l))
-
-  pub field_first : (r : Option (Bor (List ℕ))) → IsGetRangeResult bytes (e + 1) (length bytes) r → fields_of bytes ≡ take e bytes ∷ fields_in (option_copied r)
-  field_first None g = elim g.0 [ inl a ↦ field_last (omega arith) | inr a ↦ absurd (omega arith) ]
-  field_first (Some r) g = field_ended (omega arith) ∙ ap (λ (f : List ℕ). take e bytes ∷ fields_of f) (sym (g.0.2 ∙ take_all (length bytes - (e + 1)) (drop (e + 1) bytes) (omega (arith, length-drop (e + 1) bytes))))
+  pub field_read : at ≤ length line → FieldRead line at (slice line at e)
+  field_read l =
+      let long : at + length (slice line at e) ≡ e = omega (arith, slice_length line at e h.within, h.behind) in
+      record { within = omega (arith, long, h.within); fields = rw (left_within line at l, long) (go (nat_lt e (length line)) refl) }
+    where
+      go : (t : Bool) → nat_lt e (length line) ≡ t → fields_of (drop at line) ≡ slice line at e ∷ fields_left line (e + 1)
+      go true k = field_ended (ltb-true _ _ k)
+      go false k = field_last (ltb-false _ _ k)

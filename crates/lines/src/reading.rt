@@ -1,62 +1,69 @@
-// The fields of one line, which is its bytes before the line feed: each call reads the field that is next, and steps on behind its comma.
+// The fields of one line, which is its bytes before the line feed. A small record refers to the line and has the position of the next field.
+// Its methods are thin: `field_at` gives the field at a position, other functions what it stands for, and the record steps behind its comma.
 ghost use Rattle.std.specs.Prelude.{◌≡◌, ◌≢◌, ◌+◌, ◌^◌, ◌≤◌, [], ◌∷◌, length, drop, MatchOption, option_map};
 ghost use Rattle.rules.specs.Bytes.{number_below};
-ghost use Rattle.rules.specs.Lines.{fields_of, field, number, numbers, items, ignore_bits, parent_block};
+ghost use Rattle.rules.specs.Lines.{fields_of, field, number, numbers, items, ignore_bits, parent_block, parent_meaning};
 ghost use Rattle.calling.specs.Types.{parent_of};
+ghost use Rattle.lines.specs.Fields.{fields_left, FieldRead};
 ghost use Rattle.lines.specs.Reading.{nothing_left, one_byte, digit_of, starts_well, told, read, passing, ReadItems};
 
 use crate::pieces::piece_end;
 use crate::texts::same_bytes;
 use std::marker::Model;
 
-// The fields that are not read yet: what stands behind the last comma that was passed, or nothing. A clause sees the list of them.
+// A line, and the position at which its next field begins: one past the line's end where the last field was read. A clause sees the list
+// of the fields that are not read yet.
 #[derive(Drop)]
 pub struct Fields<'a> {
-    rest: Option<&'a [u8]>,
+    line: &'a [u8],
+    at: usize,
 }
 
 impl<'a> Model for Fields<'a> {
-    ghost use Rattle.std.specs.Prelude.{List, ℕ, option_copied};
+    ghost use Rattle.std.specs.Prelude.{List, ℕ, ◌+◌, ◌≤◌, length};
+    ghost use Rattle.lines.specs.Fields.{fields_left};
 
     ghost Value = { List (List ℕ) };
 
-    ghost use Rattle.lines.specs.Fields.{fields_in};
+    ghost view = { λ s. fields_left s.line.now s.at };
 
-    ghost view = { λ s. fields_in (option_copied s.rest) };
+    ghost invariant = { λ s. s.at ≤ length s.line.now + 1 };
 }
 
 impl<'a> Fields<'a> {
     // All fields of a line.
+    #[tactic(auto, using(crate::proofs::Firsts::few_fields))]
     pub fn new(line: &'a [u8]) -> Fields<'a>
         ensures fields { result ≡ fields_of line.now }
         ensures few { length result ≤ length line.now + 1 }
     {
-        Fields { rest: Some(line) }
+        Fields { line, at: 0 }
     }
 
     // No field is left.
+    #[tactic(auto, using(crate::proofs::Firsts::none_behind))]
     pub fn is_empty(&self) -> bool
         ensures { result ≡ nothing_left self.now }
     {
-        self.rest.is_none()
+        self.at > self.line.len()
     }
 
     // The bytes that are not read yet: none where no field is left.
+    #[tactic(auto, using(crate::proofs::Firsts::none_left_behind))]
     pub fn rest(&self) -> &'a [u8]
         ensures left { self.now ≢ [] → self.now ≡ fields_of result.now }
         ensures ended { self.now ≡ [] → result.now ≡ [] }
     {
-        self.rest.unwrap_or(b"")
+        self.line.get(self.at..).unwrap_or(b"")
     }
 
     // The next field.
     fn next(&mut self) -> Option<&'a [u8]>
         ensures { MatchOption result ((self.old ≡ []) × (self.new ≡ [])) (λ f. self.old ≡ f.now ∷ self.new) }
     {
-        let rest = self.rest?;
-        let end = piece_end(rest, 0, b',');
-        self.rest = rest.get(end + 1..);
-        Some(&rest[..end])
+        let field = field_at(self.line, self.at)?;
+        self.at += field.len() + 1;
+        Some(field)
     }
 
     // A number within 32 bits.
@@ -86,24 +93,17 @@ impl<'a> Fields<'a> {
         ensures passed { self.new ≡ drop 1 self.old }
     {
         let field = self.next()?;
-        match field {
-            [byte] => Some(*byte),
-            _ => None,
-        }
+        parse_letter(field)
     }
 
     // A parent block or `-`.
-    #[tactic(auto, unfolding(rules::specs::Lines::field, rules::specs::Lines::parent_block, rules::specs::Lines::parent_meaning, rules::specs::Bytes::is_text, calling::specs::Types::parent_of))]
+    #[tactic(auto, unfolding(rules::specs::Lines::field, rules::specs::Lines::parent_block))]
     pub fn parent(&mut self) -> Option<Option<u32>>
         ensures reads { parent_block self.old ≡ read (option_map parent_of result) self.new }
         ensures passed { self.new ≡ drop 1 self.old }
     {
         let field = self.next()?;
-        if same_bytes(field, b"-") {
-            return Some(None);
-        }
-        let block = parse_u32(field)?;
-        Some(Some(block))
+        parse_parent(field)
     }
 
     // As many numbers as `list` has words, which are written to it.
@@ -139,6 +139,18 @@ impl<'a> Fields<'a> {
         }
         Some(())
     }
+}
+
+// The bytes of the field that begins at a position, up to the next comma or to the line's end; none behind the last field.
+#[tactic(auto, using(crate::proofs::Firsts::field_read), unfolding(layout::specs::Reading::slice))]
+fn field_at(line: &[u8], at: usize) -> Option<&[u8]>
+    ensures { MatchOption result (fields_left line.now at ≡ []) (λ f. FieldRead line.now at f.now) }
+{
+    if at > line.len() {
+        return None;
+    }
+    let end = piece_end(line, at, b',');
+    Some(&line[at..end])
 }
 
 // What a digit stands for.
@@ -184,4 +196,26 @@ fn parse_u32(digits: &[u8]) -> Option<u32>
 {
     let n = parse_u64(digits)?;
     u32::try_from(n).ok()
+}
+
+// The byte that a field of one byte is.
+fn parse_letter(field: &[u8]) -> Option<u8>
+    ensures { one_byte field.now ≡ told result }
+{
+    match field {
+        [byte] => Some(*byte),
+        _ => None,
+    }
+}
+
+// The parent block that the bytes stand for, which `-` says is none.
+#[tactic(auto, unfolding(rules::specs::Lines::parent_meaning, rules::specs::Bytes::is_text, calling::specs::Types::parent_of))]
+fn parse_parent(field: &[u8]) -> Option<Option<u32>>
+    ensures { parent_meaning field.now ≡ told (option_map parent_of result) }
+{
+    if same_bytes(field, b"-") {
+        return Some(None);
+    }
+    let block = parse_u32(field)?;
+    Some(Some(block))
 }

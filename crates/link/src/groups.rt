@@ -16,8 +16,8 @@ use crate::words::array;
 use fragments::ignoring::Ignore;
 use fragments::terms::Terms;
 use fragments::types::Sort;
-use grouping::calls::sound_independent;
 use grouping::finding::find_twins;
+use grouping::independence::sound_independent;
 
 #[unsafe(no_mangle)]
 pub extern "C" fn wz_operations_independent(store: &[u32], lhs: u32, rhs: u32) -> Independence

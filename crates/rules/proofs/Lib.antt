@@ -19,6 +19,7 @@ pub mod MappingComputed
 pub mod CopyComputed
 pub mod Marks
 pub mod Copying
+pub mod Entering
 pub mod Extents
 pub mod Grouping
 pub mod Stated

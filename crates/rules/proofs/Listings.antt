@@ -7,3 +7,4 @@ pub mod Taken
 pub mod Short
 pub mod Nearest
 pub mod Counted
+pub mod Printed

@@ -1,10 +1,12 @@
--- The statements of `specs/Statements`, `specs/MappingLaws`, `specs/CopyLaws`, `specs/GroupingLaws` and `specs/ConvertLaws`, each by the lemma
--- that it is. (`accepted_exactly`, `unignored_same`, `premise_needed`, `premise_needed_thrice` and those about keys are proved where they
+-- The statements of `specs/Statements`, `specs/MappingLaws`, `specs/Entering`, `specs/CopyLaws`, `specs/GroupingLaws`, `specs/Printing` and
+-- `specs/ConvertLaws`, each by the lemma that it is. (`accepted_exactly`, `unignored_same`, `premise_needed`, `premise_needed_thrice` and those about keys are proved where they
 -- stand.) Assumes nothing.
 use Rattle.rules.specs.Store.{empty_store}
 use Rattle.rules.specs.Statements as stated
 use Rattle.rules.specs.MappingLaws as mapped
 use Rattle.rules.specs.CopyLaws as copies
+use Rattle.rules.specs.Entering as enters
+use Rattle.rules.specs.Printing as printing
 use Rattle.rules.specs.ConvertLaws as converts
 use Rattle.rules.specs.GroupingLaws as groups
 use Rattle.rules.proofs.Soundness.Kept as kept
@@ -21,7 +23,8 @@ use Rattle.rules.proofs.Form.Canonical as forms
 use Rattle.rules.proofs.Form.Inherent as inherent
 use Rattle.rules.proofs.Form.SideBySide as sides
 use Rattle.rules.proofs.MappingLaws as mapping
-use Rattle.rules.proofs.Listings.Short as printing
+use Rattle.rules.proofs.Listings.Printed as printed
+use Rattle.rules.proofs.Listings.Short as short
 use Rattle.rules.proofs.Marks.Accepted as accepting
 use Rattle.rules.proofs.Marks.Kept as marking
 use Rattle.rules.proofs.Marks.Laws as lawful
@@ -30,6 +33,7 @@ use Rattle.rules.proofs.Runs.FirstUses as uses
 use Rattle.rules.proofs.Keys.Kept as fields
 use Rattle.rules.proofs.Copying.Kept as copied
 use Rattle.rules.proofs.Copying.Laws as copying
+use Rattle.rules.proofs.Entering as noting
 use Rattle.rules.proofs.Converting.Laws as converting
 use Rattle.rules.proofs.Grouping.Independent as testing
 use Rattle.rules.proofs.Grouping.Along as following
@@ -106,9 +110,15 @@ pub share_most : stated.ShareMost
 unfolding stated.ShareMost
 share_most e lines = counting.share_most e lines
 
+pub listing_prints : printing.ListingPrints
+listing_prints = printed.listing_prints
+
+pub share_printed : printing.SharePrinted
+share_printed = printed.share_printed
+
 pub output_fits : stated.OutputFits
 unfolding stated.OutputFits
-output_fits bytes = (printing.twins_short bytes, printing.sums_short bytes)
+output_fits bytes = (short.twins_short bytes, short.sums_short bytes)
 
 pub per_cent_nearest : stated.PerCentNearest
 unfolding stated.PerCentNearest
@@ -187,6 +197,18 @@ copy_alike = copying.copy_alike
 
 pub copy_filed : copies.CopyFiled
 copy_filed = copying.copy_filed
+
+pub copy_order : copies.CopyOrder
+copy_order = copying.copy_order
+
+pub noted_is : enters.NotedIs
+noted_is = noting.noted_is
+
+pub noted_count : enters.NotedCount
+noted_count = noting.noted_count
+
+pub entered_in_order : enters.EnteredInOrder
+entered_in_order = noting.entered_in_order
 
 pub copy_premise : copies.CopyPremise
 copy_premise = copying.copy_premise

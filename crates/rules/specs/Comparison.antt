@@ -24,23 +24,26 @@ pub data Stop : Type 0 where
   unequal : Pair → Stop
   one_longer : Pair → Stop
 
--- "The first failure ends the walk; entries made so far stay."
-pub data Walk : Type 0 where
-  on : State → Walk
-  ended : Stop → State → Walk
+-- "The first failure ends the walk; entries made so far stay." What a walk hands on is a state, and in `Entering` more than that
+pub data WalkOf (S : Type 0) : Type 0 where
+  on : S → WalkOf S
+  ended : Stop → S → WalkOf S
+
+abbrev pub Walk : Type 0
+Walk = WalkOf State
 
 -- where a walk stands: the entries made so far, and how many
-unfoldable pub standing : Walk → State
+unfoldable pub standing : {S : Type 0} → WalkOf S → S
 standing (on st) = st
 standing (ended why st) = st
 
 infixl 20 ◌>>=◌
-abbrev pub ◌>>=◌ : Walk → (State → Walk) → Walk
+abbrev pub ◌>>=◌ : {S : Type 0} → WalkOf S → (S → WalkOf S) → WalkOf S
 on st >>= f = f st
 ended why st >>= f = ended why st
 
 -- pair by pair "up to the shorter end, then unequal lengths name" the pair p
-unfoldable pub pairwise : (ℕ → ℕ → State → Walk) → Pair → List ℕ → List ℕ → State → Walk
+unfoldable pub pairwise : {S : Type 0} → (ℕ → ℕ → S → WalkOf S) → Pair → List ℕ → List ℕ → S → WalkOf S
 pairwise f p [] [] st = on st
 pairwise f p [] (r ∷ rs) st = ended (unequal p) st
 pairwise f p (l ∷ []) [] st = ended (one_longer p) st
@@ -48,7 +51,7 @@ pairwise f p (l ∷ m ∷ ls) [] st = ended (unequal p) st
 pairwise f p (l ∷ ls) (r ∷ rs) st = f l r st >>= pairwise f p ls rs
 
 -- pair by pair up to the shorter end, lengths not tested
-unfoldable pub each_pair : (ℕ → ℕ → State → Walk) → List ℕ → List ℕ → State → Walk
+unfoldable pub each_pair : {S : Type 0} → (ℕ → ℕ → S → WalkOf S) → List ℕ → List ℕ → S → WalkOf S
 each_pair f [] rs st = on st
 each_pair f (l ∷ ls) [] st = on st
 each_pair f (l ∷ ls) (r ∷ rs) st = f l r st >>= each_pair f ls rs

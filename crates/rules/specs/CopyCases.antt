@@ -6,6 +6,8 @@ use Rattle.rules.specs.Store.{Store, of_op, of_block, empty_store}
 use Rattle.rules.specs.Fragments.{op}
 use Rattle.rules.specs.Building.{Call, new_operation, new_block, set_attribute, first_failed, after}
 use Rattle.rules.specs.Laws.{Equal, equal}
+use Rattle.rules.specs.Mapping.{empty_mapping}
+use Rattle.rules.specs.Entering.{entered, rights}
 use Rattle.rules.specs.Copying.{copied, copy_mapping, copy_tests}
 use Rattle.rules.specs.Cases.{ignoring, attribute, inherent_one, operation, block_in, first_operand}
 use Rattle.rules.specs.NestingCases.{chain}
@@ -56,6 +58,20 @@ early_successor =
     ∷ operation_in (some 0) 0 [] [] (2 ∷ [])
     ∷ []
 
+-- an operation whose block holds one with an operation inside it, and then another one
+unfoldable pub behind_nested : List Call
+behind_nested =
+    operation_in none 1 [] [] []
+    ∷ block_in 0 []
+    ∷ operation_in (some 0) 1 [] [] []
+    ∷ block_in 1 []
+    ∷ operation_in (some 1) 0 [] [] []
+    ∷ operation_in (some 0) 0 [] [] []
+    ∷ []
+
+abbrev pub behind : Store
+behind = after empty_store behind_nested
+
 -- 32 operations one in another; behind them an operation with an empty block, and one with an operation in its block
 unfoldable pub deep : List Call
 deep =
@@ -87,6 +103,11 @@ pub record CopyCases : Type 0 where
       ∷ []
   pub mapping : take 5 (copy_mapping formed 1).ops ≡ 4294967295 ∷ 5 ∷ 6 ∷ 8 ∷ 7 ∷ []
   pub twin : Equal (copied formed 1 none) (ignoring false 0) op 1 5
+  -- a comparison enters operation 3 before operation 2, which is nested: so 3 becomes 6 and 2 becomes 7
+  pub behind_first : take 4 (copy_mapping behind 0).ops ≡ 4 ∷ 5 ∷ 7 ∷ 6 ∷ []
+  pub in_order :
+      rights (entered (copied behind 0 none) (ignoring false 0) op 0 4 empty_mapping)
+      ≡ of_op 4 ∷ of_block 2 ∷ of_op 5 ∷ of_op 6 ∷ of_block 3 ∷ of_op 7 ∷ []
   -- a second copy, of the copy, with what is inside under new numbers once more: it is the twin of both
   pub second : refusal (copied formed 1 none) 5 none ≡ none
   pub second_ops :

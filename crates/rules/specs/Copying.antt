@@ -10,9 +10,13 @@ use Rattle.rules.specs.Mapping.{Mapping, empty_mapping, enter_all}
 
 -- ---- numbers
 
+-- the operations that are copied, in the order in which the copies get their numbers: that in which a comparison enters pairs
+abbrev pub copied_ops : Store → ℕ → List ℕ
+copied_ops s n = fragment_ops s op n
+
 -- the regions of what is copied, operation by operation
 unfoldable pub copied_regions : Store → ℕ → List ℕ
-copied_regions s n = concat_map (regions_of s) (fragment_ops s op n)
+copied_regions s n = concat_map (regions_of s) (copied_ops s n)
 
 unfoldable pub or_next : Option ℕ → ℕ → ℕ → ℕ
 or_next none next n = n
@@ -23,7 +27,7 @@ unfoldable pub renumbered : List ℕ → ℕ → ℕ → ℕ
 renumbered inside next n = or_next (position n inside) next n
 
 unfoldable pub op_copy : Store → ℕ → ℕ → ℕ
-op_copy s n m = renumbered (fragment_ops s op n) (length s.ops) m
+op_copy s n m = renumbered (copied_ops s n) (length s.ops) m
 
 unfoldable pub block_copy : Store → ℕ → ℕ → ℕ
 block_copy s n b = renumbered (defines_blocks s op n) (length s.blocks) b
@@ -48,7 +52,7 @@ inner f (some b) = some (f b)
 unfoldable pub parent_copy : Store → ℕ → Option ℕ → ℕ → Option ℕ
 parent_copy s n place m = cond (eqb m n) place (inner (block_copy s n) (parent_of s m))
 
--- "names of what is defined inside become the copy's, other names are kept; locations and attributes with their flags too"
+-- names of what is defined inside become the copy's, and other names are kept; so are locations, and attributes with their flags
 unfoldable pub copied_op : Store → ℕ → Option ℕ → ℕ → Op
 copied_op s n place m =
     record {
@@ -74,13 +78,13 @@ copied_value s n v = record { type = (value_at s v).type; owner = owner_copy s n
 unfoldable pub copied : Store → ℕ → Option ℕ → Store
 copied s n place =
     record {
-      ops = s.ops ++ map (copied_op s n place) (fragment_ops s op n);
+      ops = s.ops ++ map (copied_op s n place) (copied_ops s n);
       blocks = s.blocks ++ map (copied_block s n) (defines_blocks s op n);
       regions = s.regions ++ map (λ (r : ℕ). op_copy s n (get_or s.regions r 0)) (copied_regions s n);
       values = s.values ++ map (copied_value s n) (defines_values s op n);
     }
 
--- "The mapping on acceptance is exactly original to copy."
+-- what the lent mapping becomes: each thing that is copied, to its copy, and nothing else
 unfoldable pub copy_mapping : Store → ℕ → Mapping
 copy_mapping s n =
     record {
@@ -115,11 +119,11 @@ unfoldable pub in_time : Store → ℕ → List Step → Numbering → Bool
 in_time s n [] N = true
 in_time s n (x ∷ xs) N = step_in_time s n x N && in_time s n xs (numbered s x N)
 
--- 5 "for the whole copy"
+-- 5, for the whole copy
 unfoldable pub copy_nests : Store → ℕ → Option ℕ → Bool
 copy_nests s n place = all (λ (m : ℕ). nesting_holds (copied s n place) (parent_copy s n place m)) (fragment_ops s op n)
 
--- "Causes 1, 8, 2, 18, 19, 5, 3": the first two are of what is lent
+-- the causes in order: 1 and 8, which are of what is lent, stand ahead of these
 unfoldable pub copy_tests : Store → ℕ → Option ℕ → List (Bool × ℕ)
 copy_tests s n place =
     (op_exists s n && parent_exists s place, 2)

@@ -2,12 +2,13 @@
 use Rattle.std.specs.Prelude.{ℕ, true, false, List, [], ◌∷◌, ◌++◌, ◌≡◌}
 use Rattle.std.proofs.Math.Option.{none, some}
 use Rattle.rules.specs.Store.{Store, of_op, empty_store}
-use Rattle.rules.specs.Fragments.{op, block, region}
+use Rattle.rules.specs.Fragments.{op, block, region, fragment_ops}
 use Rattle.rules.specs.Building.{Call, set_attribute, after}
 use Rattle.rules.specs.Statements.{tangled}
 use Rattle.rules.specs.Independence.{independent, independence_is, refused_independence, independence}
 use Rattle.rules.specs.Grouping.{twins_of, no_twin, grouped, refused_twins, grouping}
-use Rattle.rules.specs.Cases.{ignoring, attribute, operation, nested}
+use Rattle.rules.specs.Cases.{ignoring, attribute, operation, block_in, nested}
+use Rattle.rules.specs.CopyCases.{operation_in}
 
 abbrev pub form : List Call → Store
 form calls = after empty_store calls
@@ -28,12 +29,28 @@ named_one_way kind = form (operation 1 (3 ∷ []) [] ∷ operation kind (3 ∷ [
 abbrev pub attributed : Store
 attributed = form (operation 1 [] [] ∷ operation 1 [] [] ∷ operation 2 [] [] ∷ set_attribute (of_op 1) (attribute 1 5 10) ∷ [])
 
+-- two operations with a block each, an operation in the second block, and then one in the first
+abbrev pub across : Store
+across =
+    form
+    (operation_in none 1 [] [] []
+    ∷ operation_in none 1 [] [] []
+    ∷ block_in 0 []
+    ∷ block_in 1 []
+    ∷ operation_in (some 1) 0 [] [] []
+    ∷ operation_in (some 0) 0 [] [] []
+    ∷ [])
+
 -- `grouping_cases_hold`
 pub record GroupingCases : Type 0 where
   -- the first of all that are alike stands for each
   pub alike : twins_of three (ignoring false 0) ≡ none ∷ some 0 ∷ some 0 ∷ []
   -- nested twins: the inner ones name their own block's argument, and so are no twins by themselves
   pub inner : twins_of two_nested (ignoring true 0) ≡ none ∷ none ∷ some 0 ∷ none ∷ []
+  -- what stands for another may be inside one that has a twin: operation 2 stands for 3 and lies in 1, for which 0 stands. So twins are of one
+  -- store that doesn't change, and not all of them can be merged, in whatever order
+  pub inside_another : twins_of across (ignoring false 0) ≡ none ∷ some 0 ∷ none ∷ some 2 ∷ []
+  pub is_inside : fragment_ops across op 1 ≡ 1 ∷ 2 ∷ []
   pub located : twins_of two_nested (ignoring false 0) ≡ none ∷ none ∷ none ∷ none ∷ []
   pub kind_ignored : twins_of attributed (ignoring false 32) ≡ none ∷ some 0 ∷ none ∷ []
   pub kind_counted : twins_of attributed (ignoring false 0) ≡ none ∷ none ∷ none ∷ []

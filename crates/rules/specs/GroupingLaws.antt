@@ -1,5 +1,7 @@
 -- What is proved of independence and of the twins among a store's operations. All hold under every list of renamed types and after every
--- list of calls, since those stores are sound too (`RenamedSound`, `AfterMarkedSound`).
+-- list of calls, since those stores are sound too (`RenamedSound`, `AfterMarkedSound`). They are of one store that doesn't change: what
+-- stands for an operation may lie inside another that has a twin itself (`GroupingCases`, `inside_another`), so that not every merge of a
+-- store's twins leaves the others as they are.
 use Rattle.std.specs.Prelude.{ℕ, ◌<◌, true, false, ◌↔◌, ◌≡◌}
 use Rattle.std.proofs.Math.Option.{Option, none, some}
 use Rattle.rules.specs.Store.{Store, empty_store, sound}
@@ -49,7 +51,7 @@ TwinAlike =
     (s : Store) → sound s ≡ true → (ig : Ignore) (n m : ℕ) → In s op n → twin_of s ig n ≡ some m
     → Equal s ig op n m × (hash s ig op m ≡ hash s ig op n) × (key s ig op m ≡ key s ig op n)
 
--- merging is consistent: an operation that stands for another has no twin itself, and so is never merged away: `twin_stays`
+-- an operation that stands for another has no twin itself: `twin_stays`
 unfoldable pub TwinStays : Type 0
 TwinStays = (s : Store) → sound s ≡ true → (ig : Ignore) (n m : ℕ) → In s op n → twin_of s ig n ≡ some m → twin_of s ig m ≡ none
 

@@ -15,11 +15,13 @@ pub mod Bytes
 pub mod Lines
 pub mod Listings
 pub mod Asked
+pub mod Printing
 pub mod Converting
 pub mod ConvertLaws
 pub mod Rust
 pub mod Agreement
 pub mod Laws
+pub mod Entering
 pub mod MappingLaws
 pub mod Copying
 pub mod CopyLaws

@@ -148,17 +148,29 @@ operands_differ s mapper ps =
 unfoldable pub successors_differ : Mapping → List (ℕ × ℕ) → Bool
 successors_differ mapper ps = any (λ (p : ℕ × ℕ). not (eqb (image mapper.blocks p.0) p.1)) ps
 
--- `for region_idx in 0..num_regions`: `get_region(region_idx)` of both. It panics past the end of a list; by now both are of one length
-unfoldable pub region_pairs : Store → ℕ → ℕ → List (ℕ × ℕ)
-region_pairs s lhs rhs =
-    map (λ (i : ℕ). (get_or (regions_of s lhs) i 0, get_or (regions_of s rhs) i 0)) (up_to (length (regions_of s lhs)))
+-- `get_region(region_idx)`; none past the end of an operation's regions, where it panics
+unfoldable pub get_region : List ℕ → ℕ → Option ℕ
+get_region [] i = none
+get_region (r ∷ rs) zero = some r
+get_region (r ∷ rs) (suc i) = get_region rs i
+
+unfoldable pub with_both : (ℕ → ℕ → Mapping → Returned) → Option ℕ → Option ℕ → Mapping → Returned
+with_both f none r mapper = answers no_answer mapper
+with_both f (some l) none mapper = answers no_answer mapper
+with_both f (some l) (some r) mapper = f l r mapper
+
+-- `for region_idx in indices { match region_eq(lhs.get_region(region_idx), rhs.get_region(region_idx)) { .. } }`, and then `Eq`
+unfoldable pub for_regions : (ℕ → ℕ → Mapping → Returned) → List ℕ → List ℕ → List ℕ → Mapping → Returned
+for_regions region_eq lhs rhs [] mapper = answers Eq mapper
+for_regions region_eq lhs rhs (i ∷ is) mapper =
+    and_then (with_both region_eq (get_region lhs i) (get_region rhs i) mapper) (for_regions region_eq lhs rhs is)
 
 unfoldable pub op_eq_mapped : Store → (ℕ → ℕ → Mapping → Returned) → ℕ → ℕ → Mapping → Returned
 op_eq_mapped s region_eq lhs rhs mapper =
     let neq = answers (FirstNEQOps lhs rhs) mapper in
     cond (operands_differ s mapper (zip (op_at s lhs).operands (op_at s rhs).operands).pairs) neq
     (cond (successors_differ mapper (zip (op_at s lhs).successors (op_at s rhs).successors).pairs) neq
-    (for_each region_eq (region_pairs s lhs rhs) mapper))
+    (for_regions region_eq (regions_of s lhs) (regions_of s rhs) (up_to (length (regions_of s lhs))) mapper))
 
 -- ---- block_eq_map
 

@@ -14,6 +14,7 @@ use crate::listing::BLOCK_OPS;
 use crate::powers::POWERS;
 use crate::shells::shell_hash;
 use fragments::terms::Terms;
+use hashing::product::wrapping_mul;
 
 // FNV's prime: what a hash is multiplied by as its window goes on by one.
 const PRIME: u64 = 1099511628211;
@@ -38,7 +39,7 @@ fn window_sum(hashes: &[u64], powers: &[u64]) -> u64
     let mut sum: u64 = 0;
     for (i, hash) in hashes.iter().enumerate() {
         let distance = hashes.len() - i - 1;
-        sum = sum.wrapping_add(hash.wrapping_mul(powers[distance]));
+        sum = sum.wrapping_add(wrapping_mul(*hash, powers[distance]));
     }
     sum
 }
@@ -55,8 +56,8 @@ fn next_sum(hashes: &[u64], power: u64, n: usize, i: usize, sum: u64) -> u64
     let end = i + n;
     let entering = hashes[end];
     let word = hashes[i];
-    let leaving = word.wrapping_mul(power);
-    let kept = sum.wrapping_sub(leaving).wrapping_mul(PRIME);
+    let leaving = wrapping_mul(word, power);
+    let kept = wrapping_mul(sum.wrapping_sub(leaving), PRIME);
     kept.wrapping_add(entering)
 }
 

@@ -7,7 +7,7 @@ use warzhigo::{Inherent, MarkId};
 
 use crate::cases::{Shape, case, full};
 use crate::fragments::Times;
-use crate::race::{Effort, Runner, Series, race, runner};
+use crate::race::{Effort, Figure, Runner, Series, race, runner};
 use crate::shapes::{self, Call, NewOperation, Sketch};
 use crate::sides::{Inner, Offered, Pliron, Side};
 
@@ -55,8 +55,8 @@ pub fn marked_calls(effort: Effort) -> Series<Calls, 2> {
 }
 
 /// Calls of a sort, how many were measured, and the nanoseconds for each.
-pub fn marked_rows(series: Series<Calls, 2>) -> Vec<(&'static str, usize, [f64; 2])> {
-    let each = |calls: &Calls, nanos: f64| nanos / calls.measured() as f64;
+pub fn marked_rows(series: Series<Calls, 2>) -> Vec<(&'static str, usize, [Figure; 2])> {
+    let each = |calls: &Calls, nanos: Figure| nanos / calls.measured() as f64;
     series.rows().map(|(calls, nanos)| (calls.name, calls.measured(), nanos.map(|nanos| each(&calls, nanos)))).collect()
 }
 

@@ -6,7 +6,7 @@ use std::time::Instant;
 use warzhigo::{Ignore, Mapping, OpId, Store, lent};
 
 use crate::cases::{self, SIZES, Shape};
-use crate::race::{Effort, Runner, Series, race, runner};
+use crate::race::{Effort, Figure, Runner, Series, race, runner};
 use crate::shapes::{Call, Sketch};
 use crate::sides::{Inner, Side, empty_mapping};
 
@@ -31,18 +31,18 @@ pub struct Soundness {
     pub name: String,
     /// Words in use.
     pub live: u32,
-    pub nanos: f64,
+    pub nanos: Figure,
 }
 
 /// The test of a mapping, in nanoseconds.
 pub struct Allowed {
     pub name: String,
     /// A comparison that tests the store and the mapping, and is then refused.
-    pub call: f64,
+    pub call: Figure,
     /// The test of the store alone.
-    pub sound: f64,
+    pub sound: Figure,
     /// `Mapping::from_words`, with the copy that it is given.
-    pub from_words: f64,
+    pub from_words: Figure,
 }
 
 /// `lent::is_sound` in stores that hold more and more.
@@ -110,20 +110,23 @@ pub fn allowed_rows(series: Series<Lent, 3>) -> Vec<Allowed> {
     series.rows().map(|(lent, [call, sound, from_words])| Allowed { name: lent.name, call, sound, from_words }).collect()
 }
 
-/// Emptying: all words of a lent mapping, and `Mapping::clear` after a comparison of so many operations.
-pub fn emptying(effort: Effort) -> Series<Lent, 2> {
+/// Emptying: all words of a lent mapping, and `Mapping::clear` after a comparison of so many operations; and a mapping made and dropped.
+pub fn emptying(effort: Effort) -> Series<Lent, 3> {
     let sizes = [1, 20, 150, 500].map(|n| Lent::new(format!("{}, flat", operations(n)), &cases::case(Shape::Flat, n).calls));
     // The comparison that is not timed takes longer than the clearing that is: short rounds suffice.
     let effort = Effort { round: 2_000, ..effort };
     Series::new("emptying", sizes.into(), effort, |lent, effort| {
         let mut words = lent.mapping.clone();
         let fill = runner(move || black_box(&mut words).fill(u32::MAX));
-        race([fill, clearing(&lent.store)], effort)
+        let fresh = runner(|| {
+            black_box(Mapping::new());
+        });
+        race([fill, clearing(&lent.store), fresh], effort)
     })
 }
 
-/// What was compared, with the nanoseconds of filling all words and of `Mapping::clear`.
-pub fn emptying_rows(series: Series<Lent, 2>) -> Vec<(String, [f64; 2])> {
+/// What was compared, with the nanoseconds of filling all words, of `Mapping::clear` and of a mapping made and dropped.
+pub fn emptying_rows(series: Series<Lent, 3>) -> Vec<(String, [Figure; 3])> {
     series.rows().map(|(lent, times)| (lent.name, times)).collect()
 }
 

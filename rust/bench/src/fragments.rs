@@ -3,23 +3,23 @@
 use oracle::Verdict;
 
 use crate::cases::{Case, SIZES, Shape, case, twenty};
-use crate::race::{Effort, Series, race};
+use crate::race::{Effort, Figure, Rounds, Series, race};
 use crate::sides::{Asked, Inner, Offered, Pliron};
 
 /// Nanoseconds on each side.
 #[derive(Clone, Copy)]
 pub struct Times {
-    pub inner: f64,
-    pub offered: f64,
-    pub pliron: f64,
+    pub inner: Figure,
+    pub offered: Figure,
+    pub pliron: Figure,
 }
 
 impl Times {
-    pub fn inner_ratio(self) -> f64 {
+    pub fn inner_ratio(self) -> Figure {
         self.inner / self.pliron
     }
 
-    pub fn offered_ratio(self) -> f64 {
+    pub fn offered_ratio(self) -> Figure {
         self.offered / self.pliron
     }
 }
@@ -28,7 +28,15 @@ impl Times {
 #[derive(Clone, Copy)]
 pub struct Measured {
     pub comparison: Times,
+    /// The inner comparison with a mapping of its own.
+    pub fresh: Figure,
     pub hash: Times,
+}
+
+impl Measured {
+    pub fn fresh_ratio(&self) -> Figure {
+        self.fresh / self.comparison.pliron
+    }
 }
 
 /// The sizes of a shape, measured.
@@ -37,8 +45,8 @@ pub struct Row {
     pub sizes: Vec<Measured>,
 }
 
-/// Comparison and hash on three sides.
-pub type Fragments = Series<Case, 6>;
+/// Comparison and hash on three sides, and the inner comparison with a mapping of its own.
+pub type Fragments = Series<Case, 7>;
 
 /// All shapes in all sizes.
 pub fn shapes(effort: Effort) -> Fragments {
@@ -60,8 +68,9 @@ pub fn around(effort: Effort) -> Fragments {
 }
 
 pub fn measured(fragments: Fragments) -> Vec<Measured> {
-    let measured = fragments.rows().map(|(_, [a, b, c, d, e, f])| Measured {
+    let measured = fragments.rows().map(|(_, [a, b, c, d, e, f, fresh])| Measured {
         comparison: Times { inner: a, offered: b, pliron: c },
+        fresh,
         hash: Times { inner: d, offered: e, pliron: f },
     });
     measured.collect()
@@ -78,9 +87,9 @@ fn checked(case: Case, equal: bool) -> Case {
     case
 }
 
-/// The comparison on the three sides, then the hash.
-fn measure(case: &Case, effort: Effort) -> [f64; 6] {
+/// The comparison on the three sides, then the hash, then the comparison with a mapping of its own.
+fn measure(case: &Case, effort: Effort) -> Rounds<7> {
     let (inner, offered, pliron) = (Asked::<Inner>::new(case), Asked::<Offered>::new(case), Asked::<Pliron>::new(case));
     let ([a, d], [b, e], [c, f]) = (inner.runners(), offered.runners(), pliron.runners());
-    race([a, b, c, d, e, f], effort)
+    race([a, b, c, d, e, f, inner.fresh()], effort)
 }

@@ -1,13 +1,14 @@
 //! The twins of a store's operations, beside the same in Rust over pliron's own hash and comparison.
 
 use std::collections::HashMap;
+use std::hash::{BuildHasher, BuildHasherDefault, Hasher, RandomState};
 use std::hint::black_box;
 
 use oracle::{Oracle, Sort, Verdict};
 use warzhigo::{Ignore, lent};
 
 use crate::fragments::Times;
-use crate::race::{Effort, Runner, Series, race, runner};
+use crate::race::{Effort, Figure, Runner, Series, race, runner};
 use crate::shapes::{Call, Sketch};
 use crate::sides::{Inner, Offered, Pliron, Side};
 
@@ -73,13 +74,15 @@ pub struct Grouped {
     pliron: Pliron,
 }
 
-/// What stands in the store, and nanoseconds for its twins.
+/// What stands in the store, and nanoseconds for its twins: pliron's side with the quick hasher.
 pub struct Row {
     pub name: &'static str,
     pub times: Times,
+    /// pliron's side with the hasher that a `HashMap` has of itself.
+    pub by_default: Figure,
 }
 
-pub type Twins = Series<Grouped, 3>;
+pub type Twins = Series<Grouped, 4>;
 
 pub fn twins(effort: Effort) -> Twins {
     let stores = Filling::ALL.map(Grouped::new);
@@ -87,14 +90,39 @@ pub fn twins(effort: Effort) -> Twins {
 }
 
 pub fn rows(twins: Twins) -> Vec<Row> {
-    let times = |[inner, offered, pliron]: [f64; 3]| Times { inner, offered, pliron };
-    twins.rows().map(|(grouped, nanos)| Row { name: grouped.filling.name(), times: times(nanos) }).collect()
+    let row = |(grouped, [inner, offered, pliron, by_default]): (Grouped, [Figure; 4])| Row {
+        name: grouped.filling.name(),
+        times: Times { inner, offered, pliron },
+        by_default,
+    };
+    twins.rows().map(row).collect()
 }
+
+/// A quick hasher, for words that are hashes already: one product, whose upper bits find the bucket.
+#[derive(Default)]
+struct QuickHasher(u64);
+
+impl Hasher for QuickHasher {
+    /// Hashes come by `write_u64`; the trait asks for this one too.
+    fn write(&mut self, bytes: &[u8]) {
+        bytes.iter().for_each(|byte| self.write_u64(u64::from(*byte)));
+    }
+
+    fn write_u64(&mut self, word: u64) {
+        self.0 = (self.0 ^ word).wrapping_mul(0x9e3779b97f4a7c15);
+    }
+
+    fn finish(&self) -> u64 {
+        self.0.rotate_left(26)
+    }
+}
+
+type Quick = BuildHasherDefault<QuickHasher>;
 
 /// The first operation before each that is equal to it: of those that have its hash, the first that its comparison finds. That the two are
 /// independent isn't asked.
-fn hashed_and_compared(oracle: &Oracle) -> Vec<Option<u32>> {
-    let mut by_hash: HashMap<u64, Vec<u32>> = HashMap::new();
+fn hashed_and_compared<S: BuildHasher + Default>(oracle: &Oracle) -> Vec<Option<u32>> {
+    let mut by_hash: HashMap<u64, Vec<u32>, S> = HashMap::default();
     let twin = |n| {
         let earlier = by_hash.entry(oracle.hash(Sort::Op, n, false, 0)).or_default();
         let twin = earlier.iter().copied().find(|m| is_equal(oracle, *m, n));
@@ -123,7 +151,8 @@ impl Grouped {
         let by_ids: Vec<Option<u32>> = grouped.inner().into_iter().map(|twin| twin.map(|op| op.number())).collect();
         assert_eq!(by_ids, expected, "{}", filling.name());
         assert!(words.iter().copied().eq(expected.iter().map(|twin| twin.unwrap_or(u32::MAX))), "{}, on lent words", filling.name());
-        assert_eq!(hashed_and_compared(&grouped.pliron.0), expected, "{}, by pliron", filling.name());
+        assert_eq!(hashed_and_compared::<Quick>(&grouped.pliron.0), expected, "{}, by pliron", filling.name());
+        assert_eq!(hashed_and_compared::<RandomState>(&grouped.pliron.0), expected, "{}, by pliron", filling.name());
         grouped
     }
 
@@ -135,15 +164,18 @@ impl Grouped {
         lent::twins_of_operations(&self.offered.words, &[], &Ignore::NOTHING, words).expect("the twins");
     }
 
-    fn runners(&self) -> [Runner<'_>; 3] {
+    fn runners(&self) -> [Runner<'_>; 4] {
         let inner = runner(move || {
             black_box(black_box(self).inner());
         });
         let mut words = [0; OPERATIONS as usize];
         let offered = runner(move || black_box(self).offered(black_box(&mut words)));
         let pliron = runner(move || {
-            black_box(hashed_and_compared(black_box(&self.pliron.0)));
+            black_box(hashed_and_compared::<Quick>(black_box(&self.pliron.0)));
         });
-        [inner, offered, pliron]
+        let by_default = runner(move || {
+            black_box(hashed_and_compared::<RandomState>(black_box(&self.pliron.0)));
+        });
+        [inner, offered, pliron, by_default]
     }
 }

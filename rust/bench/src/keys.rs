@@ -6,7 +6,7 @@ use std::hint::black_box;
 use warzhigo::{Ignore, OpId, Store, compare_keys, lent, operation_extent, operation_hash, operation_key, operation_key_into};
 
 use crate::cases::{SIZES, Shape, case};
-use crate::race::{Effort, Runner, Series, race, runner};
+use crate::race::{Effort, Figure, Runner, Series, race, runner};
 use crate::sides::{Inner, Side};
 
 /// A store, and the two operations in it that are equal; the left one is filed.
@@ -20,32 +20,32 @@ pub struct Filed {
 #[derive(Clone, Copy)]
 pub struct Times {
     pub length: usize,
-    pub hash: f64,
+    pub hash: Figure,
     /// The key in lent bytes that are as many as it needs, on a store known to be sound.
-    pub inner: f64,
+    pub inner: Figure,
     /// The same in bytes that suffice for any key.
-    pub roomy: f64,
+    pub roomy: Figure,
     /// The key in as many as it needs, on lent words.
-    pub offered: f64,
+    pub offered: Figure,
     /// The key in bytes of its own.
-    pub allocated: f64,
+    pub allocated: Figure,
     /// How large the key will be, and what the fragment holds.
-    pub extent: f64,
+    pub extent: Figure,
     /// Two keys that are the same, compared.
-    pub compared: f64,
+    pub compared: Figure,
 }
 
 impl Times {
-    pub fn ratio(&self) -> f64 {
+    pub fn ratio(&self) -> Figure {
         self.inner / self.hash
     }
 
-    pub fn roomy_ratio(&self) -> f64 {
+    pub fn roomy_ratio(&self) -> Figure {
         self.roomy / self.hash
     }
 
     /// To the key in bytes that suffice for any.
-    pub fn extent_ratio(&self) -> f64 {
+    pub fn extent_ratio(&self) -> Figure {
         self.extent / self.roomy
     }
 }

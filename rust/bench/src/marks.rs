@@ -8,7 +8,7 @@ use warzhigo::{MarkId, Store, lent};
 
 use crate::building::{self, Calls};
 use crate::cases::{self, Shape};
-use crate::race::{Effort, Pass, Runner, Series, race, runner};
+use crate::race::{Effort, Figure, Pass, Runner, Series, race, runner};
 use crate::shapes::{self, Call, NewOperation, Sketch};
 use crate::sides::{Inner, Side};
 use crate::table::thousands;
@@ -25,11 +25,11 @@ pub struct Marks {
 /// The same, with names and nanoseconds.
 pub struct Rows {
     /// A mark set and gone back to: on a store known to be sound, on lent words, and by copies.
-    pub trips: Vec<(String, [f64; 3])>,
+    pub trips: Vec<(String, [Figure; 3])>,
     /// One building call, with how many were measured: without a mark, and with one.
-    pub calls: Vec<(&'static str, usize, [f64; 2])>,
+    pub calls: Vec<(&'static str, usize, [Figure; 2])>,
     /// The test of a store without a mark, with one and with eight.
-    pub soundness: Vec<(String, [f64; 3])>,
+    pub soundness: Vec<(String, [Figure; 3])>,
 }
 
 pub fn all(middle: Effort, short: Effort) -> Marks {

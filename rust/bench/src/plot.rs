@@ -18,8 +18,8 @@ const COLOURS: [&str; 7] = ["#000000", "#e69f00", "#56b4e9", "#009e73", "#cc79a7
 
 /// The plot of the inner comparison and the inner hash.
 pub fn svg(rows: &[Row]) -> String {
-    let comparison = |row: &Row| row.sizes.iter().map(|measured| measured.comparison.inner_ratio()).collect();
-    let hash = |row: &Row| row.sizes.iter().map(|measured| measured.hash.inner_ratio()).collect();
+    let comparison = |row: &Row| row.sizes.iter().map(|measured| measured.comparison.inner_ratio().value).collect();
+    let hash = |row: &Row| row.sizes.iter().map(|measured| measured.hash.inner_ratio().value).collect();
     let compared: Vec<Vec<f64>> = rows.iter().map(comparison).collect();
     let hashed: Vec<Vec<f64>> = rows.iter().filter(|row| row.shape != Shape::Unequal).map(hash).collect();
     let mut out = String::new();

@@ -5,17 +5,17 @@ use std::hint::black_box;
 use warzhigo::lent::{self, Listed};
 
 use crate::listings::{self, Listing};
-use crate::race::{Effort, Runner, Series, race, runner};
+use crate::race::{Effort, Figure, Runner, Series, race, runner};
 use crate::reader;
 
 /// A program on a listing, in nanoseconds: ours, and what stands beside it.
 pub struct Program {
-    pub ours: f64,
-    pub other: f64,
+    pub ours: Figure,
+    pub other: Figure,
 }
 
 impl Program {
-    pub fn ratio(&self) -> f64 {
+    pub fn ratio(&self) -> Figure {
         self.ours / self.other
     }
 }

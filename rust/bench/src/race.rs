@@ -1,7 +1,52 @@
 //! Contestants that run in turn, round by round: what else the machine does falls on all of them, and the best round of each is the one
-//! that was disturbed least.
+//! that was disturbed least. How far the others lie above it is kept beside it.
 
+use std::ops::{Div, Sub};
 use std::time::Instant;
+
+/// A number that was measured.
+#[derive(Clone, Copy)]
+pub struct Figure {
+    /// That of the best round.
+    pub value: f64,
+    /// How far the upper quartile of all rounds lies above the best one, as a part of it.
+    pub spread: f64,
+}
+
+impl Figure {
+    fn of(mut rounds: Vec<f64>) -> Figure {
+        rounds.sort_by(f64::total_cmp);
+        let (best, upper) = (rounds[0], rounds[rounds.len() * 3 / 4]);
+        Figure { value: best, spread: upper / best - 1.0 }
+    }
+}
+
+/// A ratio spreads as the side that spreads more.
+impl Div for Figure {
+    type Output = Figure;
+
+    fn div(self, other: Figure) -> Figure {
+        Figure { value: self.value / other.value, spread: self.spread.max(other.spread) }
+    }
+}
+
+impl Div<f64> for Figure {
+    type Output = Figure;
+
+    fn div(self, count: f64) -> Figure {
+        Figure { value: self.value / count, ..self }
+    }
+}
+
+/// A difference spreads as far as both sides do.
+impl Sub for Figure {
+    type Output = Figure;
+
+    fn sub(self, other: Figure) -> Figure {
+        let (value, spread) = (self.value - other.value, self.value * self.spread + other.value * other.spread);
+        Figure { value, spread: spread / value }
+    }
+}
 
 /// A contestant: runs so many times, and says how many nanoseconds that took.
 pub type Runner<'a> = Box<dyn FnMut(u32) -> u64 + 'a>;
@@ -26,16 +71,18 @@ pub fn runner<'a>(mut call: impl FnMut() + 'a) -> Runner<'a> {
     })
 }
 
-/// Nanoseconds for one run of each contestant, in its best round.
-pub fn race<const N: usize>(mut runners: [Runner<'_>; N], effort: Effort) -> [f64; N] {
+/// Nanoseconds for one run of each contestant, in each of its rounds.
+pub type Rounds<const N: usize> = [Vec<f64>; N];
+
+pub fn race<const N: usize>(mut runners: [Runner<'_>; N], effort: Effort) -> Rounds<N> {
     let first = runners.each_mut().map(|runner| first_round(runner, effort.round));
-    let mut best = first.map(|(_, nanos)| nanos);
+    let mut rounds = first.map(|(_, nanos)| vec![nanos]);
     for _ in 1..effort.rounds {
-        for ((runner, best), (times, _)) in runners.iter_mut().zip(&mut best).zip(first) {
-            *best = best.min(round(runner, times));
+        for ((runner, rounds), (times, _)) in runners.iter_mut().zip(&mut rounds).zip(first) {
+            rounds.push(round(runner, times));
         }
     }
-    best
+    rounds
 }
 
 /// Nanoseconds for one run, in a round of so many.
@@ -59,21 +106,21 @@ fn first_round(runner: &mut Runner<'_>, least: u64) -> (u32, f64) {
 pub struct Series<C, const N: usize> {
     name: &'static str,
     cases: Vec<C>,
-    measure: fn(&C, Effort) -> [f64; N],
+    measure: fn(&C, Effort) -> Rounds<N>,
     effort: Effort,
-    /// For each case, the best of all passes.
-    best: Vec<[f64; N]>,
+    /// For each case, those of all passes.
+    rounds: Vec<Rounds<N>>,
 }
 
 impl<C, const N: usize> Series<C, N> {
-    pub fn new(name: &'static str, cases: Vec<C>, effort: Effort, measure: fn(&C, Effort) -> [f64; N]) -> Series<C, N> {
-        let best = cases.iter().map(|_| [f64::MAX; N]).collect();
-        Series { name, cases, measure, effort, best }
+    pub fn new(name: &'static str, cases: Vec<C>, effort: Effort, measure: fn(&C, Effort) -> Rounds<N>) -> Series<C, N> {
+        let rounds = cases.iter().map(|_| [const { Vec::new() }; N]).collect();
+        Series { name, cases, measure, effort, rounds }
     }
 
-    /// The cases with what was measured.
-    pub fn rows(self) -> impl Iterator<Item = (C, [f64; N])> {
-        self.cases.into_iter().zip(self.best)
+    /// The cases with what was measured, in nanoseconds.
+    pub fn rows(self) -> impl Iterator<Item = (C, [Figure; N])> {
+        self.cases.into_iter().zip(self.rounds).map(|(case, rounds)| (case, rounds.map(Figure::of)))
     }
 }
 
@@ -90,9 +137,9 @@ impl<C, const N: usize> Pass for Series<C, N> {
     }
 
     fn pass(&mut self) {
-        for (case, best) in self.cases.iter().zip(&mut self.best) {
-            let times = (self.measure)(case, self.effort);
-            *best = std::array::from_fn(|i| best[i].min(times[i]));
+        for (case, rounds) in self.cases.iter().zip(&mut self.rounds) {
+            let more = (self.measure)(case, self.effort);
+            rounds.iter_mut().zip(more).for_each(|(rounds, more)| rounds.extend(more));
         }
     }
 }

@@ -5,7 +5,7 @@ use std::hint::black_box;
 use warzhigo::{Ignore, Mapping, OpId, Renamed, Store, lent, operation_eq, operation_hash, operation_key_into};
 
 use crate::cases::{SIZES, Shape, case, two_fit};
-use crate::race::{Effort, Runner, Series, race, runner};
+use crate::race::{Effort, Figure, Runner, Series, race, runner};
 use crate::sides::{Inner, Side};
 
 /// Where the types of values begin in the words of a store.
@@ -26,23 +26,25 @@ pub struct Listed {
 /// Nanoseconds.
 #[derive(Clone, Copy)]
 pub struct Times {
-    pub comparison: f64,
+    pub comparison: Figure,
+    /// The same with a mapping of its own.
+    pub comparison_fresh: Figure,
     /// The same under the list: no type differs.
-    pub comparison_same: f64,
+    pub comparison_same: Figure,
     /// Under the list, where every type differs from the one it is compared with.
-    pub comparison_other: f64,
-    pub hash: f64,
-    pub hash_listed: f64,
-    pub key: f64,
-    pub key_listed: f64,
+    pub comparison_other: Figure,
+    pub hash: Figure,
+    pub hash_listed: Figure,
+    pub key: Figure,
+    pub key_listed: Figure,
     /// The offered hash, lent the list as it is: it is tested and indexed.
-    pub offered: f64,
-    pub offered_listed: f64,
+    pub offered: Figure,
+    pub offered_listed: Figure,
     /// `Renamed::from_words`.
-    pub made: f64,
+    pub made: Figure,
 }
 
-pub type Lists = Series<Listed, 10>;
+pub type Lists = Series<Listed, 11>;
 
 /// The flat shape, in the sizes of which two fit.
 pub fn sizes() -> impl Iterator<Item = u32> {
@@ -54,11 +56,23 @@ pub fn lists(effort: Effort) -> Lists {
 }
 
 pub fn rows(lists: Lists) -> Vec<Times> {
-    let times =
-        |[comparison, comparison_same, comparison_other, hash, hash_listed, key, key_listed, offered, offered_listed, made]: [f64; 10]| {
-            Times { comparison, comparison_same, comparison_other, hash, hash_listed, key, key_listed, offered, offered_listed, made }
-        };
-    lists.rows().map(|(_, measured)| times(measured)).collect()
+    let times = |(_, [comparison, comparison_fresh, comparison_same, comparison_other, others @ ..]): (Listed, [Figure; 11])| {
+        let [hash, hash_listed, key, key_listed, offered, offered_listed, made] = others;
+        Times {
+            comparison,
+            comparison_fresh,
+            comparison_same,
+            comparison_other,
+            hash,
+            hash_listed,
+            key,
+            key_listed,
+            offered,
+            offered_listed,
+            made,
+        }
+    };
+    lists.rows().map(times).collect()
 }
 
 impl Listed {
@@ -98,6 +112,15 @@ impl Listed {
         })
     }
 
+    /// Under no list, with a mapping of its own.
+    fn fresh(&self) -> Runner<'_> {
+        let [l, r] = self.ids(&self.store);
+        runner(move || {
+            let mut mapping = Mapping::new();
+            black_box(operation_eq(black_box(&self.store), &mut mapping, l, r, &Ignore::NOTHING).expect("an answer"));
+        })
+    }
+
     fn hash<'a>(&'a self, types: &'a Renamed) -> Runner<'a> {
         let [l, _] = self.ids(&self.store);
         runner(move || {
@@ -119,13 +142,14 @@ impl Listed {
         })
     }
 
-    fn runners(&self) -> [Runner<'_>; 10] {
+    fn runners(&self) -> [Runner<'_>; 11] {
         static NONE: Renamed = Renamed::none();
         let made = runner(|| {
             black_box(Renamed::from_words(black_box(&self.words)).expect("a list that holds"));
         });
         [
             self.comparison(&self.store, &NONE),
+            self.fresh(),
             self.comparison(&self.store, &self.types),
             self.comparison(&self.other, &self.types),
             self.hash(&NONE),

@@ -6,7 +6,7 @@ use std::hint::black_box;
 
 use warzhigo::{BlockId, Ignore, NewOperation, RegionId, Run, Store, ValueId};
 
-use crate::race::{Effort, Runner, Series, race, runner};
+use crate::race::{Effort, Figure, Runner, Series, race, runner};
 use plain::Plain;
 
 /// The operations of a block, and how long the runs are.
@@ -53,7 +53,7 @@ pub type Runs = Series<Filled, 2>;
 pub struct Row {
     pub filling: Filling,
     pub size: u32,
-    pub nanos: Vec<[f64; 2]>,
+    pub nanos: Vec<[Figure; 2]>,
 }
 
 pub fn runs(effort: Effort) -> Runs {
@@ -66,7 +66,7 @@ fn rows_of() -> impl Iterator<Item = (Filling, u32)> {
 }
 
 pub fn rows(runs: Runs) -> Vec<Row> {
-    let nanos: Vec<[f64; 2]> = runs.rows().map(|(_, nanos)| nanos).collect();
+    let nanos: Vec<[Figure; 2]> = runs.rows().map(|(_, nanos)| nanos).collect();
     let by_row = nanos.chunks(LENGTHS.len()).map(<[_]>::to_vec);
     rows_of().zip(by_row).map(|((filling, size), nanos)| Row { filling, size, nanos }).collect()
 }

@@ -8,6 +8,7 @@ mod pliron;
 use std::hint::black_box;
 
 use oracle::Verdict;
+use warzhigo::{Ignore, Mapping, operation_eq};
 
 use crate::cases::Case;
 use crate::race::{Runner, runner};
@@ -79,5 +80,16 @@ impl<S: Side> Asked<S> {
             black_box(side.hash(*left));
         };
         [runner(compare), runner(hash)]
+    }
+}
+
+impl Asked<Inner> {
+    /// The comparison with a mapping that is made for it and dropped, as pliron's is.
+    pub fn fresh(&self) -> Runner<'_> {
+        runner(move || {
+            let Asked { side, left, right } = black_box(self);
+            let mut mapping = Mapping::new();
+            black_box(operation_eq(&side.store, &mut mapping, *left, *right, &Ignore::NOTHING).expect("an answer"));
+        })
     }
 }

@@ -2,16 +2,48 @@
 
 use std::fmt;
 
-/// A table in Markdown. Its first row is the head; columns but the first stand to the right.
+use crate::race::Figure;
+
+/// What stands in a table.
+pub enum Cell {
+    Text(String),
+    Figure(Figure),
+}
+
+impl From<String> for Cell {
+    fn from(text: String) -> Cell {
+        Cell::Text(text)
+    }
+}
+
+impl From<Figure> for Cell {
+    fn from(figure: Figure) -> Cell {
+        Cell::Figure(figure)
+    }
+}
+
+/// A table in Markdown. Its first row is the head; columns but the first stand to the right. The last one is the spread of a row's figures, the
+/// greatest of them.
 pub struct Table(Vec<Vec<String>>);
 
 impl Table {
     pub fn new(head: impl IntoIterator<Item = impl ToString>) -> Table {
-        Table(vec![head.into_iter().map(|cell| cell.to_string()).collect()])
+        Table(vec![head.into_iter().map(|cell| cell.to_string()).chain(["spread".to_string()]).collect()])
     }
 
-    pub fn row(&mut self, name: impl ToString, cells: impl IntoIterator<Item = String>) {
-        self.0.push([name.to_string()].into_iter().chain(cells).collect());
+    pub fn row(&mut self, name: impl ToString, cells: impl IntoIterator<Item = impl Into<Cell>>) {
+        let (mut row, mut spread) = (vec![name.to_string()], None);
+        for cell in cells {
+            row.push(match cell.into() {
+                Cell::Text(text) => text,
+                Cell::Figure(figure) => {
+                    spread = Some(figure.spread.max(spread.unwrap_or(0.0)));
+                    number(figure.value)
+                }
+            });
+        }
+        row.push(spread.map_or(String::new(), |spread| format!("+{:.0}%", 100.0 * spread)));
+        self.0.push(row);
     }
 
     fn width(&self, column: usize) -> usize {
@@ -39,7 +71,7 @@ impl fmt::Display for Table {
 }
 
 /// A number with three digits or so, and commas between thousands.
-pub fn number(x: f64) -> String {
+fn number(x: f64) -> String {
     match x {
         _ if x < 9.995 => format!("{x:.2}"),
         _ if x < 99.95 => format!("{x:.1}"),
@@ -52,9 +84,4 @@ pub fn thousands(n: u64) -> String {
         0 => n.to_string(),
         more => format!("{},{:03}", thousands(more), n % 1000),
     }
-}
-
-/// Milliseconds, of nanoseconds.
-pub fn milliseconds(nanos: f64) -> String {
-    number(nanos / 1e6)
 }

@@ -10,8 +10,9 @@
 //!
 //! The stand-ins work as pliron does where that costs time: hash maps are hashbrown's, attributes
 //! are boxed, and a value's type is searched for at its owner. FNV-1a is slower than rustc-hash's
-//! `FxHasher`, since it takes byte by byte; pointers without a slot map's check, and small vectors
-//! for indexmap, are quicker.
+//! `FxHasher`, which takes a word by one product, though here it takes the bytes of a number that
+//! are 0 by one, too; pointers without a slot map's check, and small vectors for indexmap, are
+//! quicker.
 //!
 //! ```
 //! use oracle::{Lists, Mapping, Oracle, Sort, Verdict};

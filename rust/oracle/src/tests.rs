@@ -211,6 +211,27 @@ fn fnv_vectors() {
     assert_eq!(fnv(b"foobar"), 0x85944171f73967e8);
 }
 
+/// The bytes of a number that are 0 are taken at once, and the hash is that of its bytes.
+#[test]
+fn numbers_are_their_bytes() {
+    let fed = |feed: fn(&mut FxHasher, u64), number| {
+        let mut state = FxHasher::default();
+        state.write(b"before");
+        feed(&mut state, number);
+        state.finish()
+    };
+    let ends = [0, 1, 8, 16, 24, 32, 40, 63].map(|bits| 1_u64 << bits);
+    for number in ends.into_iter().flat_map(|end| [end - 1, end, end + 1, end | 0x0102030405060708]) {
+        let bytes = number.to_le_bytes();
+        if let Ok(word) = u32::try_from(number) {
+            let leaf = fed(|state, number| state.write_u32(number as u32), number);
+            assert_eq!(leaf, fnv(&[b"before", &word.to_le_bytes()[..]].concat()), "{number}");
+        }
+        let count = fed(|state, number| state.write_usize(number as usize), number);
+        assert_eq!(count, fnv(&[b"before", &bytes[..]].concat()), "{number}");
+    }
+}
+
 /// Leaves feed 4 bytes, counts and walk numbers 8, tags and flags 1, lowest byte first.
 #[test]
 fn fed_bytes() {

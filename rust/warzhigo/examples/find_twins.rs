@@ -1,9 +1,11 @@
-//! The twins among a form's operations: each with the first operation that is equal to it and independent of it. Both sides of each merge are
-//! printed.
+//! The twins among a form's operations: each with the first operation that is equal to it and independent of it. Of twins one inside another
+//! the outermost are merged: a merge with a side inside an operation that goes is left out. Both sides of each merge are printed.
 //!
 //!     cargo run --offline --example find_twins
 
 mod form;
+
+use std::collections::BTreeSet;
 
 use warzhigo::{Ignore, OpId, Refused, Store};
 
@@ -15,16 +17,33 @@ fn main() -> Result<(), Refused> {
         println!("merge\n    {}\nwith\n    {}", described(&store, *stays)?, described(&store, *goes)?);
     }
     let field = |page| field_of(&store, page);
-    // the first two pages, and the fields of all three
-    assert_eq!(merges, [(first, second), (field(first)?, field(second)?), (field(first)?, field(third)?)]);
+    // the first two pages, and the fields of the first and the third; that of the second goes with its page
+    assert_eq!(merges, [(first, second), (field(first)?, field(third)?)]);
+    assert_eq!(store.twins_of_operations(&Ignore::LOCATIONS)?.into_iter().flatten().count(), merges.len() + 1);
     Ok(())
 }
 
-/// The operation that stays and the one that goes, of each merge.
+/// The operation that stays and the one that goes, of each merge. An operation comes behind the one around it, and behind its twin.
 fn merges(store: &Store, ignore: &Ignore) -> Result<Vec<(OpId, OpId)>, Refused> {
     let twins = store.twins_of_operations(ignore)?;
-    let ops = store.operations().map(|op| op.id());
-    Ok(twins.into_iter().zip(ops).filter_map(|(twin, op)| Some((twin?, op))).collect())
+    let mut gone = BTreeSet::new();
+    let mut merges = Vec::new();
+    for (op, twin) in store.operations().map(|op| op.id()).zip(twins) {
+        if around(store, op)?.is_some_and(|outer| gone.contains(&outer)) {
+            gone.insert(op);
+        } else if let Some(stays) = twin.filter(|twin| !gone.contains(twin)) {
+            merges.push((stays, op));
+            gone.insert(op);
+        }
+    }
+    Ok(merges)
+}
+
+/// The operation around this one.
+fn around(store: &Store, op: OpId) -> Result<Option<OpId>, Refused> {
+    let Some(parent) = store.operation(op)?.parent() else { return Ok(None) };
+    let region = store.block(parent)?.region();
+    Ok(Some(store.region(region)?.operation()))
 }
 
 /// The first operation in a page.

@@ -157,15 +157,12 @@ unsafe extern "C" {
 
     fn wz_operation_key(store: *const u32, words: usize, types: *const u32, type_words: usize, key: *mut u8, room: usize, n: u32, locations: bool, bits: u64) -> KeyAnswer;
     fn wz_known_operation_key(store: *const u32, words: usize, types: *const u32, type_words: usize, key: *mut u8, room: usize, n: u32, locations: bool, bits: u64) -> KeyAnswer;
-    #[allow(dead_code)] // for other callers: here a key's length is that of its extent
     fn wz_known_operation_key_length(store: *const u32, words: usize, types: *const u32, type_words: usize, n: u32, locations: bool, bits: u64) -> usize;
     fn wz_basic_block_key(store: *const u32, words: usize, types: *const u32, type_words: usize, key: *mut u8, room: usize, n: u32, locations: bool, bits: u64) -> KeyAnswer;
     fn wz_known_basic_block_key(store: *const u32, words: usize, types: *const u32, type_words: usize, key: *mut u8, room: usize, n: u32, locations: bool, bits: u64) -> KeyAnswer;
-    #[allow(dead_code)] // for other callers: here a key's length is that of its extent
     fn wz_known_basic_block_key_length(store: *const u32, words: usize, types: *const u32, type_words: usize, n: u32, locations: bool, bits: u64) -> usize;
     fn wz_region_key(store: *const u32, words: usize, types: *const u32, type_words: usize, key: *mut u8, room: usize, n: u32, locations: bool, bits: u64) -> KeyAnswer;
     fn wz_known_region_key(store: *const u32, words: usize, types: *const u32, type_words: usize, key: *mut u8, room: usize, n: u32, locations: bool, bits: u64) -> KeyAnswer;
-    #[allow(dead_code)] // for other callers: here a key's length is that of its extent
     fn wz_known_region_key_length(store: *const u32, words: usize, types: *const u32, type_words: usize, n: u32, locations: bool, bits: u64) -> usize;
     fn wz_operation_extent(store: *const u32, words: usize, n: u32, locations: bool, bits: u64) -> ExtentAnswer;
     fn wz_known_operation_extent(store: *const u32, words: usize, n: u32, locations: bool, bits: u64) -> ExtentAnswer;

@@ -64,8 +64,9 @@ impl Store {
     /// The twin of each operation, by rising number: the first operation before it that is [independent](Store::independent) of it and, compared
     /// from an empty mapping, equal to it. None is given exactly where there is none. No store is refused.
     ///
-    /// An operation that stands for others has no twin itself, and all for which it stands are twins of each other: so each can be merged with
-    /// its twin, in any order.
+    /// An operation that stands for others has no twin itself, and all for which it stands are twins of each other, in this store. Nothing is
+    /// said of a store that a merge has changed: of twins one inside another merge the outermost. An operation inside one that goes may
+    /// itself stand for others.
     ///
     /// ```
     /// use warzhigo::{Ignore, NewOperation, Store};

@@ -5,7 +5,6 @@ use alloc::vec::Vec;
 use core::cmp::Ordering;
 
 use crate::equivalence::Fragment;
-use crate::extents::extent;
 use crate::ffi::{KeyAnswer, lent};
 use crate::ids::{BlockId, OpId, RegionId};
 use crate::refused::Refused;
@@ -25,7 +24,7 @@ impl KeyAnswer {
 
 /// The key of a fragment, in exactly as many bytes as it has.
 fn key<I: Fragment>(store: &Store, fragment: I, options: Options) -> Result<Vec<u8>, Refused> {
-    let mut key = vec![0; extent(store, fragment, &options.ignore)?.bytes];
+    let mut key = vec![0; store.sound.key_length(fragment, options)?];
     key_into(store, fragment, options, &mut key)?;
     Ok(key)
 }

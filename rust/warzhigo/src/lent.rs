@@ -231,7 +231,7 @@ pub fn twins_of_operations(store: &[u32], types: &[u32], ignore: &Ignore, twins:
 }
 
 /// The program [`twins`](crate::twins) in lent buffers: store and mapping may hold anything, and are emptied first. Afterwards the store is
-/// what the listing's lines have built.
+/// what the listing's lines have built, up to a refused one, and the mapping is empty; where the first line is refused, both are as they were.
 pub fn twins(listing: &[u8], store: &mut [u32], mapping: &mut [u32], out: &mut [u8]) -> Listed {
     lent::twins(listing, store, mapping, out).listed()
 }

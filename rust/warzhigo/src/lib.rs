@@ -27,7 +27,8 @@
 //! - [`operation_key`], [`basic_block_key`] and [`region_key`] give the bytes by which a fragment is filed, and [`compare_keys`] their order.
 //! - [`operation_extent`], [`basic_block_extent`] and [`region_extent`] tell how large a key will be, before it is written.
 //! - [`Store::repeated_run`] finds two equal runs of operations in one block.
-//! - [`Store::twins_of_operations`] finds all twins of a form at once, and [`Store::independent`] tells whether the laws hold of two fragments.
+//! - [`Store::twins_of_operations`] finds all twins of a form at once, and [`Store::independent`] tells whether two fragments
+//!   meet the premise of the laws.
 //! - [`Store::mark`] names the store as it stands, and [`Store::go_back`] returns to it.
 //! - A call outside the rules is [`Refused`] by number, and has changed nothing.
 //! - [`twins`] and [`sums`] answer the questions of a whole listing, and [`convert`] writes it in the other edition.

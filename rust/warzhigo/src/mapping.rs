@@ -37,7 +37,8 @@ pub struct Mapping {
 }
 
 impl Mapping {
-    /// The empty mapping.
+    /// The empty mapping. It costs an allocation and 2,816 words: for one comparison after the other, [`clear`](Mapping::clear) one mapping in
+    /// between.
     pub fn new() -> Mapping {
         Mapping { words: AllowedWords::empty(), touched: Touched::NOTHING }
     }

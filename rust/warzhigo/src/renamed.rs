@@ -18,8 +18,10 @@ use crate::refused::Refused;
 /// let l = store.new_operation(&NewOperation { kind: 8, result_types: &[3], ..Default::default() })?;
 /// let r = store.new_operation(&NewOperation { kind: 8, result_types: &[7], ..Default::default() })?;
 /// let types = Renamed::new(&[(3, 7)])?;
-/// assert!(!operation_eq(&store, &mut Mapping::new(), l, r, &Ignore::NOTHING)?.is_eq());
-/// assert!(operation_eq(&store, &mut Mapping::new(), l, r, (&Ignore::NOTHING, &types))?.is_eq());
+/// let mut mapping = Mapping::new();
+/// assert!(!operation_eq(&store, &mut mapping, l, r, &Ignore::NOTHING)?.is_eq());
+/// mapping.clear();
+/// assert!(operation_eq(&store, &mut mapping, l, r, (&Ignore::NOTHING, &types))?.is_eq());
 /// assert_eq!(operation_hash(&store, l, (&Ignore::NOTHING, &types))?, operation_hash(&store, r, &Ignore::NOTHING)?);
 /// # Ok::<(), warzhigo::Refused>(())
 /// ```

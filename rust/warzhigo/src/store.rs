@@ -83,11 +83,13 @@ pub struct Attribute {
 /// let mut store = Store::new();
 /// let [l, r] = [store.new_operation(&NewOperation::default())?, store.new_operation(&NewOperation::default())?];
 /// let ignore = Ignore::NOTHING.and_kind(63);
+/// let mut mapping = Mapping::new();
 /// for (inherent, equal) in [(Inherent::No, true), (Inherent::Yes, false)] {
 ///     for (op, content) in [(l, 9), (r, 8)] {
 ///         store.set_attribute(op, Attribute { key: 2, kind: 63, content, inherent })?;
 ///     }
-///     assert_eq!(operation_eq(&store, &mut Mapping::new(), l, r, &ignore)?.is_eq(), equal);
+///     assert_eq!(operation_eq(&store, &mut mapping, l, r, &ignore)?.is_eq(), equal);
+///     mapping.clear();
 /// }
 /// # Ok::<(), warzhigo::Refused>(())
 /// ```

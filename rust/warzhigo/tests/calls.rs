@@ -155,6 +155,34 @@ fn bytes_compared_as_keys() {
 }
 
 #[test]
+fn independence_of_two_fragments() {
+    let lines = "I,o,0,2\nI,o,0,0\nI,o,0,1\nI,o,1,0\nI,o,1,3\nI,b,0,1\nI,r,0,1\nI,o,0,4\nI,b,2,0\nI,r,2,2\n";
+    assert_eq!(answers(&format!("{TWO}{lines}")), format!("{MADE}yes\nyes\nno\nno\nyes\nyes\nyes\nrefused,2\nrefused,2\nrefused,2\n"));
+    // operation 3 now names the result of operation 1; and block 2 is made inside block 0
+    let named = "s,3,0,1\nI,o,1,3\nI,o,3,1\nI,b,1,0\nI,r,1,0\no,9,0,0,1,0,0,0\nb,2,0,0\nI,b,2,0\nI,r,0,2\n";
+    assert_eq!(answers(&format!("{TWO}{named}")), format!("{MADE}ok\nno\nno\nno\nno\n4\n2\nno\nno\n"));
+    // it is lent no list of types
+    assert_eq!(answers(&format!("{TWO}T,3,3\nI,o,0,2\n")), format!("{MADE}yes\n"));
+}
+
+#[test]
+fn twins_of_all_operations() {
+    // operations 1 and 3 name different values, from an empty mapping
+    assert_eq!(answers(&format!("{TWO}U,1,0\nU,0,0\n")), format!("{MADE}-,-,0,-\n-,-,-,-\n"));
+    // types 3 and 4, which are the same once the one is renamed, and an attribute of kind 2
+    let more = "o,8,-,5,0,1,3,0,0\no,8,-,5,0,1,4,0,0\nU,0,0\nT,4,3\nU,0,0\na,o,5,1,2,9\nU,0,0\nU,0,4\nT,4,4\nU,0,0\nT\nU,1,4\n";
+    let expected = "4\n5\n-,-,-,-,-,-\n-,-,-,-,-,4\nok\n-,-,-,-,-,-\n-,-,-,-,-,4\nrefused,14\n-,-,0,-,-,-\n";
+    assert_eq!(answers(&format!("{TWO}{more}")), format!("{MADE}{expected}"));
+    // none but of those before: an operation and the one that names it are not independent
+    let named = "o,8,-,0,0,1,3,1,0,0\no,8,-,0,0,1,3,1,0,0\nU,0,0\ns,1,0,1\nU,0,0\n";
+    assert_eq!(answers(&format!("o,1,-,0,0,1,3,0,0\n{named}")), "0\n1\n2\n-,-,1\nok\n-,-,-\n");
+    assert_eq!(answers("U,0,0\nS\n"), "\nsound\n");
+    let full: String = (0..512).map(|number| format!("{number}\n")).collect();
+    let twins = format!("-{}\n", ",0".repeat(511));
+    assert_eq!(answers(&format!("{}U,0,0\n", "o,1,-,0,0,0,0,0\n".repeat(512))), format!("{full}{twins}"));
+}
+
+#[test]
 fn the_store_as_text() {
     let lines = format!("{TWO}a,o,1,9,3,4\ni,o,1,2,63,5\ni,b,1,0,1,1\no,1,1,2,0,0,0,2,1,0\nS\nD\n");
     let store = "op 0 7 - 5 r[0] v[] u[] s[] a[]|op 1 8 0 5 r[] v[1] u[0] s[] a[2:63:5:i,9:3:4]|op 2 7 - 6 r[1] v[] u[] s[] a[]\
@@ -198,14 +226,15 @@ fn empty_lines_are_passed_over() {
 
 /// Lines that `calls` doesn't take.
 #[rustfmt::skip]
-const NOT_OF_THE_FORM: [&str; 68] = [
+const NOT_OF_THE_FORM: [&str; 80] = [
     "x", "o", "O,7,-,5,1,0,0,0", "o,7,-,5,1,0,0", "o,7,-,5,1,0,0,0,0", "o,7,-,5,1,2,3,0,0", "o,-,-,5,1,0,0,0", "o,+7,-,5,1,0,0,0",
     "o,07,-,5,1,0,0,0", "o,4294967296,-,5,1,0,0,0", "o, 7,-,5,1,0,0,0", "o,,-,5,1,0,0,0", "b,0,5", "b,0,-,0", "b,0,0,5,1,3", "a,r,0,1,1,1",
     "a,o,0,1,1", "a,o,0,1,1,1,i", "i", "i,r,0,1,1,1", "i,o,0,1,1", "i,o,0,1,1,1,1", "s,0,0", "q,x,0,0,0,0", "q,o,0,0,2,0", "q,o,0,0,0",
     "q,o,0,0,0,18446744073709551616", "q,o,0,0,0,0,", "E,r,0,0", "E,v,0", "P,1", "H,o,0,0", "D,0", "S,0", "S\r", " S", "o,7,-,5,1,0,0,0 ",
     "o,7,-,5,1,4294967295,0,0", "K,o,0,0,0", "K,v,0,0,0,9", "K,o,0,0,0,-", "K,o,0,0,0,4294967296", "C,o,0,0,0", "C,o,0,0,2,0", "B,00",
     "B,0,00", "B,00,000", "B,0g,00", "B,00,00,00", "B,+1,00", "M", "M,", "M,-", "M,01", "M,1,1", "G", "G,1,1", "m,1", "X", "X,0",
-    "X,-,-", "X,0,", "X,0,-,0", "x,0,-", "Z,o,0,0", "Z,o,0,2,0", "Z,v,0,0,0", "Z,o,0,0,0,9",
+    "X,-,-", "X,0,", "X,0,-,0", "x,0,-", "Z,o,0,0", "Z,o,0,2,0", "Z,v,0,0,0", "Z,o,0,0,0,9", "I", "I,o,0", "I,v,0,0", "I,o,0,-",
+    "I,o,0,0,0", "I,o,0,0,0,0", "U", "U,0", "U,2,0", "U,0,-", "U,0,0,0", "u,0,0",
 ];
 
 #[test]

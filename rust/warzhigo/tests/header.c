@@ -20,16 +20,17 @@ int main(void) {
     if (placed.code != 2 || placed.number != 2) return 3;
 
     wz_verdict equal = wz_operation_eq(store, wz_store_words(), NULL, 0, mapping, wz_mapping_words(), 0, 1, true, 0);
-    if (equal.code != 0 || equal.paired != 1 || mapping[0] != 1) return 4;
+    if (equal.code != 0 || equal.paired != 1 || mapping[0] != 1 || equal.left != 0 || equal.right != 0) return 4;
     wz_verdict unequal = wz_known_operation_eq(store, wz_store_words(), NULL, 0, mapping, wz_mapping_words(), 0, 1, false, 0);
     if (unequal.code != 1 || unequal.left != 0 || unequal.right != 1 || unequal.paired != 0) return 5;
     wz_verdict refused = wz_operation_eq(store, wz_store_words(), NULL, 0, mapping, 1, 0, 1, false, 0);
-    if (refused.code != 4 || refused.left != 8) return 6;
+    if (refused.code != 4 || refused.left != 8 || refused.right != 0 || refused.paired != 0) return 6;
 
     wz_sum left = wz_operation_hash(store, wz_store_words(), NULL, 0, 0, true, 0);
     wz_sum right = wz_known_operation_hash(store, wz_store_words(), NULL, 0, 1, true, 0);
-    if (left.code != 0 || right.code != 0 || left.word != right.word) return 7;
-    if (wz_operation_hash(store, wz_store_words(), NULL, 0, 2, true, 0).cause != 2) return 8;
+    if (left.code != 0 || right.code != 0 || left.word != right.word || left.cause != 0) return 7;
+    wz_sum refused_hash = wz_operation_hash(store, wz_store_words(), NULL, 0, 2, true, 0);
+    if (refused_hash.code != 1 || refused_hash.cause != 2 || refused_hash.word != 0) return 8;
 
     uint32_t *keyed = malloc(wz_store_words() * sizeof *keyed);
     memcpy(keyed, store, wz_store_words() * sizeof *keyed);
@@ -64,7 +65,7 @@ int main(void) {
     if (wz_operation_key(keyed, wz_store_words(), half, 1, key, wz_key_bytes(), 0, true, 0).cause != 14) return 19;
 
     wz_outcome marked = wz_set_mark(keyed, wz_store_words(), 1), moved = wz_known_set_mark(keyed, wz_store_words(), 1);
-    if (marked.code != 1 || moved.code != 1) return 20;
+    if (marked.code != 1 || moved.code != 1 || marked.number != 0 || moved.number != 0) return 20;
     wz_outcome since = wz_known_new_operation(keyed, wz_store_words(), 9, false, 0, 1, 0, NULL, 0, NULL, 0, NULL, 0);
     wz_outcome key_set = wz_set_attribute(keyed, wz_store_words(), false, 0, 1, 1, 1, WZ_INHERENT_NO);
     if (since.number != 2 || key_set.code != 1 || wz_known_go_back(keyed, wz_store_words(), 1).code != 1) return 21;
@@ -101,13 +102,14 @@ int main(void) {
     wz_extent_answer extent = wz_operation_extent(keyed, wz_store_words(), 1, true, 0);
     wz_key_answer whole = wz_operation_key(keyed, wz_store_words(), NULL, 0, key, wz_key_bytes(), 1, true, 0);
     if (extent.code != 0 || extent.bytes != whole.length || extent.values != 1 || extent.operations != 1) return 35;
-    if (extent.blocks != 0 || extent.nesting != 0 || wz_region_extent(keyed, wz_store_words(), 0, true, 0).cause != 2) return 36;
+    wz_extent_answer no_region = wz_region_extent(keyed, wz_store_words(), 0, true, 0);
+    if (extent.blocks != 0 || extent.nesting != 0 || extent.cause != 0 || no_region.cause != 2 || no_region.bytes != 0) return 36;
     if (wz_known_operation_extent(keyed, wz_store_words(), 1, false, 0).bytes != whole.length + 4) return 37;
 
     uint32_t twins[5] = {7, 7, 7, 7, 7};
     wz_grouped short_list = wz_twins_of_operations(keyed, wz_store_words(), NULL, 0, true, 0, twins, 3);
     wz_grouped half_row = wz_twins_of_operations(keyed, wz_store_words(), half, 1, true, 0, twins, 3);
-    if (short_list.code != 1 || short_list.cause != 13 || half_row.cause != 14 || twins[0] != 7) return 38;
+    if (short_list.code != 1 || short_list.cause != 13 || short_list.operations != 0 || half_row.cause != 14 || twins[0] != 7) return 38;
     wz_grouped grouped = wz_twins_of_operations(keyed, wz_store_words(), list, 2, true, 0, twins, 5);
     if (grouped.code != 0 || grouped.operations != 4) return 39;
     if (twins[0] != UINT32_MAX || twins[1] != 0 || twins[2] != 0 || twins[3] != 0 || twins[4] != 7) return 40;
@@ -132,8 +134,39 @@ int main(void) {
     if (newer.code != 0 || newer.bytes != strlen(listing) || memcmp(out, listing, newer.bytes) != 0) return 46;
     wz_output unconverted = wz_convert((const uint8_t *)inherent_line, strlen(inherent_line), out, wz_converted_bytes());
     if (unconverted.code != 0 || unconverted.bytes != strlen(refused_line) || memcmp(out, refused_line, unconverted.bytes) != 0) return 47;
-    if (wz_convert((const uint8_t *)listing, strlen(listing), out, wz_converted_bytes() - 1).code != 2) return 48;
+    wz_output no_room = wz_convert((const uint8_t *)listing, strlen(listing), out, wz_converted_bytes() - 1);
+    if (no_room.code != 2 || no_room.bytes != 0 || no_room.cause != 0) return 48;
 
+    /* NULL and 0 for every empty buffer */
+    uint32_t *empty = calloc(wz_store_words(), sizeof *empty);
+    if (wz_is_sound(NULL, 0) || wz_known_is_allowed(empty, wz_store_words(), NULL, 0)) return 49;
+    if (wz_operation_eq(empty, wz_store_words(), NULL, 0, NULL, 0, 0, 0, true, 0).left != 8) return 50;
+    if (wz_clone_operation(empty, wz_store_words(), 0, false, 0, NULL, 0).number != 8 || wz_set_mark(NULL, 0, 1).number != 1) return 51;
+    wz_grouped of_none = wz_twins_of_operations(empty, wz_store_words(), NULL, 0, true, 0, NULL, 0);
+    wz_grouped of_known = wz_known_twins_of_operations(empty, wz_store_words(), NULL, 0, true, 0, NULL, 0);
+    if (of_none.code != 0 || of_none.operations != 0 || of_known.code != 0 || of_known.operations != 0) return 52;
+    wz_outcome outer = wz_new_operation(empty, wz_store_words(), 7, false, 0, 1, 1, NULL, 0, NULL, 0, NULL, 0);
+    wz_outcome first = wz_new_block(empty, wz_store_words(), 0, 1, NULL, 0);
+    wz_outcome second = wz_known_new_block(empty, wz_store_words(), 0, 1, NULL, 0);
+    if (outer.code != 0 || first.code != 0 || second.code != 0 || second.number != 1) return 53;
+    wz_run_answer no_runs = wz_repeated_run(empty, wz_store_words(), NULL, 0, 0, 1, true, 0);
+    wz_run_answer no_length = wz_known_repeated_run(empty, wz_store_words(), NULL, 0, 0, 0, true, 0);
+    if (no_runs.code != 1 || no_runs.left != 0 || no_runs.right != 0) return 54;
+    if (no_length.code != 2 || no_length.left != 15 || no_length.right != 0) return 55;
+    if (wz_compare_keys(NULL, 0, NULL, 0) != 0 || wz_compare_keys(NULL, 0, key, 1) != -1) return 56;
+    size_t no_rows = wz_known_index_types(NULL, 0, index, wz_index_words());
+    wz_sum by_index = wz_known_basic_block_hash(empty, wz_store_words(), index, no_rows, 0, true, 0);
+    wz_sum by_none = wz_known_basic_block_hash(empty, wz_store_words(), NULL, 0, 0, true, 0);
+    if (no_rows == 0 || by_index.code != 0 || by_none.code != 0 || by_index.word != by_none.word) return 57;
+    const char *no_header = "refused,1,9\n";
+    wz_output unread = wz_sums(NULL, 0, empty, wz_store_words(), out, wz_output_bytes());
+    if (unread.code != 0 || unread.bytes != strlen(no_header) || memcmp(out, no_header, unread.bytes) != 0) return 58;
+    if (wz_operation_extent(empty, wz_store_words(), 0, true, 0).blocks != 2) return 59;
+    unread = wz_convert(NULL, 0, out, wz_converted_bytes());
+    if (unread.code != 0 || unread.bytes != strlen(no_header) || memcmp(out, no_header, unread.bytes) != 0) return 60;
+    if (wz_twins(NULL, 0, empty, wz_store_words(), NULL, 0, NULL, 0).cause != 8 || wz_convert(NULL, 0, NULL, 0).code != 2) return 61;
+
+    free(empty);
     free(index);
     free(keyed);
     free(key);

@@ -10,8 +10,8 @@ use borrow.Author.Tests.{ltb-true, lt-ltb}
 use native.Mathlib.Omega.{arith}
 use lib.ListN.{length}
 use Rattle.rules.specs.Lists.{concat_map}
-use Rattle.rules.specs.Store.{Store, op_exists, parent_exists, sound, totals_hold}
-use Rattle.rules.specs.Fragments.{op, exists, steps, op_owner, defines_blocks, defines_values, fragment_ops}
+use Rattle.rules.specs.Store.{Store, regions_of, values_of, op_exists, parent_exists, sound, totals_hold}
+use Rattle.rules.specs.Fragments.{op, exists, steps, op_owner, block_owner, defines_owners, defines_blocks, defines_values, fragment_ops}
 use Rattle.rules.specs.Shells.{Ignore}
 use Rattle.rules.specs.Types.{renamed}
 use Rattle.rules.specs.Hash.{no_numbers, hash}
@@ -20,8 +20,9 @@ use Rattle.rules.specs.Mapping.{empty_mapping, enter_all}
 use Rattle.rules.specs.Laws.{equal, Equal, In}
 use Rattle.rules.specs.MappingLaws.{filed, values, blocks, ops, table_of, defines_of, SideBySide}
 use Rattle.rules.specs.Statements.{RenamedSound}
-use Rattle.rules.specs.Copying.{op_copy, block_copy, value_copy, copied, copy_mapping, placed_outside, in_time, copy_nests, copy_tests}
-use Rattle.rules.specs.CopyLaws.{CopyEqual, CopyAlike, CopyFiled, CopyPremise, EarlyUnequal}
+use Rattle.rules.specs.Entering.{Entered, entered, rights, EnteredInOrder}
+use Rattle.rules.specs.Copying.{copied_regions, op_copy, block_copy, region_copy, value_copy, copied, copy_mapping, placed_outside, in_time, copy_nests, copy_tests}
+use Rattle.rules.specs.CopyLaws.{CopyEqual, CopyAlike, CopyFiled, NumberedInOrder, CopyOrder, CopyPremise, EarlyUnequal}
 use Rattle.rules.proofs.Basics.Tests.{and_left, and_right, clash, decided}
 use Rattle.rules.proofs.Soundness.Sound.{Sound, facts}
 use Rattle.rules.proofs.Soundness.Accepted.{first_failed_none}
@@ -30,9 +31,15 @@ use Rattle.rules.proofs.Types.Under as under
 use Rattle.rules.proofs.Form.Canonical.{canonical→equal, equal→canonical, canonical→hash}
 use Rattle.rules.proofs.Form.SideBySide.{side_by_side}
 use Rattle.rules.proofs.Keys.Writing.{canonical→key}
+use Rattle.rules.proofs.Basics.Distinct.{concat_map_same}
+use Rattle.rules.proofs.Entering.{entered_in_order}
+use Rattle.rules.proofs.Copying.Inside.{ops_distinct, blocks_distinct, values_distinct, copied_distinct}
+use Rattle.rules.proofs.Copying.Moved.{Moved}
+use Rattle.rules.proofs.Copying.Renumbered.{consecutive}
+use Rattle.rules.proofs.Copying.Walked.{concat_map_map, map_concat_map}
 use Rattle.rules.proofs.Copying.Tables.{ops_length}
 use Rattle.rules.proofs.Copying.Kept.{op_copied, sound_exactly}
-use Rattle.rules.proofs.Copying.Twin.{root_copy, ops_stay, blocks_stay, values_stay, ops_copied, blocks_copied, values_copied, names_forth, premise, one_form, form_in_time}
+use Rattle.rules.proofs.Copying.Twin.{root_copy, ops_stay, blocks_stay, values_stay, ops_copied, blocks_copied, values_copied, copy_moved, names_forth, premise, one_form, form_in_time}
 
 module _ (s : Store) (h : sound s ≡ true) (n : ℕ) (place : Option ℕ) (e : (op_exists s n && parent_exists s place) ≡ true) (out : placed_outside s n place ≡ true)
     (nests : copy_nests s n place ≡ true) (totals : totals_hold (copied s n place) ≡ true) where
@@ -107,6 +114,43 @@ module _ (s : Store) (h : sound s ≡ true) (n : ℕ) (place : Option ℕ) (e : 
             ∙ λ i. enter_all ((ap (concat_map op_owner) (under.owners types with op n) ∙ ops_stay s sd n ex place pe out) i)
             ((ap (concat_map op_owner) (under.owners types with op copy) ∙ ops_copied s sd n ex place pe out) i) empty_mapping.ops
 
+  -- ---- the order of the numbers
+
+  module _ (types : List ℕ) (ig : Ignore) (eq : Equal (renamed types with) ig op n copy) where
+    pairs : List Entered
+    pairs = entered (renamed types with) ig op n copy empty_mapping
+
+    on_right : rights pairs ≡ defines_owners with op copy
+    unfolding pairs EnteredInOrder equal
+    on_right = (entered_in_order (renamed types with) ig op n copy empty_mapping eq).1 ∙ under.owners types with op copy
+
+    ops_on_right : concat_map op_owner (rights pairs) ≡ map (op_copy s n) (fragment_ops s op n)
+    unfolding fragment_ops
+    ops_on_right = ap (concat_map op_owner) on_right ∙ ops_copied s sd n ex place pe out
+
+    regions_of_copies : concat_map (regions_of with) (map (op_copy s n) (fragment_ops s op n)) ≡ map (region_copy s n) (copied_regions s n)
+    unfolding copied_regions
+    regions_of_copies =
+        concat_map_map (regions_of with) (op_copy s n) (fragment_ops s op n)
+        ∙ concat_map_same _ _ (fragment_ops s op n) (copy_moved s sd n ex place pe).regions
+        ∙ sym (map_concat_map (region_copy s n) (regions_of s) (fragment_ops s op n))
+
+    in_order : NumberedInOrder s with pairs
+    unfolding op_copy block_copy value_copy region_copy defines_blocks defines_values copied_regions
+    in_order =
+        record {
+          ops = rw ops_on_right (consecutive (fragment_ops s op n) (length s.ops) (ops_distinct s sd n ex));
+          regions =
+              rw (ops_on_right, regions_of_copies)
+              (consecutive (copied_regions s n) (length s.regions) (copied_distinct s sd n ex));
+          blocks =
+              rw (ap (concat_map block_owner) on_right ∙ blocks_copied s sd n ex place pe out)
+              (consecutive (defines_blocks s op n) (length s.blocks) (blocks_distinct s sd n ex));
+          values =
+              rw (ap (concat_map (values_of with)) on_right ∙ values_copied s sd n ex place pe out)
+              (consecutive (defines_values s op n) (length s.values) (values_distinct s sd n ex));
+        }
+
   -- ---- an early name
 
   early : (ig : Ignore) → Equal with ig op n copy → in_time s n (steps s op n) no_numbers ≡ true
@@ -132,6 +176,12 @@ unfolding CopyFiled CopyEqual copy_tests
 copy_filed s h n place c types ig =
     let p = first_failed_none _ c in
     filed_is s h n place p.0 p.1.0 p.1.1.1.0 p.1.1.1.1.0 types ig (copy_equal s h n place c types ig)
+
+pub copy_order : CopyOrder
+unfolding CopyOrder CopyEqual copy_tests pairs
+copy_order s h n place c types ig =
+    let p = first_failed_none _ c in
+    in_order s h n place p.0 p.1.0 p.1.1.1.0 p.1.1.1.1.0 types ig (copy_equal s h n place c types ig)
 
 pub copy_premise : CopyPremise
 unfolding CopyPremise copy_tests

@@ -269,3 +269,9 @@ module _ {A : Type 0} (xs : List A) (g : ℕ → A) (C : List ℕ) where
       ∙ ap₂ ◌++◌ (numbers_from_none 0 p xs h) refl
       ∙ ap (λ (k : ℕ). numbers_from k p (map g C)) (omega arith)
       ∙ numbers_copied p g C (length xs) d
+
+-- a list's own new numbers are the next ones, one after the other
+pub consecutive : (C : List ℕ) (next : ℕ) → Distinct C → (i : ℕ) → i < length (map (renumbered C next) C) → get_or (map (renumbered C next) C) i 0 ≡ next + i
+consecutive C next d i l =
+    let h : i < length C = simp length-map at l in
+    get_d_map (renumbered C next) C i 0 h ∙ number_at C next (get_or C i 0) i (position_at C d i h)

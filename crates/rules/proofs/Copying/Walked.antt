@@ -8,6 +8,7 @@ use mathlib.Core.Option
 use mathlib.Core.Option.{some}
 use mathlib.Core.Path.{◌≡◌, refl, sym, ap, ap₂, subst, ◌∙◌}
 use lib.ListN.{length, get_or}
+use Rattle.std.proofs.lemmas.List.{map-append}
 use Rattle.rules.specs.Lists.{concat_map}
 use Rattle.rules.specs.Store.{Store, Owner, of_op, of_block, ops_of, blocks_of, regions_of, op_around}
 use Rattle.rules.specs.Fragments.{Sort, block, region, Step, shell, names, counted, op, full_op, shells, list_steps, region_steps, levels, steps, step_defines, op_owner, block_owner, defines_owners, defines_blocks, fragment_ops}
@@ -18,10 +19,15 @@ use Rattle.rules.proofs.Copying.Renumbered.{Before, here, there, in_concat_map, 
 
 -- ---- lists of lists
 
-concat_map_map : {A B C : Type 0} (f : B → List C) (g : A → B) (xs : List A) → concat_map f (map g xs) ≡ concat_map (λ (x : A). f (g x)) xs
+pub concat_map_map : {A B C : Type 0} (f : B → List C) (g : A → B) (xs : List A) → concat_map f (map g xs) ≡ concat_map (λ (x : A). f (g x)) xs
 unfolding concat_map
 concat_map_map f g [] = refl
 concat_map_map f g (x ∷ xs) = ap (λ (l : List _). f (g x) ++ l) (concat_map_map f g xs)
+
+pub map_concat_map : {A B C : Type 0} (f : B → C) (g : A → List B) (xs : List A) → map f (concat_map g xs) ≡ concat_map (λ (x : A). map f (g x)) xs
+unfolding concat_map
+map_concat_map f g [] = refl
+map_concat_map f g (x ∷ xs) = map-append f (g x) (concat_map g xs) ∙ ap (λ (l : List _). map f (g x) ++ l) (map_concat_map f g xs)
 
 concat_map_none : {A B : Type 0} (f : A → List B) (xs : List A) → ((x : A) → f x ≡ []) → concat_map f xs ≡ []
 unfolding concat_map
@@ -59,7 +65,7 @@ module _ (s : Store) where
     unfolding shells concat_map
     of_shells w xs = ap₂ ◌++◌ (uncounted (length xs)) (concat_map_map f (λ (n : ℕ). shell (w n)) xs)
 
-    parts : (full : ℕ → List Step) (bs : List ℕ)
+    pub parts : (full : ℕ → List Step) (bs : List ℕ)
         → concat_map f (list_steps s full bs)
         ≡ concat_map (λ (b : ℕ). f (shell (of_block b))) bs
         ++ concat_map (λ (b : ℕ). concat_map (λ (m : ℕ). f (shell (of_op m))) (ops_of s b)) bs

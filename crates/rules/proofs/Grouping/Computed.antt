@@ -2,7 +2,7 @@
 use mathlib.Core.Path.{refl}
 use Rattle.rules.specs.Lists.{every, is_some, all, any, filter, numbers_from, numbers_where, update_at, all_pairs, same_list, concat_map, sum}
 use Rattle.rules.specs.Store.{empty_store, op_at, block_at, value_at, type_of, same_owner, is_parent, ops_of, blocks_of, regions_of, values_of, op_exists, block_exists, region_exists, value_exists, owner_exists, parent_exists, parent_of, op_around, levels_left, nesting_holds, operand_total, successor_total, attribute_total}
-use Rattle.rules.specs.Fragments.{exists, full_op, shells, list_steps, region_steps, steps, step_defines, step_operands, step_successors, op_owner, block_owner, defines_owners, defines_values, defines_blocks, names_values, names_blocks}
+use Rattle.rules.specs.Fragments.{exists, full_op, shells, list_steps, region_steps, steps, step_defines, step_operands, step_successors, op_owner, block_owner, defines_owners, defines_values, defines_blocks, fragment_ops, names_values, names_blocks}
 use Rattle.rules.specs.Building.{tests, attributes_of, has_key, operation_names, operation_fits, operation_room, block_room, first_failed, put_attribute, op_with_attribute, op_with_operand, values_for, applied, store_by, built, after}
 use Rattle.rules.specs.Shells.{ignored, unignored, unignored_location, shell_of, counts_of, same_location, same_shells}
 use Rattle.rules.specs.Mapping.{empty_mapping, or_self, image, enter_all}
@@ -16,14 +16,17 @@ use Rattle.rules.specs.Grouping.{is_twin, twin_of, twins_of, twin_word, twin_tes
 use Rattle.rules.specs.Cases.{ignoring, attribute, operation, block_in, enclosing, first_operand, nested}
 use Rattle.rules.specs.Statements.{alike, tangled}
 use Rattle.rules.specs.GroupingLaws.{TwinlessEqual}
+use Rattle.rules.specs.CopyCases.{operation_in}
 use Rattle.rules.specs.GroupingCases.{GroupingCases}
 
 pub grouping_cases_hold : GroupingCases
-unfolding every is_some all any filter numbers_from numbers_where update_at all_pairs same_list concat_map sum empty_store op_at block_at same_owner ops_of blocks_of regions_of values_of op_exists block_exists parent_of op_around nesting_holds exists full_op shells list_steps region_steps steps step_defines step_operands step_successors op_owner block_owner defines_owners defines_values defines_blocks names_values names_blocks tests attributes_of operation_names operation_fits operation_room block_room first_failed put_attribute op_with_attribute op_with_operand values_for applied store_by built after ignored unignored counts_of same_location same_shells empty_mapping pairwise each_pair expect enter_ops pair_ops enter_blocks pair_blocks operands_agree check_names check_ops pass1 pass2 pass3 compare_lists compare_regions compare_by start compare types_hold renamed succeeds equal first_of disjoint names_nothing_of independent independence_tests independence_by independence is_twin twin_of twins_of twin_word twin_tests grouping_by grouping ignoring attribute operation block_in enclosing first_operand nested alike tangled operand_total successor_total successors_agree region_exists value_exists owner_exists has_key each_once written parent_exists type_of value_at image or_self enter_all attribute_total levels_left shell_of unignored_location is_parent whole_rows old_types present_types
+unfolding every is_some all any filter numbers_from numbers_where update_at all_pairs same_list concat_map sum empty_store op_at block_at same_owner ops_of blocks_of regions_of values_of op_exists block_exists parent_of op_around nesting_holds exists full_op shells list_steps region_steps steps step_defines step_operands step_successors op_owner block_owner defines_owners defines_values defines_blocks names_values names_blocks tests attributes_of operation_names operation_fits operation_room block_room first_failed put_attribute op_with_attribute op_with_operand values_for applied store_by built after ignored unignored counts_of same_location same_shells empty_mapping pairwise each_pair expect enter_ops pair_ops enter_blocks pair_blocks operands_agree check_names check_ops pass1 pass2 pass3 compare_lists compare_regions compare_by start compare types_hold renamed succeeds equal first_of disjoint names_nothing_of independent independence_tests independence_by independence is_twin twin_of twins_of twin_word twin_tests grouping_by grouping ignoring attribute operation block_in enclosing first_operand nested alike tangled operand_total successor_total successors_agree region_exists value_exists owner_exists has_key each_once written parent_exists type_of value_at image or_self enter_all attribute_total levels_left shell_of unignored_location is_parent whole_rows old_types present_types operation_in fragment_ops
 grouping_cases_hold =
     record {
       alike = refl;
       inner = refl;
+      inside_another = refl;
+      is_inside = refl;
       located = refl;
       kind_ignored = refl;
       kind_counted = refl;

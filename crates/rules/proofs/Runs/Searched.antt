@@ -133,17 +133,17 @@ module _ (s : Store) (ig : Ignore) (b n : ℕ) where
   -- no left start for this right one: no run before it is the same
   none_left : (j : ℕ) → left_start s ig b n j ≡ none → (i : ℕ) → i + n ≤ j → same_runs s ig b n i j ≡ false
   unfolding left_start
-  none_left j e i l = first_none (suc j - n) 0 (λ (u : ℕ). same_runs s ig b n u j) e i (omega arith) (omega arith)
+  none_left j e i l = first_none _ 0 (λ (u : ℕ). same_runs s ig b n u j) e i (omega arith) (omega arith)
 
   none_found : repeated s ig b n ≡ none → (r : Run) → Apart s b n r → Same s ig b n r → ⊥
   unfolding repeated Apart Same
   none_found e r (l, m) h =
-      let no = run_none (suc many - n) 0 (left_start s ig b n) e r.right (omega arith) (omega arith) in
+      let no = run_none _ 0 (left_start s ig b n) e r.right (omega arith) (omega arith) in
       clash h (none_left r.right no r.left l)
 
   -- two numbers, one after the other or not
   module _ (r q : Run) (l : q.left + n ≤ q.right) (h : same_runs s ig b n q.left q.right ≡ true)
-      (f : FirstRun (suc many - n) 0 (left_start s ig b n) r) (g : First (suc r.right - n) 0 (λ (u : ℕ). same_runs s ig b n u r.right) r.left) where
+      {j k : ℕ} (f : FirstRun j 0 (left_start s ig b n) r) (g : First k 0 (λ (u : ℕ). same_runs s ig b n u r.right) r.left) where
     -- with the same right start
     smallest_left : q.right ≡ r.right → (q.left < r.left) ⊎ (r.left ≤ q.left) → r.left ≤ q.left
     smallest_left e (inl y) = clash (subst (λ (w : ℕ). same_runs s ig b n q.left w ≡ true) e h) (g.fails q.left (omega arith) y)
@@ -158,11 +158,9 @@ module _ (s : Store) (ig : Ignore) (b n : ℕ) where
   found : (r : Run) → repeated s ig b n ≡ some r → Apart s b n r × Same s ig b n r × ((q : Run) → Apart s b n q → Same s ig b n q → Before r q)
   unfolding repeated left_start Apart Same
   found r e =
-      let f = run_found_lem (suc many - n) 0 (left_start s ig b n) r e in
-      let g = first_found (suc r.right - n) 0 (λ (u : ℕ). same_runs s ig b n u r.right) r.left f.has in
-      let high : r.right < 0 + (suc many - n) = f.high in
-      let near : r.left < 0 + (suc r.right - n) = g.high in
-      ((omega arith, omega arith), g.passes, λ q a h. smallest_right r q a.0 h f g (below_or q.right r.right) (ℕ_discrete q.right r.right))
+      let f = run_found_lem _ 0 (left_start s ig b n) r e in
+      let g = first_found _ 0 (λ (u : ℕ). same_runs s ig b n u r.right) r.left f.has in
+      ((omega (arith, g.high), omega (arith, f.high)), g.passes, λ q a h. smallest_right r q a.0 h f g (below_or q.right r.right) (ℕ_discrete q.right r.right))
 
 pub repeated_found : RepeatedFound
 unfolding RepeatedFound

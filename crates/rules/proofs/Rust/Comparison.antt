@@ -15,7 +15,7 @@ use Rattle.rules.specs.Fragments.{Sort, op, block, region, levels}
 use Rattle.rules.specs.Shells.{Ignore}
 use Rattle.rules.specs.Mapping.{Mapping}
 use Rattle.rules.specs.Comparison.{State, Pair, Stop, unequal, one_longer, Walk, on, ended, standing, ◌>>=◌, pairwise, each_pair, pair_of, pair_ops, pair_blocks, operands_agree, successors_agree, check_names, check_ops, pass1, pass2, pass3, compare_lists, compare_regions, compare_by, start, compare}
-use Rattle.rules.specs.Rust.{next, Zipped, zip, differ, count_from, up_to, EqResult, Eq, FirstNEQOps, FirstNEQRegions, FirstNEQBlocks, no_answer, Returned, answers, or_return, and_then, for_each, op_eq_map, block_eq_map, region_pairs, op_eq_mapped, ops_of_blocks, full_ops_of_blocks, Err, ok, or_return_ok, or_else, resolved, blocks_eq, region_eq, basic_block_eq, operation_eq, rust_eq}
+use Rattle.rules.specs.Rust.{next, Zipped, zip, differ, count_from, up_to, EqResult, Eq, FirstNEQOps, FirstNEQRegions, FirstNEQBlocks, no_answer, Returned, answers, or_return, and_then, for_each, op_eq_map, block_eq_map, get_region, with_both, for_regions, op_eq_mapped, ops_of_blocks, full_ops_of_blocks, Err, ok, or_return_ok, or_else, resolved, blocks_eq, region_eq, basic_block_eq, operation_eq, rust_eq}
 use Rattle.rules.specs.Agreement.{named_by, named, result_of, answered, met_one_longer, ComparesAsTheRust}
 use Rattle.rules.proofs.Basics.Tests.{clash}
 use Rattle.rules.proofs.Soundness.Sound.{Sound, facts, sound_of}
@@ -134,17 +134,20 @@ agree_pairwise f g h p (l ∷ ls) (r ∷ rs) st =
 
 -- ---- regions of one number, by their places
 
-pub places : {A : Type 0} (f : ℕ → A) (a n : ℕ) → map f (count_from (suc a) n) ≡ map (λ (i : ℕ). f (suc i)) (count_from a n)
-unfolding count_from
-places f a zero = refl
-places {A} f a (suc n) = ap (λ (xs : List A). f (suc a) ∷ xs) (places f (suc a) n)
+shifted : (f : ℕ → ℕ → Mapping → Returned) (x y : ℕ) (xs ys : List ℕ) (a n : ℕ)
+    → for_regions f (x ∷ xs) (y ∷ ys) (count_from (suc a) n) ≡ for_regions f xs ys (count_from a n)
+unfolding for_regions count_from get_region
+shifted f x y xs ys a zero = refl
+shifted f x y xs ys a (suc n) = λ i m. and_then (with_both f (get_region xs a) (get_region ys a) m) (shifted f x y xs ys (suc a) n i)
 
-by_place : (xs ys : List ℕ) → length xs ≡ length ys → map (λ (i : ℕ). (get_or xs i 0, get_or ys i 0)) (up_to (length xs)) ≡ (zip xs ys).pairs
-unfolding up_to count_from zip
-by_place [] [] l = refl
-by_place [] (y ∷ ys) l = absurd (omega arith)
-by_place (x ∷ xs) [] l = absurd (omega arith)
-by_place (x ∷ xs) (y ∷ ys) l = ap (λ (ps : List (ℕ × ℕ)). (x, y) ∷ ps) (places _ 0 (length xs) ∙ by_place xs ys (omega arith))
+by_place : (f : ℕ → ℕ → Mapping → Returned) (xs ys : List ℕ) → length xs ≡ length ys → for_regions f xs ys (up_to (length xs)) ≡ for_each f (zip xs ys).pairs
+unfolding for_regions for_each up_to count_from get_region with_both zip
+by_place f [] [] l = refl
+by_place f [] (y ∷ ys) l = absurd (omega arith)
+by_place f (x ∷ xs) [] l = absurd (omega arith)
+by_place f (x ∷ xs) (y ∷ ys) l =
+    let rest : for_regions f (x ∷ xs) (y ∷ ys) (count_from 1 (length xs)) ≡ for_each f (zip xs ys).pairs = shifted f x y xs ys 0 (length xs) ∙ by_place f xs ys (omega arith) in
+    λ i m. and_then (f x y m) (rest i)
 
 -- ---- the three passes
 
@@ -218,14 +221,15 @@ module _ (s : Store) (sd : Sound s) (ig : Ignore) where
     -- `op_eq_mapped`, of two operations that are paired
     agree_ops : (l r : ℕ) → In_regions l → Counts s l r
         → (st : State) → Agree (check_ops s regions l r st) (op_eq_mapped s region_eq' l r st.mapping)
-    unfolding check_ops check_names op_eq_mapped region_pairs named named_by pair_of and_then or_return answers In_regions
+    unfolding check_ops check_names op_eq_mapped named named_by pair_of and_then or_return answers In_regions
     agree_ops l r same c st =
-        let pairs : region_pairs s l r ≡ (zip (regions_of s l) (regions_of s r)).pairs = by_place (regions_of s l) (regions_of s r) (regions_count s ig l r c) in
+        let pairs : for_regions region_eq' (regions_of s l) (regions_of s r) (up_to (length (regions_of s l))) ≡ for_each region_eq' (zip (regions_of s l) (regions_of s r)).pairs =
+        by_place region_eq' (regions_of s l) (regions_of s r) (regions_count s ig l r c) in
         let m = st.mapping in
         let neq = answers (FirstNEQOps l r) m in
         subst (Agree (check_names s l r st >>= each_pair regions (regions_of s l) (regions_of s r)))
-        (ap (λ (ps : List (ℕ × ℕ)). and_then (cond (operands_agree s m l r && successors_agree s m l r) (answers Eq m) neq) (for_each region_eq' ps)) (sym pairs)
-        ∙ names_tests _ _ _ _ m neq (for_each region_eq' (region_pairs s l r)) refl (operands_agree_lem s m l r) (successors_agree_lem s m l r))
+        (ap (and_then (cond (operands_agree s m l r && successors_agree s m l r) (answers Eq m) neq)) (sym pairs)
+        ∙ names_tests _ _ _ _ m neq (for_regions region_eq' (regions_of s l) (regions_of s r) (up_to (length (regions_of s l)))) refl (operands_agree_lem s m l r) (successors_agree_lem s m l r))
         (agree_bind (check_names s l r st) _ _ _ (inr (answered_expect _ (pair_of op l r) st st))
         (λ st' e. agree_each regions region_eq' (λ (a b : ℕ). Unit {0}) (regions_of s l) (regions_of s r) (λ a b m u. same a b m)
         (same_length (regions_of s l) (regions_of s r) (regions_count s ig l r c)) st'))

@@ -20,7 +20,7 @@ use Rattle.rules.proofs.Form.Hashes.{fnv_append}
 use Rattle.rules.proofs.Form.Once.{values_once_lem, blocks_once_lem}
 use Rattle.rules.proofs.Attributes.{filter_rises}
 use Rattle.rules.proofs.Rust.Attributes.{sort_same}
-use Rattle.rules.proofs.Rust.Comparison.{op_keys, block_keys_lem, places}
+use Rattle.rules.proofs.Rust.Comparison.{op_keys, block_keys_lem}
 use Rattle.rules.proofs.Rust.Numbering.{indexed, lookup_place, define_all_lem}
 
 -- ---- loops
@@ -48,6 +48,11 @@ module _ {A B : Type 0} where
   in_concat f g (x ∷ xs) h = in_append f (g x) (concat_map g xs) h ∙ in_concat f g xs (for_in f (g x) h)
 
 -- a list by its places
+places : {A : Type 0} (f : ℕ → A) (a n : ℕ) → map f (count_from (suc a) n) ≡ map (λ (i : ℕ). f (suc i)) (count_from a n)
+unfolding count_from
+places f a zero = refl
+places {A} f a (suc n) = ap (λ (xs : List A). f (suc a) ∷ xs) (places f (suc a) n)
+
 by_places : (xs : List ℕ) → map (λ (i : ℕ). get_or xs i 0) (up_to (length xs)) ≡ xs
 unfolding up_to count_from
 by_places [] = refl

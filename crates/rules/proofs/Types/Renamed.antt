@@ -43,18 +43,6 @@ module _ (rows : List ℕ) (s : Store) where
   unfolding renamed values_of numbers_where
   values_renamed w = numbers_renamed rows w 0 s.values
 
-  -- ---- what exists
-
-  pub exists_renamed : (f : Sort) (n : ℕ) → exists other f n ≡ exists s f n
-  unfolding renamed exists op_exists block_exists region_exists
-  exists_renamed op n = refl
-  exists_renamed block n = refl
-  exists_renamed region n = refl
-
-  pub allowed_renamed : (m : Mapping) → allowed other m ≡ allowed s m
-  unfolding renamed allowed
-  allowed_renamed m = rw values_length
-
   -- ---- steps of a walk
 
   region_steps_lem : (k r : ℕ) → region_steps k other r ≡ region_steps k s r
@@ -67,6 +55,18 @@ module _ (rows : List ℕ) (s : Store) where
   steps_renamed op n = λ i. shell (of_op n) ∷ full_op s (λ (q : ℕ). region_steps_lem levels q i) n
   steps_renamed block n = λ i. list_steps s (full_op s (λ (q : ℕ). region_steps_lem levels q i)) (n ∷ [])
   steps_renamed region n = region_steps_lem levels n
+
+  -- ---- what exists
+
+  pub exists_renamed : (f : Sort) (n : ℕ) → exists other f n ≡ exists s f n
+  unfolding renamed exists op_exists block_exists region_exists
+  exists_renamed op n = refl
+  exists_renamed block n = refl
+  exists_renamed region n = refl
+
+  pub allowed_renamed : (m : Mapping) → allowed other m ≡ allowed s m
+  unfolding renamed allowed
+  allowed_renamed m = rw values_length
 
   -- ---- soundness
 

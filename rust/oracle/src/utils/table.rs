@@ -16,21 +16,50 @@ impl Default for FxHasher {
     }
 }
 
+/// FNV's prime, and its powers modulo 2^64.
+const PRIME: u64 = 1099511628211;
+const PRIME_3: u64 = PRIME.wrapping_pow(3);
+const PRIME_4: u64 = PRIME.wrapping_pow(4);
+const PRIME_8: u64 = PRIME.wrapping_pow(8);
+
+impl FxHasher {
+    /// Takes a byte, and with it the bytes of 0 behind it, which only multiply: `power` is the
+    /// prime's for all of them.
+    fn add(&mut self, byte: u64, power: u64) {
+        self.0 = (self.0 ^ byte).wrapping_mul(power);
+    }
+}
+
 /// The methods through which numbers come, each lowest byte first on every machine, and a count
-/// always as 8 bytes.
+/// always as 8 bytes. The upper bytes of a small number are one product, as in Warzhigo: where the
+/// two are measured beside each other, both hash in the same way.
 impl Hasher for FxHasher {
     fn write(&mut self, bytes: &[u8]) {
         for byte in bytes {
-            self.0 = (self.0 ^ u64::from(*byte)).wrapping_mul(1099511628211);
+            self.add(u64::from(*byte), PRIME);
         }
     }
 
     fn write_u32(&mut self, word: u32) {
-        self.write(&word.to_le_bytes());
+        match word {
+            0..=0xff => self.add(word.into(), PRIME_4),
+            0x100..=0xffff => {
+                self.add((word & 0xff).into(), PRIME);
+                self.add((word >> 8).into(), PRIME_3);
+            }
+            _ => self.write(&word.to_le_bytes()),
+        }
     }
 
     fn write_usize(&mut self, count: usize) {
-        self.write(&(count as u64).to_le_bytes());
+        match count as u64 {
+            count @ 0..=0xff => self.add(count, PRIME_8),
+            count @ 0x100..=0xffff_ffff => {
+                self.write_u32(count as u32);
+                self.0 = self.0.wrapping_mul(PRIME_4);
+            }
+            count => self.write(&count.to_le_bytes()),
+        }
     }
 
     fn finish(&self) -> u64 {

@@ -9,7 +9,7 @@ use alloc::vec::Vec;
 use super::allowed::AllowedWords;
 use super::*;
 use crate::columns::numbered;
-use crate::equivalence::{Ignore, Sort};
+use crate::equivalence::{Fragment, Ignore, Sort};
 use crate::eras::Eras;
 use crate::refused::Refused;
 use crate::renamed::Options;
@@ -188,6 +188,24 @@ impl SoundWords {
         };
         // SAFETY: as above.
         unsafe { call(self.words.as_ptr(), self.words.len(), n, ignore.locations, ignore.bits) }
+    }
+
+    /// How long a key will be. Refused by 2 where the fragment is of another store, or has gone away.
+    #[inline]
+    pub(crate) fn key_length<I: Fragment>(&self, fragment: I, options: Options) -> Result<usize, Refused> {
+        if !self.eras.has(fragment) {
+            return Err(Refused::NOTHING_THERE);
+        }
+        let call = match I::SORT {
+            Sort::Op => wz_known_operation_key_length,
+            Sort::Block => wz_known_basic_block_key_length,
+            Sort::Region => wz_known_region_key_length,
+        };
+        let (store, words) = (self.words.as_ptr(), self.words.len());
+        let (index, rows) = options.types.index.lent();
+        // SAFETY: as above; and the fragment exists, as these calls ask for too: its id is good for the eras of this store, of which one
+        // begins whenever numbers go away.
+        Ok(unsafe { call(store, words, index, rows, fragment.number(), options.ignore.locations, options.ignore.bits) })
     }
 
     pub(crate) fn repeated_run(&self, block: u32, length: u32, options: Options) -> RunAnswer {

@@ -93,6 +93,18 @@ fn nested_twins() {
     assert!(!independent(&store, Sort::Op, 0, 1) && !independent(&store, Sort::Op, 0, 2) && independent(&store, Sort::Op, 0, 3));
 }
 
+/// The second of two twins goes, and with it one inside it that stands for one inside the first: of twins one inside another the outermost are
+/// merged.
+#[test]
+fn one_that_stands_for_another_inside_one_that_goes() {
+    let mut store = Store::new();
+    let [(_, _, first), (_, _, second)] = [(); 2].map(|()| outer(&mut store, &ALIKE));
+    for parent in [second, first] {
+        store.new_operation(&NewOperation { kind: 2, parent: Some(parent), ..ALIKE }).unwrap();
+    }
+    assert_eq!(twins(&store, EVERYTHING), [None, Some(0), None, Some(2)]);
+}
+
 /// They share what is inside, but each is independent of itself.
 #[test]
 fn an_operation_and_one_inside_it() {

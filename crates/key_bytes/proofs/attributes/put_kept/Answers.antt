@@ -10,12 +10,12 @@ use Rattle.fragments.specs.SlotsLeft.{slots_left}
 use Rattle.fragments.proofs.Kept.{kept_by_slots, slot_in_run}
 use Rattle.fragments.proofs.Yielded.{item_comes, all_came, comes_mem}
 use Rattle.key_bytes.proofs.Entries.{none_put, more_put, each_mapped}
-use Rattle.key_bytes.proofs.Putting.{puts_as}
+use Rattle.key_bytes.proofs.Putting.{puts_rest, put_all, put_as}
 use Rattle.key_bytes.proofs.Shelling.{slot_bytes}
 use Rattle.key_bytes.proofs.attributes.put_kept.Goals as goal
 
 pub loop-slot-init : goal.loop-slot-init
-loop-slot-init c = (_, _, none_put (slot_bytes (columns c.args.store.now)) _)
+loop-slot-init c = (_, _, none_put (slot_bytes (columns c.args.store.now)) _ _)
 
 pub put_slot-requires : goal.put_slot-requires
 put_slot-requires c =
@@ -27,8 +27,12 @@ put_slot-requires c =
     omega (arith, run.1, c.requires)
 
 pub loop-slot-preserved : goal.loop-slot-preserved
-loop-slot-preserved c =
-    (_, _, more_put (slot_bytes (columns c.args.store.now)) c.loop-slot.yielded c.in-Some.slot c.loop-slot.invariant.2 c.put_slot.ensures)
+loop-slot-preserved c = (
+  _,
+  _,
+  more_put (slot_bytes (columns c.args.store.now)) c.loop-slot.yielded c.in-Some.slot c.loop-slot.invariant.2
+      (puts_rest c.min-rest.ensures c.put_slot.ensures c.saturating_add-at.ensures),
+)
 
 pub returns : goal.returns
 returns c =
@@ -37,6 +41,6 @@ returns c =
     let all =
     all_came slots_left _ _ _ _ (ap slots_left c.into_iter-slot-iterator.ensures.into_iter_gives ∙ c.new-slot-items.ensures)
     c.loop-slot.yielded_by c.next.new.self _ c.in-None.is c.next.ensures.steps in
-    puts_as (ap (concat_map (slot_bytes C)) all
+    put_as (ap (concat_map (slot_bytes C)) all
     ∙ each_mapped attribute_bytes (attribute_at C) (kept_slots C (ignore_of a.ignore) a.first a.end)
-    ∙ ap (concat_map attribute_bytes) (sym (kept_by_slots C (ignore_of a.ignore) a.first a.end))) c.loop-slot.invariant.2
+    ∙ ap (concat_map attribute_bytes) (sym (kept_by_slots C (ignore_of a.ignore) a.first a.end))) (put_all (omega arith) c.loop-slot.invariant.2)

@@ -2,13 +2,13 @@
 use Rattle.fragments.specs.Terms.{options_in}
 use native.Mathlib.Omega.{arith}
 use Rattle.rules.specs.Store.{of_op}
-use Rattle.rules.specs.Hash.{leaf, count, head_bytes, shell_bytes}
+use Rattle.rules.specs.Hash.{count, head_bytes, shell_bytes}
 use Rattle.layout.specs.Columns.{columns}
 use Rattle.layout.specs.Reading.{store_in}
 use Rattle.layout.proofs.Laid.{laid_facts}
 use Rattle.fragments.specs.Options.{under}
 use Rattle.fragments.specs.Rows.{row_shell}
-use Rattle.key_bytes.proofs.Putting.{puts_then, puts_as}
+use Rattle.key_bytes.proofs.Putting.{put_then, put_as}
 use Rattle.key_bytes.proofs.Shelling.{head_bytes_lem, owner_bytes_lem}
 use Rattle.key_bytes.proofs.shells.put_own_op.Goals as goal
 
@@ -27,7 +27,7 @@ returns c =
     let o = options_in a.terms.now in
     let row = c.op_row in
     let shell = shell_bytes count (row_shell C o row.result) in
-    let kind = leaf c.at.result in
-    let head = puts_as (head_bytes_lem C o a.n c.requires.n_bound c.at.ensures c.op_regions.ensures)
-    (puts_then kind (count c.op_regions.result) c.put_leaf.ensures c.put_count.ensures) in
-    puts_as (owner_bytes_lem row.ensures o) (puts_then (head_bytes (under o (store_in a.terms.now.store.now)) (of_op a.n)) shell head c.put_row.ensures)
+    let head = put_as (head_bytes_lem C o a.n c.requires.n_bound c.at.ensures c.op_regions.ensures) c.put_head-second.ensures in
+    put_as (owner_bytes_lem row.ensures o)
+    (put_then (head_bytes (under o (store_in a.terms.now.store.now)) (of_op a.n)) shell (omega arith) head c.min-rest.ensures c.put_row.ensures
+    c.saturating_add.ensures)

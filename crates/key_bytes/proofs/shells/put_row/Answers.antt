@@ -1,6 +1,7 @@
 -- `put_row` meets its contract: location and attributes, then the present types. Assumes nothing.
 use Rattle.fragments.specs.Terms.{options_in}
 use Prim.Native.Nat.{ℕ}
+use native.Mathlib.Omega.{arith}
 use mathlib.Core.List.{List, map}
 use mathlib.Core.Path.{ap}
 use Rattle.rules.specs.Hash.{leaf, count, list_bytes}
@@ -11,7 +12,7 @@ use Rattle.fragments.specs.Ignoring.{ignore_of}
 use Rattle.fragments.specs.Rows.{row_shell}
 use Rattle.key_bytes.specs.Put.{place_bytes}
 use Rattle.key_bytes.proofs.Shelling.{shell_bytes_lem}
-use Rattle.key_bytes.proofs.Putting.{puts_then, puts_as}
+use Rattle.key_bytes.proofs.Putting.{put_then, put_as}
 use Rattle.key_bytes.proofs.shells.put_row.Goals as goal
 
 pub returns : goal.returns
@@ -20,6 +21,8 @@ returns c =
     let a = c.args in
     let C = columns a.terms.now.store.now in
     let o = options_in a.terms.now in
-    puts_as (shell_bytes_lem C o a.row)
-    (puts_then (place_bytes C (ignore_of a.terms.now.ignore) a.row) (list_bytes count leaf (row_shell C o a.row).types) c.put_place.ensures
-    (puts_as (ap (λ (own : List ℕ). list_bytes count leaf (map (present (list_in a.terms.now.types.now)) own)) c.words-own.ensures) c.put_types.ensures))
+    put_as (shell_bytes_lem C o a.row)
+    (put_then (place_bytes C (ignore_of a.terms.now.ignore) a.row) (list_bytes count leaf (row_shell C o a.row).types) (omega arith)
+    c.put_place-at.ensures c.min-rest.ensures
+    (put_as (ap (λ (own : List ℕ). list_bytes count leaf (map (present (list_in a.terms.now.types.now)) own)) c.words-own.ensures) c.put_types.ensures)
+    c.saturating_add.ensures)

@@ -4,11 +4,9 @@ use mathlib.Core.Path.{refl}
 use Rattle.rules.specs.Hash.{bytes, leaf}
 use Rattle.rules.specs.Types.{present}
 use Rattle.renaming.specs.Index.{list_in}
-use Rattle.key_bytes.proofs.Putting.{puts_short}
+use Rattle.key_bytes.proofs.Putting.{put_short}
 use Rattle.key_bytes.proofs.shells.put_type.Goals as goal
 
-pub returns-then-room-lt4 : goal.returns-then-room-lt4
+pub returns-then-key-lt4 : goal.returns-then-key-lt4
 unfolding bytes leaf
-returns-then-room-lt4 c =
-    let a = c.args in
-    puts_short (leaf 0) (leaf (present (list_in a.index.now) a.t)) refl (omega (arith, c.room.ensures, c.if-room-lt4.true)) c.put_leaf.ensures
+returns-then-key-lt4 c = put_short (leaf (present (list_in c.args.index.now) c.args.t)) (omega arith) refl (omega arith)

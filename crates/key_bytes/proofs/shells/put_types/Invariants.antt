@@ -6,11 +6,11 @@ use Rattle.rules.specs.Lists.{concat_map}
 use Rattle.rules.specs.Hash.{leaf}
 use Rattle.rules.specs.Types.{present}
 use Rattle.renaming.specs.Index.{list_in}
-use Rattle.key_bytes.specs.Put.{Puts}
+use Rattle.key_bytes.proofs.Putting.{Puts}
 use Rattle.key_bytes.proofs.shells.put_types.Given as goal
 
 abbrev pub renamed : List ℕ → ℕ → List ℕ
 renamed index t = leaf (present (list_in index) t)
 
 abbrev pub invariant-loop-t : goal.invariant-loop-t
-invariant-loop-t l = Puts (concat_map (renamed l.index) (take l.t-index l.types)) l.initial.key l.key
+invariant-loop-t l = Puts (concat_map (renamed l.index) (take l.t-index l.types)) l.initial.key l.initial.at l.key l.at

@@ -1,7 +1,8 @@
 -- `put_alone` meets its contract: what the operation is, then its names. Assumes nothing.
+use native.Mathlib.Omega.{arith}
 use Rattle.rules.specs.Store.{of_op}
 use Rattle.key_bytes.specs.Put.{owner_bytes}
-use Rattle.key_bytes.proofs.Putting.{puts_then, puts_as}
+use Rattle.key_bytes.proofs.Putting.{put_then, put_as}
 use Rattle.fragments.specs.Terms.{store_read, options_in}
 use Rattle.keys.proofs.Lone.{own_uses, alone_bytes}
 use Rattle.keys.proofs.alone.put_alone.Goals as goal
@@ -11,5 +12,6 @@ returns c =
     let a = c.args in
     let S = store_read a.terms.now in
     let o = options_in a.terms.now in
-    puts_as (alone_bytes S o a.n c.requires.n_value)
-    (puts_then (owner_bytes S o (of_op a.n)) (own_uses S o a.n) c.put_own_op.ensures c.put_own_uses.ensures)
+    put_as (alone_bytes S o a.n c.requires.n_value)
+    (put_then (owner_bytes S o (of_op a.n)) (own_uses S o a.n) (omega arith) c.put_own_op-at.ensures c.min-rest.ensures c.put_own_uses.ensures
+    c.saturating_add.ensures)

@@ -7,7 +7,7 @@ use mathlib.Core.Path.{◌≡◌, sym, ap, ◌∙◌}
 use Rattle.rules.specs.Store.{Store, of_op, op_at, values_of}
 use Rattle.rules.specs.Hash.{name_of}
 use Rattle.layout.specs.Reading.{tabulate_from, consecutive, store_in}
-use Rattle.key_bytes.proofs.Putting.{puts_then, puts_as}
+use Rattle.key_bytes.proofs.Putting.{put_then, put_as}
 use Rattle.keys.specs.Written.{names_bytes}
 use Rattle.keys.proofs.Naming.{outside_named}
 use Rattle.keys.proofs.alone.put_own_uses.Goals as goal
@@ -21,7 +21,9 @@ returns c =
     let many : r.value + r.values - r.value ≡ r.values = omega arith in
     let own : consecutive r.value (r.value + r.values - r.value) ≡ values_of store (of_op n) =
     ap (consecutive r.value) many ∙ sym c.op_row-row.ensures.values in
-    puts_then (names_bytes (values_of store (of_op n)) (op_at store n).operands) (names_bytes [] (op_at store n).successors)
-    (puts_as (λ i. names_bytes (own i) (c.operands_of.ensures i))
-    (c.put_uses.ensures.put (name_of (consecutive r.value (r.value + r.values - r.value))) (λ i x l h. search rules)))
-    (puts_as (ap (names_bytes []) c.successors_of.ensures) (c.put_uses-2.ensures.put (name_of []) (λ i x l h. search (rules, outside_named))))
+    put_then (names_bytes (values_of store (of_op n)) (op_at store n).operands) (names_bytes [] (op_at store n).successors) (omega arith)
+    (put_as (λ i. names_bytes (own i) (c.operands_of.ensures i))
+    (c.put_uses-at.ensures (name_of (consecutive r.value (r.value + r.values - r.value))) (λ i x l h. search rules)))
+    c.min-rest.ensures
+    (put_as (ap (names_bytes []) c.successors_of-successors.ensures) (c.put_uses.ensures (name_of []) (λ i x l h. search (rules, outside_named))))
+    c.saturating_add.ensures

@@ -1,20 +1,16 @@
 -- `fragment_key` meets its contract: a fragment that is not there and a key that does not fit are refused before anything is written. Assumes
 -- nothing.
-use Rattle.std.proofs.Common.{rules}
+use native.Mathlib.Omega.{arith}
 use mathlib.Core.Bool.{true}
-use mathlib.Core.Path.{◌≡◌, sym, ap, ◌∙◌}
+use mathlib.Core.Path.{◌≡◌, sym, ◌∙◌}
 use Rattle.rules.specs.Types.{types_hold}
-use Rattle.rules.specs.Extents as sizes
-use Rattle.rules.specs.Extents.{extent}
 use Rattle.layout.specs.Reading.{store_in}
 use Rattle.renaming.specs.Index.{list_in}
 use Rattle.renaming.proofs.Indexed.{index_holds}
 use Rattle.fragments.specs.Ignoring.{ignore_of}
 use Rattle.fragments.specs.Options.{options_of}
 use Rattle.fragments.specs.Sorts.{sort_of}
-use Rattle.key_bytes.proofs.Putting.{put_by}
 use Rattle.keys.specs.Calls.{keyed_of}
-use Rattle.keys.specs.Extents.{extent_means, of_numbers}
 use Rattle.keys.proofs.Answering.{longest, whole_length, missing, too_short_lem, given}
 use Rattle.keys.proofs.keys.fragment_key.Goals as goal
 
@@ -34,17 +30,22 @@ returns-then-not-key_fits c =
     too_short_lem a.store.now (list_in a.types.now) (ignore_of a.ignore) (sort_of a.sort) a.n a.lent.now c.requires.sound listed
     (sym c.exists.ensures ∙ c.if-not-exists.false) (sym (c.key_fits.ensures (list_in c.args.types.now)) ∙ c.if-not-key_fits.true)
 
+pub overflow_cast-result : goal.overflow_cast-result
+overflow_cast-result c =
+    let a = c.args in
+    let there = sym c.exists.ensures ∙ c.if-not-exists.false in
+    let w = whole_length (store_in a.store.now) (options_of a.ignore a.types.now) (sort_of a.sort) a.n c.requires.sound.ruled there c.put_fragment-bytes.ensures in
+    record { fits = omega (arith, w.1) }
+
 pub returns : goal.returns
-unfolding keyed_of extent_means of_numbers extent
+unfolding keyed_of
 returns c =
     let a = c.args in
     let S = store_in a.store.now in
     let o = options_of a.ignore a.types.now in
     let f = sort_of a.sort in
     let there = sym c.exists.ensures ∙ c.if-not-exists.false in
-    let put = c.put_fragment-extent.ensures in
-    let w = whole_length S o f a.n c.requires.sound.ruled there c.new-key.ensures.at put.puts in
     given a.store.now (list_in a.types.now) (ignore_of a.ignore) f a.n a.lent.now c.requires.sound
     (index_holds a.types.now c.requires.indexed) there (sym (c.key_fits.ensures (list_in a.types.now)) ∙ c.if-not-key_fits.false)
     (longest S o f a.n c.requires.sound.ruled there)
-    (put_by c.new-key.ensures.lent c.new-key.ensures.at (search rules) (ap (λ (e : sizes.Extent). e.bytes) put.extent ∙ sym w.0) put.puts.put)
+    c.put_fragment-bytes.ensures

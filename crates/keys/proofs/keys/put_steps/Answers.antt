@@ -1,4 +1,5 @@
 -- `put_steps` meets its contract, sort by sort. Assumes nothing.
+use native.Mathlib.Omega.{arith}
 use mathlib.Core.Bool.{true}
 use mathlib.Core.Path.{◌≡◌, subst}
 use Rattle.rules.specs.Store.{Store}
@@ -10,8 +11,7 @@ use Rattle.fragments.proofs.There.{there}
 use Rattle.numbering.specs.Numbered.{DefinitionsFit}
 use Rattle.numbering.proofs.Rounds.{block_steps, region_steps_lem, steps_room, steps_done}
 use Rattle.fragments.specs.Terms.{store_read, options_in}
-use Rattle.keys.specs.Written.{place}
-use Rattle.keys.proofs.Writing.{key_walk}
+use Rattle.keys.proofs.Writing.{spot, key_walk, wrote_first, wrote_all}
 use Rattle.keys.proofs.keys.put_steps.Goals as goal
 
 -- ---- an operation
@@ -26,7 +26,7 @@ pub put_op-requires-clause-definitions_fit : goal.put_op-requires-clause-definit
 unfolding sort_of
 put_op-requires-clause-definitions_fit c =
     let store : Store = store_read c.args.terms.now in
-    subst (λ x. DefinitionsFit store (steps store (sort_of x) c.args.n) c.args.walked.now.numbers) c.in-Op.is c.requires.definitions_fit
+    subst (λ x. DefinitionsFit store (steps store (sort_of x) c.args.n) c.args.numbers.now) c.in-Op.is c.requires.definitions_fit
 
 pub returns-in-Op : goal.returns-in-Op
 unfolding sort_of
@@ -44,15 +44,17 @@ pub put_blocks_full-requires-clause-definitions_fit : goal.put_blocks_full-requi
 unfolding sort_of
 put_blocks_full-requires-clause-definitions_fit c =
     let store : Store = store_read c.args.terms.now in
-    steps_room (key_walk store (options_in c.args.terms.now)) store block c.args.n _ (block_steps store c.args.n) {a = place c.args.walked.now c.args.key.now}
-    (subst (λ x. DefinitionsFit store (steps store (sort_of x) c.args.n) c.args.walked.now.numbers) c.in-Block.is c.requires.definitions_fit)
+    steps_room (key_walk store (options_in c.args.terms.now)) store block c.args.n _ (block_steps store c.args.n) {a = spot c.args.numbers.now c.args.key.now 0}
+    (subst (λ x. DefinitionsFit store (steps store (sort_of x) c.args.n) c.args.numbers.now) c.in-Block.is c.requires.definitions_fit)
 
 pub returns-in-Block : goal.returns-in-Block
 unfolding sort_of
 returns-in-Block c =
     let store : Store = store_read c.args.terms.now in
     rw c.in-Block.is
-    (steps_done (key_walk store (options_in c.args.terms.now)) store block c.args.n _ (block_steps store c.args.n) c.put_blocks_full.ensures)
+    (wrote_all store (options_in c.args.terms.now) (omega arith)
+    (steps_done (key_walk store (options_in c.args.terms.now)) store block c.args.n _ (block_steps store c.args.n)
+    (wrote_first store (options_in c.args.terms.now) c.put_blocks_full.ensures)))
 
 -- ---- a region
 
@@ -67,12 +69,15 @@ unfolding sort_of
 put_blocks_full-requires-in-Region-clause-definitions_fit c =
     let store : Store = store_read c.args.terms.now in
     steps_room (key_walk store (options_in c.args.terms.now)) store region c.args.n _
-    (region_steps_lem store c.args.terms.now.readable.sound.ruled c.args.n) {a = place c.args.walked.now c.args.key.now}
-    (subst (λ x. DefinitionsFit store (steps store (sort_of x) c.args.n) c.args.walked.now.numbers) c.in-Region.is c.requires.definitions_fit)
+    (region_steps_lem store c.args.terms.now.readable.sound.ruled c.args.n) {a = spot c.args.numbers.now c.args.key.now 0}
+    (subst (λ x. DefinitionsFit store (steps store (sort_of x) c.args.n) c.args.numbers.now) c.in-Region.is c.requires.definitions_fit)
 
 pub returns-in-Region : goal.returns-in-Region
 unfolding sort_of
 returns-in-Region c =
     let store : Store = store_read c.args.terms.now in
-    rw c.in-Region.is (steps_done (key_walk store (options_in c.args.terms.now)) store region c.args.n _
-    (region_steps_lem store c.args.terms.now.readable.sound.ruled c.args.n) c.put_blocks_full-in-Region.ensures)
+    rw c.in-Region.is
+    (wrote_all store (options_in c.args.terms.now) (omega arith)
+    (steps_done (key_walk store (options_in c.args.terms.now)) store region c.args.n _
+    (region_steps_lem store c.args.terms.now.readable.sound.ruled c.args.n)
+    (wrote_first store (options_in c.args.terms.now) c.put_blocks_full-in-Region.ensures)))

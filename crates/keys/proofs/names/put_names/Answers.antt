@@ -1,8 +1,9 @@
 -- `put_names` meets its contract: the operands, then the successors, and nothing is numbered. Assumes nothing.
 use Rattle.std.proofs.Common.{rules}
 use Prim.Native.Nat.{ℕ, ◌<◌}
+use native.Mathlib.Omega.{arith}
 use mathlib.Core.Bool.{true}
-use mathlib.Core.Path.{◌≡◌, refl, sym, ap, subst}
+use mathlib.Core.Path.{◌≡◌, sym, ap, subst}
 use lib.Dec.{ltb}
 use lib.ListN.{length, get_or}
 use Rattle.rules.specs.Lists.{all}
@@ -12,15 +13,15 @@ use Rattle.layout.specs.Reading.{value_count}
 use Rattle.layout.specs.Columns.{columns}
 use Rattle.layout.proofs.Tabulate.{ops_length, values_length}
 use Rattle.numbering.proofs.Rounds.{operands_there, successors_few, below_at}
-use Rattle.key_bytes.proofs.Putting.{puts_as}
+use Rattle.key_bytes.proofs.Putting.{put_then, put_as}
 use Rattle.fragments.specs.Terms.{store_read}
 use Rattle.keys.specs.Written.{names_bytes}
 use Rattle.keys.proofs.Naming.{block_named}
 use Rattle.keys.proofs.Writing.{wrote_names}
 use Rattle.keys.proofs.names.put_names.Goals as goal
 
-pub put_uses-requires : goal.put_uses-requires
-put_uses-requires c =
+pub put_uses-at-requires : goal.put_uses-at-requires
+put_uses-at-requires c =
     let store : Store = store_read c.args.terms.now in
     let inside : c.args.n < length store.ops =
     subst (λ (k : ℕ). c.args.n < k) (sym (ops_length (columns c.args.terms.now.store.now))) c.requires in
@@ -28,29 +29,31 @@ put_uses-requires c =
     let there : all (λ (v : ℕ). ltb v count) (op_at store c.args.n).operands ≡ true =
     subst (λ (k : ℕ). all (λ (v : ℕ). ltb v k) (op_at store c.args.n).operands ≡ true) (values_length (columns c.args.terms.now.store.now))
     (operands_there store c.args.terms.now.readable.sound.ruled c.args.n inside) in
-    let list = c.operands_of.result.now in
+    let list = c.operands_of-operands.result.now in
     let below : (i : ℕ) → i < length list → get_or list i 0 < count =
-    below_at count list (subst (λ xs. all (λ (v : ℕ). ltb v count) xs ≡ true) (sym c.operands_of.ensures) there) in
+    below_at count list (subst (λ xs. all (λ (v : ℕ). ltb v count) xs ≡ true) (sym c.operands_of-operands.ensures) there) in
     search rules
 
-pub put_uses-requires-2 : goal.put_uses-requires-2
-put_uses-requires-2 c =
+pub put_uses-requires : goal.put_uses-requires
+put_uses-requires c =
     let store : Store = store_read c.args.terms.now in
     let inside : c.args.n < length store.ops =
     subst (λ (k : ℕ). c.args.n < k) (sym (ops_length (columns c.args.terms.now.store.now))) c.requires in
     let few : all (λ (b : ℕ). ltb b max_blocks) (op_at store c.args.n).successors ≡ true =
     successors_few store c.args.terms.now.readable.sound.ruled c.args.n inside in
-    let list = c.successors_of.result.now in
+    let list = c.successors_of-successors.result.now in
     let below : (i : ℕ) → i < length list → get_or list i 0 < max_blocks =
-    below_at max_blocks list (subst (λ xs. all (λ (b : ℕ). ltb b max_blocks) xs ≡ true) (sym c.successors_of.ensures) few) in
+    below_at max_blocks list (subst (λ xs. all (λ (b : ℕ). ltb b max_blocks) xs ≡ true) (sym c.successors_of-successors.ensures) few) in
     search rules
 
 pub returns : goal.returns
 unfolding names_bytes
 returns c =
     let store : Store = store_read c.args.terms.now in
-    let f = c.put_uses.ensures in
-    let g = c.put_uses-2.ensures in
-    λ o. wrote_names store o c.args.n refl f.same_reference g.same_reference
-    (λ N h. puts_as (ap (names_bytes N.values) c.operands_of.ensures) (f.put (name_of N.values) (λ i x l p. search rules)))
-    (λ N h. puts_as (ap (names_bytes N.blocks) c.successors_of.ensures) (g.put (name_of N.blocks) (λ i x l p. search (rules, block_named store N))))
+    let n = c.args.n in
+    λ o. wrote_names store o n
+    (λ N h. put_then (names_bytes N.values (op_at store n).operands) (names_bytes N.blocks (op_at store n).successors) (omega arith)
+    (put_as (ap (names_bytes N.values) c.operands_of-operands.ensures) (c.put_uses-at.ensures (name_of N.values) (λ i x l p. search rules)))
+    c.min-rest.ensures
+    (put_as (ap (names_bytes N.blocks) c.successors_of-successors.ensures) (c.put_uses.ensures (name_of N.blocks) (λ i x l p. search (rules, block_named store N))))
+    c.saturating_add.ensures)

@@ -1,7 +1,8 @@
 -- `put_block_shells` meets its contract: how many there are, then the shells of the blocks that came, which are all in the end. Assumes nothing.
 use Prim.Native.Nat.{ℕ}
 use mathlib.Core.List.{List, [], ◌∷◌}
-use mathlib.Core.Path.{refl, ap, ◌∙◌}
+use native.Mathlib.Omega.{arith}
+use mathlib.Core.Path.{ap, ◌∙◌}
 use lib.ListN.{length}
 use Rattle.std.proofs.Common.{rules}
 use Rattle.rules.specs.Store.{Store, of_block}
@@ -16,14 +17,13 @@ use Rattle.numbering.proofs.Counting.{room_counted}
 use Rattle.numbering.proofs.Passing.{StepRelation, none_came, came_over, came_room, came_again}
 use Rattle.numbering.proofs.Rounds.{each_shell, each_shell_lem}
 use Rattle.fragments.specs.Terms.{store_read, options_in}
-use Rattle.keys.specs.Written.{Place}
-use Rattle.keys.proofs.Writing.{wrote_then, wrote_counted, key_walk}
+use Rattle.keys.proofs.Writing.{Spot, wrote_then, wrote_counted, wrote_first, wrote_rest, wrote_all, key_walk}
 use Rattle.keys.proofs.passes.put_block_shells.Goals as goal
 
 pub loop-b-init : goal.loop-b-init
 loop-b-init c =
     let store : Store = store_read c.args.terms.now in
-    let walk : StepRelation Place = key_walk store (options_in c.args.terms.now) in
+    let walk : StepRelation Spot = key_walk store (options_in c.args.terms.now) in
     (_, _, none_came walk (each_shell_lem of_block))
 
 pub put_block_shell-requires-clause-n_bound : goal.put_block_shell-requires-clause-n_bound
@@ -37,7 +37,7 @@ pub put_block_shell-requires-clause-definitions_fit : goal.put_block_shell-requi
 unfolding block_shells shells
 put_block_shell-requires-clause-definitions_fit c =
     let store : Store = store_read c.args.terms.now in
-    let walk : StepRelation Place = key_walk store (options_in c.args.terms.now) in
+    let walk : StepRelation Spot = key_walk store (options_in c.args.terms.now) in
     let list : List ℕ = block_list store c.args.blocks in
     let turn =
     item_comes blocks_left _ _ _ _ (ap blocks_left c.into_iter-b-iterator.ensures.into_iter_gives ∙ c.new-b-items.ensures) c.loop-b.yielded_by
@@ -47,18 +47,24 @@ put_block_shell-requires-clause-definitions_fit c =
 pub loop-b-preserved : goal.loop-b-preserved
 loop-b-preserved c =
     let store : Store = store_read c.args.terms.now in
-    let walk : StepRelation Place = key_walk store (options_in c.args.terms.now) in
-    (_, _, came_again walk (each_shell_lem of_block) c.loop-b.yielded c.loop-b.invariant.2 c.in-Some.b c.put_block_shell.ensures)
+    let walk : StepRelation Spot = key_walk store (options_in c.args.terms.now) in (
+      _,
+      _,
+      came_again walk (each_shell_lem of_block) c.loop-b.yielded c.loop-b.invariant.2 c.in-Some.b
+          (wrote_rest store (options_in c.args.terms.now) c.min-rest.ensures c.put_block_shell.ensures c.saturating_add-at.ensures),
+    )
 
 pub returns : goal.returns
 unfolding block_shells shells
 returns c =
     let store : Store = store_read c.args.terms.now in
-    let walk : StepRelation Place = key_walk store (options_in c.args.terms.now) in
+    let walk : StepRelation Spot = key_walk store (options_in c.args.terms.now) in
     let list : List ℕ = block_list store c.args.blocks in
     let all =
     all_came blocks_left _ _ _ _ (ap blocks_left c.into_iter-b-iterator.ensures.into_iter_gives ∙ c.new-b-items.ensures) c.loop-b.yielded_by
     c.next.new.self _ c.in-None.is c.next.ensures.steps in
-    wrote_then store (options_in c.args.terms.now) (counted (length list) ∷ []) (each_shell of_block list)
-    (wrote_counted store (options_in c.args.terms.now) (length list) refl (c.put_counted.ensures (length list) (λ r h. search rules)))
-    (came_over walk (each_shell_lem of_block) c.loop-b.yielded c.loop-b.invariant.2 list all)
+    let options = options_in c.args.terms.now in
+    wrote_all store options (omega arith)
+    (wrote_then store options (counted (length list) ∷ []) (each_shell of_block list)
+    (wrote_first store options (wrote_counted store options (length list) (c.put_counted-at.ensures (length list) (λ r h. search rules))))
+    (came_over walk (each_shell_lem of_block) c.loop-b.yielded c.loop-b.invariant.2 list all))

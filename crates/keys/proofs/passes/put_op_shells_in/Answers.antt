@@ -1,7 +1,8 @@
 -- `put_op_shells_in` meets its contract: how many there are, then the shells of the operations that came, which are all in the end. Assumes nothing.
 use Prim.Native.Nat.{ℕ}
 use mathlib.Core.List.{List, [], ◌∷◌}
-use mathlib.Core.Path.{refl, ap, ◌∙◌}
+use native.Mathlib.Omega.{arith}
+use mathlib.Core.Path.{ap, ◌∙◌}
 use lib.ListN.{length}
 use Rattle.std.proofs.Common.{rules}
 use Rattle.rules.specs.Store.{Store, of_op, ops_of}
@@ -15,14 +16,13 @@ use Rattle.numbering.proofs.Counting.{room_counted}
 use Rattle.numbering.proofs.Passing.{StepRelation, none_came, came_over, came_room, came_again}
 use Rattle.numbering.proofs.Rounds.{each_shell, each_shell_lem}
 use Rattle.fragments.specs.Terms.{store_read, options_in}
-use Rattle.keys.specs.Written.{Place}
-use Rattle.keys.proofs.Writing.{wrote_then, wrote_counted, key_walk}
+use Rattle.keys.proofs.Writing.{Spot, wrote_then, wrote_counted, wrote_first, wrote_rest, wrote_all, key_walk}
 use Rattle.keys.proofs.passes.put_op_shells_in.Goals as goal
 
 pub loop-n-init : goal.loop-n-init
 loop-n-init c =
     let store : Store = store_read c.args.terms.now in
-    let walk : StepRelation Place = key_walk store (options_in c.args.terms.now) in
+    let walk : StepRelation Spot = key_walk store (options_in c.args.terms.now) in
     (_, _, none_came walk (each_shell_lem of_op))
 
 pub put_op_shell-requires-clause-n_bound : goal.put_op_shell-requires-clause-n_bound
@@ -36,7 +36,7 @@ pub put_op_shell-requires-clause-definitions_fit : goal.put_op_shell-requires-cl
 unfolding op_shells shells
 put_op_shell-requires-clause-definitions_fit c =
     let store : Store = store_read c.args.terms.now in
-    let walk : StepRelation Place = key_walk store (options_in c.args.terms.now) in
+    let walk : StepRelation Spot = key_walk store (options_in c.args.terms.now) in
     let list : List ℕ = ops_of store c.args.b in
     let turn =
     item_comes ops_left _ _ _ _ (ap ops_left c.into_iter-n-iterator.ensures.into_iter_gives ∙ c.new-n-items.ensures) c.loop-n.yielded_by
@@ -46,18 +46,24 @@ put_op_shell-requires-clause-definitions_fit c =
 pub loop-n-preserved : goal.loop-n-preserved
 loop-n-preserved c =
     let store : Store = store_read c.args.terms.now in
-    let walk : StepRelation Place = key_walk store (options_in c.args.terms.now) in
-    (_, _, came_again walk (each_shell_lem of_op) c.loop-n.yielded c.loop-n.invariant.2 c.in-Some.n c.put_op_shell.ensures)
+    let walk : StepRelation Spot = key_walk store (options_in c.args.terms.now) in (
+      _,
+      _,
+      came_again walk (each_shell_lem of_op) c.loop-n.yielded c.loop-n.invariant.2 c.in-Some.n
+          (wrote_rest store (options_in c.args.terms.now) c.min-rest.ensures c.put_op_shell.ensures c.saturating_add-at.ensures),
+    )
 
 pub returns : goal.returns
 unfolding op_shells shells
 returns c =
     let store : Store = store_read c.args.terms.now in
-    let walk : StepRelation Place = key_walk store (options_in c.args.terms.now) in
+    let walk : StepRelation Spot = key_walk store (options_in c.args.terms.now) in
     let list : List ℕ = ops_of store c.args.b in
     let all =
     all_came ops_left _ _ _ _ (ap ops_left c.into_iter-n-iterator.ensures.into_iter_gives ∙ c.new-n-items.ensures) c.loop-n.yielded_by
     c.next.new.self _ c.in-None.is c.next.ensures.steps in
-    wrote_then store (options_in c.args.terms.now) (counted (length list) ∷ []) (each_shell of_op list)
-    (wrote_counted store (options_in c.args.terms.now) (length list) refl (c.put_counted.ensures (length list) (λ r h. search rules)))
-    (came_over walk (each_shell_lem of_op) c.loop-n.yielded c.loop-n.invariant.2 list all)
+    let options = options_in c.args.terms.now in
+    wrote_all store options (omega arith)
+    (wrote_then store options (counted (length list) ∷ []) (each_shell of_op list)
+    (wrote_first store options (wrote_counted store options (length list) (c.put_counted-at.ensures (length list) (λ r h. search rules))))
+    (came_over walk (each_shell_lem of_op) c.loop-n.yielded c.loop-n.invariant.2 list all))

@@ -1,12 +1,10 @@
 -- `put_block_shell` meets its contract: what is defined is numbered, and what it is goes into the key. Assumes nothing.
-use mathlib.Core.Path.{refl}
 use Rattle.rules.specs.Store.{of_block}
 use Rattle.fragments.specs.Terms.{store_read, options_in}
-use Rattle.keys.proofs.Counted.{counts_block}
 use Rattle.keys.proofs.Writing.{wrote_shell}
 use Rattle.keys.proofs.shells.put_block_shell.Goals as goal
 
 pub returns : goal.returns
 returns c =
     let a = c.args in
-    wrote_shell (store_read a.terms.now) (options_in a.terms.now) (of_block a.n) c.define_block.ensures (counts_block (store_read a.terms.now) a.n refl refl) c.put_own_block.ensures
+    wrote_shell (store_read a.terms.now) (options_in a.terms.now) (of_block a.n) c.define_block.ensures c.put_own_block.ensures

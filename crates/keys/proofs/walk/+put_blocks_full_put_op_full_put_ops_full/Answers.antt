@@ -22,35 +22,34 @@ use Rattle.numbering.specs.Parts.{full_steps, ops_in_full}
 use Rattle.numbering.proofs.Passing.{StepRelation, none_came, came_over, came_room, came_again}
 use Rattle.numbering.proofs.Rounds.{in_region, region_list, regions_room, full_done, each, first_room, second_room, third_room, passes_done}
 use Rattle.fragments.specs.Terms.{store_read, options_in}
-use Rattle.keys.specs.Written.{Place, place}
-use Rattle.keys.proofs.Writing.{key_walk, wrote_as}
+use Rattle.keys.proofs.Writing.{Spot, spot, key_walk, wrote_as, wrote_first, wrote_rest, wrote_all}
 use Rattle.keys.proofs.walk.+put_blocks_full_put_op_full_put_ops_full.Goals as goal
 use Rattle.keys.proofs.walk.+put_blocks_full_put_op_full_put_ops_full.Goals.{put_op_full-In-loop-r}
 
 -- ---- a list of blocks
 
-pub put_blocks_full-put_block_shells-requires-clause-definitions_fit : goal.put_blocks_full-put_block_shells-requires-clause-definitions_fit
-put_blocks_full-put_block_shells-requires-clause-definitions_fit t c =
+pub put_blocks_full-put_block_shells-second-requires-clause-definitions_fit : goal.put_blocks_full-put_block_shells-second-requires-clause-definitions_fit
+put_blocks_full-put_block_shells-second-requires-clause-definitions_fit t c =
     let store : Store = store_read c.args.terms.now in
-    let walk : StepRelation Place = key_walk store (options_in c.args.terms.now) in
-    first_room walk store (block_list store c.args.blocks) {a = place c.args.walked.now c.args.key.now} c.requires.definitions_fit
+    let walk : StepRelation Spot = key_walk store (options_in c.args.terms.now) in
+    first_room walk store (block_list store c.args.blocks) {a = spot c.args.numbers.now c.args.key.now 0} c.requires.definitions_fit
 
 pub put_blocks_full-put_op_shells-requires-clause-definitions_fit : goal.put_blocks_full-put_op_shells-requires-clause-definitions_fit
 put_blocks_full-put_op_shells-requires-clause-definitions_fit t c =
     let store : Store = store_read c.args.terms.now in
-    let walk : StepRelation Place = key_walk store (options_in c.args.terms.now) in
-    second_room walk store (block_list store c.args.blocks) c.put_block_shells.ensures c.requires.definitions_fit
+    let walk : StepRelation Spot = key_walk store (options_in c.args.terms.now) in
+    second_room walk store (block_list store c.args.blocks) (wrote_first store (options_in c.args.terms.now) c.put_block_shells-second.ensures) c.requires.definitions_fit
 
 pub put_blocks_full-loop-b-init : goal.put_blocks_full-loop-b-init
 put_blocks_full-loop-b-init t c =
     let store : Store = store_read c.args.terms.now in
-    let walk : StepRelation Place = key_walk store (options_in c.args.terms.now) in
+    let walk : StepRelation Spot = key_walk store (options_in c.args.terms.now) in
     (_, _, none_came walk (each (ops_in_full store)))
 
 pub put_blocks_full-put_ops_full-requires : goal.put_blocks_full-put_ops_full-requires
 put_blocks_full-put_ops_full-requires t c =
     let store : Store = store_read c.args.terms.now in
-    let walk : StepRelation Place = key_walk store (options_in c.args.terms.now) in
+    let walk : StepRelation Spot = key_walk store (options_in c.args.terms.now) in
     let list : List ℕ = block_list store c.args.blocks in
     let b : ℕ = c.in-Some.b in
     let turn =
@@ -60,7 +59,8 @@ put_blocks_full-put_ops_full-requires t c =
     let here = block_in_lem (columns c.args.terms.now.store.now) c.args.blocks b c.requires.blocks_exist child in
     let room =
     came_room walk (each (ops_in_full store)) c.loop-b.yielded c.loop-b.invariant.2 b _ list turn
-    (third_room walk store list c.put_block_shells.ensures c.put_op_shells.ensures c.requires.definitions_fit) in
+    (third_room walk store list (wrote_first store (options_in c.args.terms.now) c.put_block_shells-second.ensures)
+    (wrote_rest store (options_in c.args.terms.now) c.min-rest.ensures c.put_op_shells.ensures c.saturating_add-at.ensures) c.requires.definitions_fit) in
     let same : around_list store (Alone b) ≡ around_list store c.args.blocks = around_block store c.args.blocks b child in
     let falls : 3 * below store (around_list store (Alone b)) < 3 * below store (around_list store c.args.blocks) + 1 = omega arith in
     (subst (λ (j : ℕ). 3 * below store (around_list store (Alone b)) < j) c.decreases falls, (here, room))
@@ -68,19 +68,26 @@ put_blocks_full-put_ops_full-requires t c =
 pub put_blocks_full-loop-b-preserved : goal.put_blocks_full-loop-b-preserved
 put_blocks_full-loop-b-preserved t c =
     let store : Store = store_read c.args.terms.now in
-    let walk : StepRelation Place = key_walk store (options_in c.args.terms.now) in
-    (_, _, came_again walk (each (ops_in_full store)) c.loop-b.yielded c.loop-b.invariant.2 c.in-Some.b c.put_ops_full.ensures)
+    let walk : StepRelation Spot = key_walk store (options_in c.args.terms.now) in (
+      _,
+      _,
+      came_again walk (each (ops_in_full store)) c.loop-b.yielded c.loop-b.invariant.2 c.in-Some.b
+          (wrote_rest store (options_in c.args.terms.now) c.min-rest-in-loop-b.ensures c.put_ops_full.ensures c.saturating_add-at-in-loop-b.ensures),
+    )
 
 pub put_blocks_full-returns : goal.put_blocks_full-returns
 put_blocks_full-returns t c =
     let store : Store = store_read c.args.terms.now in
-    let walk : StepRelation Place = key_walk store (options_in c.args.terms.now) in
+    let walk : StepRelation Spot = key_walk store (options_in c.args.terms.now) in
     let list : List ℕ = block_list store c.args.blocks in
     let all =
     all_came blocks_left _ _ _ _ (ap blocks_left c.into_iter-b-iterator.ensures.into_iter_gives ∙ c.new-b-items.ensures) c.loop-b.yielded_by
     c.next.new.self _ c.in-None.is c.next.ensures.steps in
-    passes_done walk store list c.put_block_shells.ensures c.put_op_shells.ensures
-    (came_over walk (each (ops_in_full store)) c.loop-b.yielded c.loop-b.invariant.2 list all)
+    let options = options_in c.args.terms.now in
+    wrote_all store options (omega arith)
+    (passes_done walk store list (wrote_first store options c.put_block_shells-second.ensures)
+    (wrote_rest store options c.min-rest.ensures c.put_op_shells.ensures c.saturating_add-at.ensures)
+    (came_over walk (each (ops_in_full store)) c.loop-b.yielded c.loop-b.invariant.2 list all))
 
 -- ---- an operation
 
@@ -101,7 +108,7 @@ put_op_full-number-r-end-requires-clause-n_bound t c = omega (arith, (laid_facts
 pub put_op_full-loop-r-init : goal.put_op_full-loop-r-init
 put_op_full-loop-r-init t c =
     let store : Store = store_read c.args.terms.now in
-    let walk : StepRelation Place = key_walk store (options_in c.args.terms.now) in
+    let walk : StepRelation Spot = key_walk store (options_in c.args.terms.now) in
     wrote_as store (options_in c.args.terms.now) (ap (concat_map (in_region store)) (sym (range_empty _ _ (omega arith))))
     (none_came walk (each (in_region store)))
 
@@ -109,7 +116,7 @@ pub put_op_full-put_blocks_full-requires : goal.put_op_full-put_blocks_full-requ
 unfolding BlocksExist
 put_op_full-put_blocks_full-requires t c =
     let store : Store = store_read c.args.terms.now in
-    let walk : StepRelation Place = key_walk store (options_in c.args.terms.now) in
+    let walk : StepRelation Spot = key_walk store (options_in c.args.terms.now) in
     let n : ℕ = c.args.n in
     let r : ℕ = c.loop-r.r in
     let laid : Laid (columns c.args.terms.now.store.now) = laid_facts _ c.args.terms.now.readable.sound.laid in
@@ -117,9 +124,9 @@ put_op_full-put_blocks_full-requires t c =
     let here : r < region_count (columns c.args.terms.now.store.now) =
     omega (arith, c.loop-r-test.true, c.number-r-end.ensures, (laid.op n c.requires.n_bound).regions.range.fits) in
     let room =
-    subst (λ (xs : List Step). walk.Room xs ((place c.loop-r.walked c.loop-r.key))) (region_list store c.args.terms.now.readable.sound.ruled r)
+    subst (λ (xs : List Step). walk.Room xs (spot c.loop-r.numbers c.loop-r.key c.loop-r.at)) (region_list store c.args.terms.now.readable.sound.ruled r)
     (came_room walk (each (in_region store)) _ c.loop-r.invariant r _ (regions_of store n) turn
-    (regions_room walk store n (c.put_names.ensures (options_in c.args.terms.now)) (regions_of store n) refl c.requires.definitions_fit)) in
+    (regions_room walk store n (wrote_first store (options_in c.args.terms.now) (c.put_names-at.ensures (options_in c.args.terms.now))) (regions_of store n) refl c.requires.definitions_fit)) in
     let around : around_list store (InRegion r) ≡ n = around_region store n r (comes_mem _ _ _ _ turn) in
     let falls : 3 * below store (around_list store (InRegion r)) + 1 < 3 * below store n + 2 = omega arith in
     (subst (λ (j : ℕ). 3 * below store (around_list store (InRegion r)) + 1 < j) c.decreases falls, (here, room))
@@ -127,39 +134,42 @@ put_op_full-put_blocks_full-requires t c =
 pub put_op_full-loop-r-preserved : goal.put_op_full-loop-r-preserved
 put_op_full-loop-r-preserved t c =
     let store : Store = store_read c.args.terms.now in
-    let walk : StepRelation Place = key_walk store (options_in c.args.terms.now) in
+    let walk : StepRelation Spot = key_walk store (options_in c.args.terms.now) in
     let options = options_in c.args.terms.now in
     let r : ℕ = c.loop-r.r in
-    let one = wrote_as store options (sym (region_list store c.args.terms.now.readable.sound.ruled r)) c.put_blocks_full.ensures in
+    let one = wrote_as store options (sym (region_list store c.args.terms.now.readable.sound.ruled r))
+    (wrote_rest store options c.min-rest.ensures c.put_blocks_full.ensures c.saturating_add-at.ensures) in
     wrote_as store options (ap (concat_map (in_region store)) (sym (number_came _ _ c.loop-r.auto.r)))
     (came_again walk (each (in_region store)) _ c.loop-r.invariant r one)
 
 pub put_op_full-returns : goal.put_op_full-returns
 put_op_full-returns t c =
     let store : Store = store_read c.args.terms.now in
-    let walk : StepRelation Place = key_walk store (options_in c.args.terms.now) in
+    let walk : StepRelation Spot = key_walk store (options_in c.args.terms.now) in
     let n : ℕ = c.args.n in
     let laid : Laid (columns c.args.terms.now.store.now) = laid_facts _ c.args.terms.now.readable.sound.laid in
     let rises = (laid.op n c.requires.n_bound).regions.range.rises in
     let done : c.loop-r.r ≡ c.number-r-end.result =
     omega (arith, c.loop-r-test.false, c.loop-r.auto, c.number-r.ensures, c.number-r-end.ensures, rises) in
     let all = ap₂ range c.number-r.ensures (done ∙ c.number-r-end.ensures) ∙ sym (regions_range _ laid n c.requires.n_bound) in
-    full_done walk store n (c.put_names.ensures (options_in c.args.terms.now)) (regions_of store n) refl
-    (came_over walk (each (in_region store)) _ c.loop-r.invariant (regions_of store n) all)
+    let options = options_in c.args.terms.now in
+    wrote_all store options (omega arith)
+    (full_done walk store n (wrote_first store options (c.put_names-at.ensures options)) (regions_of store n) refl
+    (came_over walk (each (in_region store)) _ c.loop-r.invariant (regions_of store n) all))
 
 -- ---- the operations of a block
 
 pub put_ops_full-loop-n-init : goal.put_ops_full-loop-n-init
 put_ops_full-loop-n-init t c =
     let store : Store = store_read c.args.terms.now in
-    let walk : StepRelation Place = key_walk store (options_in c.args.terms.now) in
+    let walk : StepRelation Spot = key_walk store (options_in c.args.terms.now) in
     (_, _, none_came walk (each (full_steps store)))
 
 pub put_ops_full-put_op_full-requires : goal.put_ops_full-put_op_full-requires
 unfolding block_list ops_in_full
 put_ops_full-put_op_full-requires t c =
     let store : Store = store_read c.args.terms.now in
-    let walk : StepRelation Place = key_walk store (options_in c.args.terms.now) in
+    let walk : StepRelation Spot = key_walk store (options_in c.args.terms.now) in
     let list : List ℕ = ops_of store c.args.b in
     let n : ℕ = c.in-Some.n in
     let turn =
@@ -177,15 +187,20 @@ put_ops_full-put_op_full-requires t c =
 pub put_ops_full-loop-n-preserved : goal.put_ops_full-loop-n-preserved
 put_ops_full-loop-n-preserved t c =
     let store : Store = store_read c.args.terms.now in
-    let walk : StepRelation Place = key_walk store (options_in c.args.terms.now) in
-    (_, _, came_again walk (each (full_steps store)) c.loop-n.yielded c.loop-n.invariant.2 c.in-Some.n c.put_op_full.ensures)
+    let walk : StepRelation Spot = key_walk store (options_in c.args.terms.now) in (
+      _,
+      _,
+      came_again walk (each (full_steps store)) c.loop-n.yielded c.loop-n.invariant.2 c.in-Some.n
+          (wrote_rest store (options_in c.args.terms.now) c.min-rest.ensures c.put_op_full.ensures c.saturating_add-at.ensures),
+    )
 
 pub put_ops_full-returns : goal.put_ops_full-returns
 unfolding ops_in_full
 put_ops_full-returns t c =
     let store : Store = store_read c.args.terms.now in
-    let walk : StepRelation Place = key_walk store (options_in c.args.terms.now) in
+    let walk : StepRelation Spot = key_walk store (options_in c.args.terms.now) in
     let all =
     all_came ops_left _ _ _ _ (ap ops_left c.into_iter-n-iterator.ensures.into_iter_gives ∙ c.new-n-items.ensures) c.loop-n.yielded_by
     c.next.new.self _ c.in-None.is c.next.ensures.steps in
-    came_over walk (each (full_steps store)) c.loop-n.yielded c.loop-n.invariant.2 (ops_of store c.args.b) all
+    wrote_all store (options_in c.args.terms.now) (omega arith)
+    (came_over walk (each (full_steps store)) c.loop-n.yielded c.loop-n.invariant.2 (ops_of store c.args.b) all)

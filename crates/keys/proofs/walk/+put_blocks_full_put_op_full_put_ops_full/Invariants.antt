@@ -8,7 +8,7 @@ use Rattle.fragments.proofs.Below.{below, around_list}
 use Rattle.numbering.specs.Parts.{full_steps, ops_in_full}
 use Rattle.numbering.proofs.Rounds.{in_region}
 use Rattle.fragments.specs.Terms.{store_read, options_in}
-use Rattle.keys.specs.Written.{place, Wrote}
+use Rattle.keys.proofs.Writing.{spot, WroteOn}
 use Rattle.keys.proofs.walk.+put_blocks_full_put_op_full_put_ops_full.Given as goal
 
 -- pass 3: the blocks, and in a block the operations
@@ -16,7 +16,7 @@ abbrev pub invariant-put_blocks_full-loop-b : goal.invariant-put_blocks_full-loo
 invariant-put_blocks_full-loop-b l =
     (goal.iterator-put_blocks_full-loop-b).can_next l.b-iterator
     × (goal.iterator-put_blocks_full-loop-b).is_finite l.b-iterator
-    × Wrote (store_read l.terms) (options_in l.terms) (concat_map (ops_in_full (store_read l.terms)) l.yielded) (place l.initial.walked l.initial.key) (place l.walked l.key)
+    × WroteOn (store_read l.terms) (options_in l.terms) (concat_map (ops_in_full (store_read l.terms)) l.yielded) (spot l.initial.numbers l.initial.key l.initial.at) (spot l.numbers l.key l.at)
 
 abbrev pub decreases-put_blocks_full : goal.decreases-put_blocks_full
 decreases-put_blocks_full l = 3 * below (store_read l.terms.now) (around_list (store_read l.terms.now) l.blocks) + 1
@@ -24,7 +24,7 @@ decreases-put_blocks_full l = 3 * below (store_read l.terms.now) (around_list (s
 -- an operation's regions
 abbrev pub invariant-put_op_full-loop-r : goal.invariant-put_op_full-loop-r
 invariant-put_op_full-loop-r l =
-    Wrote (store_read l.terms) (options_in l.terms) (concat_map (in_region (store_read l.terms)) (range l.initial.r l.r)) (place l.initial.walked l.initial.key) (place l.walked l.key)
+    WroteOn (store_read l.terms) (options_in l.terms) (concat_map (in_region (store_read l.terms)) (range l.initial.r l.r)) (spot l.initial.numbers l.initial.key l.initial.at) (spot l.numbers l.key l.at)
 
 abbrev pub decreases-put_op_full : goal.decreases-put_op_full
 decreases-put_op_full l = 3 * below (store_read l.terms.now) l.n + 2
@@ -33,7 +33,7 @@ abbrev pub invariant-put_ops_full-loop-n : goal.invariant-put_ops_full-loop-n
 invariant-put_ops_full-loop-n l =
     (goal.iterator-put_ops_full-loop-n).can_next l.n-iterator
     × (goal.iterator-put_ops_full-loop-n).is_finite l.n-iterator
-    × Wrote (store_read l.terms) (options_in l.terms) (concat_map (full_steps (store_read l.terms)) l.yielded) (place l.initial.walked l.initial.key) (place l.walked l.key)
+    × WroteOn (store_read l.terms) (options_in l.terms) (concat_map (full_steps (store_read l.terms)) l.yielded) (spot l.initial.numbers l.initial.key l.initial.at) (spot l.numbers l.key l.at)
 
 abbrev pub decreases-put_ops_full : goal.decreases-put_ops_full
 decreases-put_ops_full l = 3 * below (store_read l.terms.now) (around_list (store_read l.terms.now) (Alone l.b))

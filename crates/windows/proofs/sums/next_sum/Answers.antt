@@ -6,4 +6,4 @@ use Rattle.windows.proofs.sums.next_sum.Goals as goal
 pub returns : goal.returns
 returns c =
     let a = c.args in
-    window_kept a.hashes.now a.n a.i a.power a.sum c.requires.le_n c.requires.n_in_bounds c.requires.power_value c.requires.sum_value refl refl refl refl
+    window_kept a.hashes.now a.n a.i a.power a.sum c.requires.le_n c.requires.n_in_bounds c.requires.power_value c.requires.sum_value c.wrapping_mul-leaving.ensures refl c.wrapping_mul-kept.ensures refl

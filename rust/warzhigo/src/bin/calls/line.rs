@@ -91,6 +91,12 @@ pub enum Line {
         length: u32,
         ignore: Ignore,
     },
+    Independent {
+        sort: Sort,
+        lhs: u32,
+        rhs: u32,
+    },
+    Twins(Ignore),
 }
 
 impl Line {
@@ -119,6 +125,8 @@ impl Line {
             "B" => Line::CompareBytes(f.bytes()?, f.bytes()?),
             "T" => Line::Types(f.rest()?),
             "R" => Line::Repeated { block: f.number()?, length: f.number()?, ignore: f.ignore()? },
+            "I" => Line::Independent { sort: sort(f)?, lhs: f.number()?, rhs: f.number()? },
+            "U" => Line::Twins(f.ignore()?),
             _ => return None,
         };
         fields.end().map(|()| line)

@@ -6,7 +6,7 @@ use warzhigo::{Extent, Ignore, Refused, Store, compare_keys};
 use crate::line::{Entry, Line, Sort};
 use crate::text;
 
-/// No image.
+/// No image, and no twin.
 const NONE: u32 = u32::MAX;
 
 /// What stands in every byte that a key is lent.
@@ -14,6 +14,9 @@ const LENT: u8 = 0xee;
 
 /// Where the entries of values, blocks and operations begin in the words of a mapping, and the end of the last.
 pub const ENTRIES: [usize; 4] = [0, 2048, 2304, 2816];
+
+/// As many words as a store can have operations.
+const OPERATIONS: usize = ENTRIES[3] - ENTRIES[2];
 
 pub struct Replay {
     store: Vec<u32>,
@@ -75,6 +78,15 @@ impl Replay {
             Line::Repeated { block, length, ignore } => {
                 answered(lent::repeated_run(store, &self.types, *block, *length, ignore).map(text::run))
             }
+            Line::Independent { sort, lhs, rhs } => {
+                let independent = self.independent(*sort, (*lhs, *rhs));
+                answered(independent.map(|yes| if yes { "yes" } else { "no" }))
+            }
+            Line::Twins(ignore) => {
+                let mut twins = [NONE; OPERATIONS];
+                let operations = lent::twins_of_operations(store, &self.types, ignore, &mut twins);
+                answered(operations.map(|operations| text::twins(&twins[..operations])))
+            }
             Line::Types(words) => {
                 self.types.clone_from(words);
                 None
@@ -129,6 +141,15 @@ impl Replay {
             Sort::Region => lent::region_extent,
         };
         call(&self.store, number, ignore)
+    }
+
+    fn independent(&self, sort: Sort, (lhs, rhs): (u32, u32)) -> Result<bool, Refused> {
+        let call = match sort {
+            Sort::Op => lent::operations_independent,
+            Sort::Block => lent::basic_blocks_independent,
+            Sort::Region => lent::regions_independent,
+        };
+        call(&self.store, lhs, rhs)
     }
 
     fn compare_keys(&self, sort: Sort, (lhs, rhs): (u32, u32), ignore: &Ignore) -> Result<i8, Refused> {

@@ -1,4 +1,4 @@
-//! A mapping's entries and a store as text.
+//! Answers as text, a mapping's entries and a store among them.
 
 use std::fmt::{Display, Write};
 
@@ -24,6 +24,12 @@ pub fn run(found: Option<Run>) -> String {
 pub fn extent(extent: Extent) -> String {
     let Extent { bytes, values, blocks, operations, nesting } = extent;
     format!("size,{bytes},{values},{blocks},{operations},{nesting}")
+}
+
+/// `-,-,0`: each operation's twin, or `-` where it has none.
+pub fn twins(twins: &[u32]) -> String {
+    let field = |twin: &u32| if *twin == u32::MAX { "-".to_string() } else { twin.to_string() };
+    joined(twins.iter().map(field), ",")
 }
 
 /// Bytes in hexadecimal, two digits to a byte.
