@@ -4,3 +4,4 @@ pub mod Agreed
 pub mod Lent
 pub mod Filed
 pub mod Mapped
+pub mod Worked

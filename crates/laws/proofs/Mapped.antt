@@ -45,7 +45,7 @@ module _ (b : List ℕ) (sd : sound_lent b ≡ true) (types : List ℕ) (th : ty
   mapping_laws = mapping_laws_of_sound read (renamed_sound types (store_in b) (obeyed.ruled b sd types th ig f)) ig f
 
   module _ (x y : ℕ) (ix : In (store_in b) f x) (iy : In (store_in b) f y) (q : EqAnswer) (words : List ℕ) (l : Leaves b types ig f x y q words) where
-    said : SaysEqual q → Equal read ig f x y
+    pub said : SaysEqual q → Equal read ig f x y
     unfolding Leaves Compares
     said e = obeyed.said b sd types th ig f x y ix iy q (words, l) e
 
@@ -55,7 +55,7 @@ module _ (b : List ℕ) (sd : sound_lent b ≡ true) (types : List ℕ) (th : ty
     either law (inr e) = said e
 
     -- where the two are equal, the words are read as the filed mapping
-    left : Equal read ig f x y → mapping_of words ≡ filed read ig f x y
+    pub left : Equal read ig f x y → mapping_of words ≡ filed read ig f x y
     unfolding Leaves
     left e =
         sym (ap (λ (c : Comparison). c.mapping) (obeyed.told b sd types th ig f x y ix iy q words l))

@@ -1,5 +1,6 @@
-// This crate holds no code: specs/ states what holds of the answers of the offered calls, proofs/ shows it, and theorems.rt lists it, each
-// theorem as a contract.
+// This crate holds no code: specs/ states what holds of whatever the offered calls answer, proofs/ shows it, and each law is a clause of a
+// function in `theorems`, those of the same work in `work`.
 #![tactic(auto)]
 
 pub mod theorems;
+pub mod work;

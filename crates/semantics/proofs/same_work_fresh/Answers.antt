@@ -1,0 +1,6 @@
+-- The clause by the lemma that it is. Assumes nothing.
+use Rattle.semantics.proofs.Laws.{same_work_fresh}
+use Rattle.semantics.proofs.same_work_fresh.Goals as goal
+
+pub returns : goal.returns
+returns g c = same_work_fresh g.row.D.Denot g.row.W.Denot g.row.M.Denot
