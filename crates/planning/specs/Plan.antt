@@ -3,13 +3,14 @@ use Rattle.std.specs.Prelude.{ℕ, zero, suc, Bool, true, false, cond, not, ◌&
 use Rattle.std.proofs.Math.Option.{Option, none, some}
 use Rattle.rules.specs.Lists.{any, sum, numbers_where}
 use Rattle.rules.specs.Store.{Store}
-use Rattle.rules.specs.Fragments.{op, levels, fragment_ops, ops_inside}
+use Rattle.rules.specs.Fragments.{op, levels, fragment_ops}
 use Rattle.rules.specs.Building.{first_failed}
 use Rattle.rules.specs.Shells.{Ignore}
 use Rattle.rules.specs.Runs.{first_of}
 use Rattle.rules.specs.Types.{renamed}
 use Rattle.rules.specs.Keys.{written}
 use Rattle.rules.specs.Grouping.{is_twin, no_twin, twin_tests}
+use Rattle.fragments.specs.Sizes.{op_size}
 
 pub data Fate : Type 0 where
   kept : Fate
@@ -78,12 +79,7 @@ merged_ops s ig = numbers_where is_merged (merge_plan s ig)
 unfoldable pub gone_ops : Store → Ignore → List ℕ
 gone_ops s ig = numbers_where (λ (f : Fate). not (is_kept f)) (merge_plan s ig)
 
--- how many operations there are in an operation, itself included; the first number is that of regions, one in another, that may still be
--- entered
-unfoldable pub op_size : ℕ → Store → ℕ → ℕ
-op_size zero s n = 1
-op_size (suc k) s n = suc (sum (map (op_size k s) (ops_inside s n)))
-
+-- how many operations there are in an operation, itself included
 unfoldable pub fragment_size : Store → ℕ → ℕ
 fragment_size s n = op_size levels s n
 
