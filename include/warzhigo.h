@@ -1,6 +1,6 @@
 /* Warzhigo for C: structural equality, mapping, hash and key of IR operations, blocks and regions, proved.
  *
- * Link crates/link/out/liblink.a, which `rt lib` in crates/link writes. The functions allocate nothing, keep no pointer and end; they use
+ * Link crates/warzhigo_c/out/libwarzhigo_c.a, which `rt lib` in crates/warzhigo_c writes. The functions allocate nothing, keep no pointer and end; they use
  * nothing but memcpy, memmove and memset.
  *
  * A lent buffer is a pointer and its length, in words of 32 bits or in bytes: memory of the caller's, of which what is written to overlaps

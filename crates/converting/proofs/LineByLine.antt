@@ -1,19 +1,20 @@
 -- The lines one after the other: none of those that are tested is refused, and their sizes are known; so the first that is refused is the
 -- first of all. Assumes nothing.
+use Rattle.rules.specs.declared.types.Cause.{Cause}
 use Prim.Native.Nat.{ℕ, suc, ◌+◌, ◌-◌, ◌*◌, ◌<◌, ◌≤◌}
 use native.Mathlib.Omega.{arith}
 use mathlib.Core.Bool.{Bool}
 use mathlib.Core.List.{List, [], ◌∷◌, ◌++◌, append_assoc, append-nil}
-use mathlib.Core.Option.{Option, none, some}
+use Rattle.std.specs.Prelude.{Option, None, Some}
 use mathlib.Core.Path.{◌≡◌, refl, sym, ap, ap₂, subst, ◌∙◌}
 use lib.ListN.{length, drop, length-append, length-drop}
 use Rattle.std.specs.Prelude as std
-use Rattle.rules.specs.Lists.{concat_map}
+use Rattle.std.specs.List.{flat_map}
 use Rattle.rules.specs.Bytes.{line_feed, Pieces, cut_at}
-use Rattle.rules.specs.Lines.{Edition}
+use Rattle.rules.specs.declared.types.Edition.{Edition}
 use Rattle.rules.specs.Converting.{converted_line, lines_behind, first_some, first_refused, line_tests, unended, converted_tests}
 use Rattle.layout.specs.Reading.{slice}
-use Rattle.layout.specs.declared.causes.Cause.TheVariants.{BadLength}
+use Rattle.rules.specs.declared.types.Cause.TheVariants.{BadLength}
 use Rattle.layout.proofs.Scans.{slice_length}
 use Rattle.lines.specs.Header.{StartsWithHeader}
 use Rattle.lines.proofs.Firsts.{none_left}
@@ -26,16 +27,16 @@ use Rattle.converting.specs.Testing.{refusal_of, refused_by, Sized, TestedLine, 
 
 pub only : {A : Type 0} (o : Option A) → first_some (o ∷ []) ≡ o
 unfolding first_some
-only none = refl
-only (some a) = refl
+only None = refl
+only (Some a) = refl
 
 regroup : {A : Type 0} (a b c : Option A) → first_some (a ∷ first_some (b ∷ c ∷ []) ∷ []) ≡ first_some (first_some (a ∷ b ∷ []) ∷ c ∷ [])
 unfolding first_some
-regroup none none c = only (first_some (c ∷ []))
-regroup none (some b) c = refl
-regroup (some a) b c = refl
+regroup None None c = only (first_some (c ∷ []))
+regroup None (Some b) c = refl
+regroup (Some a) b c = refl
 
-refused_append : (tests : List ℕ → List (Bool × ℕ)) (n : ℕ) (xs ys : List (List ℕ))
+refused_append : (tests : List ℕ → List (Bool × Cause)) (n : ℕ) (xs ys : List (List ℕ))
     → first_refused tests n (xs ++ ys) ≡ first_some (first_refused tests n xs ∷ first_refused tests (n + length xs) ys ∷ [])
 unfolding first_refused first_some
 refused_append tests n [] ys = ap (λ (k : ℕ). first_refused tests k ys) (let z : n ≡ n + 0 = omega arith in z) ∙ sym (only (first_refused tests (n + 0) ys))
@@ -46,22 +47,20 @@ refused_append tests n (x ∷ xs) ys =
     ∙ ap (λ (k : ℕ). first_some (first_refused tests n (x ∷ xs) ∷ first_refused tests k ys ∷ [])) m
 
 -- one line
-refused_one : (tests : List ℕ → List (Bool × ℕ)) (n : ℕ) (line : List ℕ) → first_refused tests n (line ∷ []) ≡ refused_by (tests line) n
+refused_one : (tests : List ℕ → List (Bool × Cause)) (n : ℕ) (line : List ℕ) → first_refused tests n (line ∷ []) ≡ refused_by (tests line) n
 unfolding first_refused first_some
 refused_one tests n line = go (refused_by (tests line) n)
   where
-    go : (o : Option (ℕ × ℕ)) → first_some (o ∷ none ∷ []) ≡ o
-    go none = refl
-    go (some r) = refl
+    go : (o : Option (ℕ × Cause)) → first_some (o ∷ None ∷ []) ≡ o
+    go None = refl
+    go (Some r) = refl
 
-pub concat_map_append : (f : List ℕ → List ℕ) (xs ys : List (List ℕ)) → concat_map f (xs ++ ys) ≡ concat_map f xs ++ concat_map f ys
-unfolding concat_map
+pub concat_map_append : (f : List ℕ → List ℕ) (xs ys : List (List ℕ)) → flat_map f (xs ++ ys) ≡ flat_map f xs ++ flat_map f ys
 concat_map_append f [] ys = refl
 concat_map_append f (x ∷ xs) ys =
-    ap (λ (l : List ℕ). f x ++ l) (concat_map_append f xs ys) ∙ sym (append_assoc (f x) (concat_map f xs) (concat_map f ys))
+    ap (λ (l : List ℕ). f x ++ l) (concat_map_append f xs ys) ∙ sym (append_assoc (f x) (flat_map f xs) (flat_map f ys))
 
-concat_map_one : (f : List ℕ → List ℕ) (x : List ℕ) → concat_map f (x ∷ []) ≡ f x
-unfolding concat_map
+concat_map_one : (f : List ℕ → List ℕ) (x : List ℕ) → flat_map f (x ∷ []) ≡ f x
 concat_map_one f x = append-nil (f x)
 
 -- ---- the loop
@@ -74,14 +73,14 @@ module _ (e : Edition) (listing : List ℕ) where
   rest_from at = (pieces_from line_feed listing at).rest
 
   -- what lines and a rest are refused for, line number n being the first
-  abbrev refused_from : ℕ → List (List ℕ) → List ℕ → Option (ℕ × ℕ)
+  abbrev refused_from : ℕ → List (List ℕ) → List ℕ → Option (ℕ × Cause)
   refused_from n lines rest = first_some (first_refused (line_tests e) n lines ∷ unended (n + length lines) rest ∷ [])
 
   pub record Testing (s : Sizes) (n start : ℕ) : Type 0 where
     pub done : List (List ℕ)
     pub lines : lines_behind listing ≡ done ++ lines_from start
     pub rest : (cut_at line_feed listing).rest ≡ rest_from start
-    pub passed : first_refused (line_tests e) 2 done ≡ none
+    pub passed : first_refused (line_tests e) 2 done ≡ None
     pub counted : n ≡ 2 + length done
     pub sized : Sized e done s
     pub room : s.whole ≤ 4 * start
@@ -89,7 +88,7 @@ module _ (e : Edition) (listing : List ℕ) where
     pub few : n ≤ start
 
   pub testing_starts : StartsWithHeader e listing → Testing (record { whole = 10; too_long = std.None }) 2 10
-  unfolding lines_behind first_refused concat_map
+  unfolding lines_behind first_refused
   testing_starts h =
       record {
         done = [];
@@ -104,7 +103,7 @@ module _ (e : Edition) (listing : List ℕ) where
       }
 
   module _ {s : Sizes} {n start : ℕ} (inv : Testing s n start) where
-    one_more_passed : (line : List ℕ) → refused_by (line_tests e line) n ≡ none → first_refused (line_tests e) 2 (inv.done ++ line ∷ []) ≡ none
+    one_more_passed : (line : List ℕ) → refused_by (line_tests e line) n ≡ None → first_refused (line_tests e) 2 (inv.done ++ line ∷ []) ≡ None
     unfolding first_some
     one_more_passed line h =
         refused_append (line_tests e) 2 inv.done (line ∷ [])
@@ -143,7 +142,7 @@ module _ (e : Edition) (listing : List ℕ) where
 
     module _ (l : start < length listing) (f : ℕ) (end : PieceEnd listing start line_feed f) where
       -- a rest that no line feed ends
-      some_bytes : (k : ℕ) (xs : List ℕ) → (length xs ≡ 0 → ⊥) → unended k xs ≡ some (k, 11)
+      some_bytes : (k : ℕ) (xs : List ℕ) → (length xs ≡ 0 → ⊥) → unended k xs ≡ Some (k, BadLength)
       unfolding unended
       some_bytes k [] h = absurd (h refl)
       some_bytes k (x ∷ xs) h = refl
@@ -159,7 +158,7 @@ module _ (e : Edition) (listing : List ℕ) where
                 ∙ ap (λ (p : Pieces). refused_from n p.whole p.rest) (end.unended (omega arith))
                 ∙ ap (λ o. first_some (o ∷ []))
                 (some_bytes (n + 0) (drop start listing) (λ w. absurd (let v : ⊥ = omega (arith, length-drop start listing) in v)))
-                ∙ ap (λ (k : ℕ). some (k, 11)) z);
+                ∙ ap (λ (k : ℕ). Some (k, BadLength)) z);
             sized = tt;
           }
 
@@ -211,7 +210,7 @@ module _ (e : Edition) (listing : List ℕ) where
                           arith,
                           inv.sized.whole,
                           ap length (concat_map_append (converted_line e) inv.done (line ∷ [])),
-                          length-append (concat_map (converted_line e) inv.done) (concat_map (converted_line e) (line ∷ [])),
+                          length-append (flat_map (converted_line e) inv.done) (flat_map (converted_line e) (line ∷ [])),
                           ap length (concat_map_one (converted_line e) line),
                         );
                     too_long =

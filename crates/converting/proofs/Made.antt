@@ -8,14 +8,15 @@ use mathlib.Core.Path.{◌≡◌, refl, sym, ap, ap₂, subst, ◌∙◌}
 use lib.ListN.{length, take, drop, take-append-drop, length-append, length-drop}
 use lib.Seq.{take_all, take_at, drop-length, drop-append_seam}
 use Rattle.rules.specs.Bytes.{text, comma, line_feed}
-use Rattle.rules.specs.Lines.{Edition, edition_1, edition_2, fields_of}
+use Rattle.rules.specs.Lines.{fields_of}
+use Rattle.rules.specs.declared.types.Edition.{Edition}
+use Rattle.rules.specs.declared.types.Edition.TheVariants.{First as edition_1, Second as edition_2}
 use Rattle.rules.specs.Listings.{printed}
 use Rattle.rules.specs.Converting.{begins, relabelled, converted_line}
 use Rattle.rules.proofs.Converting.Joined.{joined, printed_joined, joined_fields}
-use Rattle.lines.specs.Editions.{edition_as}
-use Rattle.lines.specs.declared.editions.Edition as code
+use Rattle.rules.specs.declared.types.Edition as code
 use Rattle.converting.specs.declared.parts.Parts.{Parts}
-use Rattle.lines.specs.Wrote.{HasRoom, Writes}
+use Rattle.lines.specs.Writing.{HasRoom, Writes}
 use Rattle.lines.specs.declared.writing.LineWriter.{LineWriter}
 use Rattle.lines.proofs.Joined.{then, said, exactly}
 use Rattle.converting.specs.Parts.{FieldsEnd, label_of, Makes}
@@ -130,8 +131,8 @@ module _ (line : List ℕ) (b_line : begins "b" (fields_of line) ≡ true) (fron
             ∙ sym (append_assoc (take front line) (text ",0") (drop front line)));
       }
 
-pub by_edition : (d e : code.Edition) (line : List ℕ) {p : Parts} → d ≡ e → Makes (edition_as e) line p → Makes (edition_as d) line p
-by_edition d e line {p} h m = subst (λ (f : code.Edition). Makes (edition_as f) line p) (sym h) m
+pub by_edition : (d e : code.Edition) (line : List ℕ) {p : Parts} → d ≡ e → Makes e line p → Makes d line p
+by_edition d e line {p} h m = subst (λ (f : code.Edition). Makes f line p) (sym h) m
 
 -- ---- the parts written one behind the other
 

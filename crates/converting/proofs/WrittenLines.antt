@@ -5,9 +5,9 @@ use native.Mathlib.Decide.{dec_lt}
 use mathlib.Core.List.{List, [], ◌∷◌, ◌++◌, append_assoc, append-nil}
 use mathlib.Core.Path.{◌≡◌, sym, ap, ◌∙◌}
 use lib.ListN.{length, drop, length-append, length-drop}
-use Rattle.rules.specs.Lists.{concat_map}
+use Rattle.std.specs.List.{flat_map}
 use Rattle.rules.specs.Bytes.{line_feed, Pieces}
-use Rattle.rules.specs.Lines.{Edition}
+use Rattle.rules.specs.declared.types.Edition.{Edition}
 use Rattle.rules.specs.Listings.{max_listing}
 use Rattle.rules.specs.Converting.{other, header, converted_line, lines_behind, converted}
 use Rattle.rules.proofs.Listings.Headers.{header_length}
@@ -15,7 +15,7 @@ use Rattle.layout.specs.Reading.{slice}
 use Rattle.lines.specs.Header.{second_line}
 use Rattle.lines.proofs.Firsts.{none_left}
 use Rattle.lines.specs.Pieces.{pieces_from, PieceEnd}
-use Rattle.lines.specs.Wrote.{HasRoom, Writes}
+use Rattle.lines.specs.Writing.{HasRoom, Writes}
 use Rattle.lines.specs.declared.writing.LineWriter.{LineWriter}
 use Rattle.lines.proofs.Joined.{then, said, within, exactly, nothing}
 use Rattle.converting.specs.Writing.{converted_lines, Convertible}
@@ -23,7 +23,7 @@ use Rattle.converting.specs.Writing.{converted_lines, Convertible}
 module _ (e : Edition) (listing : List ℕ) (before : LineWriter) where
   -- the converted lines from a position on
   abbrev converted_from : ℕ → List ℕ
-  converted_from at = concat_map (converted_line e) (pieces_from line_feed listing at).whole
+  converted_from at = flat_map (converted_line e) (pieces_from line_feed listing at).whole
 
   pub record Writing (out : LineWriter) (start : ℕ) : Type 0 where
     pub bytes : List ℕ
@@ -38,7 +38,7 @@ module _ (e : Edition) (listing : List ℕ) (before : LineWriter) where
       record {
         bytes = [];
         writes = nothing 0 before;
-        lines = ap (concat_map (converted_line e)) ok.begun.lines;
+        lines = ap (flat_map (converted_line e)) ok.begun.lines;
         rest = sym ok.begun.rest ∙ ok.ended;
         within = ok.begun.long;
       }
@@ -46,10 +46,9 @@ module _ (e : Edition) (listing : List ℕ) (before : LineWriter) where
   module _ (room : HasRoom (length (converted_lines e listing)) before) {out : LineWriter} {start : ℕ} (inv : Writing out start) where
     -- behind the last line
     pub all_written : length listing ≤ start → Writes (length (converted_lines e listing)) (converted_lines e listing) before out
-    unfolding concat_map
     all_written l =
         let none = none_left line_feed listing start l in
-        let all = inv.lines ∙ ap (λ (p : Pieces). inv.bytes ++ concat_map (converted_line e) p.whole) none ∙ append-nil inv.bytes in
+        let all = inv.lines ∙ ap (λ (p : Pieces). inv.bytes ++ flat_map (converted_line e) p.whole) none ∙ append-nil inv.bytes in
         exactly (said inv.writes (sym all))
 
     module _ (l : start < length listing) (f : ℕ) (end : PieceEnd listing start line_feed f) where
@@ -67,8 +66,7 @@ module _ (e : Edition) (listing : List ℕ) (before : LineWriter) where
       line = slice listing start f
 
       lines_then : converted_lines e listing ≡ inv.bytes ++ (converted_line e line ++ converted_from (f + 1))
-      unfolding concat_map
-      lines_then = inv.lines ∙ ap (λ (p : Pieces). inv.bytes ++ concat_map (converted_line e) p.whole) (end.ended ended)
+      lines_then = inv.lines ∙ ap (λ (p : Pieces). inv.bytes ++ flat_map (converted_line e) p.whole) (end.ended ended)
 
       pub line_fits : HasRoom (length (converted_line e line)) out
       line_fits =

@@ -1,7 +1,8 @@
 -- Which of a line's bytes its converted line is made of.
 use Rattle.std.specs.Prelude.{ℕ, ◌+◌, ◌<◌, ◌≤◌, Bool, true, false, List, [], ◌∷◌, ◌++◌, ◌≡◌, length, take, drop}
 use Rattle.rules.specs.Bytes.{text, line_feed}
-use Rattle.rules.specs.Lines.{Edition, fields_of}
+use Rattle.rules.specs.Lines.{fields_of}
+use Rattle.rules.specs.declared.types.Edition.{Edition}
 use Rattle.rules.specs.Listings.{printed}
 use Rattle.rules.specs.Converting.{converted_line}
 use Rattle.converting.specs.declared.parts.Parts.{Parts}

@@ -1,15 +1,15 @@
 -- What can be written: a listing of which no line is refused.
 use Rattle.std.specs.Prelude.{ℕ, ◌≤◌, List, [], ◌≡◌, length}
-use Rattle.rules.specs.Lists.{concat_map}
+use Rattle.std.specs.List.{flat_map}
 use Rattle.rules.specs.Bytes.{line_feed, cut_at}
-use Rattle.rules.specs.Lines.{Edition}
+use Rattle.rules.specs.declared.types.Edition.{Edition}
 use Rattle.rules.specs.Listings.{max_listing}
 use Rattle.rules.specs.Converting.{converted_line, lines_behind, converted}
 use Rattle.lines.specs.Header.{StartsWithHeader}
 
 -- the lines behind the first, converted
 abbrev pub converted_lines : Edition → List ℕ → List ℕ
-converted_lines e listing = concat_map (converted_line e) (lines_behind listing)
+converted_lines e listing = flat_map (converted_line e) (lines_behind listing)
 
 -- a line feed ends its last line, and it has room where any listing has
 pub record Convertible (e : Edition) (listing : List ℕ) : Type 0 where

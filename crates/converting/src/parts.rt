@@ -2,14 +2,13 @@
 ghost use Rattle.std.specs.Prelude.{◌≡◌, ℕ, suc, ◌+◌, ◌≤◌, length};
 ghost use Rattle.rules.specs.Listings.{max_line};
 ghost use Rattle.rules.specs.Converting.{converted_line};
-ghost use Rattle.lines.specs.Editions.{edition_as};
-ghost use Rattle.lines.specs.Wrote.{HasRoom, Writes};
+ghost use Rattle.lines.specs.Writing.{HasRoom, Writes};
 ghost use Rattle.converting.specs.Parts.{FieldsEnd, label_of, Makes};
 
-use lines::editions::Edition;
 use lines::letters::is_block_line;
 use lines::pieces::piece_end;
 use lines::writing::LineWriter;
+use rules::types::Edition;
 
 // The bytes before `front` are copied, then comes a label 0 where there is to be one, and then the bytes from `back` on.
 #[derive(Clone, Copy)]
@@ -35,7 +34,7 @@ fn next_end(line: &[u8], end: usize) -> usize
 impl Parts {
     // The label is a block's third field: it goes from a line of the first edition, and comes into one of the second.
     fn of_line(line: &[u8], edition: Edition) -> Parts
-        ensures { Makes (edition_as edition) line.now result }
+        ensures { Makes edition line.now result }
     {
         let whole = line.len();
         if !is_block_line(line) {
@@ -72,7 +71,7 @@ impl Parts {
 // How many bytes a converted line has, its line feed among them.
 pub fn converted_length(line: &[u8], edition: Edition) -> usize
     requires { length line.now ≤ max_line }
-    ensures length { result ≡ length (converted_line (edition_as edition) line.now) }
+    ensures length { result ≡ length (converted_line edition line.now) }
     ensures most { result ≤ length line.now + 3 }
 {
     let parts = Parts::of_line(line, edition);
@@ -81,8 +80,8 @@ pub fn converted_length(line: &[u8], edition: Edition) -> usize
 
 // Writes a line converted, with its line feed.
 pub fn put_converted(out: &mut LineWriter, line: &[u8], edition: Edition)
-    requires { HasRoom (length (converted_line (edition_as edition) line.now)) out.old }
-    ensures { Writes (length (converted_line (edition_as edition) line.now)) (converted_line (edition_as edition) line.now) out.old out.new }
+    requires { HasRoom (length (converted_line edition line.now)) out.old }
+    ensures { Writes (length (converted_line edition line.now)) (converted_line edition line.now) out.old out.new }
 {
     let parts = Parts::of_line(line, edition);
     out.put_text(&line[..parts.front]);

@@ -4,23 +4,22 @@ ghost use Rattle.std.specs.Prelude.{◌≡◌, ◌+◌, ◌*◌, ◌≤◌, OnOk
 ghost use Rattle.rules.specs.Building.{first_failed};
 ghost use Rattle.rules.specs.Listings.{max_line, max_listing};
 ghost use Rattle.rules.specs.Converting.{line_tests};
-ghost use Rattle.layout.specs.Causes.{cause_of};
-ghost use Rattle.lines.specs.Editions.{edition_as};
+ghost use Rattle.rules.specs.Causes.{cause_of};
 ghost use Rattle.lines.specs.Header.{StartsWithHeader};
 ghost use Rattle.converting.specs.Testing.{refusal_of, too_much, TestedLine, TestedLines, Tested};
 
 use crate::parts::converted_length;
 use crate::types::{Refusal, Sizes};
-use layout::causes::Cause;
-use lines::editions::Edition;
-use lines::header::{MAX_LINE, MAX_LISTING, SECOND_LINE, header_cause};
+use lines::header::{SECOND_LINE, header_cause};
 use lines::letters::is_inherent_line;
 use lines::meaning::is_meant;
 use lines::pieces::piece_end;
+use rules::limits::{MAX_LINE, MAX_LISTING};
+use rules::types::{Cause, Edition};
 
 // Why a line is refused, if it is. An `i` line that means something is one of the second edition.
 fn line_cause(line: &[u8], edition: Edition) -> Result<(), Cause>
-    ensures tests { cause_of result ≡ first_failed (line_tests (edition_as edition) line.now) }
+    ensures tests { cause_of result ≡ first_failed (line_tests edition line.now) }
     ensures short { OnOk result (length line.now ≤ max_line) }
 {
     if line.len() > MAX_LINE {
@@ -38,7 +37,7 @@ fn line_cause(line: &[u8], edition: Edition) -> Result<(), Cause>
 // One line: the sizes with it.
 fn line_tested(line: &[u8], edition: Edition, number: u32, sizes: Sizes) -> Result<Sizes, Refusal>
     requires { sizes.whole ≤ 4 * max_listing }
-    ensures { TestedLine (edition_as edition) line.now number sizes result }
+    ensures { TestedLine edition line.now number sizes result }
 {
     if let Err(cause) = line_cause(line, edition) {
         return Err(Refusal {
@@ -56,8 +55,8 @@ fn line_tested(line: &[u8], edition: Edition, number: u32, sizes: Sizes) -> Resu
 
 // The lines from the second on, and that a line feed ends the last.
 fn lines_tested(listing: &[u8], edition: Edition) -> Result<Sizes, Refusal>
-    requires { StartsWithHeader (edition_as edition) listing.now }
-    ensures { TestedLines (edition_as edition) listing.now result }
+    requires { StartsWithHeader edition listing.now }
+    ensures { TestedLines edition listing.now result }
 {
     let mut sizes = Sizes {
         whole: SECOND_LINE,

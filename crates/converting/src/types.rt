@@ -1,5 +1,5 @@
 // Why a listing is not converted, and what is known of it before anything is written.
-use layout::causes::Cause;
+use rules::types::Cause;
 
 // There is too little room for whatever may be printed.
 #[derive(Clone, Copy, PartialEq, Eq, Debug)]

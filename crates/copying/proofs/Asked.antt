@@ -10,10 +10,10 @@ use Rattle.layout.specs.Soundness.{Arranged}
 use Rattle.layout.proofs.Laid.{laid_facts}
 use Rattle.layout.proofs.Tabulate.{op_read, block_read, regions_length}
 use Rattle.std.specs.Prelude as std
-use Rattle.calling.specs.Types.{parent_of, operation_of}
-use Rattle.adding.specs.Raw.{OpRoom, with_operation, with_block}
-use Rattle.mapping.specs.MappingWords.{mapping_length, mapping_of}
-use Rattle.copying.specs.Written.{Wrote, region_by, op_asked, block_asked, OpReady, BlockReady}
+use Rattle.mutation.specs.Types.{operation_of}
+use Rattle.mutation.specs.AddedWrites.{OpRoom, with_operation, with_block}
+use Rattle.equivalence.specs.MappingWords.{mapping_length, mapping_of}
+use Rattle.copying.specs.Written.{ReadsAs, region_by, op_asked, block_asked, OpReady, BlockReady}
 use Rattle.copying.proofs.Wrote.{op_wrote, block_wrote}
 use Rattle.copying.proofs.Regions.{regions_counted}
 use Rattle.copying.proofs.Making.{values_named_lem, blocks_named_lem, result_types, op_room_lem, argument_types, block_room_lem}
@@ -59,16 +59,16 @@ module _ (a : List ℕ) (h : Arranged a) (w : List ℕ) (long : length w ≡ map
   unfolding op_asked
   op_asked_room =
       sized (columns a) (sym regions_asked) (sym (ap length types_asked)) (sym (ap length operands_asked)) (sym (ap length successors_asked))
-      (op_room_lem a h m l ready (mapping_of w) (parent_of parent))
+      (op_room_lem a h m l ready (mapping_of w) parent)
 
   op_asked_lem : operation_of (record { kind = kind; parent = parent; location = location; regions = end - first }) n u t
-      ≡ op_asked (store_in a) (mapping_of w) (parent_of parent) m
+      ≡ op_asked (store_in a) (mapping_of w) parent m
   unfolding op_asked op_of
   op_asked_lem =
       let row = op_read (columns a) m l in
       λ i. record {
         kind = (k.kind_read ∙ sym (ap (λ (o : Op). o.kind) row)) i;
-        parent = parent_of parent;
+        parent = parent;
         location = (k.location_read ∙ sym (ap (λ (o : Op). o.location) row)) i;
         regions = regions_asked i;
         types = types_asked i;
@@ -78,12 +78,12 @@ module _ (a : List ℕ) (h : Arranged a) (w : List ℕ) (long : length w ≡ map
 
   pub op_row_wrote : (b : List ℕ) → length b ≡ length a
       → columns b ≡ with_operation (columns a) (operation_of (record { kind = kind; parent = parent; location = location; regions = end - first }) n u t)
-      → parent_exists (store_in a) (parent_of parent) ≡ true
-      → Wrote a b (applied (store_in a) (new_operation (op_asked (store_in a) (mapping_of w) (parent_of parent) m)))
+      → parent_exists (store_in a) parent ≡ true
+      → ReadsAs a b (applied (store_in a) (new_operation (op_asked (store_in a) (mapping_of w) parent m)))
   unfolding op_asked
   op_row_wrote b len e p =
-      op_wrote a b h len (op_asked (store_in a) (mapping_of w) (parent_of parent) m) (e ∙ ap (with_operation (columns a)) op_asked_lem)
-      (op_room_lem a h m l ready (mapping_of w) (parent_of parent)) p
+      op_wrote a b h len (op_asked (store_in a) (mapping_of w) parent m) (e ∙ ap (with_operation (columns a)) op_asked_lem)
+      (op_room_lem a h m l ready (mapping_of w) parent) p
 
 -- ---- a block
 
@@ -112,7 +112,7 @@ module _ (a : List ℕ) (h : Arranged a) (w : List ℕ) (m : ℕ) (l : m < block
 
   pub block_row_wrote : (b : List ℕ) → length b ≡ length a
       → columns b ≡ with_block (columns a) (record { region = region; location = location; types = n })
-      → Wrote a b (applied (store_in a) (new_block (block_asked (store_in a) (mapping_of w) m)))
+      → ReadsAs a b (applied (store_in a) (new_block (block_asked (store_in a) (mapping_of w) m)))
   unfolding block_asked
   block_row_wrote b len e =
       block_wrote a b h len (block_asked (store_in a) (mapping_of w) m) (e ∙ ap (with_block (columns a)) block_asked_lem)

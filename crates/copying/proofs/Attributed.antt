@@ -4,7 +4,10 @@ use borrow.Author.Tests.{ltb-true, ne_eqb}
 use Rattle.std.proofs.lemmas.Bool.{le-ltb}
 use lib.Dec.{ltb, eqb}
 use Rattle.rules.specs.Lists.{update_at}
-use Rattle.rules.specs.Store.{Store, Op, Block, Attribute, Owner, of_op, of_block, no_op, no_block, op_at, block_at, keys_rise, keys_rise_after}
+use Rattle.rules.specs.Store.{Store, Op, Block, no_op, no_block, op_at, block_at, keys_rise, keys_rise_after}
+use Rattle.rules.specs.declared.types.Attribute.{Attribute}
+use Rattle.rules.specs.declared.types.Owner.{Owner}
+use Rattle.rules.specs.declared.types.Owner.TheVariants.{Op as of_op, Block as of_block}
 use Rattle.rules.specs.Building.{attributes_of, set_attribute, applied, put_attribute, op_with_attribute, block_with_attribute}
 use Rattle.rules.proofs.Basics.Tests.{and_left, and_right}
 use Rattle.copying.specs.Written.{op_attributed, block_attributed, attributed}

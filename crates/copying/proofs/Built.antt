@@ -4,12 +4,16 @@ use Rattle.std.proofs.Common.{◌≡◌, ℕ, zero, suc, ◌+◌, ◌<◌, true,
 use Rattle.std.proofs.lemmas.List.{map-append}
 use mathlib.Core.List.Memᴰ
 use mathlib.Core.List.{Memᴰ}
-use mathlib.Core.Option.{Option, none, some}
+use Rattle.std.specs.Prelude.{Option, None, Some}
 use borrow.Author.Tests.{ne_eqb, ltb-true, lt-ltb}
 use lib.Dec.{eqb}
-use Rattle.rules.specs.Lists.{concat_map, update_at, position}
-use Rattle.rules.specs.Store.{Store, Op, Value, Owner, of_op, of_block, no_op, no_block, no_value, op_at, block_at, value_at, type_of, parent_of, same_owner, regions_of, values_of, results_of, op_exists, block_exists, value_exists, owner_exists, parent_exists}
-use Rattle.rules.specs.Fragments.{op, op_owner, block_owner, defines_owners, defines_blocks, defines_values, fragment_ops}
+use Rattle.std.specs.List.{flat_map}
+use Rattle.rules.specs.Lists.{update_at, position}
+use Rattle.rules.specs.Store.{Store, Op, Value, no_op, no_block, no_value, op_at, block_at, value_at, type_of, parent_of, same_owner, regions_of, values_of, results_of, op_exists, block_exists, value_exists, owner_exists, parent_exists}
+use Rattle.rules.specs.declared.types.Owner.{Owner}
+use Rattle.rules.specs.declared.types.Owner.TheVariants.{Op as of_op, Block as of_block}
+use Rattle.rules.specs.Fragments.{op_owner, block_owner, defines_owners, defines_blocks, defines_values, fragment_ops}
+use Rattle.rules.specs.declared.types.Sort.TheVariants.{Op as op}
 use Rattle.rules.specs.Building.{new_operation, applied, values_for}
 use Rattle.rules.specs.Mapping.{Mapping, image}
 use Rattle.rules.specs.Copying.{renumbered, copied_regions, op_copy, block_copy, region_copy, value_copy, owner_copy, inner, parent_copy, copied_op, copied_block, copied_value, copied}
@@ -30,12 +34,11 @@ use Rattle.copying.specs.Written.{op_attributed, attributed, op_asked, op_made, 
 
 -- a table to which what belongs to one more is added
 pub grown_table : {W A : Type 0} (xs : List A) (g : ℕ → A) (f : W → List ℕ) (ws : List W) (w : W)
-    → xs ++ map g (concat_map f (ws ++ (w ∷ []))) ≡ (xs ++ map g (concat_map f ws)) ++ map g (f w)
-unfolding concat_map
+    → xs ++ map g (flat_map f (ws ++ (w ∷ []))) ≡ (xs ++ map g (flat_map f ws)) ++ map g (f w)
 grown_table {W} {A} xs g f ws w =
-    ap (λ (l : List ℕ). xs ++ map g l) (concat_map_append f ws (w ∷ []) ∙ ap (λ (l : List ℕ). concat_map f ws ++ l) (append-nil (f w)))
-    ∙ ap (λ (l : List A). xs ++ l) (map-append g (concat_map f ws) (f w))
-    ∙ sym (append_assoc xs (map g (concat_map f ws)) (map g (f w)))
+    ap (λ (l : List ℕ). xs ++ map g l) (concat_map_append f ws (w ∷ []) ∙ ap (λ (l : List ℕ). flat_map f ws ++ l) (append-nil (f w)))
+    ∙ ap (λ (l : List A). xs ++ l) (map-append g (flat_map f ws) (f w))
+    ∙ sym (append_assoc xs (map g (flat_map f ws)) (map g (f w)))
 
 map_same_as : {A B : Type 0} (f : A → B) (b : B) (xs : List A) → ((x : A) → Memᴰ x xs → f x ≡ b) → map f xs ≡ replicate (length xs) b
 map_same_as f b [] h = refl
@@ -70,30 +73,30 @@ same_back (of_block a) (of_block b) h = differ_back a b h
 -- ---- what the copied ones have
 
 module _ (s : Store) (n : ℕ) (ws rest : List Owner) (w : Owner) (split : ws ++ (w ∷ rest) ≡ defines_owners s op n) where
-  in_walk : {A : Type 0} (f : Owner → List A) {y : A} → Memᴰ y (concat_map f ws) → Memᴰ y (concat_map f (defines_owners s op n))
+  in_walk : {A : Type 0} (f : Owner → List A) {y : A} → Memᴰ y (flat_map f ws) → Memᴰ y (flat_map f (defines_owners s op n))
   in_walk {A} f {y} k =
-      subst (Memᴰ y) (sym (concat_map_append f ws (w ∷ rest)) ∙ ap (concat_map f) split) (Memᴰ.append_left (concat_map f (w ∷ rest)) k)
+      subst (Memᴰ y) (sym (concat_map_append f ws (w ∷ rest)) ∙ ap (flat_map f) split) (Memᴰ.append_left (flat_map f (w ∷ rest)) k)
 
   pub here : Memᴰ w (defines_owners s op n)
   here = subst (Memᴰ w) split (Memᴰ.append_right ws (Memᴰ.head refl))
 
-  pub ops_split : concat_map op_owner ws ++ (op_owner w ++ concat_map op_owner rest) ≡ fragment_ops s op n
-  unfolding fragment_ops concat_map
-  ops_split = sym (concat_map_append op_owner ws (w ∷ rest)) ∙ ap (concat_map op_owner) split
+  pub ops_split : flat_map op_owner ws ++ (op_owner w ++ flat_map op_owner rest) ≡ fragment_ops s op n
+  unfolding fragment_ops
+  ops_split = sym (concat_map_append op_owner ws (w ∷ rest)) ∙ ap (flat_map op_owner) split
 
-  pub blocks_split : concat_map block_owner ws ++ (block_owner w ++ concat_map block_owner rest) ≡ defines_blocks s op n
-  unfolding defines_blocks concat_map
-  blocks_split = sym (concat_map_append block_owner ws (w ∷ rest)) ∙ ap (concat_map block_owner) split
+  pub blocks_split : flat_map block_owner ws ++ (block_owner w ++ flat_map block_owner rest) ≡ defines_blocks s op n
+  unfolding defines_blocks
+  blocks_split = sym (concat_map_append block_owner ws (w ∷ rest)) ∙ ap (flat_map block_owner) split
 
-  pub regions_split : concat_map (regions_of s) (concat_map op_owner ws) ++ concat_map (regions_of s) (op_owner w ++ concat_map op_owner rest) ≡ copied_regions s n
+  pub regions_split : flat_map (regions_of s) (flat_map op_owner ws) ++ flat_map (regions_of s) (op_owner w ++ flat_map op_owner rest) ≡ copied_regions s n
   unfolding copied_regions
   regions_split =
-      sym (concat_map_append (regions_of s) (concat_map op_owner ws) (op_owner w ++ concat_map op_owner rest)) ∙ ap (concat_map (regions_of s)) ops_split
+      sym (concat_map_append (regions_of s) (flat_map op_owner ws) (op_owner w ++ flat_map op_owner rest)) ∙ ap (flat_map (regions_of s)) ops_split
 
-  region_of : {r : ℕ} → Memᴰ r (concat_map (regions_of s) (concat_map op_owner ws)) → Memᴰ r (copied_regions s n)
+  region_of : {r : ℕ} → Memᴰ r (flat_map (regions_of s) (flat_map op_owner ws)) → Memᴰ r (copied_regions s n)
   region_of {r} k = subst (Memᴰ r) regions_split (Memᴰ.append_left _ k)
 
-  value_of_lem : {v : ℕ} → Memᴰ v (concat_map (values_of s) ws) → Memᴰ v (defines_values s op n)
+  value_of_lem : {v : ℕ} → Memᴰ v (flat_map (values_of s) ws) → Memᴰ v (defines_values s op n)
   unfolding defines_values
   value_of_lem k = in_walk (values_of s) k
 
@@ -117,45 +120,45 @@ module _ (s : Store) (sd : Sound s) (n : ℕ) (ex : op_exists s n ≡ true) (pla
 
   pub op_between : (m : ℕ) → m < length s.ops → op_at between m ≡ op_at s m
   unfolding op_at copied_by
-  op_between m l = old_entry s.ops (copied_op s n place) (concat_map op_owner ws) no_op m l
+  op_between m l = old_entry s.ops (copied_op s n place) (flat_map op_owner ws) no_op m l
 
   pub block_between : (b : ℕ) → b < length s.blocks → block_at between b ≡ block_at s b
   unfolding block_at copied_by
-  block_between b l = old_entry s.blocks (copied_block s n) (concat_map block_owner ws) no_block b l
+  block_between b l = old_entry s.blocks (copied_block s n) (flat_map block_owner ws) no_block b l
 
   pub value_between : (v : ℕ) → v < length s.values → value_at between v ≡ value_at s v
   unfolding value_at copied_by
-  value_between v l = old_entry s.values (copied_value s n) (concat_map (values_of s) ws) no_value v l
+  value_between v l = old_entry s.values (copied_value s n) (flat_map (values_of s) ws) no_value v l
 
   pub region_between : (r : ℕ) → r < length s.regions → get_or between.regions r 0 ≡ get_or s.regions r 0
   unfolding copied_by
   region_between r l =
-      old_entry s.regions (λ (q : ℕ). op_copy s n (get_or s.regions q 0)) (concat_map (regions_of s) (concat_map op_owner ws)) 0 r l
+      old_entry s.regions (λ (q : ℕ). op_copy s n (get_or s.regions q 0)) (flat_map (regions_of s) (flat_map op_owner ws)) 0 r l
 
   pub regions_between : (m : ℕ) → m < length s.ops → regions_of between m ≡ regions_of s m
   unfolding regions_of copied_by
   regions_between m l =
-      numbers_old s.regions (λ (r : ℕ). op_copy s n (get_or s.regions r 0)) (concat_map (regions_of s) (concat_map op_owner ws)) (λ (o : ℕ). eqb o m)
+      numbers_old s.regions (λ (r : ℕ). op_copy s n (get_or s.regions r 0)) (flat_map (regions_of s) (flat_map op_owner ws)) (λ (o : ℕ). eqb o m)
       (λ r k. ne_eqb _ m (λ e. let f : op_copy s n (get_or s.regions r 0) ≡ m = e in
       absurd (omega (arith, op_new s n place (region_parent s sd n ex place pe (region_of s n ws rest w split k)).1))))
 
   pub values_between : (x : Owner) → owner_exists s x ≡ true → values_of between x ≡ values_of s x
   unfolding values_of copied_by copied_value
   values_between x h =
-      numbers_old s.values (copied_value s n) (concat_map (values_of s) ws) (λ (o : Value). same_owner o.owner x)
+      numbers_old s.values (copied_value s n) (flat_map (values_of s) ws) (λ (o : Value). same_owner o.owner x)
       (λ v k. same_back x (owner_copy s n (value_at s v).owner)
       (owner_apart s sd n ex place pe x (value_at s v).owner h (value_owner_lem s sd n ex (value_of_lem s n ws rest w split k)).1))
 
-  pub ops_length : length between.ops ≡ length s.ops + length (concat_map op_owner ws)
+  pub ops_length : length between.ops ≡ length s.ops + length (flat_map op_owner ws)
   unfolding copied_by
-  ops_length = table_length_lem s.ops (copied_op s n place) (concat_map op_owner ws)
+  ops_length = table_length_lem s.ops (copied_op s n place) (flat_map op_owner ws)
 
-  pub blocks_length : length between.blocks ≡ length s.blocks + length (concat_map block_owner ws)
+  pub blocks_length : length between.blocks ≡ length s.blocks + length (flat_map block_owner ws)
   unfolding copied_by
-  blocks_length = table_length_lem s.blocks (copied_block s n) (concat_map block_owner ws)
+  blocks_length = table_length_lem s.blocks (copied_block s n) (flat_map block_owner ws)
 
   -- the regions of an operation's copy, once it is there
-  pub regions_copied : (m : ℕ) → Memᴰ m (concat_map op_owner ws) → regions_of between (op_copy s n m) ≡ map (region_copy s n) (regions_of s m)
+  pub regions_copied : (m : ℕ) → Memᴰ m (flat_map op_owner ws) → regions_of between (op_copy s n m) ≡ map (region_copy s n) (regions_of s m)
   unfolding regions_of copied_by copied
   regions_copied m k =
       sym (numbers_before (λ (o : ℕ). eqb o (op_copy s n m)) between.regions (map f later) apart)
@@ -166,42 +169,42 @@ module _ (s : Store) (sd : Sound s) (n : ℕ) (ex : op_exists s n ≡ true) (pla
       f r = op_copy s n (get_or s.regions r 0)
 
       later_ops : List ℕ
-      later_ops = op_owner w ++ concat_map op_owner rest
+      later_ops = op_owner w ++ flat_map op_owner rest
 
       later : List ℕ
-      later = concat_map (regions_of s) later_ops
+      later = flat_map (regions_of s) later_ops
 
-      whole : (s.regions ++ map f (concat_map (regions_of s) (concat_map op_owner ws))) ++ map f later ≡ s.regions ++ map f (copied_regions s n)
+      whole : (s.regions ++ map f (flat_map (regions_of s) (flat_map op_owner ws))) ++ map f later ≡ s.regions ++ map f (copied_regions s n)
       whole =
-          append_assoc s.regions (map f (concat_map (regions_of s) (concat_map op_owner ws))) (map f later)
-          ∙ ap (λ (l : List ℕ). s.regions ++ l) (sym (map-append f (concat_map (regions_of s) (concat_map op_owner ws)) later) ∙ ap (map f) (regions_split s n ws rest w split))
+          append_assoc s.regions (map f (flat_map (regions_of s) (flat_map op_owner ws))) (map f later)
+          ∙ ap (λ (l : List ℕ). s.regions ++ l) (sym (map-append f (flat_map (regions_of s) (flat_map op_owner ws)) later) ∙ ap (map f) (regions_split s n ws rest w split))
 
       inside : Memᴰ m (fragment_ops s op n)
       inside = subst (Memᴰ m) (ops_split s n ws rest w split) (Memᴰ.append_left later_ops k)
 
-      once : Distinct (concat_map op_owner ws ++ later_ops)
+      once : Distinct (flat_map op_owner ws ++ later_ops)
       once = subst Distinct (sym (ops_split s n ws rest w split)) (ops_distinct s sd n ex)
 
       other : (r : ℕ) → Memᴰ r later → f r ≡ op_copy s n m → ⊥
       other r i e =
           let q = mem_concat_map (regions_of s) later_ops i in
-          let j : Memᴰ q.0 (fragment_ops s op n) = subst (Memᴰ q.0) (ops_split s n ws rest w split) (Memᴰ.append_right (concat_map op_owner ws) q.1) in
+          let j : Memᴰ q.0 (fragment_ops s op n) = subst (Memᴰ q.0) (ops_split s n ws rest w split) (Memᴰ.append_right (flat_map op_owner ws) q.1) in
           let h : get_or s.regions r 0 ≡ q.0 = (regions_in_lem s q.0 q.2).1 in
           let z : q.0 ≡ m = op_once s n place q.0 m (op_below s sd n ex j) (op_below s sd n ex inside) (ap (op_copy s n) (sym h) ∙ e) in
-          distinct_apart (concat_map op_owner ws) later_ops once m k (subst (λ (x : ℕ). Memᴰ x later_ops) z q.1)
+          distinct_apart (flat_map op_owner ws) later_ops once m k (subst (λ (x : ℕ). Memᴰ x later_ops) z q.1)
 
       apart : (o : ℕ) → Memᴰ o (map f later) → eqb o (op_copy s n m) ≡ false
       apart o i = let j = Memᴰ.of_map f later i in ne_eqb o (op_copy s n m) (λ e. other j.0 j.1 (j.2 ∙ e))
 
   -- and its number is one of the store's
-  pub op_copied : (m : ℕ) → Memᴰ m (concat_map op_owner ws) → op_copy s n m < length between.ops
+  pub op_copied : (m : ℕ) → Memᴰ m (flat_map op_owner ws) → op_copy s n m < length between.ops
   unfolding op_copy
   op_copied m k =
-      let p = place_in (concat_map op_owner ws) (length s.ops) k in
-      let later_ops : List ℕ = op_owner w ++ concat_map op_owner rest in
-      let e : position m (fragment_ops s op n) ≡ some p.0 =
-      subst (λ (l : List ℕ). position m l ≡ some p.0) (ops_split s n ws rest w split) (position_kept m (concat_map op_owner ws) later_ops p.0 p.1) in
-      let i : p.0 < length (concat_map op_owner ws) = p.2 in
+      let p = place_in (flat_map op_owner ws) (length s.ops) k in
+      let later_ops : List ℕ = op_owner w ++ flat_map op_owner rest in
+      let e : position m (fragment_ops s op n) ≡ Some p.0 =
+      subst (λ (l : List ℕ). position m l ≡ Some p.0) (ops_split s n ws rest w split) (position_kept m (flat_map op_owner ws) later_ops p.0 p.1) in
+      let i : p.0 < length (flat_map op_owner ws) = p.2 in
       omega (arith, number_at (fragment_ops s op n) (length s.ops) m p.0 e, ops_length)
 
 -- ---- one operation more
@@ -220,9 +223,9 @@ module _ (s : Store) (sd : Sound s) (n : ℕ) (ex : op_exists s n ≡ true) (pla
   next_op : length now.ops ≡ op_copy s n m
   unfolding op_copy op_owner
   next_op =
-      let d : Distinct (concat_map op_owner ws ++ (m ∷ concat_map op_owner rest)) = subst Distinct (sym (ops_split s n ws rest (of_op m) split)) (ops_distinct s sd n ex) in
+      let d : Distinct (flat_map op_owner ws ++ (m ∷ flat_map op_owner rest)) = subst Distinct (sym (ops_split s n ws rest (of_op m) split)) (ops_distinct s sd n ex) in
       ops_length s sd n ex place pe ws rest (of_op m) split
-      ∙ sym (next_number (concat_map op_owner ws) (concat_map op_owner rest) m (length s.ops) d)
+      ∙ sym (next_number (flat_map op_owner ws) (flat_map op_owner rest) m (length s.ops) d)
       ∙ ap (λ (l : List ℕ). renumbered l (length s.ops) m) (ops_split s n ws rest (of_op m) split)
 
   same_row : op_at now m ≡ op_at s m
@@ -230,8 +233,8 @@ module _ (s : Store) (sd : Sound s) (n : ℕ) (ex : op_exists s n ≡ true) (pla
 
   inner_same : (p : Option ℕ) → parent_exists s p ≡ true → inner (image M.blocks) p ≡ inner (block_copy s n) p
   unfolding inner parent_exists block_exists
-  inner_same none h = refl
-  inner_same (some b) h = ap {B = Option ℕ} some (images.blocks b (ltb-true b (length s.blocks) h))
+  inner_same None h = refl
+  inner_same (Some b) h = ap {B = Option ℕ} Some (images.blocks b (ltb-true b (length s.blocks) h))
 
   pub parent_same : parent_by now M n place m ≡ parent_copy s n place m
   unfolding parent_by parent_copy parent_of
@@ -283,16 +286,16 @@ module _ (s : Store) (sd : Sound s) (n : ℕ) (ex : op_exists s n ≡ true) (pla
   no_blocks = sym (append-nil now.blocks) ∙ sym (grown_table s.blocks (copied_block s n) block_owner ws (of_op m))
 
   regions_made : now.regions ++ replicate (length (regions_of now m)) (length now.ops) ≡ (copied_by s n place (ws ++ (of_op m ∷ []))).regions
-  unfolding copied_by op_owner concat_map
+  unfolding copied_by op_owner
   regions_made =
       let g : ℕ → ℕ = λ (r : ℕ). op_copy s n (get_or s.regions r 0) in
-      let f : Owner → List ℕ = λ (x : Owner). concat_map (regions_of s) (op_owner x) in
-      let by : (xs : List Owner) → concat_map (regions_of s) (concat_map op_owner xs) ≡ concat_map f xs = λ xs. concat_map_concat_map (regions_of s) op_owner xs in
+      let f : Owner → List ℕ = λ (x : Owner). flat_map (regions_of s) (op_owner x) in
+      let by : (xs : List Owner) → flat_map (regions_of s) (flat_map op_owner xs) ≡ flat_map f xs = λ xs. concat_map_concat_map (regions_of s) op_owner xs in
       ap (λ (l : List ℕ). now.regions ++ replicate (length l) (length now.ops)) (regions_between s sd n ex place pe ws rest (of_op m) split m op_known)
       ∙ ap (λ (k : ℕ). now.regions ++ replicate (length (regions_of s m)) k) next_op
       ∙ ap (λ (l : List ℕ). now.regions ++ l) (sym (map_same_as g (op_copy s n m) (regions_of s m) (λ r k. ap (op_copy s n) (regions_in_lem s m k).1)))
       ∙ ap (λ (l : List ℕ). (s.regions ++ map g l) ++ map g (regions_of s m)) (by ws)
-      ∙ ap (λ (l : List ℕ). (s.regions ++ map g (concat_map f ws)) ++ map g l) (sym (append-nil (regions_of s m)))
+      ∙ ap (λ (l : List ℕ). (s.regions ++ map g (flat_map f ws)) ++ map g l) (sym (append-nil (regions_of s m)))
       ∙ sym (grown_table s.regions g f ws (of_op m))
       ∙ ap (λ (l : List ℕ). s.regions ++ map g l) (sym (by (ws ++ (of_op m ∷ []))))
 

@@ -3,11 +3,15 @@
 use Rattle.std.proofs.Common.{◌≡◌, ℕ, ◌+◌, ◌-◌, ◌<◌, true, List, [], ◌∷◌, ◌++◌, map, length, get_or, sym, ap, subst, ◌∙◌, arith, append-nil}
 use Rattle.std.proofs.lemmas.List.{length-map}
 use mathlib.Core.List.{Memᴰ}
-use mathlib.Core.Option.{Option}
+use Rattle.std.specs.Prelude.{Option}
 use borrow.Author.Tests.{ltb-true, lt-ltb}
-use Rattle.rules.specs.Lists.{concat_map, update_at}
-use Rattle.rules.specs.Store.{Store, Block, Value, Owner, of_block, block_at, value_at, type_of, op_around, regions_of, values_of, arguments_of, op_exists, block_exists, region_exists, owner_exists, parent_exists}
-use Rattle.rules.specs.Fragments.{op, op_owner, block_owner, defines_owners, defines_blocks}
+use Rattle.std.specs.List.{flat_map}
+use Rattle.rules.specs.Lists.{update_at}
+use Rattle.rules.specs.Store.{Store, Block, Value, block_at, value_at, type_of, op_around, regions_of, values_of, arguments_of, op_exists, block_exists, region_exists, owner_exists, parent_exists}
+use Rattle.rules.specs.declared.types.Owner.{Owner}
+use Rattle.rules.specs.declared.types.Owner.TheVariants.{Block as of_block}
+use Rattle.rules.specs.Fragments.{op_owner, block_owner, defines_owners, defines_blocks}
+use Rattle.rules.specs.declared.types.Sort.TheVariants.{Op as op}
 use Rattle.rules.specs.Building.{new_block, applied, values_for}
 use Rattle.rules.specs.Mapping.{Mapping, image}
 use Rattle.rules.specs.Copying.{renumbered, op_copy, block_copy, region_copy, owner_copy, copied_op, copied_block, copied_value}
@@ -34,9 +38,9 @@ module _ (s : Store) (sd : Sound s) (n : ℕ) (ex : op_exists s n ≡ true) (pla
   next_block : length now.blocks ≡ block_copy s n b
   unfolding block_copy block_owner
   next_block =
-      let d : Distinct (concat_map block_owner ws ++ (b ∷ concat_map block_owner rest)) = subst Distinct (sym (blocks_split s n ws rest (of_block b) split)) (blocks_distinct s sd n ex) in
+      let d : Distinct (flat_map block_owner ws ++ (b ∷ flat_map block_owner rest)) = subst Distinct (sym (blocks_split s n ws rest (of_block b) split)) (blocks_distinct s sd n ex) in
       blocks_length s sd n ex place pe ws rest (of_block b) split
-      ∙ sym (next_number (concat_map block_owner ws) (concat_map block_owner rest) b (length s.blocks) d)
+      ∙ sym (next_number (flat_map block_owner ws) (flat_map block_owner rest) b (length s.blocks) d)
       ∙ ap (λ (l : List ℕ). renumbered l (length s.blocks) b) (blocks_split s n ws rest (of_block b) split)
 
   same_row : block_at now b ≡ block_at s b
@@ -51,7 +55,7 @@ module _ (s : Store) (sd : Sound s) (n : ℕ) (ex : op_exists s n ≡ true) (pla
   pub around_known : op_around s b < length s.ops
   around_known = op_below s sd n ex (op_around_lem s sd n ex b block_inside)
 
-  module _ (before : Memᴰ (op_around s b) (concat_map op_owner ws)) where
+  module _ (before : Memᴰ (op_around s b) (flat_map op_owner ws)) where
     pub around_now : get_or now.regions (block_at now b).region 0 ≡ op_around s b
     unfolding op_around
     around_now =
@@ -125,12 +129,12 @@ module _ (s : Store) (sd : Sound s) (n : ℕ) (ex : op_exists s n ≡ true) (pla
       no_ops = sym (append-nil now.ops) ∙ sym (grown_table s.ops (copied_op s n place) op_owner ws (of_block b))
 
       no_regions : now.regions ≡ (copied_by s n place (ws ++ (of_block b ∷ []))).regions
-      unfolding copied_by op_owner concat_map
+      unfolding copied_by op_owner
       no_regions =
           let g : ℕ → ℕ = λ (r : ℕ). op_copy s n (get_or s.regions r 0) in
-          let f : List Owner → List ℕ = λ (l : List Owner). concat_map (regions_of s) (concat_map op_owner l) in
-          let e : concat_map op_owner ws ≡ concat_map op_owner (ws ++ (of_block b ∷ [])) = sym (concat_map_append op_owner ws (of_block b ∷ []) ∙ append-nil (concat_map op_owner ws)) in
-          ap (λ (l : List ℕ). s.regions ++ map g (concat_map (regions_of s) l)) e
+          let f : List Owner → List ℕ = λ (l : List Owner). flat_map (regions_of s) (flat_map op_owner l) in
+          let e : flat_map op_owner ws ≡ flat_map op_owner (ws ++ (of_block b ∷ [])) = sym (concat_map_append op_owner ws (of_block b ∷ []) ∙ append-nil (flat_map op_owner ws)) in
+          ap (λ (l : List ℕ). s.regions ++ map g (flat_map (regions_of s) l)) e
 
       argument_made : ℕ → Value
       argument_made v = record { type = type_of now v; owner = of_block (length now.blocks) }

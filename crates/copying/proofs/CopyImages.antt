@@ -5,10 +5,11 @@ use Rattle.std.proofs.lemmas.List.{length-replicate}
 use mathlib.Core.List.Memᴰ
 use mathlib.Core.List.{Memᴰ}
 use mathlib.Core.Logic.{◌⊎◌, inl, inr, ⊎_elim}
-use mathlib.Core.Option.{Option}
+use Rattle.std.specs.Prelude.{Option}
 use borrow.Author.Tests.{ne_eqb}
 use Rattle.rules.specs.Store.{Store, op_exists, totals_hold, max_ops, max_blocks, max_values}
-use Rattle.rules.specs.Fragments.{op, defines_blocks, defines_values, fragment_ops}
+use Rattle.rules.specs.Fragments.{defines_blocks, defines_values, fragment_ops}
+use Rattle.rules.specs.declared.types.Sort.TheVariants.{Op as op}
 use Rattle.rules.specs.Mapping.{no_image, empty_mapping, image, or_self, enter_all}
 use Rattle.rules.specs.Copying.{renumbered, op_copy, block_copy, value_copy, copy_mapping, copied}
 use Rattle.rules.proofs.Basics.Distinct.{Distinct}

@@ -1,8 +1,10 @@
 -- A walk has no more than 1,280 steps that tell of something: one for each shell, and in every list as many operations in full as there are shells of operations. Assumes nothing.
 use Rattle.std.proofs.Common.{◌≡◌, ℕ, zero, suc, ◌+◌, ◌≤◌, List, [], ◌∷◌, ◌++◌, true, map, length, refl, ap, arith}
-use Rattle.rules.specs.Lists.{concat_map}
-use Rattle.rules.specs.Store.{Store, of_op, of_block, ops_of, blocks_of, regions_of, sound, op_exists, max_ops, max_blocks}
-use Rattle.rules.specs.Fragments.{Step, shell, names, counted, op, full_op, shells, list_steps, region_steps, levels, steps, step_defines, op_owner, block_owner, defines_owners, defines_blocks, exists}
+use Rattle.std.specs.List.{flat_map}
+use Rattle.rules.specs.Store.{Store, ops_of, blocks_of, regions_of, sound, op_exists, max_ops, max_blocks}
+use Rattle.rules.specs.declared.types.Owner.TheVariants.{Op as of_op, Block as of_block}
+use Rattle.rules.specs.Fragments.{Step, shell, names, counted, full_op, shells, list_steps, region_steps, levels, steps, step_defines, op_owner, block_owner, defines_owners, defines_blocks, exists}
+use Rattle.rules.specs.declared.types.Sort.TheVariants.{Op as op}
 use Rattle.rules.proofs.Soundness.Sound.{facts}
 use Rattle.rules.proofs.Form.Once.{owners_once, owners_here}
 use Rattle.rules.proofs.Form.Counted.{ops_most, blocks_most}
@@ -38,16 +40,16 @@ shells_append (names n ∷ xs) ys = shells_append xs ys
 shells_append (counted k ∷ xs) ys = shells_append xs ys
 
 -- one for each
-steps_counted : (xs : List Step) → length (steps_listed xs) ≡ opened xs + op_shells xs + length (concat_map block_owner (concat_map step_defines xs))
-unfolding opened op_shells steps_listed step_listed concat_map step_defines block_owner
+steps_counted : (xs : List Step) → length (steps_listed xs) ≡ opened xs + op_shells xs + length (flat_map block_owner (flat_map step_defines xs))
+unfolding opened op_shells steps_listed step_listed step_defines block_owner
 steps_counted [] = refl
 steps_counted (shell (of_op n) ∷ xs) = omega (arith, steps_counted xs)
 steps_counted (shell (of_block b) ∷ xs) = omega (arith, steps_counted xs)
 steps_counted (names n ∷ xs) = omega (arith, steps_counted xs)
 steps_counted (counted k ∷ xs) = steps_counted xs
 
-shells_counted : (xs : List Step) → op_shells xs ≡ length (concat_map op_owner (concat_map step_defines xs))
-unfolding op_shells concat_map step_defines op_owner
+shells_counted : (xs : List Step) → op_shells xs ≡ length (flat_map op_owner (flat_map step_defines xs))
+unfolding op_shells step_defines op_owner
 shells_counted [] = refl
 shells_counted (shell (of_op n) ∷ xs) = ap suc (shells_counted xs)
 shells_counted (shell (of_block b) ∷ xs) = shells_counted xs
@@ -73,13 +75,13 @@ abbrev Even : List Step → Type 0
 Even xs = opened xs ≡ op_shells xs
 
 module _ (s : Store) where
-  regions_even : (f : ℕ → List Step) → ((r : ℕ) → Even (f r)) → (rs : List ℕ) → Even (concat_map f rs)
-  unfolding concat_map opened op_shells
+  regions_even : (f : ℕ → List Step) → ((r : ℕ) → Even (f r)) → (rs : List ℕ) → Even (flat_map f rs)
+  unfolding opened op_shells
   regions_even f h [] = refl
   regions_even f h (r ∷ rs) =
       let e = h r in
       let rest = regions_even f h rs in
-      omega (arith, opened_append (f r) (concat_map f rs), shells_append (f r) (concat_map f rs))
+      omega (arith, opened_append (f r) (flat_map f rs), shells_append (f r) (flat_map f rs))
 
   -- an operation in full opens one more
   full_one : (f : ℕ → List Step) → ((r : ℕ) → Even (f r)) → (n : ℕ) → opened (full_op s f n) ≡ suc (op_shells (full_op s f n))
@@ -87,23 +89,23 @@ module _ (s : Store) where
   full_one f h n = ap suc (regions_even f h (regions_of s n))
 
   module _ (full : ℕ → List Step) (h : (n : ℕ) → opened (full n) ≡ suc (op_shells (full n))) where
-    fulls : (ns : List ℕ) → opened (concat_map full ns) ≡ length ns + op_shells (concat_map full ns)
-    unfolding concat_map opened op_shells
+    fulls : (ns : List ℕ) → opened (flat_map full ns) ≡ length ns + op_shells (flat_map full ns)
+    unfolding opened op_shells
     fulls [] = refl
     fulls (n ∷ ns) =
         let e = h n in
         let rest = fulls ns in
-        omega (arith, opened_append (full n) (concat_map full ns), shells_append (full n) (concat_map full ns))
+        omega (arith, opened_append (full n) (flat_map full ns), shells_append (full n) (flat_map full ns))
 
     -- the second and the third pass
     second : List ℕ → List Step
-    second bs = concat_map (λ (b : ℕ). shells of_op (ops_of s b)) bs
+    second bs = flat_map (λ (b : ℕ). shells of_op (ops_of s b)) bs
 
     third : List ℕ → List Step
-    third bs = concat_map (λ (b : ℕ). concat_map full (ops_of s b)) bs
+    third bs = flat_map (λ (b : ℕ). flat_map full (ops_of s b)) bs
 
     passes_even : (bs : List ℕ) → opened (second bs) + opened (third bs) ≡ op_shells (second bs) + op_shells (third bs)
-    unfolding second third concat_map opened op_shells shells
+    unfolding second third opened op_shells shells
     passes_even [] = refl
     passes_even (b ∷ bs) =
         let rest = passes_even bs in
@@ -114,8 +116,8 @@ module _ (s : Store) where
           arith,
           opened_append (map (λ (n : ℕ). shell (of_op n)) ns) (second bs),
           shells_append (map (λ (n : ℕ). shell (of_op n)) ns) (second bs),
-          opened_append (concat_map full ns) (third bs),
-          shells_append (concat_map full ns) (third bs),
+          opened_append (flat_map full ns) (third bs),
+          shells_append (flat_map full ns) (third bs),
           o.0,
           o.1,
           f,
@@ -155,6 +157,6 @@ module _ (s : Store) where
   few_steps sd n e =
       let so = facts s sd in
       let ws = defines_owners s op n in
-      let o : length (concat_map op_owner ws) ≤ max_ops = ops_most s sd ws (owners_once s so op n e) (owners_here s so op n e) in
+      let o : length (flat_map op_owner ws) ≤ max_ops = ops_most s sd ws (owners_once s so op n e) (owners_here s so op n e) in
       let b : length (defines_blocks s op n) ≤ max_blocks = blocks_most s sd op n e in
       omega (arith, steps_counted (steps s op n), shells_counted (steps s op n), walk_even n)

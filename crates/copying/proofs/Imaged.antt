@@ -2,10 +2,13 @@
 -- of the copy, since in the walk's order the copies get the next numbers one after the other. Assumes nothing.
 use Rattle.std.proofs.Common.{◌≡◌, ℕ, zero, suc, ◌+◌, ◌<◌, ◌≤◌, true, List, [], ◌∷◌, ◌++◌, map, length, replicate, refl, sym, ap, ap₂, subst, ◌∙◌, arith, append-nil, ext_get_or, length-append}
 use Rattle.std.proofs.lemmas.List.{get_or-map, length-map}
-use Rattle.std.proofs.Math.Option.{none}
-use Rattle.rules.specs.Lists.{concat_map}
-use Rattle.rules.specs.Store.{Store, Owner, of_op, of_block, op_exists, values_of, max_values, totals_hold}
-use Rattle.rules.specs.Fragments.{op, steps, op_owner, block_owner, defines_owners, defines_blocks, defines_values, fragment_ops}
+use Rattle.std.specs.Prelude.{None}
+use Rattle.std.specs.List.{flat_map}
+use Rattle.rules.specs.Store.{Store, op_exists, values_of, max_values, totals_hold}
+use Rattle.rules.specs.declared.types.Owner.{Owner}
+use Rattle.rules.specs.declared.types.Owner.TheVariants.{Op as of_op, Block as of_block}
+use Rattle.rules.specs.Fragments.{steps, op_owner, block_owner, defines_owners, defines_blocks, defines_values, fragment_ops}
+use Rattle.rules.specs.declared.types.Sort.TheVariants.{Op as op}
 use Rattle.rules.specs.Mapping.{Mapping, no_image, empty_mapping, enter_all}
 use Rattle.rules.specs.Copying.{renumbered, op_copy, block_copy, value_copy, copied, copy_mapping}
 use Rattle.rules.proofs.Basics.Distinct.{Distinct, concat_map_append}
@@ -18,8 +21,8 @@ use Rattle.rules.proofs.Copying.Tables.{ops_length, blocks_length, values_length
 use Rattle.layout.specs.Reading.{tabulate_from, consecutive}
 use Rattle.layout.proofs.Tabulate.{get_d_from}
 use Rattle.fragments.proofs.ByRows.{consecutive_length}
-use Rattle.mapping.specs.MappingWords.{mapping_length, mapping_of, empty_words, op_mapped, block_mapped, values_mapped}
-use Rattle.mapping.proofs.Unmapped.{empty_words_lem}
+use Rattle.equivalence.specs.MappingWords.{mapping_length, mapping_of, empty_words, op_mapped, block_mapped, values_mapped}
+use Rattle.equivalence.proofs.Unmapped.{empty_words_lem}
 use Rattle.copying.specs.declared.images.Copied.{Copied}
 use Rattle.copying.specs.Images.{next_entered, owners_entered, owners_copied, CopiesFit}
 use Rattle.copying.specs.declared.steps.Step.{Step}
@@ -74,24 +77,24 @@ entered_append xs ys next es =
 
 module _ (s : Store) where
   pub owners_none : (next : Copied) (m : Mapping) → owners_entered s [] next m ≡ m
-  unfolding owners_entered next_entered concat_map enter_all
+  unfolding owners_entered next_entered enter_all
   owners_none next m = refl
 
   pub none_copied : (next : Copied) → owners_copied s [] next ≡ next
-  unfolding owners_copied concat_map
+  unfolding owners_copied
   none_copied next =
       let none : (k : ℕ) → k + 0 ≡ k = λ k. omega arith in
       λ i. record { ops = none next.ops i; blocks = none next.blocks i; values = none next.values i }
 
   -- some owners, and those behind them
   module _ (vs ws : List Owner) where
-    one_first : (f : Owner → List ℕ) (next : ℕ) (es : List ℕ) → next_entered (concat_map f (vs ++ ws)) next es
-        ≡ next_entered (concat_map f ws) (next + length (concat_map f vs)) (next_entered (concat_map f vs) next es)
+    one_first : (f : Owner → List ℕ) (next : ℕ) (es : List ℕ) → next_entered (flat_map f (vs ++ ws)) next es
+        ≡ next_entered (flat_map f ws) (next + length (flat_map f vs)) (next_entered (flat_map f vs) next es)
     one_first f next es =
-        ap (λ (l : List ℕ). next_entered l next es) (concat_map_append f vs ws) ∙ entered_append (concat_map f vs) (concat_map f ws) next es
+        ap (λ (l : List ℕ). next_entered l next es) (concat_map_append f vs ws) ∙ entered_append (flat_map f vs) (flat_map f ws) next es
 
-    one_length : (f : Owner → List ℕ) → length (concat_map f (vs ++ ws)) ≡ length (concat_map f vs) + length (concat_map f ws)
-    one_length f = ap length (concat_map_append f vs ws) ∙ length-append (concat_map f vs) (concat_map f ws)
+    one_length : (f : Owner → List ℕ) → length (flat_map f (vs ++ ws)) ≡ length (flat_map f vs) + length (flat_map f ws)
+    one_length f = ap length (concat_map_append f vs ws) ∙ length-append (flat_map f vs) (flat_map f ws)
 
     owners_then : (next : Copied) (m : Mapping)
         → owners_entered s (vs ++ ws) next m ≡ owners_entered s ws (owners_copied s vs next) (owners_entered s vs next m)
@@ -123,18 +126,17 @@ module _ (s : Store) where
   -- ---- one owner, whose values are a run of numbers
 
   module _ (w : Owner) where
-    values_alone : concat_map (values_of s) (w ∷ []) ≡ values_of s w
-    unfolding concat_map
+    values_alone : flat_map (values_of s) (w ∷ []) ≡ values_of s w
     values_alone = append-nil (values_of s w)
 
     values_entered : (first count : ℕ) → values_of s w ≡ consecutive first count → (next : ℕ) (es : List ℕ)
-        → enter_all (consecutive first count) (consecutive next count) es ≡ next_entered (concat_map (values_of s) (w ∷ [])) next es
+        → enter_all (consecutive first count) (consecutive next count) es ≡ next_entered (flat_map (values_of s) (w ∷ [])) next es
     unfolding next_entered
     values_entered first count e next es =
         ap (λ (n : ℕ). enter_all (consecutive first count) (consecutive next n) es) (sym (consecutive_length first count))
         ∙ ap (λ (l : List ℕ). enter_all l (consecutive next (length l)) es) (sym (values_alone ∙ e))
 
-    values_counted : (first count : ℕ) → values_of s w ≡ consecutive first count → length (concat_map (values_of s) (w ∷ [])) ≡ count
+    values_counted : (first count : ℕ) → values_of s w ≡ consecutive first count → length (flat_map (values_of s) (w ∷ [])) ≡ count
     values_counted first count e = ap length (values_alone ∙ e) ∙ consecutive_length first count
 
     pub run_fits : {next : Copied} → CopiesFit s (w ∷ []) next → (first count : ℕ) → values_of s w ≡ consecutive first count
@@ -148,7 +150,7 @@ module _ (s : Store) where
 
     pub op_entered : values_of s (of_op m) ≡ consecutive first count → (before : Mapping)
         → run (op_mapped before m next.ops) ≡ owners_entered s (of_op m ∷ []) next before
-    unfolding values_mapped op_mapped owners_entered concat_map op_owner block_owner enter_all
+    unfolding values_mapped op_mapped owners_entered op_owner block_owner enter_all
     op_entered e before = λ i. record {
       values = values_entered (of_op m) first count e next.values before.values i;
       blocks = sym (entered_none next.blocks before.blocks) i;
@@ -157,7 +159,7 @@ module _ (s : Store) where
 
     pub op_counted_lem : values_of s (of_op m) ≡ consecutive first count → ◌≡◌ {A = Copied}
         (record { ops = next.ops + 1; blocks = next.blocks; values = next.values + count }) (owners_copied s (of_op m ∷ []) next)
-    unfolding owners_copied concat_map op_owner block_owner
+    unfolding owners_copied op_owner block_owner
     op_counted_lem e =
         let same : next.blocks ≡ next.blocks + 0 = omega arith in
         λ i. record {
@@ -168,7 +170,7 @@ module _ (s : Store) where
 
     pub block_entered : values_of s (of_block m) ≡ consecutive first count → (before : Mapping)
         → run (block_mapped before m next.blocks) ≡ owners_entered s (of_block m ∷ []) next before
-    unfolding values_mapped block_mapped owners_entered concat_map op_owner block_owner enter_all
+    unfolding values_mapped block_mapped owners_entered op_owner block_owner enter_all
     block_entered e before = λ i. record {
       values = values_entered (of_block m) first count e next.values before.values i;
       blocks = sym (entered_one m next.blocks before.blocks) i;
@@ -177,7 +179,7 @@ module _ (s : Store) where
 
     pub block_counted_lem : values_of s (of_block m) ≡ consecutive first count → ◌≡◌ {A = Copied}
         (record { ops = next.ops; blocks = next.blocks + 1; values = next.values + count }) (owners_copied s (of_block m ∷ []) next)
-    unfolding owners_copied concat_map op_owner block_owner
+    unfolding owners_copied op_owner block_owner
     block_counted_lem e =
         let same : next.ops ≡ next.ops + 0 = omega arith in
         λ i. record {
@@ -207,14 +209,14 @@ module _ (s : Store) where
       ops = all_entered (fragment_ops s op n) (ops_distinct s sd n ex) behind.0 empty_mapping.ops i;
     }
 
-    whole_fits : totals_hold (copied s n none) ≡ true → CopiesFit s (defines_owners s op n) next
+    whole_fits : totals_hold (copied s n None) ≡ true → CopiesFit s (defines_owners s op n) next
     unfolding defines_values defines_blocks fragment_ops
     whole_fits h =
-        let t = totals_facts (copied s n none) h in
+        let t = totals_facts (copied s n None) h in
         record {
-          ops = omega (arith, t.ops, ops_length s n none, behind.0);
-          blocks = omega (arith, t.blocks, blocks_length s n none, behind.1);
-          values = omega (arith, t.values, values_length s n none, behind.2);
+          ops = omega (arith, t.ops, ops_length s n None, behind.0);
+          blocks = omega (arith, t.blocks, blocks_length s n None, behind.1);
+          values = omega (arith, t.values, values_length s n None, behind.2);
         }
 
 -- the words at the start
@@ -230,7 +232,7 @@ pub record Entering (s : Store) (n i : ℕ) (next : Copied) (words : List ℕ) :
   pub fits : CopiesFit s (owners_left (steps s op n) i) next
 
 module _ (s : Store) (n : ℕ) where
-  pub entering_begun : Sound s → op_exists s n ≡ true → totals_hold (copied s n none) ≡ true → {next : Copied} → BehindAll s next
+  pub entering_begun : Sound s → op_exists s n ≡ true → totals_hold (copied s n None) ≡ true → {next : Copied} → BehindAll s next
       → (words : List ℕ) → mapping_of words ≡ empty_mapping → Entering s n 0 next words
   entering_begun sd ex h {next} behind words e =
       let left : defines_owners s op n ≡ owners_left (steps s op n) 0 = sym (all_owners_left s n) in

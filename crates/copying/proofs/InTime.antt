@@ -2,41 +2,44 @@
 -- inside and has none. The steps of a walk are gone through one after the other: what is left of them, with the numbering that the words stand for,
 -- tells of the whole. Assumes nothing.
 use Rattle.std.proofs.Common.{◌≡◌, ℕ, ◌+◌, ◌<◌, ◌≤◌, Bool, true, false, not, ◌&&◌, ◌||◌, List, [], ◌∷◌, ◌++◌, length, get_or, refl, sym, ap, subst, ◌∙◌, arith}
-use Rattle.std.proofs.Math.Option.{Option, none, some}
+use Rattle.std.specs.Prelude.{Option, None, Some, is_some}
 use mathlib.Core.Bool.{and-true}
-use Rattle.rules.specs.Lists.{all, is_some, position, concat_map}
-use Rattle.rules.specs.Store.{Store, Owner, op_at, op_exists, values_of, sound}
-use Rattle.rules.specs.Fragments.{Step, shell, names, op, exists, steps, step_defines, block_owner, defines_values, defines_blocks}
+use Rattle.std.specs.List.{flat_map}
+use Rattle.rules.specs.Lists.{position}
+use Rattle.rules.specs.Store.{Store, op_at, op_exists, values_of, sound}
+use Rattle.rules.specs.declared.types.Owner.{Owner}
+use Rattle.rules.specs.Fragments.{Step, shell, names, exists, steps, step_defines, block_owner, defines_values, defines_blocks}
+use Rattle.rules.specs.declared.types.Sort.TheVariants.{Op as op}
 use Rattle.rules.specs.Hash as rules
+use Rattle.rules.specs.declared.types.Name.TheVariants.{StoreNumber as store_number, WalkNumber as walk_number, WalkNumber, StoreNumber}
 use Rattle.rules.specs.Hash.{Numbering, no_numbers, numbered, name_at, name_of}
 use Rattle.rules.specs.Copying.{has_place, numbered_names, step_in_time, in_time}
 use Rattle.layout.proofs.Scans.{Scanned, passes_at, scan_on, entry_fails, entries_done}
-use Rattle.numbering.specs.Words.{Stands, rule_name}
-use Rattle.numbering.specs.Numbered.{numbered_all, values_in, blocks_in, Numbers, DefinitionsFit}
-use Rattle.numbering.specs.declared.words.Name.{Name}
-use Rattle.numbering.specs.declared.words.Name.TheVariants.{WalkNumber, StoreNumber}
-use Rattle.numbering.proofs.Counting.{no_words, room_start, room_first, room_rest, stands_start}
+use Rattle.fragments.specs.Words.{Stands}
+use Rattle.fragments.specs.Numbered.{numbered_all, values_in, blocks_in, Numbers, DefinitionsFit}
+use Rattle.rules.specs.declared.types.Name.{Name}
+use Rattle.fragments.proofs.Counting.{no_words, room_start, room_first, room_rest, stands_start}
 use Rattle.copying.proofs.Told.{told, told_lists, told_in_time, left, all_left}
 
 -- ---- one name
 
 -- a use that is named by its number in the store has no walk number
-unnumbered : (sofar : List ℕ) (v : ℕ) {r : Name} {n : ℕ} → r ≡ StoreNumber n → rule_name r ≡ name_of sofar v → has_place sofar v ≡ false
-unfolding rule_name name_of name_at has_place is_some
-unnumbered sofar v {r} {n} f e = go (position v sofar) (ap rule_name (sym f) ∙ e)
+unnumbered : (sofar : List ℕ) (v : ℕ) {r : Name} {n : ℕ} → r ≡ StoreNumber n → r ≡ name_of sofar v → has_place sofar v ≡ false
+unfolding name_of name_at has_place
+unnumbered sofar v {r} {n} f e = go (position v sofar) ((sym f) ∙ e)
   where
-    go : (o : Option ℕ) → rules.store_number n ≡ name_at o v → is_some o ≡ false
-    go none h = refl
-    go (some i) h = let z : ⊥ = cc in absurd z
+    go : (o : Option ℕ) → store_number n ≡ name_at o v → is_some o ≡ false
+    go None h = refl
+    go (Some i) h = let z : ⊥ = cc in absurd z
 
 -- one that is named by a walk number has it
-numbered_name : (sofar : List ℕ) (v : ℕ) {r : Name} {n : ℕ} → r ≡ WalkNumber n → rule_name r ≡ name_of sofar v → has_place sofar v ≡ true
-unfolding rule_name name_of name_at has_place is_some
-numbered_name sofar v {r} {n} f e = go (position v sofar) (ap rule_name (sym f) ∙ e)
+numbered_name : (sofar : List ℕ) (v : ℕ) {r : Name} {n : ℕ} → r ≡ WalkNumber n → r ≡ name_of sofar v → has_place sofar v ≡ true
+unfolding name_of name_at has_place
+numbered_name sofar v {r} {n} f e = go (position v sofar) ((sym f) ∙ e)
   where
-    go : (o : Option ℕ) → rules.walk_number n ≡ name_at o v → is_some o ≡ true
-    go none h = let z : ⊥ = cc in absurd z
-    go (some i) h = refl
+    go : (o : Option ℕ) → walk_number n ≡ name_at o v → is_some o ≡ true
+    go None h = let z : ⊥ = cc in absurd z
+    go (Some i) h = refl
 
 -- ---- one name alone
 
@@ -45,7 +48,7 @@ comes_in_time inside sofar v = not (has_place inside v) || has_place sofar v
 
 module _ (inside sofar : List ℕ) (v : ℕ) where
   alone : comes_in_time inside sofar v ≡ numbered_names inside sofar (v ∷ [])
-  unfolding numbered_names all
+  unfolding numbered_names
   alone = sym (and-true (comes_in_time inside sofar v))
 
   has_come : has_place sofar v ≡ true → true ≡ comes_in_time inside sofar v
@@ -62,7 +65,7 @@ module _ (inside sofar : List ℕ) (v : ℕ) where
       go true = sym h
       go false = refl
 
-  module _ {r : Name} {n : ℕ} (e : rule_name r ≡ name_of sofar v) where
+  module _ {r : Name} {n : ℕ} (e : r ≡ name_of sofar v) where
     pub numbered_timely : r ≡ WalkNumber n → true ≡ numbered_names inside sofar (v ∷ [])
     numbered_timely f = has_come (numbered_name sofar v f e) ∙ alone
 
@@ -124,16 +127,16 @@ module _ (s : Store) where
   told_room : (xs : List Step) {a : List ℕ} → DefinitionsFit s xs a → DefinitionsFit s (told xs) a
   unfolding values_in blocks_in step_defines
   told_room xs r =
-      let e : concat_map step_defines (told xs) ≡ concat_map step_defines xs = told_lists step_defines (λ k. refl) xs in
+      let e : flat_map step_defines (told xs) ≡ flat_map step_defines xs = told_lists step_defines (λ k. refl) xs in
       record {
         long = r.long;
-        values = omega (arith, r.values, ap (λ (ws : List Owner). length (concat_map (values_of s) ws)) e);
-        blocks = omega (arith, r.blocks, ap (λ (ws : List Owner). length (concat_map block_owner ws)) e);
+        values = omega (arith, r.values, ap (λ (ws : List Owner). length (flat_map (values_of s) ws)) e);
+        blocks = omega (arith, r.blocks, ap (λ (ws : List Owner). length (flat_map block_owner ws)) e);
       }
 
   -- where an operation only names, nothing is numbered
   pub names_number : (m : ℕ) (a : List ℕ) → Numbers s (names m ∷ []) a a
-  unfolding numbered_all numbered values_in blocks_in concat_map step_defines
+  unfolding numbered_all numbered values_in blocks_in step_defines
   names_number m a = record { long = refl; stands = λ N h. h; values = omega arith; blocks = omega arith }
 
   module _ (n : ℕ) where

@@ -10,7 +10,6 @@ pub mod Imaged
 pub mod Nested
 pub mod Refusing
 pub mod Deciding
-pub mod Offered
 pub mod Attributed
 pub mod Built
 pub mod BuiltBlock

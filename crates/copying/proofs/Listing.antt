@@ -1,12 +1,11 @@
 -- The walk that lists, as a walk of any kind: each step that tells of something is put behind those that are there. Assumes nothing.
 use Rattle.std.proofs.Common.{◌≡◌, ℕ, ◌+◌, ◌<◌, List, [], ◌∷◌, ◌++◌, sym, refl, ap, ◌∙◌, length, arith, append_assoc, append-nil, length-append}
-use Rattle.rules.specs.Store.{Owner}
-use Rattle.rules.specs.Fragments.{shell, shells}
+use Rattle.rules.specs.declared.types.Owner.{Owner}
+use Rattle.rules.specs.Fragments.{shells}
 use Rattle.rules.specs.Fragments as rules
-use Rattle.rules.specs.Lists.{concat_map}
 use Rattle.rules.proofs.Basics.Distinct.{concat_map_append}
-use Rattle.numbering.proofs.Passing.{StepRelation}
-use Rattle.numbering.proofs.Rounds.{each_shell}
+use Rattle.fragments.proofs.Passing.{StepRelation}
+use Rattle.fragments.proofs.Rounds.{each_shell}
 use Rattle.copying.specs.declared.steps.Step.{Step}
 use Rattle.copying.specs.Steps.{most_steps, step_listed, steps_listed, StepsFit, Listed, step_of}
 use Rattle.copying.specs.declared.steps.Step.TheVariants.{OpShell, BlockShell, Names}
@@ -19,7 +18,7 @@ steps_long : (xs ys : List rules.Step) → length (steps_listed (xs ++ ys)) ≡ 
 steps_long xs ys = ap length (steps_append xs ys) ∙ length-append (steps_listed xs) (steps_listed ys)
 
 pub listed_none : (walk : List Step) → Listed [] walk walk
-unfolding steps_listed concat_map
+unfolding steps_listed
 listed_none walk = record { read = sym (append-nil walk) }
 
 pub listed_then : (xs ys : List rules.Step) {a b c : List Step} → Listed xs a b → Listed ys b c → Listed (xs ++ ys) a c
@@ -53,7 +52,7 @@ list_walk =
 
 -- one step more
 one_step : (x : Step) → steps_listed (step_of x ∷ []) ≡ x ∷ []
-unfolding steps_listed step_listed concat_map step_of
+unfolding steps_listed step_listed step_of
 one_step (OpShell m) = refl
 one_step (BlockShell b) = refl
 one_step (Names m) = refl
@@ -67,9 +66,9 @@ fits_one x r = omega (arith, r.room, ap length (one_step x))
 -- where a list of shells begins nothing is put
 module _ (w : ℕ → Owner) (ns : List ℕ) where
   pub shells_fit : {walk : List Step} → StepsFit (shells w ns) walk → StepsFit (each_shell w ns) walk
-  unfolding shells steps_listed concat_map step_listed
+  unfolding shells steps_listed step_listed
   shells_fit r = record { room = r.room }
 
   pub shells_listed : {a b : List Step} → Listed (each_shell w ns) a b → Listed (shells w ns) a b
-  unfolding shells steps_listed concat_map step_listed
+  unfolding shells steps_listed step_listed
   shells_listed f = record { read = f.read }

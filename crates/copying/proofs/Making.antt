@@ -2,12 +2,16 @@
 -- attributes can be set on it. Assumes nothing.
 use Rattle.std.proofs.Common.{◌≡◌, ℕ, ◌+◌, ◌-◌, ◌<◌, ◌≤◌, true, List, [], ◌∷◌, ◌++◌, map, length, get_or, refl, sym, ap, subst, ◌∙◌, arith, length-append}
 use Rattle.std.proofs.lemmas.List.{length-map}
-use mathlib.Core.Option.{Option}
+use Rattle.std.specs.Prelude.{Option}
 use borrow.Author.Tests.{ltb-true, lt-ltb}
 use lib.ListN.{get_or-append}
 use lib.Dec.{ltb}
-use Rattle.rules.specs.Lists.{all, sum}
-use Rattle.rules.specs.Store.{Store, Op, Block, Attribute, Owner, of_op, of_block, no_op, no_block, op_at, block_at, type_of, results_of, arguments_of, owner_exists, op_exists, block_exists, attribute_total, max_attributes, max_values, max_blocks}
+use Rattle.std.specs.List.{list_all}
+use Rattle.rules.specs.Lists.{sum}
+use Rattle.rules.specs.Store.{Store, Op, Block, no_op, no_block, op_at, block_at, type_of, results_of, arguments_of, owner_exists, op_exists, block_exists, attribute_total, max_attributes, max_values, max_blocks}
+use Rattle.rules.specs.declared.types.Attribute.{Attribute}
+use Rattle.rules.specs.declared.types.Owner.{Owner}
+use Rattle.rules.specs.declared.types.Owner.TheVariants.{Op as of_op, Block as of_block}
 use Rattle.rules.specs.Building.{NewOperation, NewBlock, new_operation, new_block, applied, attributes_of}
 use Rattle.rules.specs.Mapping.{Mapping, image, or_self}
 use Rattle.rules.proofs.Basics.Tests.{all_at}
@@ -22,10 +26,10 @@ use Rattle.layout.proofs.Tabulate.{ops_length, blocks_length, regions_length, va
 use Rattle.layout.proofs.Totals.{operand_total_lem, successor_total_lem}
 use Rattle.layout.proofs.Types.{types_read}
 use Rattle.layout.proofs.Ranges.{length_range, results_range, arguments_range}
-use Rattle.adding.proofs.OperationLaid.{RoomFor}
-use Rattle.adding.proofs.BlockAdded.{BlockRoom}
-use Rattle.mapping.specs.MappingWords.{mapping_length, mapping_of}
-use Rattle.copying.specs.Written.{Wrote, attributed, op_asked, op_made, block_asked, block_made, OpReady, BlockReady}
+use Rattle.mutation.proofs.OperationLaid.{RoomFor}
+use Rattle.mutation.proofs.BlockAdded.{BlockRoom}
+use Rattle.equivalence.specs.MappingWords.{mapping_length, mapping_of}
+use Rattle.copying.specs.Written.{ReadsAs, attributed, op_asked, op_made, block_asked, block_made, OpReady, BlockReady}
 use Rattle.copying.proofs.Wrote.{wrote_after, wrote_as}
 use Rattle.copying.proofs.Named.{value_image, block_image}
 
@@ -100,15 +104,15 @@ block_longer s new = longer s.blocks _
 
 -- ---- names
 
-pub named_low : (n : ℕ) (names : List ℕ) → all (λ (v : ℕ). ltb v n) names ≡ true → (k : ℕ) → k < length names → get_or names k 0 < n
+pub named_low : (n : ℕ) (names : List ℕ) → list_all (λ (v : ℕ). ltb v n) names ≡ true → (k : ℕ) → k < length names → get_or names k 0 < n
 named_low n names h k l = ltb-true _ n (all_at (λ (v : ℕ). ltb v n) names h (mem_get_d names k 0 l))
 
 module _ (w : List ℕ) (len : length w ≡ mapping_length) (names : List ℕ) where
-  pub values_named_lem : all (λ (v : ℕ). ltb v max_values) names ≡ true
+  pub values_named_lem : list_all (λ (v : ℕ). ltb v max_values) names ≡ true
       → map (λ (v : ℕ). or_self (get_or w (0 + v) 0) v) names ≡ map (image (mapping_of w).values) names
   values_named_lem h = map_same _ _ names (λ v k. value_image w len v (ltb-true v max_values (all_at (λ (x : ℕ). ltb x max_values) names h k)))
 
-  pub blocks_named_lem : all (λ (b : ℕ). ltb b max_blocks) names ≡ true
+  pub blocks_named_lem : list_all (λ (b : ℕ). ltb b max_blocks) names ≡ true
       → map (λ (b : ℕ). or_self (get_or w (2048 + b) 0) b) names ≡ map (image (mapping_of w).blocks) names
   blocks_named_lem h = map_same _ _ names (λ v k. block_image w len v (ltb-true v max_blocks (all_at (λ (x : ℕ). ltb x max_blocks) names h k)))
 
@@ -162,14 +166,14 @@ module _ (a : List ℕ) (h : Arranged a) (m : ℕ) (l : m < op_count (columns a)
         }
 
     -- once the row is there
-    module _ (b : List ℕ) (w : Wrote a b (applied (store_in a) (new_operation (op_asked (store_in a) M place m)))) (k : ℕ) (e : k ≡ op_count C) where
+    module _ (b : List ℕ) (w : ReadsAs a b (applied (store_in a) (new_operation (op_asked (store_in a) M place m)))) (k : ℕ) (e : k ≡ op_count C) where
       pub op_set : Settable (store_in b) (of_op m) (of_op k) (op_at (store_in a) m).attributes
       op_set =
           subst (λ (t : Store). Settable t (of_op m) (of_op k) (op_at (store_in a) m).attributes) (sym w.reads)
           (op_settable (store_in a) (op_asked (store_in a) M place m) m k (omega (arith, e, ops_length C)) (omega (arith, l, ops_length C)) ready.attribute_room)
 
-      pub op_done : (d : List ℕ) → Wrote b d (attributed (store_in b) (of_op k) (attributes_of (store_in b) (of_op m)))
-          → Wrote a d (op_made (store_in a) M place m)
+      pub op_done : (d : List ℕ) → ReadsAs b d (attributed (store_in b) (of_op k) (attributes_of (store_in b) (of_op m)))
+          → ReadsAs a d (op_made (store_in a) M place m)
       unfolding op_made applied
       op_done d q =
           let n : k ≡ length (store_in a).ops = omega (arith, e, ops_length C) in
@@ -217,14 +221,14 @@ module _ (a : List ℕ) (h : Arranged a) (M : Mapping) (m : ℕ) (l : m < block_
         values = omega (arith, e₁, ready.value_room, values_length C₁);
       }
 
-  module _ (b : List ℕ) (w : Wrote a b (applied (store_in a) (new_block (block_asked (store_in a) M m)))) (k : ℕ) (e : k ≡ block_count C₁) where
+  module _ (b : List ℕ) (w : ReadsAs a b (applied (store_in a) (new_block (block_asked (store_in a) M m)))) (k : ℕ) (e : k ≡ block_count C₁) where
     pub block_set : Settable (store_in b) (of_block m) (of_block k) (block_at (store_in a) m).attributes
     block_set =
         subst (λ (t : Store). Settable t (of_block m) (of_block k) (block_at (store_in a) m).attributes) (sym w.reads)
         (block_settable (store_in a) (block_asked (store_in a) M m) m k (omega (arith, e, blocks_length C₁)) (omega (arith, l, blocks_length C₁)) ready.attribute_room)
 
-    pub block_done : (d : List ℕ) → Wrote b d (attributed (store_in b) (of_block k) (attributes_of (store_in b) (of_block m)))
-        → Wrote a d (block_made (store_in a) M m)
+    pub block_done : (d : List ℕ) → ReadsAs b d (attributed (store_in b) (of_block k) (attributes_of (store_in b) (of_block m)))
+        → ReadsAs a d (block_made (store_in a) M m)
     unfolding block_made applied
     block_done d q =
         let n : k ≡ length (store_in a).blocks = omega (arith, e, blocks_length C₁) in

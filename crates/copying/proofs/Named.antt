@@ -1,6 +1,6 @@
 -- The entries of a mapping's words are those of its lists; so the image of a name is looked up in the words. Assumes nothing.
 use Rattle.std.proofs.Common.{◌≡◌, ℕ, suc, ◌+◌, ◌<◌, true, List, length, get_or, drop, sym, ap, subst, ◌∙◌, arith, get_or-take, get_or-drop}
-use mathlib.Core.Option.{Option, none, some}
+use Rattle.std.specs.Prelude.{Option, None, Some}
 use borrow.Author.Tests.{eq-eqb, ne_eqb, ltb-true}
 use Rattle.rules.specs.Store.{Store}
 use Rattle.rules.specs.Mapping.{Mapping, no_image, image, or_self}
@@ -9,7 +9,7 @@ use Rattle.layout.specs.Columns.{Cols, at, op_parent}
 use Rattle.layout.specs.Reading.{op_count, block_count, parent_from, store_of}
 use Rattle.layout.proofs.Laid.{Laid}
 use Rattle.layout.proofs.Tabulate.{parent_read_lem}
-use Rattle.mapping.specs.MappingWords.{mapping_length, mapping_of}
+use Rattle.equivalence.specs.MappingWords.{mapping_length, mapping_of}
 use Rattle.std.proofs.lemmas.List.{get_or_default}
 use Rattle.rules.proofs.Basics.Tests.{passed}
 use Rattle.layout.specs.Soundness.{placed}
@@ -46,11 +46,11 @@ module _ (C : Cols) (M : Mapping) (n : ℕ) (place : Option ℕ) (m : ℕ) (l : 
   unfolding parent_by
   parent_inner ne = rw (ne_eqb m n ne) (ap (inner (image M.blocks)) (sym (parent_read_lem C m l)))
 
-  pub parent_none : (m ≡ n → ⊥) → at C op_parent m ≡ 0 → none ≡ parent_by (store_of C) M n place m
+  pub parent_none : (m ≡ n → ⊥) → at C op_parent m ≡ 0 → None ≡ parent_by (store_of C) M n place m
   unfolding inner parent_from
   parent_none ne e = ap (λ (w : ℕ). inner (image M.blocks) (parent_from w)) (sym e) ∙ parent_inner ne
 
-  pub parent_some : (m ≡ n → ⊥) → (b : ℕ) → at C op_parent m ≡ suc b → some (image M.blocks b) ≡ parent_by (store_of C) M n place m
+  pub parent_some : (m ≡ n → ⊥) → (b : ℕ) → at C op_parent m ≡ suc b → Some (image M.blocks b) ≡ parent_by (store_of C) M n place m
   unfolding inner parent_from
   parent_some ne b e = ap (λ (w : ℕ). inner (image M.blocks) (parent_from w)) (sym e) ∙ parent_inner ne
 

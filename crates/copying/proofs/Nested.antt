@@ -4,14 +4,17 @@ use Prim.Native.Nat.{ℕ, ◌+◌, ◌-◌, ◌<◌, ◌≤◌}
 use native.Mathlib.Omega.{arith}
 use mathlib.Core.Bool.{Bool, true, false, ◌&&◌}
 use mathlib.Core.List.{List, ◌++◌, Memᴰ}
-use mathlib.Core.Option.{Option, none, some}
+use Rattle.std.specs.Prelude.{Option, None, Some, is_some}
 use mathlib.Core.Path.{◌≡◌, refl, sym, ap, subst, ◌∙◌}
 use borrow.Author.Tests.{lt-ltb, le-leb, lt-leb}
 use lib.Dec.{leb}
 use lib.ListN.{length, get_or}
-use Rattle.rules.specs.Lists.{all, concat_map, is_some}
-use Rattle.rules.specs.Store.{Store, Owner, of_op, parent_of, op_around, op_exists, parent_exists, levels_left, max_nesting, nesting_holds}
-use Rattle.rules.specs.Fragments.{op, steps, step_defines, op_owner, defines_owners, fragment_ops}
+use Rattle.std.specs.List.{list_all, flat_map}
+use Rattle.rules.specs.Store.{Store, parent_of, op_around, op_exists, parent_exists, levels_left, max_nesting, nesting_holds}
+use Rattle.rules.specs.declared.types.Owner.{Owner}
+use Rattle.rules.specs.declared.types.Owner.TheVariants.{Op as of_op}
+use Rattle.rules.specs.Fragments.{steps, step_defines, op_owner, defines_owners, fragment_ops}
+use Rattle.rules.specs.declared.types.Sort.TheVariants.{Op as op}
 use Rattle.rules.specs.Copying.{parent_copy, copied, copy_nests}
 use Rattle.rules.proofs.Soundness.Sound.{Sound, facts}
 use Rattle.rules.proofs.Copying.Inside.{owned_op}
@@ -22,7 +25,7 @@ use Rattle.layout.specs.Soundness.{IsSound, placed}
 use Rattle.layout.proofs.Laid.{Laid, laid_facts}
 use Rattle.layout.proofs.Nesting.{Placed, placed_facts, outermost, levels_under, depth_most}
 use Rattle.layout.proofs.Tabulate.{ops_length, op_exists_lem, block_in_lem, parent_read_lem, around_read}
-use Rattle.adding.specs.Raw.{depth_under}
+use Rattle.mutation.specs.AddedWrites.{depth_under}
 use Rattle.copying.specs.declared.steps.Step.{Step}
 use Rattle.copying.specs.declared.steps.Step.TheVariants.{OpShell, BlockShell, Names}
 use Rattle.copying.specs.Steps.{AreSteps, step_of, step_owners}
@@ -34,7 +37,7 @@ unfoldable pub copy_nested : Store → ℕ → Option ℕ → ℕ → Bool
 copy_nested s n p m = nesting_holds (copied s n p) (parent_copy s n p m)
 
 unfoldable pub owners_nested : Store → ℕ → Option ℕ → List Owner → Bool
-owners_nested s n p ws = all (copy_nested s n p) (concat_map op_owner ws)
+owners_nested s n p ws = list_all (copy_nested s n p) (flat_map op_owner ws)
 
 -- what is left from step i on decides
 abbrev pub NestsLeft : List ℕ → ℕ → Option ℕ → ℕ → Type 0
@@ -50,7 +53,7 @@ module _ (b : List ℕ) (sd : IsSound b) where
   depth : ℕ → ℕ
   depth m = at (columns b) op_depth m
 
-  deeper : (m c : ℕ) → m < length (store_in b).ops → parent_of (store_in b) m ≡ some c → depth m ≡ depth (op_around (store_in b) c) + 1
+  deeper : (m c : ℕ) → m < length (store_in b).ops → parent_of (store_in b) m ≡ Some c → depth m ≡ depth (op_around (store_in b) c) + 1
   unfolding depth
   deeper m c l e =
       let l' : m < op_count (columns b) = subst (λ (k : ℕ). m < k) (ops_length (columns b)) l in
@@ -63,13 +66,13 @@ module _ (b : List ℕ) (sd : IsSound b) where
   placed_levels : (p : Option ℕ) → parent_exists (store_in b) p ≡ true → (k : ℕ)
       → is_some (levels_left k (store_in b) p) ≡ leb (depth_under (columns b) p) k
   unfolding depth_under parent_exists
-  placed_levels none e k = outermost k (store_in b) ∙ sym (le-leb 0 k (omega arith))
-  placed_levels (some c) e k = levels_under (columns b) h k c (block_in_lem (columns b) c e)
+  placed_levels None e k = outermost k (store_in b) ∙ sym (le-leb 0 k (omega arith))
+  placed_levels (Some c) e k = levels_under (columns b) h k c (block_in_lem (columns b) c e)
 
   pub under_most : (p : Option ℕ) → parent_exists (store_in b) p ≡ true → depth_under (columns b) p ≤ 33
   unfolding depth_under parent_exists
-  under_most none e = omega arith
-  under_most (some c) e =
+  under_most None e = omega arith
+  under_most (Some c) e =
       let r = (h.block c (block_in_lem (columns b) c e)).region_in in
       let d : at (columns b) op_depth (around (columns b) c) ≤ max_nesting =
       depth_most (columns b) h sd.ruled (around (columns b) c) (h.region _ r).op_in in
@@ -100,7 +103,7 @@ module _ (b : List ℕ) (sd : IsSound b) where
 
     module _ (ws : List Step) (a : AreSteps b n ws) (i : ℕ) (r : NestsLeft b n p i) where
       pub left_last : length ws ≤ i → true ≡ copy_nests (store_in b) n p
-      unfolding owners_nested concat_map all
+      unfolding owners_nested
       left_last d = sym (ap (owners_nested (store_in b) n p) (no_owners_left _ ws (are_steps_lem b n ws a) i d)) ∙ r
 
       module _ (d : i < length ws) where
@@ -114,7 +117,7 @@ module _ (b : List ℕ) (sd : IsSound b) where
         -- an operation's shell
         module _ (m : ℕ) (q : get_or ws i (OpShell 0) ≡ OpShell m) where
           after_op : (copy_nested (store_in b) n p m && rest) ≡ copy_nests (store_in b) n p
-          unfolding owners_nested concat_map op_owner all step_owners step_of step_defines
+          unfolding owners_nested op_owner step_owners step_of step_defines
           after_op = left (OpShell m) q
 
           tested : copy_nested (store_in b) n p m
@@ -134,7 +137,7 @@ module _ (b : List ℕ) (sd : IsSound b) where
 
         -- a block, and an operation's names, are passed
         pub passed_over : (x : Step) → get_or ws i (OpShell 0) ≡ x → ((m : ℕ) → x ≡ OpShell m → ⊥) → NestsLeft b n p (i + 1)
-        unfolding owners_nested concat_map op_owner step_owners step_of step_defines
+        unfolding owners_nested op_owner step_owners step_of step_defines
         passed_over (OpShell m) q other = absurd (other m refl)
         passed_over (BlockShell m) q other = left (BlockShell m) q
         passed_over (Names m) q other = left (Names m) q

@@ -1,14 +1,20 @@
 -- What a step asks for it gets, in a store with the copies of the owners before: its parent's copy is there, since what is around a thing stands before
 -- it in the walk, its lists are as few as the original's, and there is room, since there is room for all copies. Assumes nothing.
+use Rattle.std.specs.Prelude.{option_map}
 use Rattle.std.proofs.Common.{◌≡◌, ℕ, ◌+◌, ◌<◌, ◌≤◌, true, List, [], ◌∷◌, ◌++◌, map, length, get_or, replicate, refl, sym, ap, subst, ◌∙◌, arith, length-append}
 use Rattle.std.proofs.lemmas.List.{length-map, length-replicate}
 use mathlib.Core.List.{Memᴰ}
 use mathlib.Core.Logic.{◌⊎◌, inl, inr, ⊎_elim}
 use mathlib.Core.Option as option
-use mathlib.Core.Option.{Option, none, some, some-injective, none-ne-some}
-use Rattle.rules.specs.Lists.{concat_map, sum, position}
-use Rattle.rules.specs.Store.{Store, Op, Block, Owner, of_op, of_block, Value, op_at, block_at, type_of, parent_of, op_around, regions_of, results_of, arguments_of, op_exists, parent_exists, operand_total, successor_total, attribute_total, max_ops, max_blocks, max_regions, max_values, max_operands, max_successors, max_attributes}
-use Rattle.rules.specs.Fragments.{op, op_owner, block_owner, defines_owners, defines_blocks}
+use Rattle.std.specs.Prelude.{Option, Some}
+use Rattle.std.proofs.lemmas.Option.{same_Some}
+use Rattle.std.specs.List.{flat_map}
+use Rattle.rules.specs.Lists.{sum, position}
+use Rattle.rules.specs.Store.{Store, Op, Block, Value, op_at, block_at, type_of, parent_of, op_around, regions_of, results_of, arguments_of, op_exists, parent_exists, operand_total, successor_total, attribute_total, max_ops, max_blocks, max_regions, max_values, max_operands, max_successors, max_attributes}
+use Rattle.rules.specs.declared.types.Owner.{Owner}
+use Rattle.rules.specs.declared.types.Owner.TheVariants.{Op as of_op, Block as of_block}
+use Rattle.rules.specs.Fragments.{op_owner, block_owner, defines_owners, defines_blocks, exists}
+use Rattle.rules.specs.declared.types.Sort.TheVariants.{Op as op}
 use Rattle.rules.specs.Building.{applied, values_for}
 use Rattle.rules.specs.Mapping.{Mapping, image}
 use Rattle.rules.specs.Copying.{copied_regions, op_copy, block_copy, region_copy}
@@ -18,7 +24,6 @@ use Rattle.rules.proofs.Soundness.Sound.{Sound, TotalsSound}
 use Rattle.rules.proofs.Form.Ancestors.{up}
 use Rattle.rules.proofs.Form.Images.{position_kept}
 use Rattle.rules.proofs.Form.Once.{owners_once}
-use Rattle.rules.specs.Fragments.{exists}
 use Rattle.rules.proofs.Copying.Renumbered.{Before, here, there, second_in, number_at, place_in, in_concat_map, table_length_lem}
 use Rattle.rules.proofs.Copying.Walked.{around_before}
 use Rattle.copying.specs.Partial.{copied_by}
@@ -53,27 +58,27 @@ module _ (s : Store) (sd : Sound s) (n : ℕ) (ex : op_exists s n ≡ true) (ws 
     stands_before x h =
         before_in x w ws rest (subst Distinct (sym split) once) (subst (λ (l : List Owner). Before x w l) (sym split) h)
 
-  pub around_there : (b : ℕ) → ws ++ (of_block b ∷ rest) ≡ defines_owners s op n → Memᴰ (op_around s b) (concat_map op_owner ws)
+  pub around_there : (b : ℕ) → ws ++ (of_block b ∷ rest) ≡ defines_owners s op n → Memᴰ (op_around s b) (flat_map op_owner ws)
   unfolding up op_owner
   around_there b split =
       ⊎_elim (λ e. absurd (let z : ⊥ = cc in z)) (λ h. go h.0 h.1 h.2) (around_before s n (of_block b) (stands s n ws rest (of_block b) split))
     where
-      go : (p : Owner) → some (of_op (op_around s b)) ≡ some p → Before p (of_block b) (defines_owners s op n)
-          → Memᴰ (op_around s b) (concat_map op_owner ws)
+      go : (p : Owner) → Some (of_op (op_around s b)) ≡ Some p → Before p (of_block b) (defines_owners s op n)
+          → Memᴰ (op_around s b) (flat_map op_owner ws)
       go p e h =
-          let f : of_op (op_around s b) ≡ p = some-injective (of_op (op_around s b)) p e in
+          let f : of_op (op_around s b) ≡ p = same_Some (of_op (op_around s b)) p e in
           in_concat_map op_owner ws (stands_before (of_block b) split (of_op (op_around s b)) (subst (λ (x : Owner). Before x (of_block b) (defines_owners s op n)) (sym f) h)) (Memᴰ.head refl)
 
-  pub parent_there : (m b : ℕ) → ws ++ (of_op m ∷ rest) ≡ defines_owners s op n → (m ≡ n → ⊥) → parent_of s m ≡ some b
-      → Memᴰ b (concat_map block_owner ws)
+  pub parent_there : (m b : ℕ) → ws ++ (of_op m ∷ rest) ≡ defines_owners s op n → (m ≡ n → ⊥) → parent_of s m ≡ Some b
+      → Memᴰ b (flat_map block_owner ws)
   unfolding up block_owner
   parent_there m b split ne e =
       ⊎_elim (λ f. absurd (ne cc)) (λ h. go h.0 h.1 h.2) (around_before s n (of_op m) (stands s n ws rest (of_op m) split))
     where
-      go : (p : Owner) → option.map of_block (parent_of s m) ≡ some p → Before p (of_op m) (defines_owners s op n)
-          → Memᴰ b (concat_map block_owner ws)
+      go : (p : Owner) → option_map of_block (parent_of s m) ≡ Some p → Before p (of_op m) (defines_owners s op n)
+          → Memᴰ b (flat_map block_owner ws)
       go p f h =
-          let g : of_block b ≡ p = some-injective (of_block b) p (sym (ap (option.map of_block) e) ∙ f) in
+          let g : of_block b ≡ p = same_Some (of_block b) p (sym (ap (option_map of_block) e) ∙ f) in
           in_concat_map block_owner ws (stands_before (of_op m) split (of_block b) (subst (λ (x : Owner). Before x (of_op m) (defines_owners s op n)) (sym g) h)) (Memᴰ.head refl)
 
 -- ---- the copies that are there
@@ -83,28 +88,28 @@ module _ (s : Store) (sd : Sound s) (n : ℕ) (ex : op_exists s n ≡ true) (pla
   abbrev between : Store
   between = copied_by s n place ws
 
-  pub block_copied : (b : ℕ) → Memᴰ b (concat_map block_owner ws) → block_copy s n b < length between.blocks
+  pub block_copied : (b : ℕ) → Memᴰ b (flat_map block_owner ws) → block_copy s n b < length between.blocks
   unfolding block_copy
   block_copied b k =
-      let p = place_in (concat_map block_owner ws) (length s.blocks) k in
-      let later : List ℕ = block_owner w ++ concat_map block_owner rest in
-      let e : position b (defines_blocks s op n) ≡ some p.0 =
-      subst (λ (l : List ℕ). position b l ≡ some p.0) (blocks_split s n ws rest w split) (position_kept b (concat_map block_owner ws) later p.0 p.1) in
-      let i : p.0 < length (concat_map block_owner ws) = p.2 in
+      let p = place_in (flat_map block_owner ws) (length s.blocks) k in
+      let later : List ℕ = block_owner w ++ flat_map block_owner rest in
+      let e : position b (defines_blocks s op n) ≡ Some p.0 =
+      subst (λ (l : List ℕ). position b l ≡ Some p.0) (blocks_split s n ws rest w split) (position_kept b (flat_map block_owner ws) later p.0 p.1) in
+      let i : p.0 < length (flat_map block_owner ws) = p.2 in
       omega (arith, number_at (defines_blocks s op n) (length s.blocks) b p.0 e, blocks_length s sd n ex place pe ws rest w split)
 
-  regions_length : length between.regions ≡ length s.regions + length (concat_map (regions_of s) (concat_map op_owner ws))
+  regions_length : length between.regions ≡ length s.regions + length (flat_map (regions_of s) (flat_map op_owner ws))
   unfolding copied_by
-  regions_length = table_length_lem s.regions (λ (r : ℕ). op_copy s n (get_or s.regions r 0)) (concat_map (regions_of s) (concat_map op_owner ws))
+  regions_length = table_length_lem s.regions (λ (r : ℕ). op_copy s n (get_or s.regions r 0)) (flat_map (regions_of s) (flat_map op_owner ws))
 
-  pub region_copied : (r : ℕ) → Memᴰ r (concat_map (regions_of s) (concat_map op_owner ws)) → region_copy s n r < length between.regions
+  pub region_copied : (r : ℕ) → Memᴰ r (flat_map (regions_of s) (flat_map op_owner ws)) → region_copy s n r < length between.regions
   unfolding region_copy
   region_copied r k =
-      let p = place_in (concat_map (regions_of s) (concat_map op_owner ws)) (length s.regions) k in
-      let later : List ℕ = concat_map (regions_of s) (op_owner w ++ concat_map op_owner rest) in
-      let e : position r (copied_regions s n) ≡ some p.0 =
-      subst (λ (l : List ℕ). position r l ≡ some p.0) (regions_split s n ws rest w split) (position_kept r (concat_map (regions_of s) (concat_map op_owner ws)) later p.0 p.1) in
-      let i : p.0 < length (concat_map (regions_of s) (concat_map op_owner ws)) = p.2 in
+      let p = place_in (flat_map (regions_of s) (flat_map op_owner ws)) (length s.regions) k in
+      let later : List ℕ = flat_map (regions_of s) (op_owner w ++ flat_map op_owner rest) in
+      let e : position r (copied_regions s n) ≡ Some p.0 =
+      subst (λ (l : List ℕ). position r l ≡ Some p.0) (regions_split s n ws rest w split) (position_kept r (flat_map (regions_of s) (flat_map op_owner ws)) later p.0 p.1) in
+      let i : p.0 < length (flat_map (regions_of s) (flat_map op_owner ws)) = p.2 in
       omega (arith, number_at (copied_regions s n) (length s.regions) r p.0 e, regions_length)
 
 -- ---- room

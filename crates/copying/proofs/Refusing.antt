@@ -1,13 +1,16 @@
 -- The cause for which a copy is refused: the first test that fails gives it, and where none does there is none. Assumes nothing.
+use Rattle.rules.specs.declared.types.Cause.TheVariants.{NamedEarly, NotThere, TooDeep, StoreFull, PlacedInside}
+use Rattle.rules.specs.declared.types.Cause.{Cause}
 use Prim.Native.Nat.{ℕ, ◌<◌}
 use mathlib.Core.Bool.{true, false, ◌&&◌}
 use mathlib.Core.List.{List}
-use mathlib.Core.Option.{Option, none, some}
+use Rattle.std.specs.Prelude.{Option, None, Some}
 use mathlib.Core.Path.{◌≡◌, refl, sym, ap, ◌∙◌}
 use borrow.Author.Tests.{lt-ltb}
 use Rattle.rules.specs.Store.{Store, op_exists, parent_exists, totals_hold}
 use Rattle.rules.specs.Building.{first_failed}
-use Rattle.rules.specs.Fragments.{op, steps}
+use Rattle.rules.specs.Fragments.{steps}
+use Rattle.rules.specs.declared.types.Sort.TheVariants.{Op as op}
 use Rattle.rules.specs.Hash.{no_numbers}
 use Rattle.rules.specs.Copying.{placed_outside, in_time, copy_nests, copied, copy_tests}
 use Rattle.rules.proofs.Basics.Tests.{and_both}
@@ -16,50 +19,50 @@ use Rattle.layout.specs.Columns.{columns}
 use Rattle.layout.specs.Reading.{op_count, store_in}
 use Rattle.layout.specs.Soundness.{IsSound}
 use Rattle.layout.proofs.Tabulate.{op_exists_lem}
-use Rattle.calling.proofs.Causes.{none_fail, fails, passes}
+use Rattle.mutation.proofs.Causes.{none_fail, fails, passes}
 use Rattle.copying.proofs.Totalled.{totals_with}
 
 module _ (s : Store) (n : ℕ) (place : Option ℕ) where
-  abbrev failing : Option ℕ
+  abbrev failing : Option Cause
   failing = first_failed (copy_tests s n place)
 
-  pub no_op_lem : op_exists s n ≡ false → failing ≡ some 2
+  pub no_op_lem : op_exists s n ≡ false → failing ≡ Some NotThere
   unfolding copy_tests
-  no_op_lem e = fails _ 2 _ (ap (λ b. b && parent_exists s place) e)
+  no_op_lem e = fails _ NotThere _ (ap (λ b. b && parent_exists s place) e)
 
   module _ (e : op_exists s n ≡ true) where
-    pub no_parent : parent_exists s place ≡ false → failing ≡ some 2
+    pub no_parent : parent_exists s place ≡ false → failing ≡ Some NotThere
     unfolding copy_tests
-    no_parent p = fails _ 2 _ (ap (λ b. b && parent_exists s place) e ∙ p)
+    no_parent p = fails _ NotThere _ (ap (λ b. b && parent_exists s place) e ∙ p)
 
     module _ (p : parent_exists s place ≡ true) where
       there : (op_exists s n && parent_exists s place) ≡ true
       there = and_both (op_exists s n) _ e p
 
-      pub inside : placed_outside s n place ≡ false → failing ≡ some 18
+      pub inside : placed_outside s n place ≡ false → failing ≡ Some PlacedInside
       unfolding copy_tests
-      inside h = passes _ 2 _ there (fails _ 18 _ h)
+      inside h = passes _ NotThere _ there (fails _ PlacedInside _ h)
 
       module _ (o : placed_outside s n place ≡ true) where
-        pub early : in_time s n (steps s op n) no_numbers ≡ false → failing ≡ some 19
+        pub early : in_time s n (steps s op n) no_numbers ≡ false → failing ≡ Some NamedEarly
         unfolding copy_tests
-        early h = passes _ 2 _ there (passes _ 18 _ o (fails _ 19 _ h))
+        early h = passes _ NotThere _ there (passes _ PlacedInside _ o (fails _ NamedEarly _ h))
 
         module _ (t : in_time s n (steps s op n) no_numbers ≡ true) where
-          pub deep : copy_nests s n place ≡ false → failing ≡ some 5
+          pub deep : copy_nests s n place ≡ false → failing ≡ Some TooDeep
           unfolding copy_tests
-          deep h = passes _ 2 _ there (passes _ 18 _ o (passes _ 19 _ t (fails _ 5 _ h)))
+          deep h = passes _ NotThere _ there (passes _ PlacedInside _ o (passes _ NamedEarly _ t (fails _ TooDeep _ h)))
 
           module _ (d : copy_nests s n place ≡ true) where
-            pub full : totals_hold (copied s n place) ≡ false → failing ≡ some 3
+            pub full : totals_hold (copied s n place) ≡ false → failing ≡ Some StoreFull
             unfolding copy_tests
-            full h = passes _ 2 _ there (passes _ 18 _ o (passes _ 19 _ t (passes _ 5 _ d (fails _ 3 _ h))))
+            full h = passes _ NotThere _ there (passes _ PlacedInside _ o (passes _ NamedEarly _ t (passes _ TooDeep _ d (fails _ StoreFull _ h))))
 
-            pub clear : totals_hold (copied s n place) ≡ true → failing ≡ none
+            pub clear : totals_hold (copied s n place) ≡ true → failing ≡ None
             unfolding copy_tests
-            clear h = passes _ 2 _ there (passes _ 18 _ o (passes _ 19 _ t (passes _ 5 _ d (passes _ 3 _ h none_fail))))
+            clear h = passes _ NotThere _ there (passes _ PlacedInside _ o (passes _ NamedEarly _ t (passes _ TooDeep _ d (passes _ StoreFull _ h none_fail))))
 
-  pub clear_totals : failing ≡ none → totals_hold (copied s n place) ≡ true
+  pub clear_totals : failing ≡ None → totals_hold (copied s n place) ≡ true
   unfolding copy_tests
   clear_totals e = (first_failed_none _ e).1.1.1.1.0
 

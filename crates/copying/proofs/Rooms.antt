@@ -1,10 +1,13 @@
 -- What of a store there is room for there is room for of each store that it goes on from. Assumes nothing.
 use Rattle.std.proofs.Common.{◌≡◌, ℕ, ◌+◌, ◌≤◌, List, [], ◌++◌, map, length, get_or, refl, sym, ap, ◌∙◌, arith, append-nil, append_assoc, length-append}
 use Rattle.std.proofs.lemmas.List.{map-append}
-use mathlib.Core.Option.{Option}
-use Rattle.rules.specs.Lists.{concat_map, sum}
-use Rattle.rules.specs.Store.{Store, Op, Block, Value, Owner, regions_of, values_of, operand_total, successor_total, attribute_total}
-use Rattle.rules.specs.Fragments.{op, op_owner, block_owner, defines_owners, defines_blocks, defines_values, fragment_ops}
+use Rattle.std.specs.Prelude.{Option}
+use Rattle.std.specs.List.{flat_map}
+use Rattle.rules.specs.Lists.{sum}
+use Rattle.rules.specs.Store.{Store, Op, Block, Value, regions_of, values_of, operand_total, successor_total, attribute_total}
+use Rattle.rules.specs.declared.types.Owner.{Owner}
+use Rattle.rules.specs.Fragments.{op_owner, block_owner, defines_owners, defines_blocks, defines_values, fragment_ops}
+use Rattle.rules.specs.declared.types.Sort.TheVariants.{Op as op}
 use Rattle.rules.specs.Copying.{copied_regions, op_copy, copied_op, copied_block, copied_value, copied}
 use Rattle.rules.proofs.Basics.Distinct.{concat_map_append}
 use Rattle.rules.proofs.Basics.Appended.{sum_append}
@@ -55,7 +58,7 @@ unfolding copied_by copied fragment_ops defines_blocks copied_regions defines_va
 copied_by_lem s n place = refl
 
 pub none_copied : (s : Store) (n : ℕ) (place : Option ℕ) → copied_by s n place [] ≡ s
-unfolding copied_by concat_map
+unfolding copied_by
 none_copied s n place i =
     record { ops = append-nil s.ops i; blocks = append-nil s.blocks i; regions = append-nil s.regions i; values = append-nil s.values i }
 
@@ -67,13 +70,13 @@ pub more_copied : (s : Store) (n : ℕ) (place : Option ℕ) (ws us : List Owner
 unfolding copied_by
 more_copied s n place ws us =
     record {
-      more_ops = map (copied_op s n place) (concat_map op_owner us);
-      more_blocks = map (copied_block s n) (concat_map block_owner us);
-      more_regions = map (λ (r : ℕ). op_copy s n (get_or s.regions r 0)) (concat_map (regions_of s) (concat_map op_owner us));
-      more_values = map (copied_value s n) (concat_map (values_of s) us);
+      more_ops = map (copied_op s n place) (flat_map op_owner us);
+      more_blocks = map (copied_block s n) (flat_map block_owner us);
+      more_regions = map (λ (r : ℕ). op_copy s n (get_or s.regions r 0)) (flat_map (regions_of s) (flat_map op_owner us));
+      more_values = map (copied_value s n) (flat_map (values_of s) us);
       ops = more_table s.ops (copied_op s n place) _ _ _ (concat_map_append op_owner ws us);
       blocks = more_table s.blocks (copied_block s n) _ _ _ (concat_map_append block_owner ws us);
       regions =
-          more_table s.regions _ _ _ _ (ap (concat_map (regions_of s)) (concat_map_append op_owner ws us) ∙ concat_map_append (regions_of s) (concat_map op_owner ws) (concat_map op_owner us));
+          more_table s.regions _ _ _ _ (ap (flat_map (regions_of s)) (concat_map_append op_owner ws us) ∙ concat_map_append (regions_of s) (flat_map op_owner ws) (flat_map op_owner us));
       values = more_table s.values (copied_value s n) _ _ _ (concat_map_append (values_of s) ws us);
     }

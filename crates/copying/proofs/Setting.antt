@@ -5,7 +5,10 @@ use Rattle.std.proofs.Math.Seq.{take-suc}
 use Rattle.std.proofs.lemmas.List.{take_all}
 use borrow.Author.Tests.{ltb-true, leb-true}
 use lib.Dec.{ltb, leb}
-use Rattle.rules.specs.Store.{Store, Attribute, Owner, of_op, of_block, owner_exists, op_exists, block_exists, keys_rise, attributes_hold, attribute_total, max_attributes, max_attribute_kind}
+use Rattle.rules.specs.Store.{Store, owner_exists, op_exists, block_exists, keys_rise, attributes_hold, attribute_total, max_attributes, max_attribute_kind}
+use Rattle.rules.specs.declared.types.Attribute.{Attribute}
+use Rattle.rules.specs.declared.types.Owner.{Owner}
+use Rattle.rules.specs.declared.types.Owner.TheVariants.{Op as of_op, Block as of_block}
 use Rattle.rules.specs.Building.{attributes_of, set_attribute, applied}
 use Rattle.rules.proofs.Basics.Tests.{passed, all_at}
 use Rattle.rules.proofs.Basics.Appended.{length_update, mem_get_d}
@@ -16,8 +19,8 @@ use Rattle.layout.specs.Owners.{key_count}
 use Rattle.layout.proofs.Laid.{laid_facts}
 use Rattle.layout.proofs.OwnerKeys.{owner_in_lem, owner_reached}
 use Rattle.layout.proofs.Totals.{attribute_total_lem}
-use Rattle.setting.specs.Raw.{added}
-use Rattle.copying.specs.Written.{Wrote, op_attributed, block_attributed, attributed}
+use Rattle.mutation.specs.SetWrites.{added}
+use Rattle.copying.specs.Written.{ReadsAs, op_attributed, block_attributed, attributed}
 use Rattle.copying.proofs.Attributed.{AllBelow, OwnerHere, keys_below, attributed_none, attributed_more, attributes_there, attributes_else}
 use Rattle.copying.proofs.Wrote.{wrote_none, wrote_after, wrote_as, keys_counted, slot_read, attribute_wrote, attribute_counted_lem}
 
@@ -62,17 +65,17 @@ module _ (a : List ℕ) (from to : Owner) (h : Arranged a) (fe : owner_exists (s
   pub all_counted : length whole ≡ key_count (columns a) from
   all_counted = keys_counted a from fe
 
-  pub begun : attributes_of (store_in a) to ≡ [] → Wrote a a (attributed (store_in a) to [])
+  pub begun : attributes_of (store_in a) to ≡ [] → ReadsAs a a (attributed (store_in a) to [])
   begun e = wrote_as a a _ _ (sym (attributed_none (store_in a) to e)) (wrote_none a h)
 
-  pub ended : (b : List ℕ) (i : ℕ) → key_count (columns a) from ≤ i → Wrote a b (attributed (store_in a) to (take i whole))
-      → Wrote a b (attributed (store_in a) to whole)
+  pub ended : (b : List ℕ) (i : ℕ) → key_count (columns a) from ≤ i → ReadsAs a b (attributed (store_in a) to (take i whole))
+      → ReadsAs a b (attributed (store_in a) to whole)
   ended b i l w =
       let k : length whole ≤ i = omega (arith, all_counted) in
       wrote_as a b _ _ (ap (attributed (store_in a) to) (take_all i whole k)) w
 
   module _ (apart : from ≡ to → ⊥) (held : attributes_hold whole ≡ true) (room : attribute_total (store_in a) + length whole ≤ max_attributes)
-      (b : List ℕ) (i : ℕ) (l : i < key_count (columns a) from) (w : Wrote a b (attributed (store_in a) to (take i whole)))
+      (b : List ℕ) (i : ℕ) (l : i < key_count (columns a) from) (w : ReadsAs a b (attributed (store_in a) to (take i whole)))
       (total : attribute_count (columns b) ≡ attribute_count (columns a) + i) where
     inside : i < length whole
     inside = omega (arith, all_counted)
@@ -154,7 +157,7 @@ module _ (a : List ℕ) (from to : Owner) (h : Arranged a) (fe : owner_exists (s
       put : columns d ≡ added (columns b) to (slots_of to + key_count (columns b) to) next
       put = e ∙ ap₂ (added (columns b) to) (at_last ∙ ap (λ (k : ℕ). slots_of to + k) (sym own_counted)) is_next
 
-      pub again : Wrote a d (attributed (store_in a) to (take (i + 1) whole))
+      pub again : ReadsAs a d (attributed (store_in a) to (take (i + 1) whole))
       again =
           wrote_as a d _ _ (attributed_more (store_in a) to (take i whole) next (keys_below whole i no_attribute rises inside)
           ∙ ap (attributed (store_in a) to) (sym (ap (λ (k : ℕ). take k whole) (add-one i) ∙ take-suc whole i no_attribute inside)))

@@ -2,30 +2,30 @@
 use Prim.Native.Nat.{ℕ, ◌<◌, ◌≤◌}
 use mathlib.Core.Bool.{true}
 use mathlib.Core.List.{List}
-use mathlib.Core.Option.{Option, none}
+use Rattle.std.specs.Prelude.{Option, None}
 use mathlib.Core.Path.{◌≡◌, sym, ap, subst, ◌∙◌}
 use Rattle.rules.specs.Building.{Built, first_failed}
 use Rattle.rules.specs.Copying.{copy_tests}
 use Rattle.rules.specs.Marks.{copy, marked_tests, marked_acceptance}
 use Rattle.layout.specs.Columns.{Cols, columns}
 use Rattle.layout.specs.Reading.{store_of, store_in}
-use Rattle.journal.specs.Journal.{snapshot_of, Journaled, marked_of, journaled_copy, journal_sound, replaced_in}
-use Rattle.journal.specs.Words.{mark_count, max_entries, journal_of, row_at, rows_of, journaled_of, marked_in}
-use Rattle.journal.specs.Statements.{CopyRead, CopySound, JournalShort}
-use Rattle.journal.proofs.Rows.{facts}
-use Rattle.journal.proofs.Short.{journal_short}
-use Rattle.journal.proofs.Copied.{copy_snapshot, copy_read, copy_sound}
-use Rattle.marks.specs.Doing.{IsLent, DidMarked}
-use Rattle.marks.proofs.Doing as doing
-use Rattle.marks.proofs.Lent.{Lent, lent_facts}
-use Rattle.marks.proofs.Holding.{Remembered}
-use Rattle.remembering.specs.Raw.{replaced_count}
-use Rattle.remembering.proofs.Lent.{held_facts, held_of, held_counted, journal_length}
-use Rattle.remembering.proofs.Kept.{Kept, row_kept_lem, rows_kept, row_same, row_between}
-use Rattle.remembering.proofs.Unremembered.{behind_kept, behind_journal, behind_replaced}
+use Rattle.layout.specs.Journal.{snapshot_of, Journaled, marked_of, journaled_copy, journal_sound, replaced_in}
+use Rattle.layout.specs.MarkedReading.{mark_count, max_entries, journal_of, row_at, rows_of, journaled_of, marked_in, IsLent}
+use Rattle.undo_log.specs.JournalLaws.{CopyRead, CopySound, JournalShort}
+use Rattle.undo_log.proofs.MarkRows.{facts}
+use Rattle.undo_log.proofs.Short.{journal_short}
+use Rattle.undo_log.proofs.Copied.{copy_snapshot, copy_read, copy_sound}
+use Rattle.undo_log.specs.MarkedCalls.{PerformsMarked}
+use Rattle.undo_log.proofs.Doing as doing
+use Rattle.undo_log.proofs.Lent.{Lent, lent_facts}
+use Rattle.undo_log.proofs.Holding.{Remembered}
+use Rattle.undo_log.specs.EntryWrites.{replaced_count}
+use Rattle.undo_log.proofs.LentJournal.{held_facts, held_of, held_counted, journal_length}
+use Rattle.undo_log.proofs.CallKeeps.{Kept, row_kept_lem, rows_kept, row_same, row_between}
+use Rattle.undo_log.proofs.Unremembered.{behind_kept, behind_journal, behind_replaced}
 use Rattle.copying.specs.Cloned.{Written}
 
-module _ (b : List ℕ) (h : IsLent b) (n : ℕ) (place : Option ℕ) (clear : first_failed (copy_tests (store_in b) n place) ≡ none) (exit m : List ℕ) (w : Written b exit n place m) where
+module _ (b : List ℕ) (h : IsLent b) (n : ℕ) (place : Option ℕ) (clear : first_failed (copy_tests (store_in b) n place) ≡ None) (exit m : List ℕ) (w : Written b exit n place m) where
   abbrev C : Cols
   C = columns b
 
@@ -44,7 +44,7 @@ module _ (b : List ℕ) (h : IsLent b) (n : ℕ) (place : Option ℕ) (clear : f
   journal : journal_of D ≡ journal_of C
   journal = behind_journal C D w.behind
 
-  tests_pass : first_failed (marked_tests (marked_in b) (copy true n place)) ≡ none
+  tests_pass : first_failed (marked_tests (marked_in b) (copy true n place)) ≡ None
   unfolding marked_tests first_failed marked_of journaled_of
   tests_pass = clear
 
@@ -79,7 +79,7 @@ module _ (b : List ℕ) (h : IsLent b) (n : ℕ) (place : Option ℕ) (clear : f
 
   -- ---- the call
 
-  pub written_done : (r : Built) → r ≡ marked_acceptance (marked_in b) (copy true n place) → DidMarked b exit (copy true n place) r
+  pub written_done : (r : Built) → r ≡ marked_acceptance (marked_in b) (copy true n place) → PerformsMarked b exit (copy true n place) r
   unfolding CopyRead
   written_done r q =
       doing.marked_work b (copy true n place) r exit (journaled_copy j n place) tests_pass called (copy_read j true n place lent.journal) next_sound

@@ -5,9 +5,12 @@ use Rattle.std.proofs.Math.Seq.{take-suc, drop-cons}
 use Rattle.std.proofs.lemmas.List.{drop_all, get_or-map, length-map}
 use mathlib.Core.List.{Memᴰ}
 use borrow.Author.Tests.{lt-ltb}
-use Rattle.rules.specs.Lists.{concat_map}
-use Rattle.rules.specs.Store.{Store, Owner, of_op, of_block, op_exists, owner_exists}
-use Rattle.rules.specs.Fragments.{shell, names, counted, op, exists, steps, step_defines, defines_owners}
+use Rattle.std.specs.List.{flat_map}
+use Rattle.rules.specs.Store.{Store, op_exists, owner_exists}
+use Rattle.rules.specs.declared.types.Owner.{Owner}
+use Rattle.rules.specs.declared.types.Owner.TheVariants.{Op as of_op, Block as of_block}
+use Rattle.rules.specs.Fragments.{shell, names, counted, exists, steps, step_defines, defines_owners}
+use Rattle.rules.specs.declared.types.Sort.TheVariants.{Op as op}
 use Rattle.rules.specs.Fragments as rules
 use Rattle.rules.specs.Hash.{Numbering, numbered}
 use Rattle.rules.specs.Copying.{step_in_time, in_time}
@@ -33,7 +36,7 @@ told (names n ∷ xs) = names n ∷ told xs
 told (counted k ∷ xs) = told xs
 
 told_steps : (xs : List rules.Step) → map step_of (steps_listed xs) ≡ told xs
-unfolding told steps_listed step_listed step_of concat_map
+unfolding told steps_listed step_listed step_of
 told_steps [] = refl
 told_steps (shell (of_op m) ∷ xs) = ap (λ (l : List rules.Step). shell (of_op m) ∷ l) (told_steps xs)
 told_steps (shell (of_block b) ∷ xs) = ap (λ (l : List rules.Step). shell (of_block b) ∷ l) (told_steps xs)
@@ -42,12 +45,12 @@ told_steps (counted k ∷ xs) = told_steps xs
 
 -- ---- what is listed of the steps, step by step, is listed of those that tell of something, where nothing is of the others
 
-pub told_lists : {A : Type 0} (f : rules.Step → List A) → ((k : ℕ) → f (counted k) ≡ []) → (xs : List rules.Step) → concat_map f (told xs) ≡ concat_map f xs
-unfolding told concat_map
+pub told_lists : {A : Type 0} (f : rules.Step → List A) → ((k : ℕ) → f (counted k) ≡ []) → (xs : List rules.Step) → flat_map f (told xs) ≡ flat_map f xs
+unfolding told
 told_lists f none_of [] = refl
 told_lists {A} f none_of (shell w ∷ xs) = ap (λ (l : List A). f (shell w) ++ l) (told_lists f none_of xs)
 told_lists {A} f none_of (names n ∷ xs) = ap (λ (l : List A). f (names n) ++ l) (told_lists f none_of xs)
-told_lists {A} f none_of (counted k ∷ xs) = told_lists f none_of xs ∙ ap (λ (l : List A). l ++ concat_map f xs) (sym (none_of k))
+told_lists {A} f none_of (counted k ∷ xs) = told_lists f none_of xs ∙ ap (λ (l : List A). l ++ flat_map f xs) (sym (none_of k))
 
 -- ---- the names that come in time
 
@@ -68,17 +71,17 @@ left xs i = drop i (told xs)
 
 -- the operations and blocks of it
 unfoldable pub owners_done : List rules.Step → ℕ → List Owner
-owners_done xs i = concat_map step_defines (done xs i)
+owners_done xs i = flat_map step_defines (done xs i)
 
 unfoldable pub owners_left : List rules.Step → ℕ → List Owner
-owners_left xs i = concat_map step_defines (left xs i)
+owners_left xs i = flat_map step_defines (left xs i)
 
 pub all_left : (xs : List rules.Step) → left xs 0 ≡ told xs
 unfolding left
 all_left xs = refl
 
 pub no_owners_done : (xs : List rules.Step) → owners_done xs 0 ≡ []
-unfolding owners_done done concat_map
+unfolding owners_done done
 no_owners_done xs = refl
 
 pub all_owners_left : (s : Store) (n : ℕ) → owners_left (steps s op n) 0 ≡ defines_owners s op n
@@ -110,8 +113,8 @@ module _ (xs : List rules.Step) (ws : List Step) (e : ws ≡ steps_listed xs) wh
     none_left l = drop_all i (told xs) (omega (arith, told_length))
 
     pub no_owners_left : length ws ≤ i → owners_left xs i ≡ []
-    unfolding owners_left concat_map
-    no_owners_left l = ap (concat_map step_defines) (none_left l)
+    unfolding owners_left
+    no_owners_left l = ap (flat_map step_defines) (none_left l)
 
     module _ (l : i < length ws) (x : Step) (f : get_or ws i (OpShell 0) ≡ x) where
       here : get_or (told xs) i (counted 0) ≡ step_of x
@@ -136,14 +139,14 @@ module _ (xs : List rules.Step) (ws : List Step) (e : ws ≡ steps_listed xs) wh
           ∙ ap (λ (y : rules.Step). take i (told xs) ++ (y ∷ [])) here
 
       pub step_owners_left : owners_left xs i ≡ step_owners x ++ owners_left xs (i + 1)
-      unfolding owners_left concat_map step_owners
-      step_owners_left = ap (concat_map step_defines) step_left
+      unfolding owners_left step_owners
+      step_owners_left = ap (flat_map step_defines) step_left
 
       pub step_owners_done : owners_done xs (i + 1) ≡ owners_done xs i ++ step_owners x
-      unfolding owners_done concat_map step_owners
+      unfolding owners_done step_owners
       step_owners_done =
-          ap (concat_map step_defines) step_done ∙ concat_map_append step_defines (done xs i) (step_of x ∷ [])
-          ∙ ap (λ (l : List Owner). concat_map step_defines (done xs i) ++ l) (append-nil (step_defines (step_of x)))
+          ap (flat_map step_defines) step_done ∙ concat_map_append step_defines (done xs i) (step_of x ∷ [])
+          ∙ ap (λ (l : List Owner). flat_map step_defines (done xs i) ++ l) (append-nil (step_defines (step_of x)))
 
     -- an operation's shell, a block's, and an operation's names
     module _ (l : i < length ws) (m : ℕ) where

@@ -4,14 +4,18 @@ use Prim.Native.Nat.{ℕ, ◌+◌, ◌<◌, ◌≤◌}
 use native.Mathlib.Omega.{arith}
 use mathlib.Core.Bool.{Bool, true}
 use mathlib.Core.List.{List, [], ◌∷◌, ◌++◌, Memᴰ}
-use mathlib.Core.Option.{Option}
+use Rattle.std.specs.Prelude.{Option}
 use mathlib.Core.Path.{◌≡◌, refl, sym, ap, subst, ◌∙◌}
 use borrow.Author.Tests.{lt-ltb}
 use lib.Dec.{leb}
 use lib.ListN.{length, get_or, length-append}
-use Rattle.rules.specs.Lists.{sum, concat_map, every}
-use Rattle.rules.specs.Store.{Store, Op, Block, Owner, of_op, of_block, op_at, block_at, regions_of, values_of, op_exists, owner_exists, totals_hold, operand_total, successor_total, attribute_total, max_ops, max_blocks, max_regions, max_values, max_operands, max_successors, max_attributes}
-use Rattle.rules.specs.Fragments.{op, steps, exists, step_defines, op_owner, block_owner, defines_owners, defines_blocks, defines_values, fragment_ops}
+use Rattle.rules.specs.Lists.{sum, every}
+use Rattle.std.specs.List.{flat_map}
+use Rattle.rules.specs.Store.{Store, Op, Block, op_at, block_at, regions_of, values_of, op_exists, owner_exists, totals_hold, operand_total, successor_total, attribute_total, max_ops, max_blocks, max_regions, max_values, max_operands, max_successors, max_attributes}
+use Rattle.rules.specs.declared.types.Owner.{Owner}
+use Rattle.rules.specs.declared.types.Owner.TheVariants.{Op as of_op, Block as of_block}
+use Rattle.rules.specs.Fragments.{steps, exists, step_defines, op_owner, block_owner, defines_owners, defines_blocks, defines_values, fragment_ops}
+use Rattle.rules.specs.declared.types.Sort.TheVariants.{Op as op}
 use Rattle.rules.specs.Fragments as rules
 use Rattle.rules.specs.Copying.{copied, copied_regions}
 use Rattle.rules.proofs.Soundness.Sound.{Sound, facts}
@@ -68,13 +72,13 @@ module _ (C : Cols) where
 -- ---- what owners of a store have together
 
 pub record Together (s : Store) (ws : List Owner) (t u : Totals) : Type 0 where
-  pub ops : u.ops ≡ t.ops + length (concat_map op_owner ws)
-  pub blocks : u.blocks ≡ t.blocks + length (concat_map block_owner ws)
-  pub regions : u.regions ≡ t.regions + length (concat_map (regions_of s) (concat_map op_owner ws))
-  pub values : u.values ≡ t.values + length (concat_map (values_of s) ws)
-  pub operands : u.operands ≡ t.operands + operands_at s (concat_map op_owner ws)
-  pub successors : u.successors ≡ t.successors + successors_at s (concat_map op_owner ws)
-  pub attributes : u.attributes ≡ t.attributes + (op_keys_at s (concat_map op_owner ws) + block_keys_at s (concat_map block_owner ws))
+  pub ops : u.ops ≡ t.ops + length (flat_map op_owner ws)
+  pub blocks : u.blocks ≡ t.blocks + length (flat_map block_owner ws)
+  pub regions : u.regions ≡ t.regions + length (flat_map (regions_of s) (flat_map op_owner ws))
+  pub values : u.values ≡ t.values + length (flat_map (values_of s) ws)
+  pub operands : u.operands ≡ t.operands + operands_at s (flat_map op_owner ws)
+  pub successors : u.successors ≡ t.successors + successors_at s (flat_map op_owner ws)
+  pub attributes : u.attributes ≡ t.attributes + (op_keys_at s (flat_map op_owner ws) + block_keys_at s (flat_map block_owner ws))
 
 module _ (C : Cols) (shaped : Shaped C) (h : Laid C) where
   regions_span : (m : ℕ) → m < op_count C → length (regions_of (store_of C) m) ≡ span_of C op_region_first op_region_end m
@@ -105,7 +109,7 @@ module _ (C : Cols) (shaped : Shaped C) (h : Laid C) where
 
   together : (ws : List Owner) (t : Totals) → ((w : Owner) → Memᴰ w ws → owner_exists (store_of C) w ≡ true)
       → Together (store_of C) ws t (owners_totalled C t ws)
-  unfolding owners_totalled owner_totalled op_totalled block_totalled concat_map op_owner block_owner operands_at successors_at op_keys_at block_keys_at sum owner_exists
+  unfolding owners_totalled owner_totalled op_totalled block_totalled op_owner block_owner operands_at successors_at op_keys_at block_keys_at sum owner_exists
   together [] t k =
       record {
         ops = omega arith;
@@ -126,9 +130,9 @@ module _ (C : Cols) (shaped : Shaped C) (h : Laid C) where
           arith,
           r.regions,
           regions_span m l,
-          length-append (regions_of (store_of C) m) (concat_map (regions_of (store_of C)) (concat_map op_owner ws)),
+          length-append (regions_of (store_of C) m) (flat_map (regions_of (store_of C)) (flat_map op_owner ws)),
         );
-        values = omega (arith, r.values, results_span m l, length-append (values_of (store_of C) (of_op m)) (concat_map (values_of (store_of C)) ws));
+        values = omega (arith, r.values, results_span m l, length-append (values_of (store_of C) (of_op m)) (flat_map (values_of (store_of C)) ws));
         operands = omega (arith, r.operands, operands_span m l);
         successors = omega (arith, r.successors, successors_span m l);
         attributes = omega (arith, r.attributes, op_keys_read m l);
@@ -140,7 +144,7 @@ module _ (C : Cols) (shaped : Shaped C) (h : Laid C) where
         ops = r.ops;
         blocks = omega (arith, r.blocks);
         regions = r.regions;
-        values = omega (arith, r.values, arguments_span b l, length-append (values_of (store_of C) (of_block b)) (concat_map (values_of (store_of C)) ws));
+        values = omega (arith, r.values, arguments_span b l, length-append (values_of (store_of C) (of_block b)) (flat_map (values_of (store_of C)) ws));
         operands = r.operands;
         successors = r.successors;
         attributes = omega (arith, r.attributes, block_keys_read b l);

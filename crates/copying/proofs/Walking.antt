@@ -3,13 +3,16 @@
 use Rattle.std.proofs.Common.{◌≡◌, ℕ, ◌+◌, ◌<◌, ◌≤◌, true, List, [], ◌∷◌, ◌++◌, map, length, get_or, take, drop, refl, sym, ap, subst, ◌∙◌, arith, append-nil, append_assoc, length-append}
 use Rattle.std.proofs.lemmas.List.{take-append-drop}
 use mathlib.Core.List.{Memᴰ}
-use mathlib.Core.Option.{Option, none, some}
+use Rattle.std.specs.Prelude.{Option, None, Some}
 use native.Mathlib.Decide.{ℕ_discrete}
 use borrow.Author.Tests.{ltb-true, lt-ltb}
 use lib.Dec.{ltb}
-use Rattle.rules.specs.Lists.{all, concat_map}
-use Rattle.rules.specs.Store.{Store, Op, Block, Owner, of_op, of_block, op_at, block_at, op_around, regions_of, results_of, arguments_of, op_exists, block_exists, value_exists, parent_exists, attributes_hold, totals_hold, sound, max_values, max_blocks}
-use Rattle.rules.specs.Fragments.{op, op_owner, block_owner, steps, step_defines, defines_owners}
+use Rattle.std.specs.List.{list_all, flat_map}
+use Rattle.rules.specs.Store.{Store, Op, Block, op_at, block_at, op_around, regions_of, results_of, arguments_of, op_exists, block_exists, value_exists, parent_exists, attributes_hold, totals_hold, sound, max_values, max_blocks}
+use Rattle.rules.specs.declared.types.Owner.{Owner}
+use Rattle.rules.specs.declared.types.Owner.TheVariants.{Op as of_op, Block as of_block}
+use Rattle.rules.specs.Fragments.{op_owner, block_owner, steps, step_defines, defines_owners}
+use Rattle.rules.specs.declared.types.Sort.TheVariants.{Op as op}
 use Rattle.rules.specs.Fragments as rules
 use Rattle.rules.specs.Building.{first_failed}
 use Rattle.rules.specs.Mapping.{Mapping}
@@ -29,12 +32,12 @@ use Rattle.layout.specs.Reading.{op_count, store_in}
 use Rattle.layout.specs.Soundness.{IsSound}
 use Rattle.layout.proofs.Laid.{laid_facts}
 use Rattle.layout.proofs.Tabulate.{op_exists_lem}
-use Rattle.mapping.specs.MappingWords.{mapping_of}
+use Rattle.equivalence.specs.MappingWords.{mapping_of}
 use Rattle.copying.specs.declared.steps.Step.{Step}
 use Rattle.copying.specs.declared.steps.Step.TheVariants.{OpShell, BlockShell, Names}
 use Rattle.copying.specs.Steps.{AreSteps, step_of, step_owners}
 use Rattle.copying.specs.Partial.{Partial, copied_by}
-use Rattle.copying.specs.Written.{Wrote, block_made, parent_by, OpReady, BlockReady, StepReady, step_made}
+use Rattle.copying.specs.Written.{ReadsAs, block_made, parent_by, OpReady, BlockReady, StepReady, step_made}
 use Rattle.copying.specs.Cloned.{Written}
 use Rattle.copying.proofs.Told.{told, told_lists, done, left, owners_done, owners_left, no_owners_done, are_steps_lem, no_owners_left, step_owners_left, step_owners_done}
 use Rattle.copying.proofs.Built.{here as stands, Images, Runs, op_between, block_between, values_between, ops_length, blocks_length, op_known, parent_same, op_made_lem}
@@ -52,10 +55,10 @@ low v few most l h = let b = ltb-true v few h in lt-ltb v most (omega arith)
 
 parent_longer : (s t : Store) (p : Option ℕ) → length s.blocks ≤ length t.blocks → parent_exists s p ≡ true → parent_exists t p ≡ true
 unfolding parent_exists block_exists
-parent_longer s t none l h = refl
-parent_longer s t (some b) l h = low b (length s.blocks) (length t.blocks) l h
+parent_longer s t None l h = refl
+parent_longer s t (Some b) l h = low b (length s.blocks) (length t.blocks) l h
 
-block_in_lem : (t : Store) (b : ℕ) → b < length t.blocks → parent_exists t (some b) ≡ true
+block_in_lem : (t : Store) (b : ℕ) → b < length t.blocks → parent_exists t (Some b) ≡ true
 unfolding parent_exists block_exists
 block_in_lem t b l = lt-ltb b (length t.blocks) l
 
@@ -64,25 +67,25 @@ ruled_as e h = ap sound e ∙ h
 
 ops_more : (s : Store) (n : ℕ) (place : Option ℕ) (ws : List Owner) → length s.ops ≤ length (copied_by s n place ws).ops
 unfolding copied_by
-ops_more s n place ws = omega (arith, length-append s.ops (map (copied_op s n place) (concat_map op_owner ws)))
+ops_more s n place ws = omega (arith, length-append s.ops (map (copied_op s n place) (flat_map op_owner ws)))
 
 blocks_more : (s : Store) (n : ℕ) (place : Option ℕ) (ws : List Owner) → length s.blocks ≤ length (copied_by s n place ws).blocks
 unfolding copied_by
-blocks_more s n place ws = omega (arith, length-append s.blocks (map (copied_block s n) (concat_map block_owner ws)))
+blocks_more s n place ws = omega (arith, length-append s.blocks (map (copied_block s n) (flat_map block_owner ws)))
 
-sound_copied : (s : Store) → sound s ≡ true → (n : ℕ) (place : Option ℕ) → first_failed (copy_tests s n place) ≡ none
+sound_copied : (s : Store) → sound s ≡ true → (n : ℕ) (place : Option ℕ) → first_failed (copy_tests s n place) ≡ None
     → sound (copied s n place) ≡ true
 unfolding CopySound
 sound_copied = copy_sound
 
 -- ---- the owners done and those left
 
-done_and_left : (xs : List rules.Step) (i : ℕ) → owners_done xs i ++ owners_left xs i ≡ concat_map step_defines (told xs)
+done_and_left : (xs : List rules.Step) (i : ℕ) → owners_done xs i ++ owners_left xs i ≡ flat_map step_defines (told xs)
 unfolding owners_done owners_left done left
 done_and_left xs i =
-    sym (concat_map_append step_defines (take i (told xs)) (drop i (told xs))) ∙ ap (concat_map step_defines) (take-append-drop i (told xs))
+    sym (concat_map_append step_defines (take i (told xs)) (drop i (told xs))) ∙ ap (flat_map step_defines) (take-append-drop i (told xs))
 
-all_defined : (s : Store) (n : ℕ) → concat_map step_defines (told (steps s op n)) ≡ defines_owners s op n
+all_defined : (s : Store) (n : ℕ) → flat_map step_defines (told (steps s op n)) ≡ defines_owners s op n
 unfolding defines_owners step_defines
 all_defined s n = told_lists step_defines (λ k. refl) (steps s op n)
 
@@ -140,9 +143,9 @@ module _ (s : Store) (sd : Sound s) (n : ℕ) (ex : op_exists s n ≡ true) (pla
         results = omega (arith, ap length results, o.results_fit);
         operands = omega (arith, ap (λ (x : Op). length x.operands) row, o.operands_fit);
         successors = omega (arith, ap (λ (x : Op). length x.successors) row, o.successors_fit);
-        values_named = ap (λ (x : Op). all (λ (v : ℕ). ltb v max_values) x.operands) row
+        values_named = ap (λ (x : Op). list_all (λ (v : ℕ). ltb v max_values) x.operands) row
             ∙ all_of (λ (v : ℕ). ltb v max_values) (op_at s m).operands (λ v k. few v (all_at (value_exists s) (op_at s m).operands o.operands_in k));
-        blocks_named = ap (λ (x : Op). all (λ (b : ℕ). ltb b max_blocks) x.successors) row
+        blocks_named = ap (λ (x : Op). list_all (λ (b : ℕ). ltb b max_blocks) x.successors) row
             ∙ all_of (λ (b : ℕ). ltb b max_blocks) (op_at s m).successors (λ b k. fewer b (all_at (block_exists s) (op_at s m).successors o.successors_in k));
         attributes = ap (λ (x : Op). attributes_hold x.attributes) row ∙ o.attributes_fit;
         op_room = r.op_room;
@@ -167,7 +170,7 @@ module _ (s : Store) (sd : Sound s) (n : ℕ) (ex : op_exists s n ≡ true) (pla
   pub block_there : b < length present.blocks
   block_there = omega (arith, known_block, blocks_length s sd n ex place pe ws rest (of_block b) split)
 
-  before : Memᴰ (op_around s b) (concat_map op_owner ws)
+  before : Memᴰ (op_around s b) (flat_map op_owner ws)
   before = around_there s sd n ex ws rest b split
 
   block_row : block_at present b ≡ block_at s b
@@ -184,7 +187,7 @@ module _ (s : Store) (sd : Sound s) (n : ℕ) (ex : op_exists s n ≡ true) (pla
   unfolding op_around
   region_there =
       region_copied s sd n ex place pe ws rest (of_block b) split (block_at s b).region
-      (in_concat_map (regions_of s) (concat_map op_owner ws) before
+      (in_concat_map (regions_of s) (flat_map op_owner ws) before
       (region_listed s (block_at s b).region (region_known s sd n ex place pe ws rest b split M images)))
 
   pub block_ready : BlockReady present M b
@@ -205,7 +208,7 @@ module _ (s : Store) (sd : Sound s) (n : ℕ) (ex : op_exists s n ≡ true) (pla
 -- ---- step by step
 
 module _ (a : List ℕ) (sd : IsSound a) (n : ℕ) (l : n < op_count (columns a)) (place : Option ℕ)
-    (passed : first_failed (copy_tests (store_in a) n place) ≡ none) (ws : List Step) (are : AreSteps a n ws) (w : List ℕ) (mapped : mapping_of w ≡ copy_mapping (store_in a) n) where
+    (passed : first_failed (copy_tests (store_in a) n place) ≡ None) (ws : List Step) (are : AreSteps a n ws) (w : List ℕ) (mapped : mapping_of w ≡ copy_mapping (store_in a) n) where
   abbrev s : Store
   s = store_in a
 
@@ -321,7 +324,7 @@ module _ (a : List ℕ) (sd : IsSound a) (n : ℕ) (l : n < op_count (columns a)
         pub step_ready : StepReady (store_in b) M n place x
         step_ready = subst (λ (t : Store). StepReady t M n place x) (sym h.reads) (ready_written x q)
 
-        pub goes_on : (d : List ℕ) → Wrote b d (step_made (store_in b) M n place x) → Partial a n place (owners_done xs (i + 1)) d
+        pub goes_on : (d : List ℕ) → ReadsAs b d (step_made (store_in b) M n place x) → Partial a n place (owners_done xs (i + 1)) d
         goes_on d k =
             record {
               reads = k.reads ∙ ap (λ (t : Store). step_made t M n place x) h.reads ∙ next_written x q;

@@ -2,7 +2,10 @@
 -- other likewise. What is named need not be there yet. Assumes nothing.
 use Rattle.std.proofs.Common.{◌≡◌, ℕ, ◌+◌, ◌<◌, ◌≤◌, true, false, List, length, get_or, set, refl, sym, ap, subst, ◌∙◌, arith, length-set, get_or-set_same}
 use Rattle.std.proofs.lemmas.Bool.{le-ltb}
-use Rattle.rules.specs.Store.{Store, Op, Block, Attribute, Owner, of_op, of_block, owner_exists, parent_exists, max_attribute_kind, max_attributes, max_own_keys}
+use Rattle.rules.specs.Store.{Store, Op, Block, owner_exists, parent_exists, max_attribute_kind, max_attributes, max_own_keys}
+use Rattle.rules.specs.declared.types.Attribute.{Attribute}
+use Rattle.rules.specs.declared.types.Owner.{Owner}
+use Rattle.rules.specs.declared.types.Owner.TheVariants.{Op as of_op, Block as of_block}
 use Rattle.rules.specs.Building.{NewOperation, NewBlock, new_operation, new_block, set_attribute, applied, attributes_of}
 use Rattle.layout.specs.Columns.{Cols, columns, at, write, counts, slot_key}
 use Rattle.layout.specs.Reading.{op_count, block_count, region_count, attribute_count, slots_of, attribute_at, attributes_from, op_of, block_of, store_of, store_in}
@@ -12,17 +15,17 @@ use Rattle.layout.proofs.Laid.{Shaped, Laid, laid_facts, laid_of}
 use Rattle.layout.proofs.Buffer.{columns_shaped}
 use Rattle.layout.proofs.Tabulate.{ops_length, blocks_length, op_read, block_read, length_tabulate, get_d_tabulate}
 use Rattle.layout.proofs.OwnerKeys.{OwnerIn, owner_in_lem}
-use Rattle.calling.specs.Doing.{Behind}
-use Rattle.adding.specs.Raw.{with_operation, with_block}
-use Rattle.adding.proofs.Operating.{parent_in_lem}
-use Rattle.adding.proofs.OperationLaid.{RoomFor}
-use Rattle.adding.proofs.BlockAdded.{BlockRoom}
-use Rattle.adding.proofs.NewOperation.{operation_behind, operation_reads, operation_laid}
-use Rattle.adding.proofs.NewBlock.{block_behind, block_reads, block_laid_lem}
-use Rattle.setting.specs.Raw.{slot_for, key_there, added, with_attribute}
-use Rattle.setting.proofs.KeySlot.{place, place_found, slot_found}
-use Rattle.setting.proofs.SetAttribute.{attribute_reads, attribute_behind, attribute_laid}
-use Rattle.copying.specs.Written.{Wrote}
+use Rattle.mutation.specs.Doing.{Behind}
+use Rattle.mutation.specs.AddedWrites.{with_operation, with_block}
+use Rattle.mutation.proofs.Operating.{parent_in_lem}
+use Rattle.mutation.proofs.OperationLaid.{RoomFor}
+use Rattle.mutation.proofs.BlockAdded.{BlockRoom}
+use Rattle.mutation.proofs.NewOperation.{operation_behind, operation_reads, operation_laid}
+use Rattle.mutation.proofs.NewBlock.{block_behind, block_reads, block_laid_lem}
+use Rattle.mutation.specs.SetWrites.{slot_for, key_there, added, with_attribute}
+use Rattle.mutation.proofs.KeySlot.{place, place_found, slot_found}
+use Rattle.mutation.proofs.SetAttribute.{attribute_reads, attribute_behind, attribute_laid}
+use Rattle.copying.specs.Written.{ReadsAs}
 use Rattle.copying.proofs.Attributed.{AllBelow, below_at}
 
 -- ---- one after the other
@@ -40,7 +43,7 @@ behind_after C D E p o b q =
 pub behind_none : (C : Cols) → Behind C C
 behind_none C = record { words = λ k l. refl; marks = refl; regions = λ n l. refl; results = λ n l. refl; arguments = λ m l. refl }
 
-pub wrote_none : (a : List ℕ) → Arranged a → Wrote a a (store_in a)
+pub wrote_none : (a : List ℕ) → Arranged a → ReadsAs a a (store_in a)
 wrote_none a h = record { reads = refl; arranged = h; behind = behind_none (columns a) }
 
 pub behind_both : (a b c : List ℕ) → length (store_in a).ops ≤ length (store_in b).ops → length (store_in a).blocks ≤ length (store_in b).blocks
@@ -49,9 +52,9 @@ behind_both a b c o k p q =
     behind_after (columns a) (columns b) (columns c) p (omega (arith, ops_length (columns a), ops_length (columns b)))
     (omega (arith, blocks_length (columns a), blocks_length (columns b))) q
 
-pub wrote_after : (a b c : List ℕ) (s t : Store) → Wrote a b s → length (store_in a).ops ≤ length s.ops
+pub wrote_after : (a b c : List ℕ) (s t : Store) → ReadsAs a b s → length (store_in a).ops ≤ length s.ops
     → length (store_in a).blocks ≤ length s.blocks
-    → Wrote b c t → Wrote a c t
+    → ReadsAs b c t → ReadsAs a c t
 wrote_after a b c s t p o k q =
     record {
       reads = q.reads;
@@ -60,7 +63,7 @@ wrote_after a b c s t p o k q =
           (subst (λ (x : Store). length (store_in a).blocks ≤ length x.blocks) (sym p.reads) k) p.behind q.behind;
     }
 
-pub wrote_as : (a b : List ℕ) (s t : Store) → s ≡ t → Wrote a b s → Wrote a b t
+pub wrote_as : (a b : List ℕ) (s t : Store) → s ≡ t → ReadsAs a b s → ReadsAs a b t
 wrote_as a b s t e p = record { reads = p.reads ∙ e; arranged = p.arranged; behind = p.behind }
 
 -- ---- an operation, a block
@@ -75,18 +78,18 @@ module _ (a b : List ℕ) (h : Arranged a) (len : length b ≡ length a) where
   laid : Laid C
   laid = laid_facts C h.laid
 
-  wrote_laid : (s : Store) → store_in b ≡ s → Laid (columns b) → Behind C (columns b) → Wrote a b s
+  wrote_laid : (s : Store) → store_in b ≡ s → Laid (columns b) → Behind C (columns b) → ReadsAs a b s
   wrote_laid s r l k = record { reads = r; arranged = record { sized = len ∙ h.sized; laid = laid_of (columns b) l }; behind = k }
 
   pub op_wrote : (new : NewOperation) → columns b ≡ with_operation C new → RoomFor C new → parent_exists (store_in a) new.parent ≡ true
-      → Wrote a b (applied (store_in a) (new_operation new))
+      → ReadsAs a b (applied (store_in a) (new_operation new))
   op_wrote new e room p =
       wrote_laid _ (ap store_of e ∙ operation_reads C new shaped room laid)
       (subst Laid (sym e) (operation_laid C new shaped room laid (parent_in_lem a h new.parent p)))
       (subst (Behind C) (sym e) (operation_behind C new shaped room laid))
 
   pub block_wrote : (new : NewBlock) → columns b ≡ with_block C new → BlockRoom C new.types → new.region < region_count C
-      → Wrote a b (applied (store_in a) (new_block new))
+      → ReadsAs a b (applied (store_in a) (new_block new))
   block_wrote new e room r =
       wrote_laid _ (ap store_of e ∙ block_reads C new shaped room laid)
       (subst Laid (sym e) (block_laid_lem C new shaped room laid r))
@@ -150,7 +153,7 @@ module _ (a b : List ℕ) (h : Arranged a) (len : length b ≡ length a) (w : Ow
   unfolding with_attribute
   is_added = rw (not_there, slot_last) e
 
-  pub attribute_wrote : Wrote a b (applied (store_in a) (set_attribute w x))
+  pub attribute_wrote : ReadsAs a b (applied (store_in a) (set_attribute w x))
   attribute_wrote =
       let sh = columns_shaped a h.sized in
       let l = laid_facts C₁ h.laid in

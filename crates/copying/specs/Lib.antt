@@ -5,4 +5,3 @@ pub mod Images
 pub mod Partial
 pub mod Written
 pub mod Cloned
-pub mod Calls

@@ -2,9 +2,11 @@
 -- shells begins there is none.
 use Rattle.std.specs.Prelude.{◌≡◌, refl, ◌==◌, cond, ℕ, ◌+◌, ◌<◌, ◌≤◌, List, [], ◌∷◌, ◌++◌, length}
 use Rattle.std.specs.Coded.{Coded, Coded-set, code_by, coded×, coded_ℕ, coded_list}
-use Rattle.rules.specs.Lists.{concat_map}
-use Rattle.rules.specs.Store.{Owner, of_op, of_block}
-use Rattle.rules.specs.Fragments.{shell, names, counted, op, steps, step_defines}
+use Rattle.std.specs.List.{flat_map}
+use Rattle.rules.specs.declared.types.Owner.{Owner}
+use Rattle.rules.specs.declared.types.Owner.TheVariants.{Op as of_op, Block as of_block}
+use Rattle.rules.specs.Fragments.{shell, names, counted, steps, step_defines}
+use Rattle.rules.specs.declared.types.Sort.TheVariants.{Op as op}
 use Rattle.rules.specs.Fragments as rules
 use Rattle.layout.specs.Columns.{Cols}
 use Rattle.layout.specs.Reading.{op_count, block_count, store_in}
@@ -22,7 +24,7 @@ step_listed (names n) = Names n ∷ []
 step_listed (counted k) = []
 
 unfoldable pub steps_listed : List rules.Step → List Step
-steps_listed xs = concat_map step_listed xs
+steps_listed xs = flat_map step_listed xs
 
 -- there is room for these behind those that are there
 pub record StepsFit (xs : List rules.Step) (walk : List Step) : Type 0 where

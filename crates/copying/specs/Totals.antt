@@ -1,7 +1,9 @@
 -- How much there is to copy of everything.
 use Rattle.std.specs.Prelude.{ℕ, ◌+◌, ◌-◌, ◌≤◌, List, [], ◌∷◌}
-use Rattle.rules.specs.Store.{Owner, of_op, of_block}
-use Rattle.rules.specs.Fragments.{op, defines_owners}
+use Rattle.rules.specs.declared.types.Owner.{Owner}
+use Rattle.rules.specs.declared.types.Owner.TheVariants.{Op as of_op, Block as of_block}
+use Rattle.rules.specs.Fragments.{defines_owners}
+use Rattle.rules.specs.declared.types.Sort.TheVariants.{Op as op}
 use Rattle.layout.specs.Columns.{Cols, at, op_region_first, op_region_end, op_result_first, op_result_end, op_operand_first, op_operand_end, op_successor_first, op_successor_end, op_attributes, block_argument_first, block_argument_end, block_attributes}
 use Rattle.layout.specs.Reading.{store_of}
 use Rattle.copying.specs.declared.totals.Totals.{Totals}

@@ -1,15 +1,18 @@
 -- What is written for one operation or block of a walk, by the rules: a new row like the original's, named by the mapping, and its attributes.
-use Rattle.std.specs.Prelude.{◌≡◌, ℕ, ◌+◌, ◌-◌, ◌<◌, ◌≤◌, List, true, cond, eqb, ltb, map, length, get_or}
-use Rattle.std.proofs.Math.Option.{Option}
-use Rattle.rules.specs.Lists.{all, update_at}
-use Rattle.rules.specs.Store.{Store, Op, Block, Attribute, Owner, of_op, of_block, op_at, block_at, parent_of, type_of, regions_of, results_of, arguments_of, parent_exists, attributes_hold, operand_total, successor_total, attribute_total, max_ops, max_blocks, max_regions, max_values, max_operands, max_successors, max_attributes, max_own_values, max_own_operands, max_own_successors}
+use Rattle.std.specs.Prelude.{◌≡◌, ℕ, ◌+◌, ◌-◌, ◌<◌, ◌≤◌, List, true, cond, eqb, ltb, map, length, get_or, Option}
+use Rattle.std.specs.List.{list_all}
+use Rattle.rules.specs.Lists.{update_at}
+use Rattle.rules.specs.Store.{Store, Op, Block, op_at, block_at, parent_of, type_of, regions_of, results_of, arguments_of, parent_exists, attributes_hold, operand_total, successor_total, attribute_total, max_ops, max_blocks, max_regions, max_values, max_operands, max_successors, max_attributes, max_own_values, max_own_operands, max_own_successors}
+use Rattle.rules.specs.declared.types.Attribute.{Attribute}
+use Rattle.rules.specs.declared.types.Owner.{Owner}
+use Rattle.rules.specs.declared.types.Owner.TheVariants.{Op as of_op, Block as of_block}
 use Rattle.rules.specs.Building.{NewOperation, NewBlock, new_operation, new_block, applied}
 use Rattle.rules.specs.Mapping.{Mapping, image}
 use Rattle.rules.specs.Copying.{inner}
 use Rattle.layout.specs.Columns.{columns}
 use Rattle.layout.specs.Reading.{store_in}
 use Rattle.layout.specs.Soundness.{Arranged}
-use Rattle.calling.specs.Doing.{Behind}
+use Rattle.mutation.specs.Doing.{Behind}
 use Rattle.copying.specs.declared.steps.Step.{Step}
 use Rattle.copying.specs.declared.steps.Step.TheVariants.{OpShell, BlockShell, Names}
 
@@ -73,8 +76,8 @@ pub record OpReady (s : Store) (m : ℕ) : Type 0 where
   pub results : length (results_of s m) ≤ max_own_values
   pub operands : length (op_at s m).operands ≤ max_own_operands
   pub successors : length (op_at s m).successors ≤ max_own_successors
-  pub values_named : all (λ (v : ℕ). ltb v max_values) (op_at s m).operands ≡ true
-  pub blocks_named : all (λ (b : ℕ). ltb b max_blocks) (op_at s m).successors ≡ true
+  pub values_named : list_all (λ (v : ℕ). ltb v max_values) (op_at s m).operands ≡ true
+  pub blocks_named : list_all (λ (b : ℕ). ltb b max_blocks) (op_at s m).successors ≡ true
   pub attributes : attributes_hold (op_at s m).attributes ≡ true
   pub op_room : length s.ops + 1 ≤ max_ops
   pub region_room : length s.regions + length (regions_of s m) ≤ max_regions
@@ -119,7 +122,7 @@ StepReady s M n place (Names m) = Unit {0}
 -- ---- a buffer
 
 -- it is read as this store now, is laid out, and what marks rest on is as it was
-pub record Wrote (entry exit : List ℕ) (s : Store) : Type 0 where
+pub record ReadsAs (entry exit : List ℕ) (s : Store) : Type 0 where
   pub reads : store_in exit ≡ s
   pub arranged : Arranged exit
   pub behind : Behind (columns entry) (columns exit)

@@ -4,12 +4,12 @@ ghost use Rattle.rules.specs.Building.{first_failed};
 ghost use Rattle.rules.specs.Store.{parent_exists};
 ghost use Rattle.rules.specs.Copying.{copy_tests};
 ghost use Rattle.rules.specs.Mapping.{allowed};
-ghost use Rattle.layout.specs.Causes.{cause_of};
+ghost use Rattle.rules.specs.Causes.{cause_of};
 ghost use Rattle.layout.specs.Columns.{columns};
 ghost use Rattle.layout.specs.Reading.{op_count, store_in};
-ghost use Rattle.calling.specs.Types.{parent_of, made_of};
-ghost use Rattle.mapping.specs.MappingWords.{mapping_of};
-ghost use Rattle.marks.specs.Doing.{IsLent};
+ghost use Rattle.mutation.specs.Types.{made_of};
+ghost use Rattle.equivalence.specs.MappingWords.{mapping_of};
+ghost use Rattle.layout.specs.MarkedReading.{IsLent};
 ghost use Rattle.copying.specs.Cloned.{Cloned};
 
 use crate::early::in_time;
@@ -20,16 +20,16 @@ use crate::original::Original;
 use crate::steps::list_steps;
 use crate::totals::copy_totals_hold;
 use crate::writing::write_copies;
-use adding::tests::parent_exists;
-use layout::causes::Cause;
+use equivalence::mapping::MappingWords;
 use layout::columns::{COUNTS, OPS, StoreWords, at};
 use layout::existing::op_exists;
-use mapping::mapping::MappingWords;
+use mutation::tests::parent_exists;
+use rules::types::Cause;
 
 // Is a copy of an operation that exists refused? The tests past the first two.
 fn copy_cause(original: &Original, parent: Option<u32>) -> Result<(), Cause>
-    requires { parent_exists (store_in original.now.store.now) (parent_of parent) ≡ true }
-    ensures { cause_of result ≡ first_failed (copy_tests (store_in original.now.store.now) original.now.n (parent_of parent)) }
+    requires { parent_exists (store_in original.now.store.now) parent ≡ true }
+    ensures { cause_of result ≡ first_failed (copy_tests (store_in original.now.store.now) original.now.n parent) }
 {
     if !placed_outside(original, parent) {
         return Err(Cause::PlacedInside);
@@ -56,8 +56,8 @@ fn copy_known(
     requires lent { IsLent store.old }
     requires mapping_value { allowed (store_in store.old) (mapping_of mapping.old) ≡ true }
     requires n_bound { n < op_count (columns store.old) }
-    requires parent_value { parent_exists (store_in store.old) (parent_of parent) ≡ true }
-    ensures { Cloned true store.old store.new mapping.old mapping.new n (parent_of parent) (made_of result) }
+    requires parent_value { parent_exists (store_in store.old) parent ≡ true }
+    ensures { Cloned true store.old store.new mapping.old mapping.new n parent (made_of result) }
 {
     let walk = list_steps(store, n);
     let steps = walk.as_slice();
@@ -77,7 +77,7 @@ pub fn clone_operation(
 ) -> Result<u32, Cause>
     requires lent { IsLent store.old }
     requires mapping_value { allowed (store_in store.old) (mapping_of mapping.old) ≡ true }
-    ensures { Cloned true store.old store.new mapping.old mapping.new op (parent_of parent) (made_of result) }
+    ensures { Cloned true store.old store.new mapping.old mapping.new op parent (made_of result) }
 {
     if !op_exists(store, op) || !parent_exists(store, parent) {
         return Err(Cause::NotThere);

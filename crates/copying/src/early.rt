@@ -1,28 +1,27 @@
 // Does an operation name something inside the original that the walk hasn't numbered yet? The steps are gone through once more, with walk
 // numbers.
 ghost use Rattle.std.specs.Prelude.{◌≡◌, ◌<◌, [], ◌∷◌};
-ghost use Rattle.rules.specs.Fragments.{op, names, steps as steps_of};
+ghost use Rattle.rules.specs.Fragments.{names, steps as steps_of, defines_values, defines_blocks};
+ghost use Rattle.rules.specs.declared.types.Sort.TheVariants.{Op as op};
 ghost use Rattle.rules.specs.Hash.{Numbering, no_numbers};
-ghost use Rattle.rules.specs.Fragments.{defines_values, defines_blocks};
 ghost use Rattle.rules.specs.Copying.{numbered_names, step_in_time, in_time};
 ghost use Rattle.layout.specs.Columns.{columns};
 ghost use Rattle.layout.specs.Reading.{op_count, block_count, value_count, store_in};
-ghost use Rattle.fragments.specs.Sorts.{sort_of};
-ghost use Rattle.numbering.specs.Words.{Stands};
+ghost use Rattle.fragments.specs.Words.{Stands};
 
 use crate::original::Original;
 use crate::steps::Step;
 use fragments::inside::Fragment;
-use fragments::types::Sort;
-use layout::slices::{operands_of, successors_of};
-use numbering::words::{
-    NUMBERS_LENGTH, Name, WalkNumbers, block_name, define_block, define_op, value_name,
+use fragments::words::{
+    NUMBERS_LENGTH, WalkNumbers, block_name, define_block, define_op, value_name,
 };
+use layout::slices::{operands_of, successors_of};
+use rules::types::{Name, Sort};
 
 // Value v is numbered, or lies outside the whole.
 fn value_in_time(whole: &Fragment, numbers: &WalkNumbers, v: u32) -> bool
     requires { v < value_count (columns whole.now.store.now) }
-    ensures { (N : Numbering) → Stands (store_in whole.now.store.now) N numbers.now → result ≡ numbered_names (defines_values (store_in whole.now.store.now) (sort_of whole.now.sort) whole.now.n) N.values (v ∷ []) }
+    ensures { (N : Numbering) → Stands (store_in whole.now.store.now) N numbers.now → result ≡ numbered_names (defines_values (store_in whole.now.store.now) whole.now.sort whole.now.n) N.values (v ∷ []) }
 {
     match value_name(whole.store, numbers, v) {
         Name::WalkNumber(_) => true,
@@ -33,7 +32,7 @@ fn value_in_time(whole: &Fragment, numbers: &WalkNumbers, v: u32) -> bool
 // Block b likewise.
 fn block_in_time(whole: &Fragment, numbers: &WalkNumbers, b: u32) -> bool
     requires { b < block_count (columns whole.now.store.now) }
-    ensures { (N : Numbering) → Stands (store_in whole.now.store.now) N numbers.now → result ≡ numbered_names (defines_blocks (store_in whole.now.store.now) (sort_of whole.now.sort) whole.now.n) N.blocks (b ∷ []) }
+    ensures { (N : Numbering) → Stands (store_in whole.now.store.now) N numbers.now → result ≡ numbered_names (defines_blocks (store_in whole.now.store.now) whole.now.sort whole.now.n) N.blocks (b ∷ []) }
 {
     match block_name(numbers, b) {
         Name::WalkNumber(_) => true,

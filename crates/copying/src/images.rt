@@ -1,21 +1,20 @@
 // The copier's mapping: what the original defines gets the next numbers, in the order of the walk.
-ghost use Rattle.std.specs.Prelude.{◌≡◌, ◌+◌, ◌≤◌, true, length};
-ghost use Rattle.std.proofs.Math.Option.{none};
+ghost use Rattle.std.specs.Prelude.{◌≡◌, ◌+◌, ◌≤◌, true, length, None};
 ghost use Rattle.rules.specs.Store.{totals_hold, max_values};
 ghost use Rattle.rules.specs.Copying.{copied, copy_mapping};
 ghost use Rattle.layout.specs.Columns.{columns};
 ghost use Rattle.layout.specs.Reading.{consecutive, store_in};
 ghost use Rattle.layout.specs.Soundness.{IsSound};
-ghost use Rattle.mapping.specs.MappingWords.{mapping_length, mapping_of, values_mapped};
+ghost use Rattle.equivalence.specs.MappingWords.{mapping_length, mapping_of, values_mapped};
 ghost use Rattle.copying.specs.Steps.{StepThere, step_owners};
 ghost use Rattle.copying.specs.Images.{CopiesFit, owners_entered, owners_copied};
 
 use crate::original::Original;
 use crate::steps::Step;
+use equivalence::mapping::{MappingWords, NO_IMAGE, map_block, map_op, map_values};
 use fragments::rows::{block_row, op_row};
-use fragments::types::Row;
+use fragments::types::ShellRow;
 use layout::columns::{BLOCKS, COUNTS, OPS, StoreWords, VALUES, number};
-use mapping::mapping::{MappingWords, NO_IMAGE, map_block, map_op, map_values};
 
 // How many there are of each, with those copied so far: the numbers that the next ones get.
 #[derive(Clone, Copy)]
@@ -26,7 +25,7 @@ struct Copied {
 }
 
 // A row's values get the next numbers.
-fn enter_values(mapping: &mut MappingWords, next: Copied, row: Row) -> Copied
+fn enter_values(mapping: &mut MappingWords, next: Copied, row: ShellRow) -> Copied
     requires values_bound { row.value + row.values ≤ max_values }
     requires copies_bound { next.values + row.values ≤ max_values }
     ensures entered { mapping_of mapping.new ≡ values_mapped (mapping_of mapping.old) (consecutive row.value row.values) (consecutive next.values row.values) }
@@ -70,7 +69,7 @@ fn enter_step(store: &StoreWords, mapping: &mut MappingWords, next: Copied, step
 
 // Every entry is replaced, none included.
 pub fn enter_copies(original: &Original, mapping: &mut MappingWords)
-    requires { totals_hold (copied (store_in original.now.store.now) original.now.n none) ≡ true }
+    requires { totals_hold (copied (store_in original.now.store.now) original.now.n None) ≡ true }
     ensures { mapping_of mapping.new ≡ copy_mapping (store_in original.now.store.now) original.now.n }
 {
     mapping.fill(NO_IMAGE);

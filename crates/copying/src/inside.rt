@@ -3,16 +3,15 @@ ghost use Rattle.std.specs.Prelude.{◌≡◌, true};
 ghost use Rattle.rules.specs.Store.{parent_exists};
 ghost use Rattle.rules.specs.Copying.{placed_outside};
 ghost use Rattle.layout.specs.Reading.{store_in};
-ghost use Rattle.calling.specs.Types.{parent_of};
 
 use crate::original::Original;
 use fragments::inside::Fragment;
-use fragments::types::Sort;
+use rules::types::Sort;
 
 // The block that the copy is to go to is not inside the original.
 pub fn placed_outside(original: &Original, parent: Option<u32>) -> bool
-    requires { parent_exists (store_in original.now.store.now) (parent_of parent) ≡ true }
-    ensures { result ≡ placed_outside (store_in original.now.store.now) original.now.n (parent_of parent) }
+    requires { parent_exists (store_in original.now.store.now) parent ≡ true }
+    ensures { result ≡ placed_outside (store_in original.now.store.now) original.now.n parent }
 {
     let Some(b) = parent else {
         return true;

@@ -1,7 +1,6 @@
 // An operation copied with all inside it: the steps of its walk as words, the tests over them, the copier's mapping, and what is written.
 #![tactic(auto)]
 
-pub mod calls;
 pub mod cloning;
 pub mod early;
 pub mod images;

@@ -1,12 +1,13 @@
 // The steps of an operation's walk, one behind the other: the shells of what it defines, and of each operation what it names.
 ghost use Rattle.std.specs.Prelude.{◌≡◌, ◌<◌, ◌≤◌, List, [], ◌∷◌, ◌++◌, length, take};
-ghost use Rattle.rules.specs.Lists.{concat_map};
-ghost use Rattle.rules.specs.Fragments.{op, steps};
+ghost use Rattle.std.specs.List.{flat_map};
+ghost use Rattle.rules.specs.Fragments.{steps};
+ghost use Rattle.rules.specs.declared.types.Sort.TheVariants.{Op as op};
 ghost use Rattle.layout.specs.Columns.{columns};
 ghost use Rattle.layout.specs.Reading.{op_count, block_count, store_in};
 ghost use Rattle.layout.specs.Soundness.{IsSound};
 ghost use Rattle.fragments.specs.Order.{block_list, BlocksExist};
-ghost use Rattle.numbering.specs.Parts.{block_shells, op_shells, full_steps, ops_in_full, listed_steps};
+ghost use Rattle.fragments.specs.Parts.{block_shells, op_shells, full_steps, ops_in_full, listed_steps};
 ghost use Rattle.copying.specs.Steps.{most_steps, AreSteps, StepsFit, Listed};
 ghost use Rattle.copying.specs.declared.steps.Step.{Step};
 
@@ -96,8 +97,8 @@ fn list_op_shells_in(store: &StoreWords, walk: &mut Walk, b: usize)
 fn list_op_shells(store: &StoreWords, walk: &mut Walk, blocks: Blocks)
     requires sound { IsSound store.now }
     requires blocks_exist { BlocksExist (columns store.now) blocks }
-    requires steps_fit { StepsFit (concat_map (op_shells (store_in store.now)) (block_list (store_in store.now) blocks)) walk.old }
-    ensures { Listed (concat_map (op_shells (store_in store.now)) (block_list (store_in store.now) blocks)) walk.old walk.new }
+    requires steps_fit { StepsFit (flat_map (op_shells (store_in store.now)) (block_list (store_in store.now) blocks)) walk.old }
+    ensures { Listed (flat_map (op_shells (store_in store.now)) (block_list (store_in store.now) blocks)) walk.old walk.new }
 {
     for b in BlocksIn::new(store, blocks) {
         list_op_shells_in(store, walk, b);

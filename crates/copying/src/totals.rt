@@ -1,6 +1,5 @@
 // How much there is to copy of everything, and is there room for it?
-ghost use Rattle.std.specs.Prelude.{◌≡◌, ◌<◌, ℕ};
-ghost use Rattle.std.proofs.Math.Option.{Option};
+ghost use Rattle.std.specs.Prelude.{◌≡◌, ◌<◌, ℕ, Option};
 ghost use Rattle.rules.specs.Store.{totals_hold};
 ghost use Rattle.rules.specs.Copying.{copied};
 ghost use Rattle.layout.specs.Columns.{columns};
@@ -16,6 +15,9 @@ use layout::columns::{
     OP_ATTRIBUTES, OP_OPERAND_END, OP_OPERAND_FIRST, OP_REGION_END, OP_REGION_FIRST, OP_RESULT_END,
     OP_RESULT_FIRST, OP_SUCCESSOR_END, OP_SUCCESSOR_FIRST, OPERANDS, OPS, REGIONS, SUCCESSORS,
     StoreWords, VALUES, number,
+};
+use rules::limits::{
+    MAX_ATTRIBUTES, MAX_BLOCKS, MAX_OPERANDS, MAX_OPS, MAX_REGIONS, MAX_SUCCESSORS, MAX_VALUES,
 };
 
 // How many of each: in the order of the store's counts.
@@ -86,11 +88,11 @@ pub fn copy_totals_hold(original: &Original) -> bool
 {
     let store = original.store;
     let more = totals_of(original);
-    number(store, COUNTS, OPS) + more.ops <= 512
-        && number(store, COUNTS, BLOCKS) + more.blocks <= 256
-        && number(store, COUNTS, REGIONS) + more.regions <= 256
-        && number(store, COUNTS, VALUES) + more.values <= 2048
-        && number(store, COUNTS, OPERANDS) + more.operands <= 2048
-        && number(store, COUNTS, SUCCESSORS) + more.successors <= 512
-        && number(store, COUNTS, ATTRIBUTES) + more.attributes <= 1024
+    number(store, COUNTS, OPS) + more.ops <= MAX_OPS
+        && number(store, COUNTS, BLOCKS) + more.blocks <= MAX_BLOCKS
+        && number(store, COUNTS, REGIONS) + more.regions <= MAX_REGIONS
+        && number(store, COUNTS, VALUES) + more.values <= MAX_VALUES
+        && number(store, COUNTS, OPERANDS) + more.operands <= MAX_OPERANDS
+        && number(store, COUNTS, SUCCESSORS) + more.successors <= MAX_SUCCESSORS
+        && number(store, COUNTS, ATTRIBUTES) + more.attributes <= MAX_ATTRIBUTES
 }

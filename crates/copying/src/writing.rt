@@ -1,7 +1,6 @@
 // The copy is written, owner by owner in the order of the walk: a new row with what the original's row has, but for names and the place.
-ghost use Rattle.std.specs.Prelude.{◌≡◌, ◌≢◌, ℕ, [], ◌+◌, ◌-◌, ◌<◌, ◌≤◌, true, length, take, map, ltb, get_or};
-ghost use Rattle.std.proofs.Math.Option.{none};
-ghost use Rattle.rules.specs.Lists.{all};
+ghost use Rattle.std.specs.Prelude.{◌≡◌, ◌≢◌, ℕ, [], ◌+◌, ◌-◌, ◌<◌, ◌≤◌, true, length, take, map, ltb, get_or, None};
+ghost use Rattle.std.specs.List.{list_all};
 ghost use Rattle.rules.specs.Store.{parent_exists, owner_exists, attributes_hold, attribute_total, regions_of, max_attributes};
 ghost use Rattle.rules.specs.Building.{attributes_of, first_failed};
 ghost use Rattle.rules.specs.Mapping.{image, or_self};
@@ -9,17 +8,14 @@ ghost use Rattle.rules.specs.Copying.{copy_tests, copy_mapping};
 ghost use Rattle.layout.specs.Columns.{columns, column_count, column_size, buffer_length, slot_count, value_type};
 ghost use Rattle.layout.specs.Reading.{op_count, block_count, region_count, store_in, attribute_at, slice};
 ghost use Rattle.layout.specs.Soundness.{Arranged, IsSound};
-ghost use Rattle.layout.specs.Owners.{owner_of};
-ghost use Rattle.calling.specs.Types.{parent_of, attribute_of};
-ghost use Rattle.mapping.specs.MappingWords.{mapping_length, mapping_of};
+ghost use Rattle.equivalence.specs.MappingWords.{mapping_length, mapping_of};
 ghost use Rattle.copying.specs.Steps.{AreSteps};
-ghost use Rattle.copying.specs.Written.{Wrote, attributed, region_by, parent_by, OpReady, op_made, BlockReady, block_made, StepReady, step_made};
+ghost use Rattle.copying.specs.Written.{ReadsAs, attributed, region_by, parent_by, OpReady, op_made, BlockReady, block_made, StepReady, step_made};
 ghost use Rattle.copying.specs.Cloned.{Written};
 
 use crate::steps::Step;
-use adding::blocks::put_block;
-use adding::operations::put_operation;
-use calling::types::{Attribute, OpFields, Owner};
+use equivalence::mapping::{BLOCK_ENTRIES, MappingWords, OP_ENTRIES};
+use equivalence::names::image_at;
 use layout::columns::{
     BLOCK_ARGUMENT_END, BLOCK_ARGUMENT_FIRST, BLOCK_LOCATION, BLOCK_REGION, BLOCKS, COUNTS,
     OP_KIND, OP_LOCATION, OP_PARENT, OP_REGION_END, OP_REGION_FIRST, OP_RESULT_END,
@@ -29,9 +25,11 @@ use layout::columns::{
 use layout::kinds::{inherent_from, kind_from};
 use layout::owners::{first_slot, key_count};
 use layout::slices::{operands_of, successors_of};
-use mapping::mapping::{BLOCK_ENTRIES, MappingWords, OP_ENTRIES};
-use pairing::names::image_at;
-use setting::attributes::put_added;
+use mutation::attributes::put_added;
+use mutation::blocks::put_block;
+use mutation::operations::put_operation;
+use mutation::types::OpFields;
+use rules::types::{Attribute, Owner};
 
 // The types of a row's values, which are those in the range that these two columns tell of, in a lent list.
 fn types_of<'a>(
@@ -79,7 +77,7 @@ fn images_of<'a>(
 // The attribute at a slot.
 fn attribute_at(store: &StoreWords, slot: usize) -> Attribute
     requires { slot < slot_count }
-    ensures { attribute_of result ≡ attribute_at (columns store.now) slot }
+    ensures { result ≡ attribute_at (columns store.now) slot }
 {
     let word = at(store, SLOT_KIND, slot);
     Attribute {
@@ -93,13 +91,13 @@ fn attribute_at(store: &StoreWords, slot: usize) -> Attribute
 // The attributes of one owner become those of another one, which has none yet.
 fn copy_attributes(store: &mut StoreWords, from: Owner, to: Owner)
     requires arranged { Arranged store.old }
-    requires from_exists { owner_exists (store_in store.old) (owner_of from) ≡ true }
-    requires to_exists { owner_exists (store_in store.old) (owner_of to) ≡ true }
-    requires apart { owner_of from ≡ owner_of to → ⊥ }
-    requires empty { attributes_of (store_in store.old) (owner_of to) ≡ [] }
-    requires held { attributes_hold (attributes_of (store_in store.old) (owner_of from)) ≡ true }
-    requires room { attribute_total (store_in store.old) + length (attributes_of (store_in store.old) (owner_of from)) ≤ max_attributes }
-    ensures { Wrote store.old store.new (attributed (store_in store.old) (owner_of to) (attributes_of (store_in store.old) (owner_of from))) }
+    requires from_exists { owner_exists (store_in store.old) from ≡ true }
+    requires to_exists { owner_exists (store_in store.old) to ≡ true }
+    requires apart { from ≡ to → ⊥ }
+    requires empty { attributes_of (store_in store.old) to ≡ [] }
+    requires held { attributes_hold (attributes_of (store_in store.old) from) ≡ true }
+    requires room { attribute_total (store_in store.old) + length (attributes_of (store_in store.old) from) ≤ max_attributes }
+    ensures { ReadsAs store.old store.new (attributed (store_in store.old) to (attributes_of (store_in store.old) from)) }
 {
     let count = key_count(store, from);
     for i in 0..count {
@@ -112,9 +110,9 @@ fn copy_attributes(store: &mut StoreWords, from: Owner, to: Owner)
 fn copy_op(store: &mut StoreWords, mapping: &MappingWords, m: usize, parent: Option<u32>)
     requires arranged { Arranged store.old }
     requires m_bound { m < op_count (columns store.old) }
-    requires parent_value { parent_exists (store_in store.old) (parent_of parent) ≡ true }
+    requires parent_value { parent_exists (store_in store.old) parent ≡ true }
     requires ready { OpReady (store_in store.old) m }
-    ensures { Wrote store.old store.new (op_made (store_in store.old) (mapping_of mapping.now) (parent_of parent) m) }
+    ensures { ReadsAs store.old store.new (op_made (store_in store.old) (mapping_of mapping.now) parent m) }
 {
     let copy = at(store, COUNTS, OPS);
     let mut types = [0; 16];
@@ -148,7 +146,7 @@ fn parent_copy(
 ) -> Option<u32>
     requires arranged { Arranged store.now }
     requires m_bound { m < op_count (columns store.now) }
-    ensures { parent_of result ≡ parent_by (store_in store.now) (mapping_of mapping.now) n (parent_of parent) m }
+    ensures { result ≡ parent_by (store_in store.now) (mapping_of mapping.now) n parent m }
 {
     if m == n {
         return parent;
@@ -175,7 +173,7 @@ fn copy_block(store: &mut StoreWords, mapping: &MappingWords, b: usize)
     requires arranged { Arranged store.old }
     requires b_bound { b < block_count (columns store.old) }
     requires ready { BlockReady (store_in store.old) (mapping_of mapping.now) b }
-    ensures { Wrote store.old store.new (block_made (store_in store.old) (mapping_of mapping.now) b) }
+    ensures { ReadsAs store.old store.new (block_made (store_in store.old) (mapping_of mapping.now) b) }
 {
     let copy = at(store, COUNTS, BLOCKS);
     let mut types = [0; 16];
@@ -201,8 +199,8 @@ fn copy_step(
     step: Step,
 )
     requires arranged { Arranged store.old }
-    requires ready { StepReady (store_in store.old) (mapping_of mapping.now) n (parent_of parent) step }
-    ensures { Wrote store.old store.new (step_made (store_in store.old) (mapping_of mapping.now) n (parent_of parent) step) }
+    requires ready { StepReady (store_in store.old) (mapping_of mapping.now) n parent step }
+    ensures { ReadsAs store.old store.new (step_made (store_in store.old) (mapping_of mapping.now) n parent step) }
 {
     match step {
         Step::OpShell(m) => {
@@ -224,10 +222,10 @@ pub fn write_copies(
 )
     requires sound { IsSound store.old }
     requires n_bound { n < op_count (columns store.old) }
-    requires passed { first_failed (copy_tests (store_in store.old) n (parent_of parent)) ≡ none }
+    requires passed { first_failed (copy_tests (store_in store.old) n parent) ≡ None }
     requires are_steps { AreSteps store.old n steps.now }
     requires mapped { mapping_of mapping.now ≡ copy_mapping (store_in store.old) n }
-    ensures { Written store.old store.new n (parent_of parent) mapping.now }
+    ensures { Written store.old store.new n parent mapping.now }
 {
     for step in steps {
         copy_step(store, mapping, n, parent, *step);

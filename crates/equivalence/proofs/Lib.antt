@@ -1,4 +1,17 @@
--- The comparison on lent buffers is the rules'.
+-- Why the test of a lent mapping, entries made in it, a pair's comparison and the walk are the rules'.
+pub mod Chained
+pub mod MappingEntries
+pub mod Unmapped
+pub mod Entering
+pub mod Searching
+pub mod Blanked
+pub mod Pairs
+pub mod SlotWords
+pub mod Nexts
+pub mod Kept
+pub mod Alike
+pub mod Paired
+pub mod Named
 pub mod Ordered
 pub mod Telling
 pub mod Zipped

@@ -7,7 +7,7 @@ use Rattle.layout.proofs.Laid.{Laid}
 use Rattle.fragments.specs.Order.{BlocksExist}
 use Rattle.equivalence.specs.Walked.{left_of, right_of, Bounded, ListsExist}
 use Rattle.equivalence.specs.declared.types.BlockLists.{BlockLists}
-use Rattle.equivalence.specs.declared.types.BlockLists.TheVariants.{InRegions, Alone}
+use Rattle.equivalence.specs.declared.types.BlockLists.TheVariants.{InRegions, Single}
 
 pub bounded : (C : Cols) → Laid C → (x : BlockLists) → ListsExist C x → Bounded x
 unfolding Bounded BlocksExist left_of right_of
@@ -16,7 +16,7 @@ bounded C k (InRegions l r) h =
     let a : l < region_count C = h.0 in
     let b : r < region_count C = h.1 in
     (omega arith, omega arith)
-bounded C k (Alone l r) h =
+bounded C k (Single l r) h =
     let few : block_count C ≤ 256 = k.counts.blocks in
     let a : l < block_count C = h.0 in
     let b : r < block_count C = h.1 in

@@ -9,8 +9,9 @@ use mathlib.Core.Path.{◌≡◌, refl, sym, ap₂, subst, ◌∙◌}
 use Rattle.rules.specs.Comparison.{State, Pair, unequal, one_longer, Walk, on, ended, ◌>>=◌, pairwise, each_pair}
 use Rattle.rules.specs.Answers.{neq}
 use Rattle.rules.proofs.Walking.Paired.{Grows, grows_pairwise, grows_each}
-use Rattle.pairing.specs.Told.{answer_of, state_of, Told, max_paired, PairedFits}
-use Rattle.pairing.specs.declared.types.Unequal.{Unequal}
+use Rattle.equivalence.specs.Compares.{answer_of, state_of, max_paired, PairedFits}
+use Rattle.equivalence.specs.Compares.{Compares}
+use Rattle.equivalence.specs.declared.verdicts.Unequal.{Unequal}
 use Rattle.equivalence.proofs.Telling.{told_ended, told_bind, told_over, told_uneven, few_now, few_part}
 
 -- a walk over two lists, by a step for each pair: the first two are stepped through, and then the others
@@ -74,12 +75,12 @@ module _ {step : ℕ → ℕ → State → Walk} {walk : List ℕ → List ℕ �
     pub step_fits : PairedFits w → PairedFits (step l r st)
     step_fits f = few_part w (step l r st) _ (z.grows _ _) t.onward f
 
-    module _ (q : Result ℕ Unequal) (m : List ℕ) (told : Told (step l r st) q m) where
+    module _ (q : Result ℕ Unequal) (m : List ℕ) (told : Compares (step l r st) q m) where
       -- the step's failure is handed on
-      pub turn_ends : (u : Unequal) (p : Result ℕ Unequal) → q ≡ Err u → p ≡ Err u → Told w p m
+      pub turn_ends : (u : Unequal) (p : Result ℕ Unequal) → q ≡ Err u → p ≡ Err u → Compares w p m
       turn_ends u p e f =
-          subst (λ (v : Result ℕ Unequal). Told w v m) (sym f)
-          (subst (λ (v : Walk). Told v (Err u) m) (sym t.onward) (told_ended (step l r st) _ u m e told))
+          subst (λ (v : Result ℕ Unequal). Compares w v m) (sym f)
+          (subst (λ (v : Walk). Compares v (Err u) m) (sym t.onward) (told_ended (step l r st) _ u m e told))
 
       pub turn_rest : {n : ℕ} → q ≡ Ok n → Rest walk left right ls rs w m n
       turn_rest e = record { whole = t.onward ∙ told_bind (step l r st) _ m e told; in_left = t.in_left; in_right = t.in_right }
@@ -88,7 +89,7 @@ module _ {step : ℕ → ℕ → State → Walk} {walk : List ℕ → List ℕ �
 
 -- up to the shorter end
 pub each_ends : (step : ℕ → ℕ → State → Walk) {left right ls rs : List ℕ} {w : Walk} {m : List ℕ} {n : ℕ} → Rest (each_pair step) left right ls rs w m n
-    → (ls ≡ []) ⊎ (rs ≡ []) → Told w (Ok n) m
+    → (ls ≡ []) ⊎ (rs ≡ []) → Compares w (Ok n) m
 unfolding each_pair
 each_ends step {ls = ls} {rs = rs} {w = w} {m = m} {n = n} h e = told_over w m n (h.whole ∙ over e)
   where
@@ -101,7 +102,7 @@ each_ends step {ls = ls} {rs = rs} {w = w} {m = m} {n = n} h e = told_over w m n
     over (inr k) = rw k (empty ls (state_of m n))
 
 module _ (step : ℕ → ℕ → State → Walk) (p : Pair) {left right ls rs : List ℕ} {w : Walk} {m : List ℕ} {n : ℕ} (h : Rest (pairwise step p) left right ls rs w m n) where
-  pub pairwise_ends : ls ≡ [] → rs ≡ [] → Told w (Ok n) m
+  pub pairwise_ends : ls ≡ [] → rs ≡ [] → Compares w (Ok n) m
   unfolding pairwise
   pairwise_ends e f = told_over w m n (h.whole ∙ rw (e, f) refl)
 
@@ -118,5 +119,5 @@ module _ (step : ℕ → ℕ → State → Walk) (p : Pair) {left right ls rs : 
     longer (x ∷ xs) (y ∷ ys) (inl h) = let two : ◌≡◌ {A = List ℕ} (y ∷ ys) [] = h.1 in absurd (true≢false (cc two))
     longer (x ∷ xs) (y ∷ ys) (inr h) = let two : ◌≡◌ {A = List ℕ} (x ∷ xs) [] = h.0 in absurd (true≢false (cc two))
 
-    pub uneven_ends : (ls ≡ [] → ⊥) × (rs ≡ []) ⊎ (ls ≡ []) × (rs ≡ [] → ⊥) → Told w (Err u) m
-    uneven_ends e = subst (λ (v : Walk). Told v (Err u) m) (sym h.whole) (told_uneven _ p u m n k (longer ls rs e))
+    pub uneven_ends : (ls ≡ [] → ⊥) × (rs ≡ []) ⊎ (ls ≡ []) × (rs ≡ [] → ⊥) → Compares w (Err u) m
+    uneven_ends e = subst (λ (v : Walk). Compares v (Err u) m) (sym h.whole) (told_uneven _ p u m n k (longer ls rs e))

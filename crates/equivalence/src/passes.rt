@@ -4,38 +4,39 @@
 ghost use Rattle.std.specs.Prelude.{◌<◌, ◌≡◌, length};
 ghost use Rattle.layout.specs.Columns.{columns};
 ghost use Rattle.layout.specs.Reading.{block_count};
-ghost use Rattle.fragments.specs.Terms.{options_in, store_read};
-ghost use Rattle.mapping.specs.MappingWords.{mapping_length};
-ghost use Rattle.pairing.specs.Told.{Told, PairedFits, state_of};
+ghost use Rattle.fragments.specs.View.{options_in, store_read};
+ghost use Rattle.equivalence.specs.MappingWords.{mapping_length};
+ghost use Rattle.equivalence.specs.Compares.{Compares};
+ghost use Rattle.equivalence.specs.Compares.{PairedFits, state_of};
 ghost use Rattle.equivalence.specs.Walked.{ListsExist, pass1_walk, pairs_walk, pass2_walk};
 
-use crate::types::{BlockLists, EqResult};
+use crate::mapping::MappingWords;
+use crate::pairing::{block_eq_map, op_eq_map};
+use crate::types::BlockLists;
+use crate::verdicts::{EqResult, Pair, Unequal};
 use fragments::order::BlocksIn;
-use fragments::terms::Terms;
+use fragments::view::StoreView;
 use layout::ops_in::OpsIn;
-use mapping::mapping::MappingWords;
-use pairing::pairing::{block_eq_map, op_eq_map};
-use pairing::types::{Pair, Unequal};
 
 // Pass 1: blocks and their arguments. (No `zip`, here and in `map_ops_in`: which of the two lists ends first decides the answer.)
 pub fn map_blocks(
-    terms: &Terms,
+    view: &StoreView,
     mapping: &mut MappingWords,
     lists: BlockLists,
     paired: u32,
 ) -> EqResult
-    requires lists_exist { ListsExist (columns terms.now.store.now) lists }
-    requires paired_fits { PairedFits (pass1_walk (store_read terms.now) (options_in terms.now) lists (state_of mapping.old paired)) }
-    ensures { Told (pass1_walk (store_read terms.now) (options_in terms.now) lists (state_of mapping.old paired)) result mapping.new }
+    requires lists_exist { ListsExist (columns view.now.store.now) lists }
+    requires paired_fits { PairedFits (pass1_walk (store_read view.now) (options_in view.now) lists (state_of mapping.old paired)) }
+    ensures { Compares (pass1_walk (store_read view.now) (options_in view.now) lists (state_of mapping.old paired)) result mapping.new }
 {
     let mut count = paired;
-    let mut ls = BlocksIn::new(terms.store, lists.left());
-    let mut rs = BlocksIn::new(terms.store, lists.right());
+    let mut ls = BlocksIn::new(view.store, lists.left());
+    let mut rs = BlocksIn::new(view.store, lists.right());
     loop {
         match (ls.next(), rs.next()) {
             (Some(lhs), Some(rhs)) => {
                 let found = Pair { lhs, rhs };
-                count = block_eq_map(terms, mapping, found, count)?;
+                count = block_eq_map(view, mapping, found, count)?;
             }
             (None, None) => return Ok(count),
             (Some(_), None) | (None, Some(_)) => return Err(lists.lengths_neq(count)),
@@ -44,20 +45,20 @@ pub fn map_blocks(
 }
 
 // Pass 2 in two blocks: their operations and results. If one block has more operations, the first unequal pair is the two blocks.
-fn map_ops_in(terms: &Terms, mapping: &mut MappingWords, pair: Pair, paired: u32) -> EqResult
-    requires lhs_bound { pair.lhs < block_count (columns terms.now.store.now) }
-    requires rhs_bound { pair.rhs < block_count (columns terms.now.store.now) }
-    requires paired_fits { PairedFits (pairs_walk (store_read terms.now) (options_in terms.now) pair.lhs pair.rhs (state_of mapping.old paired)) }
-    ensures { Told (pairs_walk (store_read terms.now) (options_in terms.now) pair.lhs pair.rhs (state_of mapping.old paired)) result mapping.new }
+fn map_ops_in(view: &StoreView, mapping: &mut MappingWords, pair: Pair, paired: u32) -> EqResult
+    requires lhs_bound { pair.lhs < block_count (columns view.now.store.now) }
+    requires rhs_bound { pair.rhs < block_count (columns view.now.store.now) }
+    requires paired_fits { PairedFits (pairs_walk (store_read view.now) (options_in view.now) pair.lhs pair.rhs (state_of mapping.old paired)) }
+    ensures { Compares (pairs_walk (store_read view.now) (options_in view.now) pair.lhs pair.rhs (state_of mapping.old paired)) result mapping.new }
 {
     let mut count = paired;
-    let mut ls = OpsIn::new(terms.store, pair.lhs);
-    let mut rs = OpsIn::new(terms.store, pair.rhs);
+    let mut ls = OpsIn::new(view.store, pair.lhs);
+    let mut rs = OpsIn::new(view.store, pair.rhs);
     loop {
         match (ls.next(), rs.next()) {
             (Some(lhs), Some(rhs)) => {
                 let found = Pair { lhs, rhs };
-                count = op_eq_map(terms, mapping, found, count)?;
+                count = op_eq_map(view, mapping, found, count)?;
             }
             (None, None) => return Ok(count),
             (Some(_), None) | (None, Some(_)) => {
@@ -69,21 +70,21 @@ fn map_ops_in(terms: &Terms, mapping: &mut MappingWords, pair: Pair, paired: u32
 
 // Pass 2: every block's operations and their results.
 pub fn map_ops(
-    terms: &Terms,
+    view: &StoreView,
     mapping: &mut MappingWords,
     lists: BlockLists,
     paired: u32,
 ) -> EqResult
-    requires lists_exist { ListsExist (columns terms.now.store.now) lists }
-    requires paired_fits { PairedFits (pass2_walk (store_read terms.now) (options_in terms.now) lists (state_of mapping.old paired)) }
-    ensures { Told (pass2_walk (store_read terms.now) (options_in terms.now) lists (state_of mapping.old paired)) result mapping.new }
+    requires lists_exist { ListsExist (columns view.now.store.now) lists }
+    requires paired_fits { PairedFits (pass2_walk (store_read view.now) (options_in view.now) lists (state_of mapping.old paired)) }
+    ensures { Compares (pass2_walk (store_read view.now) (options_in view.now) lists (state_of mapping.old paired)) result mapping.new }
 {
     let mut count = paired;
-    let ls = BlocksIn::new(terms.store, lists.left());
-    let rs = BlocksIn::new(terms.store, lists.right());
+    let ls = BlocksIn::new(view.store, lists.left());
+    let rs = BlocksIn::new(view.store, lists.right());
     for (lhs, rhs) in ls.zip(rs) {
         let found = Pair { lhs, rhs };
-        count = map_ops_in(terms, mapping, found, count)?;
+        count = map_ops_in(view, mapping, found, count)?;
     }
     Ok(count)
 }

@@ -2,10 +2,9 @@
 ghost use Rattle.std.specs.Prelude.{◌≡◌};
 ghost use Rattle.equivalence.specs.Walked.{left_of, right_of, neq_of, Bounded};
 
-use fragments::types::{Blocks, Sort};
-use pairing::types::Unequal;
-
-pub type EqResult = pairing::types::EqResult;
+use crate::verdicts::Unequal;
+use fragments::types::Blocks;
+use rules::types::Sort;
 
 // Two fragments of one sort.
 #[derive(Clone, Copy)]
@@ -19,7 +18,7 @@ pub struct Fragments {
 #[derive(Clone, Copy)]
 pub enum BlockLists {
     InRegions(usize, usize),
-    Alone(usize, usize),
+    Single(usize, usize),
 }
 
 impl BlockLists {
@@ -29,7 +28,7 @@ impl BlockLists {
     {
         match self {
             BlockLists::InRegions(l, _) => Blocks::InRegion(l),
-            BlockLists::Alone(l, _) => Blocks::Alone(l),
+            BlockLists::Single(l, _) => Blocks::Single(l),
         }
     }
 
@@ -39,7 +38,7 @@ impl BlockLists {
     {
         match self {
             BlockLists::InRegions(_, r) => Blocks::InRegion(r),
-            BlockLists::Alone(_, r) => Blocks::Alone(r),
+            BlockLists::Single(_, r) => Blocks::Single(r),
         }
     }
 
@@ -52,7 +51,7 @@ impl BlockLists {
     {
         match self {
             BlockLists::InRegions(l, r) => Unequal::FirstNEQRegions(l as u32, r as u32, paired),
-            BlockLists::Alone(l, r) => Unequal::FirstNEQBlocks(l as u32, r as u32, paired),
+            BlockLists::Single(l, r) => Unequal::FirstNEQBlocks(l as u32, r as u32, paired),
         }
     }
 }

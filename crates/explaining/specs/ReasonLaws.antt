@@ -1,11 +1,15 @@
 -- What is told is true: said in the store's words, apart from the tests.
-use Rattle.std.specs.Prelude.{ℕ, true, false, List, [], ◌∷◌, ◌++◌, length, get_or, ◌<◌, ◌≡◌, ◌≢◌, ◌↔◌}
-use Rattle.std.proofs.Math.Option.{none, some}
+use Rattle.std.specs.Prelude.{ℕ, true, false, List, [], ◌∷◌, ◌++◌, length, get_or, ◌<◌, ◌≡◌, ◌≢◌, ◌↔◌, None, Some}
 use mathlib.Core.List.{Memᴰ}
-use Rattle.rules.specs.Store.{Store, Attribute, Owner, of_op, of_block, op_at, type_of, ops_of, blocks_of, regions_of, values_of, sound}
-use Rattle.rules.specs.Fragments.{Sort, op, block, region}
+use Rattle.rules.specs.Store.{Store, op_at, type_of, ops_of, blocks_of, regions_of, values_of, sound}
+use Rattle.rules.specs.declared.types.Attribute.{Attribute}
+use Rattle.rules.specs.declared.types.Owner.{Owner}
+use Rattle.rules.specs.declared.types.Owner.TheVariants.{Op as of_op, Block as of_block}
+use Rattle.rules.specs.declared.types.Sort.{Sort}
+use Rattle.rules.specs.declared.types.Sort.TheVariants.{Op as op, Block as block, Region as region}
 use Rattle.rules.specs.Building.{attributes_of}
-use Rattle.rules.specs.Shells.{Ignore, unignored, same_shells}
+use Rattle.rules.specs.Shells.{unignored, same_shells}
+use Rattle.rules.specs.declared.types.Ignore.{Ignore}
 use Rattle.rules.specs.Mapping.{Mapping, image, empty_mapping}
 use Rattle.rules.specs.Comparison.{State, Stop, on, ended, pair_ops, pass2, compare}
 use Rattle.rules.specs.Laws.{Equal}
@@ -73,16 +77,16 @@ module _ (s : Store) (ig : Ignore) where
 -- every test before this one passes
 unfoldable pub AllPass : List Test → Type 0
 AllPass [] = Unit {0}
-AllPass (t ∷ ts) = (t ≡ none) × AllPass ts
+AllPass (t ∷ ts) = (t ≡ None) × AllPass ts
 
 pub record FirstFailing (ts : List Test) (r : Reason) : Type 0 where
   pub before : List Test
   pub behind : List Test
-  pub place : ts ≡ before ++ (some r ∷ behind)
+  pub place : ts ≡ before ++ (Some r ∷ behind)
   pub pass : AllPass before
 
 -- of a difference that is told: the walk's pair, the first of its tests that fails by the mapping as the walk leaves it, and that is so
-pub record Told (s : Store) (ig : Ignore) (f : Sort) (a b : ℕ) (d : Difference) : Type 0 where
+pub record IsExplained (s : Store) (ig : Ignore) (f : Sort) (a b : ℕ) (d : Difference) : Type 0 where
   pub why : Stop
   pub left : State
   pub walk : compare s ig f a b empty_mapping ≡ ended why left
@@ -92,8 +96,8 @@ pub record Told (s : Store) (ig : Ignore) (f : Sort) (a b : ℕ) (d : Difference
 
 pub record ExplainLaws (s : Store) (ig : Ignore) (f : Sort) (a b : ℕ) : Type 0 where
   -- none exactly where they are equal
-  pub none_equal : (explain s ig f a b ≡ none) ↔ Equal s ig f a b
-  pub told : (d : Difference) → explain s ig f a b ≡ some d → Told s ig f a b d
+  pub none_equal : (explain s ig f a b ≡ None) ↔ Equal s ig f a b
+  pub told : (d : Difference) → explain s ig f a b ≡ Some d → IsExplained s ig f a b d
 
 unfoldable pub Explained : Type 0
 Explained = (s : Store) → sound s ≡ true → (ig : Ignore) (f : Sort) (a b : ℕ) → ExplainLaws s ig f a b
@@ -101,7 +105,7 @@ Explained = (s : Store) → sound s ≡ true → (ig : Ignore) (f : Sort) (a b :
 -- an operand's type is never told: what is entered for a value has its type, and what stands for itself has its own
 unfoldable pub NoOperandType : Type 0
 NoOperandType =
-    (s : Store) → sound s ≡ true → (ig : Ignore) (f : Sort) (a b : ℕ) (d : Difference) → explain s ig f a b ≡ some d
+    (s : Store) → sound s ≡ true → (ig : Ignore) (f : Sort) (a b : ℕ) (d : Difference) → explain s ig f a b ≡ Some d
     → (i x y : ℕ) → d.reason ≢ operand_type i x y
 
 -- ---- names are checked last: that a pair is read again is enough

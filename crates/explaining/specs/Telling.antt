@@ -1,10 +1,11 @@
 -- The same explanation by a walk of its own: the comparison with each test told apart as it is made. `Reasons` reads the pair again
 -- instead.
-use Rattle.std.specs.Prelude.{ℕ, zero, suc, List, [], ◌∷◌, length, ◌≡◌}
-use Rattle.std.proofs.Math.Option.{Option, none, some}
+use Rattle.std.specs.Prelude.{ℕ, zero, suc, List, [], ◌∷◌, length, ◌≡◌, Option, None, Some}
 use Rattle.rules.specs.Store.{Store, ops_of, blocks_of, regions_of}
-use Rattle.rules.specs.Fragments.{Sort, op, block, region, levels}
-use Rattle.rules.specs.Shells.{Ignore}
+use Rattle.rules.specs.Fragments.{levels}
+use Rattle.rules.specs.declared.types.Sort.{Sort}
+use Rattle.rules.specs.declared.types.Sort.TheVariants.{Op as op, Block as block, Region as region}
+use Rattle.rules.specs.declared.types.Ignore.{Ignore}
 use Rattle.rules.specs.Mapping.{empty_mapping}
 use Rattle.rules.specs.Comparison.{State, Pair, pair_of, enter_ops, enter_blocks, start}
 use Rattle.explaining.specs.Reasons.{blocks, ops, Test, op_tests, block_tests, name_tests, first, Difference, explain}
@@ -18,8 +19,8 @@ then_tale (going st) f = f st
 then_tale (fell d) f = fell d
 
 unfoldable pub by_test : Test → Pair → State → Tale
-by_test none p st = going st
-by_test (some r) p st = fell (record { pair = p; reason = r })
+by_test None p st = going st
+by_test (Some r) p st = fell (record { pair = p; reason = r })
 
 unfoldable pub tale_pairwise : (ℕ → ℕ → State → Tale) → Difference → List ℕ → List ℕ → State → Tale
 tale_pairwise f d [] [] st = going st
@@ -71,8 +72,8 @@ module _ (s : Store) where
     tell region l r st = tell_regions levels l r st
 
 unfoldable pub end_of : Tale → Option Difference
-end_of (going st) = none
-end_of (fell d) = some d
+end_of (going st) = None
+end_of (fell d) = Some d
 
 -- both say the same
 unfoldable pub TellingSame : Type 0

@@ -4,7 +4,7 @@ use native.Mathlib.Omega.{arith}
 use mathlib.Core.Bool.{true}
 use mathlib.Core.List.Memᴰ
 use mathlib.Core.List.{Memᴰ}
-use mathlib.Core.Option.{Option}
+use Rattle.std.specs.Prelude.{Option}
 use mathlib.Core.Path.{◌≡◌, ap, subst}
 use borrow.Author.Tests.{ltb-true}
 use lib.ListN.{length, get_or}
@@ -13,7 +13,7 @@ use Rattle.rules.proofs.Soundness.Sound.{facts}
 use Rattle.rules.proofs.Soundness.Children.{ops_in_lem, blocks_in_lem, regions_in_lem}
 use Rattle.fragments.specs.Order.{block_list}
 use Rattle.fragments.specs.declared.types.Blocks.{Blocks}
-use Rattle.fragments.specs.declared.types.Blocks.TheVariants.{InRegion, Alone}
+use Rattle.fragments.specs.declared.types.Blocks.TheVariants.{InRegion, Single}
 
 -- the operations from number n on
 abbrev pub below : Store → ℕ → ℕ
@@ -22,15 +22,15 @@ below s n = length s.ops - n
 -- the operation around a list of blocks
 unfoldable pub around_list : Store → Blocks → ℕ
 around_list s (InRegion r) = get_or s.regions r 0
-around_list s (Alone b) = op_around s b
+around_list s (Single b) = op_around s b
 
 pub around_all : (s : Store) (x : Blocks) (b : ℕ) → Memᴰ b (block_list s x) → op_around s b ≡ around_list s x
 unfolding block_list around_list op_around
 around_all s (InRegion r) b m = ap (λ (q : ℕ). get_or s.regions q 0) (blocks_in_lem s r m).1
-around_all s (Alone a) b m = ap (op_around s) (Memᴰ.eq_of_singleton m)
+around_all s (Single a) b m = ap (op_around s) (Memᴰ.eq_of_singleton m)
 
 -- it is around each block of the list by itself
-pub around_block : (s : Store) (x : Blocks) (b : ℕ) → Memᴰ b (block_list s x) → around_list s (Alone b) ≡ around_list s x
+pub around_block : (s : Store) (x : Blocks) (b : ℕ) → Memᴰ b (block_list s x) → around_list s (Single b) ≡ around_list s x
 unfolding around_list
 around_block s x b m = around_all s x b m
 

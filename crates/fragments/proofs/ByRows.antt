@@ -5,10 +5,13 @@ use native.Mathlib.Omega.{arith}
 use mathlib.Core.List.{List, map}
 use mathlib.Core.Path.{◌≡◌, refl, sym, ap, subst, ◌∙◌}
 use lib.ListN.{length}
-use Rattle.rules.specs.Store.{Op, Block, Owner, of_op, of_block, type_of, values_of, regions_of}
-use Rattle.rules.specs.Shells.{Ignore, unignored, unignored_location, shell_of}
+use Rattle.rules.specs.Store.{Op, Block, type_of, values_of, regions_of}
+use Rattle.rules.specs.declared.types.Owner.{Owner}
+use Rattle.rules.specs.declared.types.Owner.TheVariants.{Op as of_op, Block as of_block}
+use Rattle.rules.specs.Shells.{unignored, unignored_location, shell_of}
+use Rattle.rules.specs.declared.types.Ignore.{Ignore}
 use Rattle.rules.specs.Types.{present}
-use Rattle.rules.proofs.Types.Renamed.{shell_renamed, shell_renamed_lem}
+use Rattle.rules.proofs.RenamedTypes.Renamed.{shell_renamed, shell_renamed_lem}
 use Rattle.layout.specs.Columns.{Cols, at, columns, column_size, column_count, op_kind, op_region_first, op_region_end, op_successor_first, op_successor_end, op_operand_first, op_operand_end, op_location, block_location, value_type}
 use Rattle.layout.specs.Reading.{op_count, value_count, slots_of, slice, attributes_from, op_of, block_of, store_of, consecutive}
 use Rattle.layout.specs.Owners.{count_column, owner_number, key_count}
@@ -22,8 +25,8 @@ use Rattle.layout.proofs.Totals.{operands_length, successors_length}
 use Rattle.layout.proofs.Types.{types_read}
 use Rattle.fragments.specs.Ignoring.{kept_from}
 use Rattle.fragments.specs.Rows.{row_shell, RowOf, HeadOf, own_columns}
-use Rattle.fragments.specs.declared.types.Row.{Row}
-use Rattle.fragments.specs.declared.types.Head.{Head}
+use Rattle.fragments.specs.declared.types.ShellRow.{ShellRow}
+use Rattle.fragments.specs.declared.types.OpHeader.{OpHeader}
 
 slots_kept : (C : Cols) (ig : Ignore) (first n : ℕ) → unignored ig (attributes_from C first n) ≡ kept_from C ig first (first + n)
 unfolding kept_from
@@ -39,7 +42,7 @@ range_consecutive a e = λ i. range a e
 
 -- ---- the rows and heads of a sound store
 
-unfoldable pub head_of_op : Cols → ℕ → Head
+unfoldable pub head_of_op : Cols → ℕ → OpHeader
 head_of_op C n =
     record {
       kind = at C op_kind n;
@@ -164,5 +167,5 @@ module _ (b : List ℕ) (s : IsSound b) where
       record { kind = k ∙ w.kind; regions = r; successors = u ∙ w.successors; operands = o ∙ w.operands }
 
 -- a row has as many values as its owner
-pub row_count : {C : Cols} {w : Owner} {r : Row} → RowOf C w r → r.values ≡ length (values_of (store_of C) w)
+pub row_count : {C : Cols} {w : Owner} {r : ShellRow} → RowOf C w r → r.values ≡ length (values_of (store_of C) w)
 row_count {C} {w} {r} h = sym (ap length h.values ∙ consecutive_length r.value r.values)

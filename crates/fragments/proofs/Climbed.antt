@@ -5,12 +5,15 @@ use native.Mathlib.Omega.{arith}
 use mathlib.Core.Bool.{true, false}
 use mathlib.Core.List.{Memᴰ}
 use mathlib.Core.Logic.{◌⊎◌, inl, inr}
-use mathlib.Core.Option.{some, none}
+use Rattle.std.specs.Prelude.{Some, None}
 use mathlib.Core.Path.{◌≡◌, refl, sym, ap, subst, ◌∙◌}
 use borrow.Author.Tests.{ltb-true, eqb-true, eq-eqb}
 use lib.ListN.{length, get_or}
-use Rattle.rules.specs.Store.{Store, of_op, of_block, block_at, blocks_of, parent_of, op_around, op_after, sound}
-use Rattle.rules.specs.Fragments.{Sort, op, block, region, exists, fragment_ops, defines_blocks}
+use Rattle.rules.specs.Store.{Store, block_at, blocks_of, parent_of, op_around, op_after, sound}
+use Rattle.rules.specs.declared.types.Owner.TheVariants.{Op as of_op, Block as of_block}
+use Rattle.rules.specs.Fragments.{exists, fragment_ops, defines_blocks}
+use Rattle.rules.specs.declared.types.Sort.{Sort}
+use Rattle.rules.specs.declared.types.Sort.TheVariants.{Op as op, Block as block, Region as region}
 use Rattle.rules.specs.Copying.{has_place}
 use Rattle.rules.proofs.Basics.Tests.{decided, clash, impossible}
 use Rattle.rules.proofs.Soundness.Sound.{Sound, facts}
@@ -71,7 +74,7 @@ module _ (s : Store) (h : sound s ≡ true) (f : Sort) (n : ℕ) (ex : exists s 
   sd = facts s h
 
   -- the operation around a block around an operation inside has the smaller number
-  around_smaller : (m b : ℕ) → Memᴰ m (fragment_ops s f n) → parent_of s m ≡ some b → op_around s b < m
+  around_smaller : (m b : ℕ) → Memᴰ m (fragment_ops s f n) → parent_of s m ≡ Some b → op_around s b < m
   unfolding op_after
   around_smaller m b k e = ltb-true _ _ (sym (ap (op_after s m) e) ∙ (sd.op m (ops_here s sd f n ex m k)).later)
 
@@ -105,10 +108,10 @@ module _ (s : Store) (h : sound s ≡ true) (f : Sort) (n : ℕ) (ex : exists s 
       go (inl e) = e ∙ sym (inside.place_root_op s h f n m (itself_is s f n m e))
       go (inr e) = e ∙ sym (inside.place_nowhere (fragment_ops s f n) m (λ k. let r : outer_op s f n < m = least (suc m) m (omega arith) k e in omega arith))
 
-  pub op_alone : (m : ℕ) → outer_op s f n < m → parent_of s m ≡ none → has_place (fragment_ops s f n) m ≡ false
+  pub op_alone : (m : ℕ) → outer_op s f n < m → parent_of s m ≡ None → has_place (fragment_ops s f n) m ≡ false
   op_alone m l e = inside.place_alone s h f n ex m e (itself_not s f n m (above m l))
 
-  pub op_in_block : (m b : ℕ) → m < length s.ops → outer_op s f n < m → parent_of s m ≡ some b → has_place (fragment_ops s f n) m ≡ has_place (defines_blocks s f n) b
+  pub op_in_block : (m b : ℕ) → m < length s.ops → outer_op s f n < m → parent_of s m ≡ Some b → has_place (fragment_ops s f n) m ≡ has_place (defines_blocks s f n) b
   op_in_block m b l d e = inside.place_op s h f n ex m b l e (itself_not s f n m (above m d))
 
   pub block_outermost : (b : ℕ) → b < length s.blocks → is_outermost s f n b ≡ true → has_place (defines_blocks s f n) b ≡ true

@@ -9,9 +9,10 @@ use mathlib.Core.Logic.{⊎_elim}
 use mathlib.Core.Path.{◌≡◌, refl, sym, ap, ap₂, subst, ◌∙◌}
 use lib.ListN.{length}
 use Rattle.std.specs.List.{range_with_len}
-use Rattle.rules.specs.Lists.{filter}
-use Rattle.rules.specs.Store.{Attribute}
-use Rattle.rules.specs.Shells.{Ignore, ignored, unignored}
+use Rattle.std.specs.List.{filter}
+use Rattle.rules.specs.declared.types.Attribute.{Attribute}
+use Rattle.rules.specs.Shells.{ignored, unignored}
+use Rattle.rules.specs.declared.types.Ignore.{Ignore}
 use Rattle.layout.specs.Columns.{Cols}
 use Rattle.layout.specs.Reading.{tabulate, tabulate_from, attribute_at, attributes_from}
 use Rattle.layout.proofs.Tabulate.{tabulate_add, tabulate_cong}
@@ -31,19 +32,19 @@ module _ (C : Cols) (ig : Ignore) where
 
   -- past the end there is nothing
   pub kept_none : (a e : ℕ) → e ≤ a → kept_from C ig a e ≡ []
-  unfolding kept_from unignored filter attributes_from tabulate tabulate_from
+  unfolding kept_from unignored attributes_from tabulate tabulate_from
   kept_none a e l =
       let z : e - a ≡ 0 = omega arith in
       ap (λ (n : ℕ). unignored ig (tabulate n (λ (i : ℕ). attribute_at C (a + i)))) z
 
   pub kept_skip : (a e : ℕ) → a < e → ignored ig (attribute_at C a) ≡ true → kept_from C ig a e ≡ kept_from C ig (a + 1) e
-  unfolding kept_from unignored filter
+  unfolding kept_from unignored
   kept_skip a e l h =
       ap (unignored ig) (run a e l)
       ∙ ap (λ (t : Bool). cond (not t) (attribute_at C a ∷ unignored ig (attributes_from C (a + 1) (e - (a + 1)))) (unignored ig (attributes_from C (a + 1) (e - (a + 1))))) h
 
   pub kept_head : (a e : ℕ) → a < e → ignored ig (attribute_at C a) ≡ false → kept_from C ig a e ≡ attribute_at C a ∷ kept_from C ig (a + 1) e
-  unfolding kept_from unignored filter
+  unfolding kept_from unignored
   kept_head a e l h =
       ap (unignored ig) (run a e l)
       ∙ ap (λ (t : Bool). cond (not t) (attribute_at C a ∷ unignored ig (attributes_from C (a + 1) (e - (a + 1)))) (unignored ig (attributes_from C (a + 1) (e - (a + 1))))) h
@@ -54,12 +55,12 @@ module _ (C : Cols) (ig : Ignore) where
   numbers_first a e l = let k : e - a ≡ suc (e - (a + 1)) = omega arith in ap (range_with_len a) k
 
   pub slots_none : (a e : ℕ) → e ≤ a → kept_slots C ig a e ≡ []
-  unfolding kept_slots filter
+  unfolding kept_slots
   slots_none a e l =
       let z : e - a ≡ 0 = omega arith in ap (λ (n : ℕ). filter (λ (i : ℕ). not (ignored ig (attribute_at C i))) (range_with_len a n)) z
 
   slots_step : (a e : ℕ) → a < e → kept_slots C ig a e ≡ cond (not (ignored ig (attribute_at C a))) (a ∷ kept_slots C ig (a + 1) e) (kept_slots C ig (a + 1) e)
-  unfolding kept_slots filter
+  unfolding kept_slots
   slots_step a e l = ap (filter (λ (i : ℕ). not (ignored ig (attribute_at C i)))) (numbers_first a e l)
 
   slots_skip : (a e : ℕ) → a < e → ignored ig (attribute_at C a) ≡ true → kept_slots C ig a e ≡ kept_slots C ig (a + 1) e

@@ -1,5 +1,11 @@
--- What the code leaves of attributes is what the rules leave; a list of blocks is gone through as the rules do; on the way up from a
--- thing one comes to the fragment that it lies in.
+-- Why a lookup by the index finds what the rules find in the list; why a walk goes through a fragment as the rules do; and why words stand for the
+-- rules' numbering.
+pub mod Chains
+pub mod Flat
+pub mod Indexed
+pub mod Mapped
+pub mod Making
+pub mod Told
 pub mod Kept
 pub mod ByRows
 pub mod Ordered
@@ -13,3 +19,11 @@ pub mod Upward
 pub mod LevelsEnough
 pub mod NestedCounted
 mod Sizing
+pub mod Places
+pub mod Defining
+pub mod Counting
+pub mod Reading
+pub mod Naming
+pub mod Lone
+pub mod Passing
+pub mod Rounds

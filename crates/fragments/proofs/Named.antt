@@ -5,7 +5,7 @@ use mathlib.Core.List.{List}
 use mathlib.Core.Path.{◌≡◌, sym, subst}
 use borrow.Author.Tests.{ltb-true}
 use lib.ListN.{length, get_or}
-use Rattle.rules.specs.Lists.{all}
+use Rattle.std.specs.List.{list_all}
 use Rattle.rules.specs.Store.{Store, op_at, value_exists, block_exists}
 use Rattle.rules.proofs.Basics.Tests.{all_at}
 use Rattle.rules.proofs.Basics.Appended.{mem_get_d}
@@ -16,8 +16,8 @@ use Rattle.layout.specs.Soundness.{IsSound}
 use Rattle.layout.proofs.Tabulate.{ops_length, blocks_length, values_length}
 
 -- an entry of a list of which all pass
-passes : (p : ℕ → Bool) (list xs : List ℕ) → list ≡ xs → all p xs ≡ true → (i d : ℕ) → i < length list → p (get_or list i d) ≡ true
-passes p list xs e h i d l = all_at p list (subst (λ (ys : List ℕ). all p ys ≡ true) (sym e) h) (mem_get_d list i d l)
+passes : (p : ℕ → Bool) (list xs : List ℕ) → list ≡ xs → list_all p xs ≡ true → (i d : ℕ) → i < length list → p (get_or list i d) ≡ true
+passes p list xs e h i d l = all_at p list (subst (λ (ys : List ℕ). list_all p ys ≡ true) (sym e) h) (mem_get_d list i d l)
 
 module _ (store : List ℕ) (sd : IsSound store) (m : ℕ) (b : m < op_count (columns store)) where
   abbrev S : Store

@@ -6,9 +6,14 @@ use native.Mathlib.Nat.{add-zero}
 use mathlib.Core.List.{List, [], ◌∷◌, ◌++◌, map, append-nil}
 use mathlib.Core.Path.{◌≡◌, refl, sym, ap, ◌∙◌}
 use lib.ListN.{length, length-append}
-use Rattle.rules.specs.Lists.{sum, concat_map}
-use Rattle.rules.specs.Store.{Store, Owner, of_op, of_block, ops_of, blocks_of, regions_of}
-use Rattle.rules.specs.Fragments.{Step, shell, levels, full_op, shells, list_steps, region_steps, steps, step_defines, op_owner, defines_owners, fragment_ops, ops_in_blocks, ops_inside, outermost, Sort, op, block, region}
+use Rattle.rules.specs.Lists.{sum}
+use Rattle.std.specs.List.{flat_map}
+use Rattle.rules.specs.Store.{Store, ops_of, blocks_of, regions_of}
+use Rattle.rules.specs.declared.types.Owner.{Owner}
+use Rattle.rules.specs.declared.types.Owner.TheVariants.{Op as of_op, Block as of_block}
+use Rattle.rules.specs.Fragments.{Step, shell, levels, full_op, shells, list_steps, region_steps, steps, step_defines, op_owner, defines_owners, fragment_ops, ops_in_blocks, ops_inside, outermost}
+use Rattle.rules.specs.declared.types.Sort.{Sort}
+use Rattle.rules.specs.declared.types.Sort.TheVariants.{Op as op, Block as block, Region as region}
 use Rattle.rules.proofs.Basics.Distinct.{concat_map_append}
 use Rattle.rules.proofs.Basics.Appended.{sum_append}
 use Rattle.rules.proofs.Copying.Renumbered.{map_same}
@@ -25,44 +30,44 @@ unfolding sum
 sum_sucs g [] = refl
 sum_sucs g (x ∷ xs) = let e = sum_sucs g xs in omega arith
 
-sum_concat : (f : ℕ → ℕ) (g : ℕ → List ℕ) (xs : List ℕ) → sum (map f (concat_map g xs)) ≡ sum (map (λ (x : ℕ). sum (map f (g x))) xs)
-unfolding sum concat_map
+sum_concat : (f : ℕ → ℕ) (g : ℕ → List ℕ) (xs : List ℕ) → sum (map f (flat_map g xs)) ≡ sum (map (λ (x : ℕ). sum (map f (g x))) xs)
+unfolding sum
 sum_concat f g [] = refl
-sum_concat f g (x ∷ xs) = sum_append f (g x) (concat_map g xs) ∙ ap (λ (k : ℕ). sum (map f (g x)) + k) (sum_concat f g xs)
+sum_concat f g (x ∷ xs) = sum_append f (g x) (flat_map g xs) ∙ ap (λ (k : ℕ). sum (map f (g x)) + k) (sum_concat f g xs)
 
 -- ---- how many operations steps define
 
 unfoldable count : List Step → ℕ
-count xs = length (concat_map op_owner (concat_map step_defines xs))
+count xs = length (flat_map op_owner (flat_map step_defines xs))
 
 count_append : (xs ys : List Step) → count (xs ++ ys) ≡ count xs + count ys
 unfolding count
 count_append xs ys =
-    ap (λ (ws : List Owner). length (concat_map op_owner ws)) (concat_map_append step_defines xs ys)
-    ∙ ap length (concat_map_append op_owner (concat_map step_defines xs) (concat_map step_defines ys))
-    ∙ length-append (concat_map op_owner (concat_map step_defines xs)) (concat_map op_owner (concat_map step_defines ys))
+    ap (λ (ws : List Owner). length (flat_map op_owner ws)) (concat_map_append step_defines xs ys)
+    ∙ ap length (concat_map_append op_owner (flat_map step_defines xs) (flat_map step_defines ys))
+    ∙ length-append (flat_map op_owner (flat_map step_defines xs)) (flat_map op_owner (flat_map step_defines ys))
 
-count_concat : (f : ℕ → List Step) (xs : List ℕ) → count (concat_map f xs) ≡ sum (map (λ (x : ℕ). count (f x)) xs)
-unfolding concat_map sum count
+count_concat : (f : ℕ → List Step) (xs : List ℕ) → count (flat_map f xs) ≡ sum (map (λ (x : ℕ). count (f x)) xs)
+unfolding sum count
 count_concat f [] = refl
-count_concat f (x ∷ xs) = count_append (f x) (concat_map f xs) ∙ ap (λ (k : ℕ). count (f x) + k) (count_concat f xs)
+count_concat f (x ∷ xs) = count_append (f x) (flat_map f xs) ∙ ap (λ (k : ℕ). count (f x) + k) (count_concat f xs)
 
 block_shells : (bs : List ℕ) → count (map (λ (n : ℕ). shell (of_block n)) bs) ≡ 0
-unfolding count concat_map step_defines op_owner
+unfolding count step_defines op_owner
 block_shells [] = refl
 block_shells (b ∷ bs) = block_shells bs
 
 op_shells : (ns : List ℕ) → count (map (λ (n : ℕ). shell (of_op n)) ns) ≡ length ns
-unfolding count concat_map step_defines op_owner
+unfolding count step_defines op_owner
 op_shells [] = refl
 op_shells (n ∷ ns) = ap suc (op_shells ns)
 
 blocks_none : (bs : List ℕ) → count (shells of_block bs) ≡ 0
-unfolding count concat_map step_defines op_owner shells
+unfolding count step_defines op_owner shells
 blocks_none bs = block_shells bs
 
 ops_each : (ns : List ℕ) → count (shells of_op ns) ≡ length ns
-unfolding count concat_map step_defines op_owner shells
+unfolding count step_defines op_owner shells
 ops_each ns = op_shells ns
 
 module _ (s : Store) where
@@ -71,19 +76,19 @@ module _ (s : Store) where
   both : (full : ℕ → List Step) (bs : List ℕ)
       → sum (map (λ (b : ℕ). length (ops_of s b)) bs) + sum (map (λ (b : ℕ). sum (map (λ (n : ℕ). count (full n)) (ops_of s b))) bs)
       ≡ sum (map (λ (n : ℕ). suc (count (full n))) (ops_in_blocks s bs))
-  unfolding ops_in_blocks concat_map sum
+  unfolding ops_in_blocks sum
   both full [] = refl
   both full (b ∷ bs) =
       let rest = both full bs in
       let here = sum_sucs (λ (n : ℕ). count (full n)) (ops_of s b) in
-      let parts = sum_append (λ (n : ℕ). suc (count (full n))) (ops_of s b) (concat_map (ops_of s) bs) in
+      let parts = sum_append (λ (n : ℕ). suc (count (full n))) (ops_of s b) (flat_map (ops_of s) bs) in
       omega arith
 
   abbrev heads : List ℕ → List Step
-  heads bs = concat_map (λ (b : ℕ). shells of_op (ops_of s b)) bs
+  heads bs = flat_map (λ (b : ℕ). shells of_op (ops_of s b)) bs
 
   abbrev fulls : (ℕ → List Step) → List ℕ → List Step
-  fulls full bs = concat_map (λ (b : ℕ). concat_map full (ops_of s b)) bs
+  fulls full bs = flat_map (λ (b : ℕ). flat_map full (ops_of s b)) bs
 
   heads_count : (bs : List ℕ) → count (heads bs) ≡ sum (map (λ (b : ℕ). length (ops_of s b)) bs)
   heads_count bs =
@@ -92,8 +97,8 @@ module _ (s : Store) where
 
   fulls_count : (full : ℕ → List Step) (bs : List ℕ) → count (fulls full bs) ≡ sum (map (λ (b : ℕ). sum (map (λ (n : ℕ). count (full n)) (ops_of s b))) bs)
   fulls_count full bs =
-      count_concat (λ (b : ℕ). concat_map full (ops_of s b)) bs
-      ∙ sums_same (λ (b : ℕ). count (concat_map full (ops_of s b))) (λ (b : ℕ). sum (map (λ (n : ℕ). count (full n)) (ops_of s b))) bs
+      count_concat (λ (b : ℕ). flat_map full (ops_of s b)) bs
+      ∙ sums_same (λ (b : ℕ). count (flat_map full (ops_of s b))) (λ (b : ℕ). sum (map (λ (n : ℕ). count (full n)) (ops_of s b))) bs
       (λ b. count_concat full (ops_of s b))
 
   listed : (full : ℕ → List Step) (bs : List ℕ) → count (list_steps s full bs) ≡ sum (map (λ (n : ℕ). suc (count (full n))) (ops_in_blocks s bs))
@@ -108,7 +113,7 @@ module _ (s : Store) where
       omega arith
 
   of_full : (inside : ℕ → List Step) (n : ℕ) → count (full_op s inside n) ≡ sum (map (λ (r : ℕ). count (inside r)) (regions_of s n))
-  unfolding full_op count concat_map step_defines
+  unfolding full_op count step_defines
   of_full inside n = count_concat inside (regions_of s n)
 
   zeros : (rs : List ℕ) → sum (map (λ (r : ℕ). 0) rs) ≡ 0
@@ -117,7 +122,7 @@ module _ (s : Store) where
   zeros (r ∷ rs) = let e = zeros rs in omega arith
 
   none_in : (rs : List ℕ) → sum (map (λ (r : ℕ). count (region_steps zero s r)) rs) ≡ 0
-  unfolding region_steps count concat_map
+  unfolding region_steps count
   none_in rs = zeros rs
 
   -- ---- an operation
@@ -145,7 +150,7 @@ module _ (s : Store) where
       ∙ sums_same (λ (m : ℕ). suc (count (full_op s (region_steps k s) m))) (op_size k s) (ops_in_blocks s bs) (sized k)
 
   pub fragment_counted : (f : Sort) (n : ℕ) → length (fragment_ops s f n) ≡ ops_size (height f) s (outermost s f n)
-  unfolding fragment_ops defines_owners steps count concat_map step_defines op_owner outermost height region_steps ops_in_blocks ops_size sum
+  unfolding fragment_ops defines_owners steps count step_defines op_owner outermost height region_steps ops_in_blocks ops_size sum
   fragment_counted op n = sized levels n ∙ sym (add-zero (op_size levels s n))
   fragment_counted block n = listed_size levels (n ∷ []) ∙ ap (ops_size levels s) (append-nil (ops_of s n))
   fragment_counted region n = listed_size 32 (blocks_of s n)

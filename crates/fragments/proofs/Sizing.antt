@@ -4,12 +4,14 @@ use native.Mathlib.Omega.{arith}
 use mathlib.Core.Bool.{true, false}
 use mathlib.Core.List.Memᴰ
 use mathlib.Core.List.{List, [], ◌∷◌, ◌++◌, Memᴰ}
-use mathlib.Core.Option.{some}
+use Rattle.std.specs.Prelude.{Some}
 use mathlib.Core.Path.{◌≡◌, refl, sym, ap, subst, ◌∙◌}
 use lib.ListN.{length, get_or}
 use Rattle.rules.specs.Lists.{sum}
 use Rattle.rules.specs.Store.{Store, parent_of, op_around, ops_of, blocks_of, regions_of, max_nesting, sound}
-use Rattle.rules.specs.Fragments.{Sort, op, block, region, exists, fragment_ops, ops_in_blocks, outermost}
+use Rattle.rules.specs.Fragments.{exists, fragment_ops, ops_in_blocks, outermost}
+use Rattle.rules.specs.declared.types.Sort.{Sort}
+use Rattle.rules.specs.declared.types.Sort.TheVariants.{Op as op, Block as block, Region as region}
 use Rattle.rules.specs.Extents.{extent, deepest, op_nesting, deepest_nesting}
 use Rattle.rules.specs.ExtentLaws.{ExtentMost}
 use Rattle.rules.proofs.Basics.Appended.{sum_append}
@@ -75,7 +77,7 @@ module _ (s : Store) (sd : sound s ≡ true) where
   pub left_inside : (b n left : ℕ) → Memᴰ n (ops_of s b) → LevelsLeft s (op_around s b) left → (i : ℕ) × LevelsLeft s n i × (left ≡ suc i)
   left_inside b n left m h =
       let i = op_leaves s sd n in
-      let inside : Leaves s max_nesting (some b) i.0 = rw (ops_in_lem s b m).1 at i.1 in
+      let inside : Leaves s max_nesting (Some b) i.0 = rw (ops_in_lem s b m).1 at i.1 in
       (i.0, i.1, leaves_inside s 31 b i.0 left h inside)
 
   pub left_less : (b n left : ℕ) → Memᴰ n (ops_of s b) → LevelsLeft s (op_around s b) left → LevelsLeft s n (left - 1)

@@ -5,7 +5,9 @@ use mathlib.Core.Bool.{true}
 use mathlib.Core.Path.{◌≡◌, subst, ◌∙◌}
 use borrow.Author.Tests.{ltb-true, lt-ltb}
 use Rattle.rules.specs.Store.{op_exists, block_exists, region_exists}
-use Rattle.rules.specs.Fragments.{Sort, op, block, region, exists}
+use Rattle.rules.specs.Fragments.{exists}
+use Rattle.rules.specs.declared.types.Sort.{Sort}
+use Rattle.rules.specs.declared.types.Sort.TheVariants.{Op as op, Block as block, Region as region}
 use Rattle.layout.specs.Columns.{Cols}
 use Rattle.layout.specs.Reading.{op_count, block_count, region_count, store_of}
 use Rattle.layout.proofs.Tabulate.{ops_length, blocks_length, regions_length, op_exists_lem, block_exists_lem, region_exists_lem}

@@ -4,13 +4,17 @@ use Prim.Native.Nat.{ℕ, zero, suc, ◌-◌, ◌/◌, ◌%◌, ◌<◌, ◌≤�
 use native.Mathlib.Omega.{arith}
 use mathlib.Core.Bool.{Bool, true, false, cond}
 use mathlib.Core.List.{List}
-use mathlib.Core.Option.{Option, some}
+use Rattle.std.specs.Prelude.{Option, Some}
 use mathlib.Core.Path.{◌≡◌, refl, sym, ap, subst, ◌∙◌}
 use borrow.Author.Tests.{ltb-true, eq-eqb, ne_eqb}
 use lib.Dec.{eqb}
 use lib.ListN.{length}
-use Rattle.rules.specs.Store.{Owner, Block, Value, of_op, of_block, parent_of, value_at}
-use Rattle.rules.specs.Fragments.{Sort, block, region, exists, fragment_ops, defines_blocks, defines_values}
+use Rattle.rules.specs.Store.{Block, Value, parent_of, value_at}
+use Rattle.rules.specs.declared.types.Owner.{Owner}
+use Rattle.rules.specs.declared.types.Owner.TheVariants.{Op as of_op, Block as of_block}
+use Rattle.rules.specs.Fragments.{exists, fragment_ops, defines_blocks, defines_values}
+use Rattle.rules.specs.declared.types.Sort.{Sort}
+use Rattle.rules.specs.declared.types.Sort.TheVariants.{Block as block, Region as region}
 use Rattle.rules.specs.Copying.{has_place}
 use Rattle.rules.proofs.Basics.Tests.{and_left}
 use Rattle.rules.proofs.Walking.Inside.{place_result, place_argument}
@@ -86,7 +90,7 @@ module _ (b : List ℕ) (sd : IsSound b) (f : Sort) (n : ℕ) (ex : exists (stor
           let p : Placed (columns b) m c =
           placed_facts (columns b) m c
           (subst (λ (q : Option ℕ). placed (columns b) m q ≡ true) (ap parent_from e) ((h b sd).op m k).place) in
-          let i : parent_of (store_in b) m ≡ some c = parent_read_lem (columns b) m k ∙ ap parent_from e in
+          let i : parent_of (store_in b) m ≡ Some c = parent_read_lem (columns b) m k ∙ ap parent_from e in
           let z : c ≡ suc c - 1 = omega arith in
           let r : InBlock m c = record {
             block_in = p.block_in;

@@ -1,7 +1,8 @@
 -- What tells whether a thing lies inside a fragment, on the way up from it.
 use Rattle.std.specs.Prelude.{ℕ, Bool, false, eqb, get_or}
 use Rattle.rules.specs.Store.{Store, block_at, op_around}
-use Rattle.rules.specs.Fragments.{Sort, op, block, region}
+use Rattle.rules.specs.declared.types.Sort.{Sort}
+use Rattle.rules.specs.declared.types.Sort.TheVariants.{Op as op, Block as block, Region as region}
 
 -- the operation that the fragment is, or that is next around it: those inside have larger numbers
 unfoldable pub outer_op : Store → Sort → ℕ → ℕ

@@ -1,11 +1,15 @@
--- What is told of a fragment, what an ignore rule leaves of it, the order in which a walk goes through it, and what lies inside it.
-pub mod Sorts
+-- The index of a list of renamed types; fragments, what an ignore rule leaves of them, and the order of a walk; walk numbers in words.
+pub mod Index
+pub mod OneIndex
 pub mod Ignoring
 pub mod Options
-pub mod Terms
+pub mod View
 pub mod Rows
 pub mod Order
 pub mod BlocksLeft
 pub mod SlotsLeft
 pub mod Inside
 pub mod Sizes
+pub mod Words
+pub mod Numbered
+pub mod Parts

@@ -5,22 +5,21 @@ use Rattle.rules.specs.Shells as rules
 use Rattle.rules.specs.Types.{renamed}
 use Rattle.layout.specs.Soundness.{IsSound}
 use Rattle.std.proofs.Props.{props}
-use Rattle.renaming.specs.Index.{list_in, IsIndex}
-use Rattle.renaming.specs.OneIndex.{is_index_prop}
-use Rattle.fragments.specs.Ignoring.{ignore_of}
-use Rattle.fragments.specs.declared.ignoring.Ignore.{Ignore}
+use Rattle.fragments.specs.Index.{list_in, IsIndex}
+use Rattle.fragments.specs.OneIndex.{is_index_prop}
+use Rattle.rules.specs.declared.types.Ignore.{Ignore}
 
 pub record Options : Type 0 where
-  pub ignore : rules.Ignore
+  pub ignore : Ignore
   pub types : List ℕ
 
 -- what the code's rule and index of types stand for
 abbrev pub options_of : Ignore → List ℕ → Options
-options_of x index = record { ignore = ignore_of x; types = list_in index }
+options_of x index = record { ignore = x; types = list_in index }
 
 -- the store as it is read: with present types
-abbrev pub under : Options → Store → Store
-under o s = renamed o.types s
+abbrev pub renamed_under : Options → Store → Store
+renamed_under o s = renamed o.types s
 
 -- a sound store, and an index of a list of types: what a walk that reads types asks for
 pub record Readable (store types : List ℕ) : Type 0 where

@@ -1,6 +1,5 @@
 -- The size of a fragment, by recursion into regions. The first number is that of regions, one in another, that may still be entered.
-use Rattle.std.specs.Prelude.{ℕ, zero, suc, ◌^◌, ◌<◌, List, map, ◌≡◌}
-use Rattle.std.proofs.Math.Option.{some}
+use Rattle.std.specs.Prelude.{ℕ, zero, suc, ◌^◌, ◌<◌, List, map, ◌≡◌, Some}
 use Rattle.rules.specs.Lists.{sum}
 use Rattle.rules.specs.Store.{Store, parent_of, levels_left, max_nesting}
 use Rattle.rules.specs.Fragments.{ops_inside}
@@ -27,4 +26,4 @@ pub record SizeIs (many deep : ℕ) (size : Size) : Type 0 where
 
 -- so many regions may be around operations inside an operation, besides those around itself: 32 less its depth
 abbrev pub LevelsLeft : Store → ℕ → ℕ → Type 0
-LevelsLeft s n left = levels_left max_nesting s (parent_of s n) ≡ some left
+LevelsLeft s n left = levels_left max_nesting s (parent_of s n) ≡ Some left

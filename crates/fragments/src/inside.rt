@@ -3,11 +3,10 @@ ghost use Rattle.std.specs.Prelude.{◌≡◌, true};
 ghost use Rattle.rules.specs.Fragments;
 ghost use Rattle.layout.specs.Reading.{store_in};
 ghost use Rattle.layout.specs.Soundness.{IsSound};
-ghost use Rattle.fragments.specs.Sorts.{sort_of};
 
-use crate::types::Sort;
 use layout::children::op_around;
 use layout::columns::{BLOCK_REGION, OP_PARENT, REGION_OP, StoreWords, VALUE_OWNER, number};
+use rules::types::Sort;
 
 // A fragment of a sound store.
 #[derive(Clone, Copy)]
@@ -16,7 +15,7 @@ pub struct Fragment<'a> {
     pub sort: Sort,
     pub n: usize,
     pub ghost sound: { IsSound store.now },
-    pub ghost exists: { Fragments.exists (store_in store.now) (sort_of sort) n ≡ true },
+    pub ghost exists: { Fragments.exists (store_in store.now) sort n ≡ true },
 }
 
 impl<'a> Fragment<'a> {
@@ -25,12 +24,11 @@ impl<'a> Fragment<'a> {
     ghost use Rattle.rules.specs.Copying.{has_place};
     ghost use Rattle.layout.specs.Columns.{columns};
     ghost use Rattle.layout.specs.Reading.{op_count, block_count, value_count, store_in};
-    ghost use Rattle.fragments.specs.Sorts.{sort_of};
     ghost use Rattle.fragments.specs.Inside.{outer_op, is_itself, is_outermost};
 
     // The operation that the fragment is, or that is next around it: those inside have larger numbers.
     fn outer_op(&self) -> usize
-        ensures { result ≡ outer_op (store_in self.now.store.now) (sort_of self.now.sort) self.now.n }
+        ensures { result ≡ outer_op (store_in self.now.store.now) self.now.sort self.now.n }
     {
         match self.sort {
             Sort::Op => self.n,
@@ -40,9 +38,9 @@ impl<'a> Fragment<'a> {
     }
 
     // Operation m is the fragment.
-    #[tactic(auto, unfolding(crate::specs::Inside::is_itself, crate::specs::Sorts::sort_of))]
+    #[tactic(auto, unfolding(crate::specs::Inside::is_itself))]
     fn is_itself(&self, m: usize) -> bool
-        ensures { result ≡ is_itself (sort_of self.now.sort) self.now.n m }
+        ensures { result ≡ is_itself self.now.sort self.now.n m }
     {
         match self.sort {
             Sort::Op => m == self.n,
@@ -53,7 +51,7 @@ impl<'a> Fragment<'a> {
     // Block b is the fragment, or one of the region's own.
     fn is_outermost(&self, b: usize) -> bool
         requires { b < block_count (columns self.now.store.now) }
-        ensures { result ≡ is_outermost (store_in self.now.store.now) (sort_of self.now.sort) self.now.n b }
+        ensures { result ≡ is_outermost (store_in self.now.store.now) self.now.sort self.now.n b }
     {
         match self.sort {
             Sort::Op => false,
@@ -65,7 +63,7 @@ impl<'a> Fragment<'a> {
     // Operation m is inside, or is the fragment. The operation around another has the smaller number. (This climbs, and counts no index.)
     pub fn op_inside(&self, m: usize) -> bool
         requires { m < op_count (columns self.now.store.now) }
-        ensures { result ≡ has_place (fragment_ops (store_in self.now.store.now) (sort_of self.now.sort) self.now.n) m }
+        ensures { result ≡ has_place (fragment_ops (store_in self.now.store.now) self.now.sort self.now.n) m }
     {
         let outer = self.outer_op();
         let mut at = m;
@@ -84,7 +82,7 @@ impl<'a> Fragment<'a> {
     // Block b is inside, or is the fragment.
     pub fn block_inside(&self, b: usize) -> bool
         requires { b < block_count (columns self.now.store.now) }
-        ensures { result ≡ has_place (defines_blocks (store_in self.now.store.now) (sort_of self.now.sort) self.now.n) b }
+        ensures { result ≡ has_place (defines_blocks (store_in self.now.store.now) self.now.sort self.now.n) b }
     {
         self.is_outermost(b) || self.op_inside(op_around(self.store, b))
     }
@@ -92,7 +90,7 @@ impl<'a> Fragment<'a> {
     // Value v is defined inside: a result of an operation, or an argument of a block.
     pub fn value_inside(&self, v: usize) -> bool
         requires { v < value_count (columns self.now.store.now) }
-        ensures { result ≡ has_place (defines_values (store_in self.now.store.now) (sort_of self.now.sort) self.now.n) v }
+        ensures { result ≡ has_place (defines_values (store_in self.now.store.now) self.now.sort self.now.n) v }
     {
         // In the store, as it is lent, an owner is twice its number, and one more for a block.
         let owner = number(self.store, VALUE_OWNER, v);

@@ -2,8 +2,9 @@
 ghost use Rattle.std.specs.Prelude.{◌≡◌, ◌<◌, ◌≤◌, length};
 ghost use Rattle.layout.specs.Columns.{buffer_length, columns, slot_count};
 
-use crate::ignoring::{Ignore, slot_ignored};
+use crate::ignoring::slot_ignored;
 use layout::columns::StoreWords;
+use rules::types::Ignore;
 
 #[derive(Clone, Copy)]
 pub struct KeptSlots<'a> {
@@ -15,12 +16,12 @@ pub struct KeptSlots<'a> {
 }
 
 impl<'a> KeptSlots<'a> {
-    ghost use Rattle.fragments.specs.Ignoring.{ignore_of, kept_slots};
+    ghost use Rattle.fragments.specs.Ignoring.{kept_slots};
     ghost use Rattle.fragments.specs.SlotsLeft.{slots_left};
 
     pub fn new(store: &'a StoreWords, ignore: Ignore, first: usize, end: usize) -> Self
         requires { end ≤ slot_count }
-        ensures { slots_left result ≡ kept_slots (columns store.now) (ignore_of ignore) first end }
+        ensures { slots_left result ≡ kept_slots (columns store.now) ignore first end }
     {
         KeptSlots {
             store,

@@ -4,7 +4,7 @@ ghost use Rattle.std.specs.Iterator.{YieldsFirst, item_count};
 ghost use Rattle.layout.specs.Reading.{store_in};
 ghost use Rattle.layout.specs.Columns.{columns};
 ghost use Rattle.layout.specs.Soundness.{IsSound};
-ghost use Rattle.layout.specs.Children.{first_from, found_from};
+ghost use Rattle.layout.specs.Children.{first_from};
 ghost use Rattle.fragments.specs.Order.{block_list, BlocksExist, blocks_exist_prop};
 
 use crate::types::Blocks;
@@ -15,11 +15,11 @@ use layout::columns::StoreWords;
 pub fn next_in(store: &StoreWords, blocks: Blocks, from: usize) -> Option<usize>
     requires sound { IsSound store.now }
     requires blocks_exist { BlocksExist (columns store.now) blocks }
-    ensures { result ≡ found_from (first_from from (block_list (store_in store.now) blocks)) }
+    ensures { result ≡ first_from from (block_list (store_in store.now) blocks) }
 {
     match blocks {
         Blocks::InRegion(r) => next_block(store, r, from),
-        Blocks::Alone(b) => one_from(b, from),
+        Blocks::Single(b) => one_from(b, from),
     }
 }
 

@@ -11,16 +11,16 @@ ghost use Rattle.layout.specs.Columns.{columns};
 ghost use Rattle.layout.specs.Reading.{op_count, block_count, region_count, store_in};
 ghost use Rattle.layout.specs.Soundness.{IsSound};
 ghost use Rattle.fragments.specs.Order.{BlocksExist};
-ghost use Rattle.fragments.specs.Sorts.{sort_of};
 ghost use Rattle.fragments.specs.Sizes.{op_size, ops_size, ops_nesting, SizeIs, LevelsLeft};
 
 use crate::order::BlocksIn;
-use crate::types::{Blocks, Size, Sort};
+use crate::types::{Blocks, Size};
 use layout::children::op_around;
 use layout::columns::{
     OP_DEPTH, OP_REGION_END, OP_REGION_FIRST, REGION_OP, StoreWords, at, number,
 };
 use layout::ops_in::OpsIn;
+use rules::types::Sort;
 
 // Two parts of one fragment.
 fn together(a: Size, b: Size) -> Size
@@ -115,9 +115,9 @@ fn by_itself(size: Size) -> Size
 // A fragment of a sound store.
 pub fn fragment_size(store: &StoreWords, sort: Sort, n: usize) -> Size
     requires sound { IsSound store.now }
-    requires n_value { exists (store_in store.now) (sort_of sort) n ≡ true }
-    ensures operations { result.operations ≡ length (fragment_ops (store_in store.now) (sort_of sort) n) }
-    ensures nesting { result.nesting ≡ deepest_nesting (store_in store.now) (sort_of sort) n }
+    requires n_value { exists (store_in store.now) sort n ≡ true }
+    ensures operations { result.operations ≡ length (fragment_ops (store_in store.now) sort n) }
+    ensures nesting { result.nesting ≡ deepest_nesting (store_in store.now) sort n }
 {
     match sort {
         Sort::Op => size_of_op(store, n, levels_left(store, n)),

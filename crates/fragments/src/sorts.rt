@@ -2,16 +2,15 @@
 ghost use Rattle.std.specs.Prelude.{◌≡◌};
 ghost use Rattle.rules.specs.Fragments;
 ghost use Rattle.layout.specs.Reading.{store_in};
-ghost use Rattle.fragments.specs.Sorts.{sort_of};
 
-use crate::types::Sort;
 use layout::columns::StoreWords;
 use layout::existing::{block_exists, op_exists, region_exists};
+use rules::types::Sort;
 
 // There is a fragment of this sort and number.
-#[tactic(auto, unfolding(crate::specs::Sorts::sort_of, rules::specs::Fragments::exists))]
+#[tactic(auto, unfolding(rules::specs::Fragments::exists))]
 pub fn exists(store: &StoreWords, sort: Sort, n: u32) -> bool
-    ensures { result ≡ Fragments.exists (store_in store.now) (sort_of sort) n }
+    ensures { result ≡ Fragments.exists (store_in store.now) sort n }
 {
     match sort {
         Sort::Op => op_exists(store, n),

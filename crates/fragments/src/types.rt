@@ -1,17 +1,9 @@
 // What is told of a fragment, and what a walk over one goes through.
 
-// The sorts of fragments.
-#[derive(Clone, Copy, PartialEq, Eq, Debug)]
-pub enum Sort {
-    Op,
-    Block,
-    Region,
-}
-
 // What an operation or a block has by itself: its location, its attributes in `attributes` slots from `slot` on, and its results or
 // arguments, `values` of them from value `value` on.
 #[derive(Clone, Copy, PartialEq, Eq, Debug)]
-pub struct Row {
+pub struct ShellRow {
     pub location: u32,
     pub slot: usize,
     pub attributes: usize,
@@ -21,7 +13,7 @@ pub struct Row {
 
 // What only an operation has: its kind, and how many regions, successors and operands.
 #[derive(Clone, Copy, PartialEq, Eq, Debug)]
-pub struct Head {
+pub struct OpHeader {
     pub kind: u32,
     pub regions: usize,
     pub successors: usize,
@@ -32,7 +24,7 @@ pub struct Head {
 #[derive(Clone, Copy, PartialEq, Eq, Debug)]
 pub enum Blocks {
     InRegion(usize),
-    Alone(usize),
+    Single(usize),
 }
 
 // A fragment's size: how many operations are in it, and its deepest nesting, the most regions between it, itself not counted, and an

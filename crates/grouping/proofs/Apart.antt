@@ -4,13 +4,17 @@ use Prim.Native.Nat.{ℕ}
 use mathlib.Core.Bool.{Bool, true, false, cond, not, ◌&&◌, ◌||◌, or-false, and-true, and_assoc}
 use mathlib.Core.List.{List, [], ◌∷◌}
 use mathlib.Core.Logic.{⊎_elim}
-use mathlib.Core.Option.{Option, none, some}
+use Rattle.std.specs.Prelude.{Option, None, Some, is_some}
 use mathlib.Core.Path.{◌≡◌, refl, sym, ap, ap₂, subst, ◌∙◌}
 use borrow.Author.Tests.{not-true}
 use lib.Dec.{eqb}
-use Rattle.rules.specs.Lists.{every, all, any, is_some, concat_map, later, position}
-use Rattle.rules.specs.Store.{Store, Owner, of_op, of_block, same_owner, op_at}
-use Rattle.rules.specs.Fragments.{Sort, Step, shell, names, counted, steps, step_defines, step_operands, step_successors, op_owner, block_owner, defines_owners, defines_values, defines_blocks, fragment_ops, names_values, names_blocks}
+use Rattle.rules.specs.Lists.{every, later, position}
+use Rattle.std.specs.List.{list_all, list_any, flat_map}
+use Rattle.rules.specs.Store.{Store, same_owner, op_at}
+use Rattle.rules.specs.declared.types.Owner.{Owner}
+use Rattle.rules.specs.declared.types.Owner.TheVariants.{Op as of_op, Block as of_block}
+use Rattle.rules.specs.Fragments.{Step, shell, names, counted, steps, step_defines, step_operands, step_successors, op_owner, block_owner, defines_owners, defines_values, defines_blocks, fragment_ops, names_values, names_blocks}
+use Rattle.rules.specs.declared.types.Sort.{Sort}
 use Rattle.rules.specs.Copying.{has_place}
 use Rattle.rules.specs.Independence.{disjoint, names_nothing_of, independent}
 use Rattle.rules.proofs.Basics.Tests.{all_at, all_of, and_left, decided, clash, not_or}
@@ -22,67 +26,66 @@ use Rattle.grouping.specs.Reaching.{owner_inside, names_inside, reaches, fragmen
 
 -- ---- a place in a list is an entry that is the same
 
-place_any : (xs : List ℕ) (m : ℕ) → has_place xs m ≡ any (eqb m) xs
-unfolding has_place is_some position any later
+place_any : (xs : List ℕ) (m : ℕ) → has_place xs m ≡ list_any (eqb m) xs
+unfolding has_place position later
 place_any [] m = refl
 place_any (x ∷ xs) m = first (eqb m x) (position m xs) ∙ ap (λ (b : Bool). eqb m x || b) (place_any xs m)
   where
-    first : (b : Bool) (o : Option ℕ) → is_some (cond b (some 0) (later o)) ≡ (b || is_some o)
+    first : (b : Bool) (o : Option ℕ) → is_some (cond b (Some 0) (later o)) ≡ (b || is_some o)
     first true o = refl
-    first false none = refl
-    first false (some i) = refl
+    first false None = refl
+    first false (Some i) = refl
 
-op_any : (ws : List Owner) (m : ℕ) → any (same_owner (of_op m)) ws ≡ any (eqb m) (concat_map op_owner ws)
-unfolding any same_owner concat_map op_owner
+op_any : (ws : List Owner) (m : ℕ) → list_any (same_owner (of_op m)) ws ≡ list_any (eqb m) (flat_map op_owner ws)
+unfolding same_owner op_owner
 op_any [] m = refl
 op_any (of_op n ∷ ws) m = ap (λ (b : Bool). eqb m n || b) (op_any ws m)
 op_any (of_block b ∷ ws) m = op_any ws m
 
-block_any : (ws : List Owner) (b : ℕ) → any (same_owner (of_block b)) ws ≡ any (eqb b) (concat_map block_owner ws)
-unfolding any same_owner concat_map block_owner
+block_any : (ws : List Owner) (b : ℕ) → list_any (same_owner (of_block b)) ws ≡ list_any (eqb b) (flat_map block_owner ws)
+unfolding same_owner block_owner
 block_any [] b = refl
 block_any (of_op n ∷ ws) b = block_any ws b
 block_any (of_block c ∷ ws) b = ap (λ (t : Bool). eqb b c || t) (block_any ws b)
 
 -- ---- lists without a common entry
 
-not_any : {A : Type 0} (p : A → Bool) (xs : List A) → all (λ (x : A). not (p x)) xs ≡ not (any p xs)
-unfolding all any
+not_any : {A : Type 0} (p : A → Bool) (xs : List A) → list_all (λ (x : A). not (p x)) xs ≡ not (list_any p xs)
 not_any p [] = refl
-not_any p (x ∷ xs) = ap (λ (b : Bool). not (p x) && b) (not_any p xs) ∙ not_or (p x) (any p xs)
+not_any p (x ∷ xs) = ap (λ (b : Bool). not (p x) && b) (not_any p xs) ∙ not_or (p x) (list_any p xs)
 
 -- they have none the other way round
 apart_back : (vs ws : List Owner) → disjoint same_owner vs ws ≡ true → disjoint same_owner ws vs ≡ true
 unfolding disjoint
 apart_back vs ws h =
-    all_of (λ (w : Owner). not (any (same_owner w) vs)) ws (λ w m. ⊎_elim
+    all_of (λ (w : Owner). not (list_any (same_owner w) vs)) ws (λ w m. ⊎_elim
     (λ e. let v = any_where (same_owner w) vs e in
     let same : w ≡ v.0 = same_owner_lem w v.0 v.2 in
-    clash (any_at (same_owner v.0) m (subst (λ (x : Owner). same_owner x w ≡ true) same (same_self w))) (not-true _ (all_at (λ (x : Owner). not (any (same_owner x) ws)) vs h v.1)))
+    clash (any_at (same_owner v.0) m (subst (λ (x : Owner). same_owner x w ≡ true) same (same_self w))) (not-true _ (all_at (λ (x : Owner). not (list_any (same_owner x) ws)) vs h v.1)))
     (λ e. ap not e)
-    (decided (any (same_owner w) vs)))
+    (decided (list_any (same_owner w) vs)))
 
 module _ (s : Store) (f : Sort) where
   -- ---- what one step reaches
 
   module _ (n : ℕ) where
-    owner_same : (w : Owner) → owner_inside s f n w ≡ any (same_owner w) (defines_owners s f n)
+    owner_same : (w : Owner) → owner_inside s f n w ≡ list_any (same_owner w) (defines_owners s f n)
     unfolding owner_inside fragment_ops defines_blocks
-    owner_same (of_op m) = place_any (concat_map op_owner (defines_owners s f n)) m ∙ sym (op_any (defines_owners s f n) m)
-    owner_same (of_block b) = place_any (concat_map block_owner (defines_owners s f n)) b ∙ sym (block_any (defines_owners s f n) b)
+    owner_same (of_op m) = place_any (flat_map op_owner (defines_owners s f n)) m ∙ sym (op_any (defines_owners s f n) m)
+    owner_same (of_block b) = place_any (flat_map block_owner (defines_owners s f n)) b ∙ sym (block_any (defines_owners s f n) b)
 
     -- an owner, an operand or a successor that is also the other's
     own : Step → Bool
-    own x = any (λ (w : Owner). any (same_owner w) (defines_owners s f n)) (step_defines x)
+    own x = list_any (λ (w : Owner). list_any (same_owner w) (defines_owners s f n)) (step_defines x)
 
     operand : Step → Bool
-    operand x = any (λ (v : ℕ). any (eqb v) (defines_values s f n)) (step_operands s x)
+    operand x = list_any (λ (v : ℕ). list_any (eqb v) (defines_values s f n)) (step_operands s x)
 
     successor : Step → Bool
-    successor x = any (λ (b : ℕ). any (eqb b) (defines_blocks s f n)) (step_successors s x)
+    successor x = list_any (λ (b : ℕ). list_any (eqb b) (defines_blocks s f n)) (step_successors s x)
 
     step_reaches : (x : Step) → reaches s f n x ≡ (own x || (operand x || successor x))
-    unfolding reaches names_inside own operand successor step_defines step_operands step_successors any
+    unfolding reaches names_inside own operand successor step_defines step_operands step_successors
     step_reaches (shell w) = owner_same w ∙ sym (or-false _) ∙ sym (or-false _)
     step_reaches (names m) =
         ap₂ ◌||◌
@@ -94,13 +97,13 @@ module _ (s : Store) (f : Sort) where
 
   module _ (n x : ℕ) where
     shares : Bool
-    shares = any (λ (w : Owner). any (same_owner w) (defines_owners s f n)) (defines_owners s f x)
+    shares = list_any (λ (w : Owner). list_any (same_owner w) (defines_owners s f n)) (defines_owners s f x)
 
     names_value : Bool
-    names_value = any (λ (v : ℕ). any (eqb v) (defines_values s f n)) (names_values s f x)
+    names_value = list_any (λ (v : ℕ). list_any (eqb v) (defines_values s f n)) (names_values s f x)
 
     names_block : Bool
-    names_block = any (λ (b : ℕ). any (eqb b) (defines_blocks s f n)) (names_blocks s f x)
+    names_block = list_any (λ (b : ℕ). list_any (eqb b) (defines_blocks s f n)) (names_blocks s f x)
 
     reaches_by : fragment_reaches s f n x ≡ (shares || (names_value || names_block))
     unfolding fragment_reaches shares names_value names_block defines_owners names_values names_blocks own operand successor

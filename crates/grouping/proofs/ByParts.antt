@@ -6,9 +6,11 @@ use mathlib.Core.Bool.{Bool, true, false, ◌||◌, or_assoc}
 use mathlib.Core.List.{List, [], ◌∷◌, ◌++◌}
 use mathlib.Core.Path.{◌≡◌, refl, sym, ap, ◌∙◌}
 use Rattle.std.specs.List.{list_any}
-use Rattle.rules.specs.Lists.{any}
+use Rattle.std.specs.List.{list_any}
 use Rattle.rules.specs.Store.{Store, op_at, ops_of, blocks_of, regions_of}
-use Rattle.rules.specs.Fragments.{Sort, op, block, region, levels, steps, counted, full_op, region_steps, fragment_ops, defines_values, defines_blocks}
+use Rattle.rules.specs.Fragments.{levels, steps, counted, full_op, region_steps, fragment_ops, defines_values, defines_blocks}
+use Rattle.rules.specs.declared.types.Sort.{Sort}
+use Rattle.rules.specs.declared.types.Sort.TheVariants.{Op as op, Block as block, Region as region}
 use Rattle.rules.specs.Copying.{has_place}
 use Rattle.rules.proofs.Basics.Tests.{or_left, or_right, or_neither}
 use Rattle.rules.proofs.Basics.Filtered.{any_append}
@@ -16,11 +18,6 @@ use Rattle.rules.proofs.Walking.ByParts.{any_block, any_region, any_full}
 use Rattle.grouping.specs.Reaching.{owner_inside, names_inside, reaches, region_reaches, block_reaches, op_reaches, fragment_reaches}
 
 -- ---- names, one by one
-
-any_listed : (p : ℕ → Bool) (xs : List ℕ) → list_any p xs ≡ any p xs
-unfolding any
-any_listed p [] = refl
-any_listed p (x ∷ xs) = ap (λ (b : Bool). p x || b) (any_listed p xs)
 
 module _ (s : Store) (f : Sort) (n m : ℕ) where
   abbrev operands_inside : List ℕ → Bool
@@ -32,26 +29,24 @@ module _ (s : Store) (f : Sort) (n m : ℕ) where
   pub operand_inside : {vs : List ℕ} → vs ≡ (op_at s m).operands → operands_inside vs ≡ true → operands_inside vs ≡ names_inside s f n m
   unfolding names_inside
   operand_inside {vs} e h =
-      let own : any (has_place (defines_values s f n)) (op_at s m).operands ≡ true = sym (ap operands_inside e ∙ any_listed _ _) ∙ h in
-      h ∙ sym (ap (λ (b : Bool). b || any (has_place (defines_blocks s f n)) (op_at s m).successors) own)
+      let own : list_any (has_place (defines_values s f n)) (op_at s m).operands ≡ true = sym (ap operands_inside e) ∙ h in
+      h ∙ sym (ap (λ (b : Bool). b || list_any (has_place (defines_blocks s f n)) (op_at s m).successors) own)
 
   pub no_operand_inside : {vs bs : List ℕ} → vs ≡ (op_at s m).operands → bs ≡ (op_at s m).successors → operands_inside vs ≡ false
       → successors_inside bs ≡ names_inside s f n m
   unfolding names_inside
   no_operand_inside {vs} {bs} e g h =
-      let none : any (has_place (defines_values s f n)) (op_at s m).operands ≡ false = sym (ap operands_inside e ∙ any_listed _ _) ∙ h in
-      ap successors_inside g ∙ any_listed _ _
-      ∙ sym (ap (λ (b : Bool). b || any (has_place (defines_blocks s f n)) (op_at s m).successors) none)
+      let none : list_any (has_place (defines_values s f n)) (op_at s m).operands ≡ false = sym (ap operands_inside e) ∙ h in
+      ap successors_inside g
+      ∙ sym (ap (λ (b : Bool). b || list_any (has_place (defines_blocks s f n)) (op_at s m).successors) none)
 
 -- ---- by what is found in children one after the other
 
-pub none_yet : (p : ℕ → Bool) → any p [] ≡ false
-unfolding any
+pub none_yet : (p : ℕ → Bool) → list_any p [] ≡ false
 none_yet p = refl
 
-pub none_more : (p : ℕ → Bool) (came : List ℕ) (x : ℕ) → any p came ≡ false → p x ≡ false → any p (came ++ x ∷ []) ≡ false
-unfolding any
-none_more p came x h e = any_append p came (x ∷ []) ∙ or_neither (any p came) (any p (x ∷ [])) h (or_neither (p x) false e refl)
+pub none_more : (p : ℕ → Bool) (came : List ℕ) (x : ℕ) → list_any p came ≡ false → p x ≡ false → list_any p (came ++ x ∷ []) ≡ false
+none_more p came x h e = any_append p came (x ∷ []) ∙ or_neither (list_any p came) (list_any p (x ∷ [])) h (or_neither (p x) false e refl)
 
 -- in the first of two parts, or else in the second
 pub first_part : {whole a : Bool} (b : Bool) → whole ≡ (a || b) → a ≡ true → true ≡ whole
@@ -67,23 +62,23 @@ module _ (s : Store) (f : Sort) (n left : ℕ) where
   unfolding reaches
   none_counted k = refl
 
-  pub block_parts : (b : ℕ) → block_reaches s f n left b ≡ (has_place (defines_blocks s f n) b || any (op_reaches s f n left) (ops_of s b))
+  pub block_parts : (b : ℕ) → block_reaches s f n left b ≡ (has_place (defines_blocks s f n) b || list_any (op_reaches s f n left) (ops_of s b))
   unfolding block_reaches op_reaches reaches owner_inside
   block_parts b = any_block (reaches s f n) none_counted s (full_op s (region_steps left s)) b
 
-  pub region_parts : (r : ℕ) → (left ≡ 0 → ⊥) → region_reaches s f n left r ≡ any (block_reaches s f n (left - 1)) (blocks_of s r)
+  pub region_parts : (r : ℕ) → (left ≡ 0 → ⊥) → region_reaches s f n left r ≡ list_any (block_reaches s f n (left - 1)) (blocks_of s r)
   unfolding region_reaches block_reaches
   region_parts r ne =
       let e : left ≡ suc (left - 1) = omega arith in
-      ap (λ (k : ℕ). any (reaches s f n) (region_steps k s r)) e ∙ any_region (reaches s f n) none_counted s (left - 1) r
+      ap (λ (k : ℕ). list_any (reaches s f n) (region_steps k s r)) e ∙ any_region (reaches s f n) none_counted s (left - 1) r
 
   pub region_none : (r : ℕ) → left ≡ 0 → region_reaches s f n left r ≡ false
-  unfolding region_reaches region_steps any
-  region_none r e = ap (λ (k : ℕ). any (reaches s f n) (region_steps k s r)) e
+  unfolding region_reaches region_steps
+  region_none r e = ap (λ (k : ℕ). list_any (reaches s f n) (region_steps k s r)) e
 
   pub op_parts : (m : ℕ)
-      → op_reaches s f n left m ≡ ((has_place (fragment_ops s f n) m || names_inside s f n m) || any (region_reaches s f n left) (regions_of s m))
-  unfolding op_reaches region_reaches reaches owner_inside any
+      → op_reaches s f n left m ≡ ((has_place (fragment_ops s f n) m || names_inside s f n m) || list_any (region_reaches s f n left) (regions_of s m))
+  unfolding op_reaches region_reaches reaches owner_inside
   op_parts m =
       ap (λ (b : Bool). has_place (fragment_ops s f n) m || b) (any_full (reaches s f n) none_counted s (region_steps left s) m)
       ∙ sym (or_assoc (has_place (fragment_ops s f n) m) (names_inside s f n m) _)
@@ -96,7 +91,7 @@ module _ (s : Store) (f : Sort) (n left : ℕ) where
   op_names m h = first_part _ (op_parts m) (or_right _ _ h)
 
   -- or something in its regions reaches
-  pub op_regions : (m : ℕ) → has_place (fragment_ops s f n) m ≡ false → names_inside s f n m ≡ false → {r : Bool} → any (region_reaches s f n left) (regions_of s m) ≡ r
+  pub op_regions : (m : ℕ) → has_place (fragment_ops s f n) m ≡ false → names_inside s f n m ≡ false → {r : Bool} → list_any (region_reaches s f n left) (regions_of s m) ≡ r
       → r ≡ op_reaches s f n left m
   op_regions m h g e = second_part (op_parts m) (or_neither _ _ h g) e
 

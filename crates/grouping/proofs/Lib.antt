@@ -1,6 +1,6 @@
 -- Whether a fragment reaches into another is told step by step, and by it whether two are independent; and what a call answers.
-mod ByParts
-mod Apart
-mod Searched
-mod Words
-mod Answering
+pub mod ByParts
+pub mod Apart
+pub mod Searched
+pub mod Words
+pub mod Answering

@@ -3,15 +3,14 @@ use Prim.Native.Nat.{ℕ, suc, ◌+◌, ◌<◌}
 use native.Mathlib.Omega.{arith}
 use mathlib.Core.Bool.{true}
 use mathlib.Core.List.{List, [], ◌∷◌, map}
-use mathlib.Core.Option.{Option, none, some}
+use Rattle.std.specs.Prelude.{Option, None, Some}
 use mathlib.Core.Path.{◌≡◌, refl, ap, ap₂, ◌∙◌}
 use lib.ListN.{length, get_or}
 use Rattle.std.specs.Option.{unwrap_or}
 use Rattle.rules.specs.Lists.{numbers_from, numbers_where}
 use Rattle.rules.specs.Store.{Store, Op}
-use Rattle.rules.specs.Shells.{Ignore}
+use Rattle.rules.specs.declared.types.Ignore.{Ignore}
 use Rattle.rules.specs.Grouping.{twin_of, twins_of, no_twin, twin_word}
-use Rattle.layout.specs.Children.{found_from}
 use Rattle.rules.proofs.Basics.Cut.{map_through}
 
 -- as many words as there are entries, each by its place
@@ -34,7 +33,7 @@ all_twins s ig words e h =
     ∙ map_through (λ (k : ℕ). twin_word (twin_of s ig k)) twin_word (twin_of s ig) (numbers_from 0 (λ (o : Op). true) s.ops) (λ k m. refl)
 
 -- an answer of the code, with the number of no operation in place of none
-pub word_is : (t : Option ℕ) → unwrap_or (found_from t) no_twin ≡ twin_word t
-unfolding found_from twin_word
-word_is none = refl
-word_is (some m) = refl
+pub word_is : (t : Option ℕ) → unwrap_or t no_twin ≡ twin_word t
+unfolding twin_word
+word_is None = refl
+word_is (Some m) = refl

@@ -4,23 +4,21 @@ ghost use Rattle.rules.specs.Fragments.{exists};
 ghost use Rattle.rules.specs.Independence.{independent};
 ghost use Rattle.layout.specs.Reading.{store_in};
 ghost use Rattle.layout.specs.Soundness.{IsSound};
-ghost use Rattle.fragments.specs.Sorts.{sort_of};
-ghost use Rattle.grouping.specs.Calls.{Answered};
+ghost use Rattle.grouping.specs.Calls.{IndependenceAnswers};
 ghost use Rattle.grouping.specs.Reaching.{fragment_reaches};
 
 use crate::reaching::fragment_reaches;
 use equivalence::comparison::both_exist;
 use fragments::inside::Fragment;
-use fragments::types::Sort;
-use layout::causes::Cause;
 use layout::columns::StoreWords;
+use rules::types::{Cause, Sort};
 
 // The first reaches into the second.
 fn reaches(store: &StoreWords, sort: Sort, x: usize, n: usize) -> bool
     requires sound { IsSound store.now }
-    requires x_value { exists (store_in store.now) (sort_of sort) x ≡ true }
-    requires n_value { exists (store_in store.now) (sort_of sort) n ≡ true }
-    ensures { result ≡ fragment_reaches (store_in store.now) (sort_of sort) n x }
+    requires x_value { exists (store_in store.now) sort x ≡ true }
+    requires n_value { exists (store_in store.now) sort n ≡ true }
+    ensures { result ≡ fragment_reaches (store_in store.now) sort n x }
 {
     let other = Fragment { store, sort, n };
     fragment_reaches(&other, x)
@@ -29,9 +27,9 @@ fn reaches(store: &StoreWords, sort: Sort, x: usize, n: usize) -> bool
 // Two fragments that exist are the same, or neither reaches into the other.
 pub fn are_independent(store: &StoreWords, sort: Sort, a: usize, b: usize) -> bool
     requires sound { IsSound store.now }
-    requires a_value { exists (store_in store.now) (sort_of sort) a ≡ true }
-    requires b_value { exists (store_in store.now) (sort_of sort) b ≡ true }
-    ensures { result ≡ independent (store_in store.now) (sort_of sort) a b }
+    requires a_value { exists (store_in store.now) sort a ≡ true }
+    requires b_value { exists (store_in store.now) sort b ≡ true }
+    ensures { result ≡ independent (store_in store.now) sort a b }
 {
     a == b || (!reaches(store, sort, a, b) && !reaches(store, sort, b, a))
 }
@@ -39,7 +37,7 @@ pub fn are_independent(store: &StoreWords, sort: Sort, a: usize, b: usize) -> bo
 // Whether two fragments of a sound store are independent, unless one does not exist.
 pub fn sound_independent(store: &StoreWords, sort: Sort, lhs: u32, rhs: u32) -> Result<bool, Cause>
     requires { IsSound store.now }
-    ensures { Answered true store.now (sort_of sort) lhs rhs result }
+    ensures { IndependenceAnswers true store.now sort lhs rhs result }
 {
     both_exist(store, sort, lhs, rhs)?;
     Ok(are_independent(store, sort, lhs as usize, rhs as usize))

@@ -3,7 +3,6 @@
 // Twins have the same hash, by the laws of hashes: so only operations of one hash are tested for independence and compared.
 #![tactic(auto)]
 
-pub mod calls;
 pub mod comparing;
 pub mod finding;
 pub mod hashes;

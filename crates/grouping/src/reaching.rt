@@ -5,15 +5,15 @@ ghost use Rattle.std.specs.Prelude.{true, ◌≡◌, ◌<◌};
 ghost use Rattle.rules.specs.Fragments.{exists};
 ghost use Rattle.layout.specs.Columns.{columns};
 ghost use Rattle.layout.specs.Reading.{op_count, block_count, region_count, value_count, store_in};
-ghost use Rattle.fragments.specs.Sorts.{sort_of};
 ghost use Rattle.grouping.specs.Reaching.{names_inside, op_reaches, block_reaches, region_reaches, fragment_reaches};
 
 use fragments::inside::Fragment;
 use fragments::order::BlocksIn;
-use fragments::types::{Blocks, Sort};
+use fragments::types::Blocks;
 use layout::columns::{OP_REGION_END, OP_REGION_FIRST, number};
 use layout::ops_in::OpsIn;
 use layout::slices::{operands_of, successors_of};
+use rules::types::Sort;
 
 // A walk enters at most 33 regions, one in another.
 const LEVELS: u32 = 33;
@@ -21,7 +21,7 @@ const LEVELS: u32 = 33;
 // An operand or successor of operation m is inside.
 fn names_inside(other: &Fragment, m: usize) -> bool
     requires { m < op_count (columns other.now.store.now) }
-    ensures { result ≡ names_inside (store_in other.now.store.now) (sort_of other.now.sort) other.now.n m }
+    ensures { result ≡ names_inside (store_in other.now.store.now) other.now.sort other.now.n m }
 {
     let operands = operands_of(other.store, m);
     let successors = successors_of(other.store, m);
@@ -33,7 +33,7 @@ fn names_inside(other: &Fragment, m: usize) -> bool
 #[cycle(reaches)]
 fn block_reaches(other: &Fragment, b: usize, left: u32) -> bool
     requires { b < block_count (columns other.now.store.now) }
-    ensures { result ≡ block_reaches (store_in other.now.store.now) (sort_of other.now.sort) other.now.n left b }
+    ensures { result ≡ block_reaches (store_in other.now.store.now) other.now.sort other.now.n left b }
 {
     if other.block_inside(b) {
         return true;
@@ -50,7 +50,7 @@ fn block_reaches(other: &Fragment, b: usize, left: u32) -> bool
 #[cycle(reaches)]
 fn region_reaches(other: &Fragment, r: usize, left: u32) -> bool
     requires { r < region_count (columns other.now.store.now) }
-    ensures { result ≡ region_reaches (store_in other.now.store.now) (sort_of other.now.sort) other.now.n left r }
+    ensures { result ≡ region_reaches (store_in other.now.store.now) other.now.sort other.now.n left r }
 {
     if left == 0 {
         return false;
@@ -67,7 +67,7 @@ fn region_reaches(other: &Fragment, r: usize, left: u32) -> bool
 #[cycle(reaches)]
 fn op_reaches(other: &Fragment, m: usize, left: u32) -> bool
     requires { m < op_count (columns other.now.store.now) }
-    ensures { result ≡ op_reaches (store_in other.now.store.now) (sort_of other.now.sort) other.now.n left m }
+    ensures { result ≡ op_reaches (store_in other.now.store.now) other.now.sort other.now.n left m }
 {
     if other.op_inside(m) || names_inside(other, m) {
         return true;
@@ -84,8 +84,8 @@ fn op_reaches(other: &Fragment, m: usize, left: u32) -> bool
 
 // The fragment x reaches into the other, which is of the same sort.
 pub fn fragment_reaches(other: &Fragment, x: usize) -> bool
-    requires { exists (store_in other.now.store.now) (sort_of other.now.sort) x ≡ true }
-    ensures { result ≡ fragment_reaches (store_in other.now.store.now) (sort_of other.now.sort) other.now.n x }
+    requires { exists (store_in other.now.store.now) other.now.sort x ≡ true }
+    ensures { result ≡ fragment_reaches (store_in other.now.store.now) other.now.sort other.now.n x }
 {
     match other.sort {
         Sort::Op => op_reaches(other, x, LEVELS),

@@ -1,16 +1,17 @@
 // Attributes, by their slots. Slots stand by rising key, so that the hash doesn't depend on the order in which keys were set.
 ghost use Rattle.std.specs.Prelude.{◌≡◌, ◌<◌, ◌≤◌, ◌++◌, length};
-ghost use Rattle.rules.specs.Lists.{concat_map};
+ghost use Rattle.std.specs.List.{flat_map};
 ghost use Rattle.rules.specs.Hash.{fnv_from, count, attribute_bytes};
 ghost use Rattle.layout.specs.Columns.{buffer_length, columns, slot_count};
 ghost use Rattle.layout.specs.Reading.{attribute_at};
-ghost use Rattle.fragments.specs.Ignoring.{ignore_of, kept_from};
+ghost use Rattle.fragments.specs.Ignoring.{kept_from};
 
 use crate::state::RunningHash;
-use fragments::ignoring::{Ignore, count_kept};
+use fragments::ignoring::count_kept;
 use fragments::kept_slots::KeptSlots;
 use layout::columns::{SLOT_CONTENT, SLOT_KEY, SLOT_KIND, StoreWords, at};
 use layout::kinds::{inherent_from, kind_from};
+use rules::types::Ignore;
 
 // Hash the attribute at a slot: its key, its kind, its content, its flag.
 fn feed_attribute(store: &StoreWords, slot: usize, state: &mut RunningHash)
@@ -33,7 +34,7 @@ pub fn attributes_hash(
 )
     requires end_le_slot_count { end ≤ slot_count }
     requires first_le_end { first ≤ end }
-    ensures { state.new.word ≡ fnv_from state.old.word (count (length (kept_from (columns store.now) (ignore_of ignore) first end)) ++ concat_map attribute_bytes (kept_from (columns store.now) (ignore_of ignore) first end)) }
+    ensures { state.new.word ≡ fnv_from state.old.word (count (length (kept_from (columns store.now) ignore first end)) ++ flat_map attribute_bytes (kept_from (columns store.now) ignore first end)) }
 {
     state.hash_count(count_kept(store, ignore, first, end));
     for slot in KeptSlots::new(store, ignore, first, end) {

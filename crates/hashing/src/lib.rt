@@ -4,14 +4,14 @@
 // list of renamed types, have the same hash. The converse isn't guaranteed: collisions are possible.
 #![tactic(auto)]
 
-pub mod alone;
 pub mod attributes;
-pub mod calls;
+pub mod chains;
 pub mod fnv;
 pub mod hashes;
 pub mod names;
 pub mod passes;
 pub mod product;
+pub mod regionless;
 pub mod shells;
 pub mod state;
 pub mod walk;

@@ -3,12 +3,13 @@ ghost use Rattle.std.specs.Prelude.{◌<◌, All};
 ghost use Rattle.layout.specs.Columns.{columns};
 ghost use Rattle.layout.specs.Reading.{op_count, store_in};
 ghost use Rattle.layout.specs.Soundness.{IsSound};
-ghost use Rattle.hashing.specs.Walked.{FeedsUses, FedNames};
+ghost use Rattle.hashing.specs.Walked.{FeedsUses, FeedsOwnNames};
 
 use crate::state::RunningHash;
+use fragments::words::{WalkNumbers, block_name, value_name};
 use layout::columns::StoreWords;
 use layout::slices::{operands_of, successors_of};
-use numbering::words::{Name, WalkNumbers, block_name, value_name};
+use rules::types::Name;
 
 // Hash each use of a list by the name that `name` gives it.
 pub fn hash_uses<F: Fn(u32) -> Name>(list: &[u32], name: F, state: &mut RunningHash)
@@ -24,7 +25,7 @@ pub fn hash_uses<F: Fn(u32) -> Name>(list: &[u32], name: F, state: &mut RunningH
 pub fn hash_names(store: &StoreWords, numbers: &WalkNumbers, n: usize, state: &mut RunningHash)
     requires sound { IsSound store.now }
     requires n_bound { n < op_count (columns store.now) }
-    ensures { FedNames (store_in store.now) n numbers.now state.old.word state.new.word }
+    ensures { FeedsOwnNames (store_in store.now) n numbers.now state.old.word state.new.word }
 {
     hash_uses(
         operands_of(store, n),

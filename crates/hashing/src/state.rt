@@ -2,10 +2,9 @@
 // methods.
 ghost use Rattle.std.specs.Prelude.{◌≡◌, ◌++◌};
 ghost use Rattle.rules.specs.Hash.{fnv_start, fnv_from, tag, leaf, count, flag, name_bytes};
-ghost use Rattle.numbering.specs.Words.{rule_name};
 
 use crate::fnv::{START, feed_count, feed_leaf, feed_tag};
-use numbering::words::Name;
+use rules::types::Name;
 
 #[derive(Clone, Copy)]
 pub struct RunningHash {
@@ -50,7 +49,7 @@ impl RunningHash {
 
     // Feeds a use by its name: tag 0 and the walk number, or tag 1 and the number in the store.
     pub fn hash_name(&mut self, name: Name)
-        ensures { self.new.word ≡ fnv_from self.old.word (name_bytes (rule_name name)) }
+        ensures { self.new.word ≡ fnv_from self.old.word (name_bytes name) }
     {
         match name {
             Name::WalkNumber(i) => {

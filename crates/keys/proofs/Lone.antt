@@ -2,15 +2,17 @@
 use Prim.Native.Nat.{ℕ}
 use mathlib.Core.List.{List, [], ◌∷◌, ◌++◌, append-nil}
 use mathlib.Core.Path.{◌≡◌, sym, ap, ◌∙◌}
-use Rattle.rules.specs.Store.{Store, of_op, op_at, regions_of, values_of}
-use Rattle.rules.specs.Fragments.{Step, op, shell, names, block_owner}
+use Rattle.rules.specs.Store.{Store, op_at, regions_of, values_of}
+use Rattle.rules.specs.declared.types.Owner.TheVariants.{Op as of_op}
+use Rattle.rules.specs.Fragments.{Step, shell, names, block_owner}
+use Rattle.rules.specs.declared.types.Sort.TheVariants.{Op as op}
 use Rattle.rules.specs.Hash.{no_numbers, numbered, feeds, all_bytes}
 use Rattle.rules.specs.Types.{renamed}
 use Rattle.rules.specs.Keys.{key}
-use Rattle.rules.proofs.Types.Renamed.{values_renamed, steps_renamed}
-use Rattle.fragments.specs.Options.{Options, under}
-use Rattle.numbering.proofs.Lone.{two_steps}
-use Rattle.key_bytes.specs.Put.{owner_bytes}
+use Rattle.rules.proofs.RenamedTypes.Renamed.{values_renamed, steps_renamed}
+use Rattle.fragments.specs.Options.{Options, renamed_under}
+use Rattle.fragments.proofs.Lone.{two_steps}
+use Rattle.keys.specs.Put.{owner_bytes}
 use Rattle.keys.specs.Written.{names_bytes, steps_bytes}
 
 module _ (s : Store) (o : Options) (n : ℕ) where
@@ -24,7 +26,7 @@ module _ (s : Store) (o : Options) (n : ℕ) where
       ap (λ (vs : List ℕ). owner_bytes s o (of_op n) ++ ((names_bytes vs (op_at s n).operands ++ names_bytes [] (op_at s n).successors) ++ [])) (values_renamed o.types s (of_op n))
       ∙ ap (λ (bs : List ℕ). owner_bytes s o (of_op n) ++ bs) (append-nil own_uses)
 
-  pub alone_bytes : regions_of s n ≡ [] → owner_bytes s o (of_op n) ++ own_uses ≡ key (under o s) o.ignore op n
+  pub alone_bytes : regions_of s n ≡ [] → owner_bytes s o (of_op n) ++ own_uses ≡ key (renamed_under o s) o.ignore op n
   unfolding key
   alone_bytes none =
       sym (ap (λ (xs : List Step). steps_bytes s o xs no_numbers) (steps_renamed o.types s op n ∙ two_steps s n none) ∙ two_bytes)

@@ -4,42 +4,45 @@ use native.Mathlib.Omega.{arith}
 use mathlib.Core.List.{List, [], ◌∷◌, append-nil}
 use mathlib.Core.Path.{◌≡◌, sym, ap, ◌∙◌}
 use lib.ListN.{length}
-use Rattle.rules.specs.Lists.{concat_map}
-use Rattle.rules.specs.Store.{Store, of_op, blocks_of, regions_of, values_of, max_nesting}
-use Rattle.rules.specs.Fragments.{Sort, op, steps, step_defines, op_owner, block_owner, outermost, ops_in_blocks, ops_inside, defines_owners, defines_values, defines_blocks, fragment_ops}
-use Rattle.rules.specs.Shells.{Ignore}
+use Rattle.std.specs.List.{flat_map}
+use Rattle.rules.specs.Store.{Store, blocks_of, regions_of, values_of, max_nesting}
+use Rattle.rules.specs.declared.types.Owner.TheVariants.{Op as of_op}
+use Rattle.rules.specs.Fragments.{steps, step_defines, op_owner, block_owner, outermost, ops_in_blocks, ops_inside, defines_owners, defines_values, defines_blocks, fragment_ops}
+use Rattle.rules.specs.declared.types.Sort.{Sort}
+use Rattle.rules.specs.declared.types.Sort.TheVariants.{Op as op}
+use Rattle.rules.specs.declared.types.Ignore.{Ignore}
 use Rattle.rules.specs.Hash.{no_numbers}
 use Rattle.rules.specs.Keys.{key}
 use Rattle.rules.specs.Extents.{deepest, op_nesting, deepest_nesting, extent}
-use Rattle.numbering.specs.Words.{values_numbered, blocks_numbered}
-use Rattle.numbering.specs.Numbered.{values_in, blocks_in, Numbers}
-use Rattle.numbering.proofs.Counting.{no_words, stands_start}
-use Rattle.numbering.proofs.Lone.{two_steps}
+use Rattle.fragments.specs.Words.{values_numbered, blocks_numbered}
+use Rattle.fragments.specs.Numbered.{values_in, blocks_in, Numbers}
+use Rattle.fragments.proofs.Counting.{no_words, stands_start}
+use Rattle.fragments.proofs.Lone.{two_steps}
 use Rattle.keys.specs.Extents.{of_numbers}
 
 -- ---- an operation without regions
 
 module _ (s : Store) (ig : Ignore) (n : ℕ) (none : regions_of s n ≡ []) where
   owners_alone : defines_owners s op n ≡ of_op n ∷ []
-  unfolding defines_owners concat_map step_defines
-  owners_alone = ap (concat_map step_defines) (two_steps s n none)
+  unfolding defines_owners step_defines
+  owners_alone = ap (flat_map step_defines) (two_steps s n none)
 
   values_alone : length (defines_values s op n) ≡ length (values_of s (of_op n))
-  unfolding defines_values concat_map
-  values_alone = ap (λ ws. length (concat_map (values_of s) ws)) owners_alone ∙ ap length (append-nil (values_of s (of_op n)))
+  unfolding defines_values
+  values_alone = ap (λ ws. length (flat_map (values_of s) ws)) owners_alone ∙ ap length (append-nil (values_of s (of_op n)))
 
   blocks_alone : length (defines_blocks s op n) ≡ 0
-  unfolding defines_blocks concat_map block_owner
-  blocks_alone = ap (λ ws. length (concat_map block_owner ws)) owners_alone
+  unfolding defines_blocks block_owner
+  blocks_alone = ap (λ ws. length (flat_map block_owner ws)) owners_alone
 
   ops_alone : length (fragment_ops s op n) ≡ 1
-  unfolding fragment_ops concat_map op_owner
-  ops_alone = ap (λ ws. length (concat_map op_owner ws)) owners_alone
+  unfolding fragment_ops op_owner
+  ops_alone = ap (λ ws. length (flat_map op_owner ws)) owners_alone
 
   nesting_alone : deepest_nesting s op n ≡ 0
-  unfolding deepest_nesting outermost deepest op_nesting ops_inside concat_map
+  unfolding deepest_nesting outermost deepest op_nesting ops_inside
   nesting_alone =
-      let inside : ops_inside s n ≡ [] = ap (concat_map (λ (r : ℕ). ops_in_blocks s (blocks_of s r))) none in
+      let inside : ops_inside s n ≡ [] = ap (flat_map (λ (r : ℕ). ops_in_blocks s (blocks_of s r))) none in
       let e : op_nesting max_nesting s n ≡ 0 = ap (deepest (λ (m : ℕ). suc (op_nesting 31 s m))) inside in
       omega (arith, e)
 

@@ -2,8 +2,7 @@
 use Rattle.std.specs.Prelude.{ℕ}
 use Rattle.std.specs.Prelude as std
 use Rattle.rules.specs.Extents as rules
-use Rattle.layout.specs.Causes.{number_of}
-use Rattle.layout.specs.declared.causes.Cause.{Cause}
+use Rattle.rules.specs.declared.types.Cause.{Cause}
 use Rattle.keys.specs.declared.types.Extent.{Extent}
 
 -- bytes, values, blocks, operations, nesting
@@ -17,4 +16,4 @@ extent_means e = of_numbers e.bytes e.values e.blocks e.operations e.nesting
 -- the rules' answer for each case
 unfoldable pub sized_of : std.Result Extent Cause → rules.Sized
 sized_of (std.Ok e) = rules.extent_is (extent_means e)
-sized_of (std.Err cause) = rules.refused_extent (number_of cause)
+sized_of (std.Err cause) = rules.refused_extent cause

@@ -1,4 +1,6 @@
--- Keys in lent bytes: what is written of them, and what a call answers.
+-- Bytes of a key put into lent bytes, the order of keys, what is written of a fragment, and what a call answers.
+pub mod Put
+pub mod Order
 pub mod Written
 pub mod Extents
 pub mod Calls

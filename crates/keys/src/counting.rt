@@ -1,17 +1,18 @@
 // The extent of a fragment, put together from the length of its key, what its walk has numbered, and its size.
 ghost use Rattle.std.specs.Prelude.{◌≡◌, ◌<◌, length};
-ghost use Rattle.rules.specs.Store.{of_op, values_of};
+ghost use Rattle.rules.specs.Store.{values_of};
+ghost use Rattle.rules.specs.declared.types.Owner.TheVariants.{Op as of_op};
 ghost use Rattle.layout.specs.Columns.{columns};
 ghost use Rattle.layout.specs.Reading.{op_count, store_in};
 ghost use Rattle.layout.specs.Soundness.{IsSound};
-ghost use Rattle.numbering.specs.Words.{values_numbered, blocks_numbered};
+ghost use Rattle.fragments.specs.Words.{values_numbered, blocks_numbered};
 ghost use Rattle.keys.specs.Extents.{extent_means, of_numbers};
 
 use crate::types::Extent;
 use fragments::rows::op_row;
 use fragments::types::Size;
+use fragments::words::{BLOCKS_NUMBERED, VALUES_NUMBERED, WalkNumbers};
 use layout::columns::StoreWords;
-use numbering::words::{BLOCKS_NUMBERED, VALUES_NUMBERED, WalkNumbers};
 
 // The extent of an operation without regions, whose key has so many bytes.
 pub fn lone_extent(store: &StoreWords, n: usize, bytes: u32) -> Extent

@@ -3,19 +3,19 @@ ghost use Rattle.std.specs.Prelude.{◌≡◌, ◌<◌};
 ghost use Rattle.rules.specs.Hash.{name_bytes};
 ghost use Rattle.layout.specs.Columns.{columns};
 ghost use Rattle.layout.specs.Reading.{op_count};
-ghost use Rattle.numbering.specs.Words.{rule_name};
-ghost use Rattle.key_bytes.specs.Put.{Put};
-ghost use Rattle.fragments.specs.Terms.{store_read};
-ghost use Rattle.keys.specs.Written.{NamesAllowed, PutNames, WroteNames};
+ghost use Rattle.keys.specs.Put.{Put};
+ghost use Rattle.fragments.specs.View.{store_read};
+ghost use Rattle.keys.specs.Written.{NamesAllowed, PutNames, PutsNames};
 
-use fragments::terms::Terms;
-use key_bytes::numbers::{put_count, put_store_number, put_walk_number};
+use crate::numbers::{put_count, put_store_number, put_walk_number};
+use fragments::view::StoreView;
+use fragments::words::{WalkNumbers, block_name, value_name};
 use layout::slices::{operands_of, successors_of};
-use numbering::words::{Name, WalkNumbers, block_name, value_name};
+use rules::types::Name;
 
 // A use by its name: tag 0 and the walk number, or tag 1 and the number in the store.
 fn put_name(key: &mut [u8], name: Name) -> usize
-    ensures { Put (name_bytes (rule_name name)) key.old key.new result }
+    ensures { Put (name_bytes name) key.old key.new result }
 {
     match name {
         Name::WalkNumber(i) => put_walk_number(key, i),
@@ -37,13 +37,13 @@ pub fn put_uses<F: Fn(u32) -> Name>(key: &mut [u8], list: &[u32], name_of: F) ->
 }
 
 // What an operation uses: its operands, then its successors.
-pub fn put_names(terms: &Terms, numbers: &WalkNumbers, key: &mut [u8], n: usize) -> usize
-    requires { n < op_count (columns terms.now.store.now) }
-    ensures { WroteNames (store_read terms.now) n numbers.now key.old key.new result }
+pub fn put_names(view: &StoreView, numbers: &WalkNumbers, key: &mut [u8], n: usize) -> usize
+    requires { n < op_count (columns view.now.store.now) }
+    ensures { PutsNames (store_read view.now) n numbers.now key.old key.new result }
 {
-    let operands = operands_of(terms.store, n);
-    let at = put_uses(key, operands, |v| value_name(terms.store, numbers, v));
+    let operands = operands_of(view.store, n);
+    let at = put_uses(key, operands, |v| value_name(view.store, numbers, v));
     let rest = at.min(key.len());
-    let successors = successors_of(terms.store, n);
+    let successors = successors_of(view.store, n);
     at.saturating_add(put_uses(&mut key[rest..], successors, |b| block_name(numbers, b)))
 }

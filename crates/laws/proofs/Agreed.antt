@@ -6,8 +6,9 @@ use mathlib.Core.List.{List}
 use mathlib.Core.Path.{◌≡◌, sym, ap, ap₂, ◌∙◌}
 use Rattle.std.specs.Prelude.{Ok, Err}
 use Rattle.rules.specs.Store.{Store, sound}
-use Rattle.rules.specs.Fragments.{Sort, op, block, region}
-use Rattle.rules.specs.Shells.{Ignore}
+use Rattle.rules.specs.declared.types.Sort.{Sort}
+use Rattle.rules.specs.declared.types.Sort.TheVariants.{Op as op, Block as block, Region as region}
+use Rattle.rules.specs.declared.types.Ignore.{Ignore}
 use Rattle.rules.specs.Mapping.{Mapping, allowed}
 use Rattle.rules.specs.Comparison.{Pair, unequal, one_longer, Walk, on, ended, standing, pair_of, compare}
 use Rattle.rules.specs.Types.{types_hold, renamed}
@@ -15,16 +16,16 @@ use Rattle.rules.specs.Answers.{Comparison, eq, neq, comparison_of, comparison}
 use Rattle.rules.specs.Rust as rust
 use Rattle.rules.specs.Agreement.{named_by, named, result_of, answered, met_one_longer, ComparesAsTheRust, HashesAsTheRust}
 use Rattle.rules.specs.Laws.{In}
-use Rattle.rules.specs.Statements.{RenamedSound}
-use Rattle.rules.proofs.Types.Under.{renamed_sound}
+use Rattle.rules.specs.TypeLaws.{RenamedSound}
+use Rattle.rules.proofs.RenamedTypes.Under.{renamed_sound}
 use Rattle.rules.proofs.Walking.Answered.{comparison_is}
 use Rattle.rules.proofs.Rust.Comparison.{compares_as_the_rust}
 use Rattle.rules.proofs.Rust.Hash.{hashes_as_the_rust}
 use Rattle.layout.specs.Reading.{store_in}
-use Rattle.journal.specs.Words.{sound_lent}
-use Rattle.mapping.specs.MappingWords.{mapping_of}
-use Rattle.pairing.specs.Told.{answer_of, compared_of}
-use Rattle.pairing.specs.declared.types.Unequal.TheVariants as code
+use Rattle.layout.specs.MarkedReading.{sound_lent}
+use Rattle.equivalence.specs.MappingWords.{mapping_of}
+use Rattle.equivalence.specs.Compares.{answer_of, compared_of}
+use Rattle.equivalence.specs.declared.verdicts.Unequal.TheVariants as code
 use Rattle.equivalence.specs.Calls as comparisons
 use Rattle.laws.specs.Answers.{EqAnswer}
 use Rattle.laws.specs.Demand2.{verdict_of, AnswersAgree, Demand2OfCode}
@@ -65,7 +66,7 @@ module _ (b : List ℕ) (sd : sound_lent b ≡ true) (types : List ℕ) (th : ty
   sound_read = renamed_sound types (store_in b) (ruled b sd types th ig f)
 
   module _ (l r : ℕ) (il : In (store_in b) f l) (ir : In (store_in b) f r) (before after : List ℕ) (am : allowed (store_in b) (mapping_of before) ≡ true)
-      (q : EqAnswer) (a : comparisons.Answered (sound_lent b) b types before after ig f l r (compared_of q)) where
+      (q : EqAnswer) (a : comparisons.ComparisonAnswers (sound_lent b) b types before after ig f l r (compared_of q)) where
     walked : comparison_of (compare read ig f l r (mapping_of before)) (mapping_of before) ≡ record { answer = compared_of q; mapping = mapping_of after }
     walked =
         sym (comparison_is (store_in b) (ruled b sd types th ig f) ig f types th (mapping_of before) am l r il ir)

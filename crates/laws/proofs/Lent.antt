@@ -6,7 +6,7 @@ use Rattle.rules.specs.Mapping.{Mapping, allowed}
 use Rattle.rules.specs.Answers.{Comparison}
 use Rattle.rules.proofs.Walking.Allowed.{comparison_allowed}
 use Rattle.layout.specs.Reading.{store_in}
-use Rattle.mapping.specs.MappingWords.{mapping_of}
+use Rattle.equivalence.specs.MappingWords.{mapping_of}
 use Rattle.laws.specs.Lending.{AllowedAgain}
 
 pub allowed_again : AllowedAgain

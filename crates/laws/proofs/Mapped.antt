@@ -7,21 +7,22 @@ use mathlib.Core.List.{List}
 use mathlib.Core.Logic.{◌⊎◌, inl, inr}
 use mathlib.Core.Path.{◌≡◌, sym, ap, ◌∙◌}
 use Rattle.rules.specs.Store.{Store}
-use Rattle.rules.specs.Fragments.{Sort, Premise}
-use Rattle.rules.specs.Shells.{Ignore}
+use Rattle.rules.specs.Fragments.{Premise}
+use Rattle.rules.specs.declared.types.Sort.{Sort}
+use Rattle.rules.specs.declared.types.Ignore.{Ignore}
 use Rattle.rules.specs.Types.{types_hold, renamed}
 use Rattle.rules.specs.Answers.{Comparison}
 use Rattle.rules.specs.Laws.{Equal, In, Laws}
 use Rattle.rules.specs.MappingLaws.{filed, MappingLaws, MappingLawsApart, MappingLawsOfSound}
-use Rattle.rules.specs.Statements.{RenamedSound}
-use Rattle.rules.proofs.Types.Under.{renamed_sound, defines_renamed}
+use Rattle.rules.specs.TypeLaws.{RenamedSound}
+use Rattle.rules.proofs.RenamedTypes.Under.{renamed_sound, defines_renamed}
 use Rattle.rules.proofs.Walking.Answered.{filed_answered}
 use Rattle.rules.proofs.MappingLaws.{mapping_laws_of_sound}
 use Rattle.layout.specs.Reading.{store_in}
-use Rattle.journal.specs.Words.{sound_lent}
-use Rattle.building.specs.Calls.{AfterCalls}
-use Rattle.building.proofs.Answering.{after_calls}
-use Rattle.mapping.specs.MappingWords.{mapping_of}
+use Rattle.layout.specs.MarkedReading.{sound_lent}
+use Rattle.api.specs.Calls.{AfterCalls}
+use Rattle.api.proofs.Answering.{after_calls}
+use Rattle.equivalence.specs.MappingWords.{mapping_of}
 use Rattle.laws.specs.Answers.{EqAnswer, Compares, SaysEqual}
 use Rattle.laws.specs.Mapped.{Leaves, MappingsObey, MappingLawsOfCode}
 use Rattle.laws.proofs.Obeyed as obeyed

@@ -7,27 +7,28 @@ use mathlib.Core.List.{List}
 use mathlib.Core.Path.{◌≡◌, sym, ap, subst, ◌∙◌}
 use Rattle.std.specs.Prelude.{Ok, Err}
 use Rattle.rules.specs.Store.{Store, sound}
-use Rattle.rules.specs.Fragments.{Sort, Premise}
-use Rattle.rules.specs.Shells.{Ignore}
+use Rattle.rules.specs.Fragments.{Premise}
+use Rattle.rules.specs.declared.types.Sort.{Sort}
+use Rattle.rules.specs.declared.types.Ignore.{Ignore}
 use Rattle.rules.specs.Mapping.{Mapping, empty_mapping}
 use Rattle.rules.specs.Types.{types_hold, renamed}
 use Rattle.rules.specs.Answers.{Comparison, eq, comparison, hash_is, hashed}
 use Rattle.rules.specs.Hash.{hash}
 use Rattle.rules.specs.Laws.{Equal, In, Laws, LawsOfSound}
 use Rattle.rules.proofs.Walking.Answered.{equal_answered, hashed_is}
-use Rattle.rules.specs.Statements.{RenamedSound, RenamedIn, RenamedPremise}
-use Rattle.rules.proofs.Types.Under.{renamed_sound, renamed_in, renamed_premise}
+use Rattle.rules.specs.TypeLaws.{RenamedSound, RenamedIn, RenamedPremise}
+use Rattle.rules.proofs.RenamedTypes.Under.{renamed_sound, renamed_in, renamed_premise}
 use Rattle.rules.proofs.Laws.{laws_of_sound}
 use Rattle.layout.specs.Reading.{store_in}
-use Rattle.journal.specs.Words.{sound_lent}
-use Rattle.marks.proofs.Lent.{lent_facts}
-use Rattle.building.specs.Calls.{AfterCalls}
-use Rattle.building.proofs.Answering.{after_calls}
-use Rattle.mapping.specs.MappingWords.{mapping_of, empty_words}
+use Rattle.layout.specs.MarkedReading.{sound_lent}
+use Rattle.undo_log.proofs.Lent.{lent_facts}
+use Rattle.api.specs.Calls.{AfterCalls}
+use Rattle.api.proofs.Answering.{after_calls}
+use Rattle.equivalence.specs.MappingWords.{mapping_of, empty_words}
 use Rattle.equivalence.specs.Calls as comparisons
-use Rattle.pairing.specs.Told.{answer_of, compared_of}
-use Rattle.mapping.proofs.Unmapped.{empty_words_lem}
-use Rattle.pairing.specs.declared.types.Unequal.TheVariants.{FirstNEQOps, FirstNEQRegions, FirstNEQBlocks}
+use Rattle.equivalence.specs.Compares.{answer_of, compared_of}
+use Rattle.equivalence.proofs.Unmapped.{empty_words_lem}
+use Rattle.equivalence.specs.declared.verdicts.Unequal.TheVariants.{FirstNEQOps, FirstNEQRegions, FirstNEQBlocks}
 use Rattle.hashing.specs.Calls as hashes
 use Rattle.laws.specs.Answers.{EqAnswer, HashAnswer, Compares, Hashes, SaysEqual, AnswersObey, Demand3OfCode}
 
@@ -68,7 +69,7 @@ module _ (b : List ℕ) (sd : sound_lent b ≡ true) (types : List ℕ) (th : ty
 
   module _ (x y : ℕ) (ix : In (store_in b) f x) (iy : In (store_in b) f y) where
     -- the rules' comparison has this answer, and leaves what the words are read as
-    pub told : (q : EqAnswer) (words : List ℕ) → comparisons.Answered (sound_lent b) b types empty_words words ig f x y (compared_of q)
+    pub told : (q : EqAnswer) (words : List ℕ) → comparisons.ComparisonAnswers (sound_lent b) b types empty_words words ig f x y (compared_of q)
         → comparison true (store_in b) types empty_mapping ig f x y ≡ record { answer = compared_of q; mapping = mapping_of words }
     told q words h =
         subst (λ (m : Mapping). comparison true (store_in b) types m ig f x y ≡ record { answer = compared_of q; mapping = mapping_of words }) empty_words_lem

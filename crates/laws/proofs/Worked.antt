@@ -1,20 +1,24 @@
 -- The same work over the code. What a comparison leaves is read as the filed mapping, what is left of all twins as the rules' twins, and
 -- what the call that copies leaves as the rules' copy and its mapping; and of those the same work is proved. Assumes nothing.
+use Rattle.rules.specs.declared.types.Cause.{Cause}
+use Rattle.rules.specs.declared.types.Cause.TheVariants.{NotSound, BadMapping}
 use Prim.Native.Nat.{ℕ, zero, suc, ◌+◌, ◌<◌}
 use native.Mathlib.Omega.{arith}
 use mathlib.Core.Bool.{Bool, true, false, cond}
 use mathlib.Core.List.{List, [], ◌∷◌, map}
 use mathlib.Core.Logic.{◌≢◌}
-use mathlib.Core.Option.{Option, none, some, none-ne-some}
+use Rattle.std.specs.Prelude.{Option, None, Some}
+use Rattle.std.proofs.lemmas.Option.{none-some}
 use mathlib.Core.Path.{◌≡◌, refl, sym, ap, subst, ◌∙◌}
 use borrow.Author.Tests.{lt-ltb}
 use lib.ListN.{length, get_or, length-map, get_or-append}
 use Rattle.rules.specs.Lists.{numbers_from, numbers_where}
 use Rattle.rules.specs.Store.{Store, Op, op_exists}
-use Rattle.rules.specs.Fragments.{op, block, exists}
+use Rattle.rules.specs.Fragments.{exists}
+use Rattle.rules.specs.declared.types.Sort.TheVariants.{Op as op, Block as block}
 use Rattle.rules.specs.Laws.{In}
 use Rattle.rules.specs.Building.{made, refused, first_failed}
-use Rattle.rules.specs.Shells.{Ignore}
+use Rattle.rules.specs.declared.types.Ignore.{Ignore}
 use Rattle.rules.specs.Mapping.{Mapping, allowed}
 use Rattle.rules.specs.Types.{renamed}
 use Rattle.rules.specs.Keys.{written}
@@ -23,10 +27,11 @@ use Rattle.rules.specs.Copying.{copied, copy_mapping, copy_tests}
 use Rattle.rules.specs.CopyLaws.{Copies}
 use Rattle.rules.specs.Grouping.{Grouping, grouped, refused_twins, no_twin, twin_of, twins_of, twin_word, twin_tests, grouping_by, grouping}
 use Rattle.rules.specs.Runs.{Run, same_runs, repeated, run_found, repeated_of, repeated_by, run_tests, repeated_run}
-use Rattle.rules.specs.Statements.{RenamedSound, RenamedIn, RepeatedFound, Same}
+use Rattle.rules.specs.TypeLaws.{RenamedSound, RenamedIn}
+use Rattle.rules.specs.RunLaws.{RepeatedFound, Same}
 use Rattle.rules.proofs.Basics.Cut.{map_through}
 use Rattle.rules.proofs.Soundness.Accepted.{first_failed_none}
-use Rattle.rules.proofs.Types.Under.{renamed_sound, renamed_in}
+use Rattle.rules.proofs.RenamedTypes.Under.{renamed_sound, renamed_in}
 use Rattle.rules.proofs.Runs.Searched.{repeated_found}
 use Rattle.semantics.specs.SameWork.{SameWork, WorkAlike}
 use Rattle.semantics.specs.Copies.{CopyWork, TwinWork}
@@ -35,14 +40,14 @@ use Rattle.semantics.specs.BlockRuns.{RunWork}
 use Rattle.semantics.proofs.Copies.{copy_work, twin_work}
 use Rattle.semantics.proofs.BlockRuns.{run_work}
 use Rattle.layout.specs.Reading.{store_in}
-use Rattle.journal.specs.Journal.{marked_of}
-use Rattle.journal.specs.Words.{journaled_of, marked_in}
-use Rattle.marks.proofs.Lent.{lent_facts}
-use Rattle.building.specs.Calls.{AfterCalls}
-use Rattle.building.proofs.Answering.{after_calls}
+use Rattle.layout.specs.Journal.{marked_of}
+use Rattle.layout.specs.MarkedReading.{journaled_of, marked_in}
+use Rattle.undo_log.proofs.Lent.{lent_facts}
+use Rattle.api.specs.Calls.{AfterCalls}
+use Rattle.api.proofs.Answering.{after_calls}
 use Rattle.grouping.specs.Calls as twins
-use Rattle.runs.specs.Calls as runs
-use Rattle.mapping.specs.MappingWords.{mapping_of}
+use Rattle.repeated_runs.specs.Calls as runs
+use Rattle.equivalence.specs.MappingWords.{mapping_of}
 use Rattle.laws.specs.Work.{SameWorkOfCode, TwinWorkOfCode, CopyWorkOfCode, RunWorkOfCode}
 use Rattle.laws.proofs.Obeyed as obeyed
 use Rattle.laws.proofs.Mapped as mapped
@@ -76,13 +81,13 @@ module _ (s : Store) (ig : Ignore) (words : List ℕ) (n : ℕ) (l : n < length 
       word : ℕ → ℕ
       word k = twin_word (twin_of s ig k)
 
-  twin_is : (m : ℕ) → get_or (written (map twin_word (twins_of s ig)) words) n no_twin ≡ m → m ≢ no_twin → twin_of s ig n ≡ some m
+  twin_is : (m : ℕ) → get_or (written (map twin_word (twins_of s ig)) words) n no_twin ≡ m → m ≢ no_twin → twin_of s ig n ≡ Some m
   unfolding twin_word
   twin_is m e ne = go (twin_of s ig n) refl
     where
-      go : (t : Option ℕ) → twin_of s ig n ≡ t → t ≡ some m
-      go none q = absurd (ne (sym e ∙ twin_at ∙ ap twin_word q))
-      go (some k) q = ap some (sym (ap twin_word q) ∙ sym twin_at ∙ e)
+      go : (t : Option ℕ) → twin_of s ig n ≡ t → t ≡ Some m
+      go None q = absurd (ne (sym e ∙ twin_at ∙ ap twin_word q))
+      go (Some k) q = ap Some (sym (ap twin_word q) ∙ sym twin_at ∙ e)
 
 -- the call answers only where no test fails, and leaves the rules' words
 module _ (s : Store) (types : List ℕ) (ig : Ignore) (before after : List ℕ) (count : ℕ)
@@ -91,27 +96,27 @@ module _ (s : Store) (types : List ℕ) (ig : Ignore) (before after : List ℕ) 
   unfolding grouping grouping_by renamed
   told = go (first_failed (twin_tests true s types (length before))) h
     where
-      go : (o : Option ℕ) → grouping_by o (renamed types s) ig before ≡ record { answer = grouped count; words = after }
+      go : (o : Option Cause) → grouping_by o (renamed types s) ig before ≡ record { answer = grouped count; words = after }
           → (count ≡ length s.ops) × (after ≡ written (map twin_word (twins_of (renamed types s) ig)) before)
-      go none e = (let k : grouped (length (renamed types s).ops) ≡ grouped count = ap (λ (g : Grouping). g.answer) e in cc, sym (ap (λ (g : Grouping). g.words) e))
-      go (some cause) e = let z : ⊥ = let k : refused_twins cause ≡ grouped count = ap (λ (g : Grouping). g.answer) e in cc in absurd z
+      go None e = (let k : grouped (length (renamed types s).ops) ≡ grouped count = ap (λ (g : Grouping). g.answer) e in cc, sym (ap (λ (g : Grouping). g.words) e))
+      go (Some cause) e = let z : ⊥ = let k : refused_twins cause ≡ grouped count = ap (λ (g : Grouping). g.answer) e in cc in absurd z
 
 -- a copy that is answered by a number is accepted; the number is the next one, and the store has the copy
 module _ (t : MarkedStore) (ok : Bool) (n : ℕ) (place : Option ℕ) (c : ℕ) where
-  none_failed : (b : Bool) → first_failed ((b, 8) ∷ copy_tests t.store n place) ≡ none → Copies t.store n place
+  none_failed : (b : Bool) → first_failed ((b, BadMapping) ∷ copy_tests t.store n place) ≡ None → Copies t.store n place
   unfolding first_failed
   none_failed true h = h
-  none_failed false h = absurd (none-ne-some 8 (sym h))
+  none_failed false h = absurd (none-some BadMapping (sym h))
 
   copy_made : made c ≡ marked_answer t (copy ok n place)
       → Copies t.store n place × (c ≡ length t.store.ops) × ((marked t (copy ok n place)).store ≡ copied t.store n place)
   unfolding marked_answer marked_answer_by marked_acceptance marked marked_by marked_applied marked_tests
   copy_made e = go (first_failed (marked_tests t (copy ok n place))) refl e
     where
-      go : (o : Option ℕ) → first_failed (marked_tests t (copy ok n place)) ≡ o → made c ≡ marked_answer_by o t (copy ok n place)
+      go : (o : Option Cause) → first_failed (marked_tests t (copy ok n place)) ≡ o → made c ≡ marked_answer_by o t (copy ok n place)
           → Copies t.store n place × (c ≡ length t.store.ops) × ((marked_by o t (copy ok n place)).store ≡ copied t.store n place)
-      go none q e = (none_failed ok q, cc, refl)
-      go (some cause) q e = let z : ⊥ = cc in absurd z
+      go None q e = (none_failed ok q, cc, refl)
+      go (Some cause) q e = let z : ⊥ = cc in absurd z
 
 -- two runs that the call finds are equal, and their block exists
 module _ (s : Store) (types : List ℕ) (ig : Ignore) (b n : ℕ) (r : Run) (h : repeated_run true s types ig b n ≡ run_found r) where
@@ -119,14 +124,14 @@ module _ (s : Store) (types : List ℕ) (ig : Ignore) (b n : ℕ) (r : Run) (h :
   unfolding repeated_run repeated_by repeated_of run_tests RepeatedFound Same
   found = go (first_failed (run_tests true s types b n)) refl h
     where
-      first : (o : Option Run) → repeated_of o ≡ run_found r → o ≡ some r
-      first none e = let z : ⊥ = cc in absurd z
-      first (some q) e = let k : q ≡ r = cc in ap some k
+      first : (o : Option Run) → repeated_of o ≡ run_found r → o ≡ Some r
+      first None e = let z : ⊥ = cc in absurd z
+      first (Some q) e = let k : q ≡ r = cc in ap Some k
 
-      go : (o : Option ℕ) → first_failed (run_tests true s types b n) ≡ o → repeated_by o (repeated (renamed types s) ig b n) ≡ run_found r
+      go : (o : Option Cause) → first_failed (run_tests true s types b n) ≡ o → repeated_by o (repeated (renamed types s) ig b n) ≡ run_found r
           → In s block b × (same_runs (renamed types s) ig b n r.left r.right ≡ true)
-      go none q e = ((first_failed_none (run_tests true s types b n) q).1.1.0, (repeated_found (renamed types s) ig b n r (first _ e)).1)
-      go (some cause) q e = let z : ⊥ = cc in absurd z
+      go None q e = ((first_failed_none (run_tests true s types b n) q).1.1.0, (repeated_found (renamed types s) ig b n r (first _ e)).1)
+      go (Some cause) q e = let z : ⊥ = cc in absurd z
 
 module _ (Data World Mind : Type 0) where
   pub same_work_of_code : SameWorkOfCode Data World Mind
@@ -158,7 +163,7 @@ module _ (Data World Mind : Type 0) where
       let t = marked_in buffer in
       let ok = allowed s (mapping_of before) in
       let answered : made c ≡ marked_answer t (copy ok n place) =
-      subst (λ (b : Bool). made c ≡ cond b (marked_answer t (copy ok n place)) (refused 1)) sd h.store.answered in
+      subst (λ (b : Bool). made c ≡ cond b (marked_answer t (copy ok n place)) (refused NotSound)) sd h.store.answered in
       let k = copy_made t ok n place c answered in
       let reads : copied s n place ≡ store_in exit = sym (ap (λ (x : MarkedStore). x.store) (h.store.reads sd) ∙ k.2) in
       let mapping : copy_mapping s n ≡ mapping_of after = sym (h.mapping.accepted c refl) in

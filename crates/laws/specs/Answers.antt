@@ -3,19 +3,20 @@
 -- returns to marks" (order 7) or does not, and under every list of renamed types (order 3).
 -- An answer is any that meets the offered call's contract; so the statement is about what the code gives, whenever it is called.
 use Rattle.std.specs.Prelude.{ℕ, true, List, ◌≡◌, Result, Ok}
-use Rattle.rules.specs.Fragments.{Sort, Premise}
-use Rattle.rules.specs.Shells.{Ignore}
+use Rattle.rules.specs.Fragments.{Premise}
+use Rattle.rules.specs.declared.types.Sort.{Sort}
+use Rattle.rules.specs.declared.types.Ignore.{Ignore}
 use Rattle.rules.specs.Types.{types_hold}
 use Rattle.rules.specs.Marks.{MarkedCall}
 use Rattle.rules.specs.Laws.{In}
 use Rattle.layout.specs.Reading.{store_in}
-use Rattle.layout.specs.declared.causes.Cause.{Cause}
-use Rattle.journal.specs.Words.{sound_lent}
-use Rattle.building.specs.Calls.{Made, IsEmpty}
-use Rattle.mapping.specs.MappingWords.{empty_words}
+use Rattle.rules.specs.declared.types.Cause.{Cause}
+use Rattle.layout.specs.MarkedReading.{sound_lent}
+use Rattle.api.specs.Calls.{Made, IsEmpty}
+use Rattle.equivalence.specs.MappingWords.{empty_words}
 use Rattle.equivalence.specs.Calls as comparisons
-use Rattle.pairing.specs.Told.{compared_of}
-use Rattle.pairing.specs.declared.types.Unequal.{Unequal}
+use Rattle.equivalence.specs.Compares.{compared_of}
+use Rattle.equivalence.specs.declared.verdicts.Unequal.{Unequal}
 use Rattle.hashing.specs.Calls as hashes
 
 -- what an offered comparison answers, and an offered hash
@@ -27,11 +28,11 @@ HashAnswer = Result ℕ Cause
 
 -- the offered comparison of a with b, lent this list of types and an empty mapping, answers q (`operation_eq`, `basic_block_eq`, `region_eq`)
 unfoldable pub Compares : List ℕ → List ℕ → Ignore → Sort → ℕ → ℕ → EqAnswer → Type 0
-Compares buffer types ig f a b q = (after : List ℕ) × comparisons.Answered (sound_lent buffer) buffer types empty_words after ig f a b (compared_of q)
+Compares buffer types ig f a b q = (after : List ℕ) × comparisons.ComparisonAnswers (sound_lent buffer) buffer types empty_words after ig f a b (compared_of q)
 
 -- the offered hash of a, lent this list, answers h (`operation_hash`, `basic_block_hash`, `region_hash`)
 unfoldable pub Hashes : List ℕ → List ℕ → Ignore → Sort → ℕ → HashAnswer → Type 0
-Hashes buffer types ig f a h = hashes.Answered (sound_lent buffer) buffer types ig f a h
+Hashes buffer types ig f a h = hashes.HashAnswers (sound_lent buffer) buffer types ig f a h
 
 -- the answer is that the two are equal
 abbrev pub SaysEqual : EqAnswer → Type 0

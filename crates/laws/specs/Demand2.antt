@@ -2,10 +2,10 @@
 -- wherever no list of blocks or operations is, where the walk tests lengths, exactly one longer on the left".
 -- An answer is any that meets the offered call's contract, on any sound buffer, with any allowed mapping and under any list of renamed
 -- types that is not refused. "The oracle is given a store with types already replaced." (What building calls leave is
--- `AfterCalls`, in the crate building.)
+-- `AfterCalls`, in the crate api.)
 use Rattle.std.specs.Prelude.{ℕ, true, false, List, ◌≡◌, Ok, Err}
-use Rattle.rules.specs.Fragments.{Sort}
-use Rattle.rules.specs.Shells.{Ignore}
+use Rattle.rules.specs.declared.types.Sort.{Sort}
+use Rattle.rules.specs.declared.types.Ignore.{Ignore}
 use Rattle.rules.specs.Mapping.{allowed}
 use Rattle.rules.specs.Types.{types_hold, renamed}
 use Rattle.rules.specs.Comparison.{compare}
@@ -15,10 +15,10 @@ use Rattle.rules.specs.Rust as rust
 use Rattle.rules.specs.Agreement.{met_one_longer}
 use Rattle.rules.specs.Laws.{In}
 use Rattle.layout.specs.Reading.{store_in}
-use Rattle.journal.specs.Words.{sound_lent}
-use Rattle.mapping.specs.MappingWords.{mapping_of}
-use Rattle.pairing.specs.Told.{compared_of}
-use Rattle.pairing.specs.declared.types.Unequal.TheVariants as code
+use Rattle.layout.specs.MarkedReading.{sound_lent}
+use Rattle.equivalence.specs.MappingWords.{mapping_of}
+use Rattle.equivalence.specs.Compares.{compared_of}
+use Rattle.equivalence.specs.declared.verdicts.Unequal.TheVariants as code
 use Rattle.equivalence.specs.Calls as comparisons
 use Rattle.laws.specs.Answers.{EqAnswer, HashAnswer, Hashes}
 
@@ -34,12 +34,12 @@ pub record AnswersAgree (buffer types : List ℕ) (ig : Ignore) (f : Sort) : Typ
   -- a comparison of fragments that exist, from an allowed mapping: the rules' walk, with its mapping and `paired`
   pub compared :
       (l r : ℕ) → In (store_in buffer) f l → In (store_in buffer) f r → (before after : List ℕ) → allowed (store_in buffer) (mapping_of before) ≡ true
-      → (q : EqAnswer) → comparisons.Answered (sound_lent buffer) buffer types before after ig f l r (compared_of q)
+      → (q : EqAnswer) → comparisons.ComparisonAnswers (sound_lent buffer) buffer types before after ig f l r (compared_of q)
       → comparison_of (compare (renamed types (store_in buffer)) ig f l r (mapping_of before)) (mapping_of before) ≡ record { answer = compared_of q; mapping = mapping_of after }
   -- and the Rust's, where no list is met that is one longer on the left
   pub compared_as_the_rust :
       (l r : ℕ) → In (store_in buffer) f l → In (store_in buffer) f r → (before after : List ℕ) → allowed (store_in buffer) (mapping_of before) ≡ true
-      → (q : EqAnswer) → comparisons.Answered (sound_lent buffer) buffer types before after ig f l r (compared_of q)
+      → (q : EqAnswer) → comparisons.ComparisonAnswers (sound_lent buffer) buffer types before after ig f l r (compared_of q)
       → met_one_longer (compare (renamed types (store_in buffer)) ig f l r (mapping_of before)) ≡ false
       → rust.rust_eq (renamed types (store_in buffer)) ig f l r (mapping_of before) ≡ rust.answers (verdict_of q) (mapping_of after)
   -- a hash of a fragment that exists: the rules', and the Rust's

@@ -3,18 +3,19 @@
 -- call's contract, as in `Answers`.
 use Rattle.std.specs.Prelude.{ℕ, true, List, ◌↔◌, ◌≡◌, pos, take, Ok}
 use Rattle.std.specs.declared.cmp.Ordering.{Ordering}
-use Rattle.rules.specs.Lists.{all}
-use Rattle.rules.specs.Fragments.{Sort, Premise}
-use Rattle.rules.specs.Shells.{Ignore}
+use Rattle.std.specs.List.{list_all}
+use Rattle.rules.specs.Fragments.{Premise}
+use Rattle.rules.specs.declared.types.Sort.{Sort}
+use Rattle.rules.specs.declared.types.Ignore.{Ignore}
 use Rattle.rules.specs.Types.{types_hold}
 use Rattle.rules.specs.Marks.{MarkedCall, marked_call_fits}
 use Rattle.rules.specs.Keys.{ordering_number, compare_bytes, fits, fields_fit}
 use Rattle.rules.specs.Laws.{In}
 use Rattle.layout.specs.Reading.{store_in}
-use Rattle.journal.specs.Words.{sound_lent}
-use Rattle.building.specs.Calls.{Made, IsEmpty}
+use Rattle.layout.specs.MarkedReading.{sound_lent}
+use Rattle.api.specs.Calls.{Made, IsEmpty}
 use Rattle.keys.specs.Calls as keys
-use Rattle.key_bytes.specs.Order.{number_of_ordering}
+use Rattle.keys.specs.Order.{number_of_ordering}
 use Rattle.laws.specs.Answers.{EqAnswer, Compares, SaysEqual}
 
 -- the offered key call of a has written this key into some lent bytes (`operation_key`, `basic_block_key`, `region_key`)
@@ -22,7 +23,7 @@ pub record Writes (buffer types : List ℕ) (ig : Ignore) (f : Sort) (a : ℕ) (
   pub before : List ℕ
   pub after : List ℕ
   pub length : ℕ
-  pub answered : keys.Answered (sound_lent buffer) buffer types ig f a before after (keys.keyed_of (Ok length))
+  pub answered : keys.KeyAnswers (sound_lent buffer) buffer types ig f a before after (keys.keyed_of (Ok length))
   pub begin : take length after ≡ key
 
 -- two such keys compare as r (`compare_keys`)
@@ -41,9 +42,9 @@ AnswersFile buffer types ig f =
 -- of 32 bits, refused ones among them, under every list of types of 32 bits that is not refused: `filing_of_code`
 unfoldable pub FilingOfCode : Type 0
 FilingOfCode =
-    (entry : List ℕ) → IsEmpty entry → (calls : List MarkedCall) → all marked_call_fits calls ≡ true → (buffer : List ℕ) → Made entry calls buffer
-    → (types : List ℕ) → types_hold types ≡ true → all fits types ≡ true → (ig : Ignore) (f : Sort) → AnswersFile buffer types ig f
+    (entry : List ℕ) → IsEmpty entry → (calls : List MarkedCall) → list_all marked_call_fits calls ≡ true → (buffer : List ℕ) → Made entry calls buffer
+    → (types : List ℕ) → types_hold types ≡ true → list_all fits types ≡ true → (ig : Ignore) (f : Sort) → AnswersFile buffer types ig f
 
 -- the fields of a store that is read from words of 32 bits fit: `words_fit`
 unfoldable pub WordsFit : Type 0
-WordsFit = (words : List ℕ) → all fits words ≡ true → fields_fit (store_in words) ≡ true
+WordsFit = (words : List ℕ) → list_all fits words ≡ true → fields_fit (store_in words) ≡ true

@@ -3,23 +3,24 @@
 -- merge, and read backwards.
 -- What is left is any words that meet the offered call's contract with its answer; so the statement is about what the code leaves.
 use Rattle.std.specs.Prelude.{ℕ, true, List, ◌⊎◌, ◌≡◌}
-use Rattle.rules.specs.Fragments.{Sort, Premise}
-use Rattle.rules.specs.Shells.{Ignore}
+use Rattle.rules.specs.Fragments.{Premise}
+use Rattle.rules.specs.declared.types.Sort.{Sort}
+use Rattle.rules.specs.declared.types.Ignore.{Ignore}
 use Rattle.rules.specs.Types.{types_hold}
 use Rattle.rules.specs.Marks.{MarkedCall}
 use Rattle.rules.specs.Laws.{In}
 use Rattle.rules.specs.MappingLaws.{Table, table_of, defines_of, Bijection, Backwards, Followed}
 use Rattle.layout.specs.Reading.{store_in}
-use Rattle.journal.specs.Words.{sound_lent}
-use Rattle.building.specs.Calls.{Made, IsEmpty}
-use Rattle.mapping.specs.MappingWords.{mapping_of, empty_words}
+use Rattle.layout.specs.MarkedReading.{sound_lent}
+use Rattle.api.specs.Calls.{Made, IsEmpty}
+use Rattle.equivalence.specs.MappingWords.{mapping_of, empty_words}
 use Rattle.equivalence.specs.Calls as comparisons
-use Rattle.pairing.specs.Told.{compared_of}
+use Rattle.equivalence.specs.Compares.{compared_of}
 use Rattle.laws.specs.Answers.{EqAnswer, SaysEqual}
 
 -- the offered comparison of a with b, lent this list of types and an empty mapping, answers q and leaves these words
 unfoldable pub Leaves : List ℕ → List ℕ → Ignore → Sort → ℕ → ℕ → EqAnswer → List ℕ → Type 0
-Leaves buffer types ig f a b q words = comparisons.Answered (sound_lent buffer) buffer types empty_words words ig f a b (compared_of q)
+Leaves buffer types ig f a b q words = comparisons.ComparisonAnswers (sound_lent buffer) buffer types empty_words words ig f a b (compared_of q)
 
 -- the rules' laws, of the words on one buffer, for one list of types, ignore rule and sort of fragment. Backwards, and one followed by another,
 -- under the premise of the laws, or where the comparison that gives the other mapping says equal

@@ -1,12 +1,13 @@
 -- The same work, of what the offered calls build, answer and leave: from every empty store, after every list of building calls, copies,
 -- marks set and goings back made through the offered functions, whatever operations mean (`semantics`). An answer, and what is left, is any
 -- that meets the offered call's contract, as in `Answers` and `Mapped`.
-use Rattle.std.specs.Prelude.{ℕ, ◌<◌, true, List, ◌≡◌, ◌≢◌, get_or, Some, Ok}
-use Rattle.std.proofs.Math.Option.{Option}
+use Rattle.std.specs.Prelude.{ℕ, ◌<◌, true, List, ◌≡◌, ◌≢◌, get_or, Some, Ok, Option}
 use Rattle.rules.specs.Store.{ops_of}
-use Rattle.rules.specs.Fragments.{Sort, op, Premise}
+use Rattle.rules.specs.Fragments.{Premise}
+use Rattle.rules.specs.declared.types.Sort.{Sort}
+use Rattle.rules.specs.declared.types.Sort.TheVariants.{Op as op}
 use Rattle.rules.specs.Building.{made}
-use Rattle.rules.specs.Shells.{Ignore}
+use Rattle.rules.specs.declared.types.Ignore.{Ignore}
 use Rattle.rules.specs.Mapping.{Mapping}
 use Rattle.rules.specs.Types.{types_hold, renamed}
 use Rattle.rules.specs.Marks.{MarkedCall}
@@ -17,13 +18,13 @@ use Rattle.rules.specs.Runs.{run_of}
 use Rattle.semantics.specs.SameWork.{WorkAlike}
 use Rattle.semantics.specs.BlockRuns.{NameNothingOf, runs_mapping, OpsWorkAlike}
 use Rattle.layout.specs.Reading.{store_in}
-use Rattle.journal.specs.Words.{sound_lent}
-use Rattle.building.specs.Calls.{Made, IsEmpty}
-use Rattle.copying.specs.Calls as copies
+use Rattle.layout.specs.MarkedReading.{sound_lent}
+use Rattle.api.specs.Calls.{Made, IsEmpty}
+use Rattle.api.specs.Copies as copies
 use Rattle.grouping.specs.Calls as twins
-use Rattle.runs.specs.Calls as runs
-use Rattle.runs.specs.declared.types.Starts.{Starts}
-use Rattle.mapping.specs.MappingWords.{mapping_of}
+use Rattle.repeated_runs.specs.Calls as runs
+use Rattle.repeated_runs.specs.declared.types.Starts.{Starts}
+use Rattle.equivalence.specs.MappingWords.{mapping_of}
 use Rattle.laws.specs.Answers.{EqAnswer, SaysEqual}
 use Rattle.laws.specs.Mapped.{Leaves}
 
@@ -48,7 +49,7 @@ module _ (Data World Mind : Type 0) where
   TwinWorkOfCode =
       (entry : List ℕ) → IsEmpty entry → (calls : List MarkedCall) (buffer : List ℕ) → Made entry calls buffer
       → (types : List ℕ) (ig : Ignore) (before after : List ℕ) (count : ℕ)
-      → twins.Grouped (sound_lent buffer) buffer types ig before after (Ok count)
+      → twins.TwinsAnswers (sound_lent buffer) buffer types ig before after (Ok count)
       → (n m : ℕ) → n < count → get_or after n no_twin ≡ m → m ≢ no_twin
       → WorkOn buffer types ig op m n (filed (renamed types (store_in buffer)) ig op m n)
 
@@ -57,7 +58,7 @@ module _ (Data World Mind : Type 0) where
   unfoldable pub CopyWorkOfCode : Type 0
   CopyWorkOfCode =
       (entry : List ℕ) → IsEmpty entry → (calls : List MarkedCall) (buffer : List ℕ) → Made entry calls buffer
-      → (exit before after : List ℕ) (n : ℕ) (place : Option ℕ) (c : ℕ) → copies.Answered buffer exit before after n place (made c)
+      → (exit before after : List ℕ) (n : ℕ) (place : Option ℕ) (c : ℕ) → copies.CopyAnswers buffer exit before after n place (made c)
       → (types : List ℕ) (ig : Ignore) → WorkOn exit types ig op n c (mapping_of after)
 
   -- where the call for repeated runs finds two, they do the same work, if neither names what the other defines, by the mapping that their
@@ -65,7 +66,7 @@ module _ (Data World Mind : Type 0) where
   unfoldable pub RunWorkOfCode : Type 0
   RunWorkOfCode =
       (entry : List ℕ) → IsEmpty entry → (calls : List MarkedCall) (buffer : List ℕ) → Made entry calls buffer
-      → (types : List ℕ) (ig : Ignore) (b n : ℕ) (two : Starts) → runs.Answered (sound_lent buffer) buffer types ig b n (Ok (Some two))
+      → (types : List ℕ) (ig : Ignore) (b n : ℕ) (two : Starts) → runs.RunAnswers (sound_lent buffer) buffer types ig b n (Ok (Some two))
       → let s = renamed types (store_in buffer) in
       let ls = run_of (ops_of s b) n two.left in
       let rs = run_of (ops_of s b) n two.right in

@@ -1,16 +1,16 @@
 // What is proved of the code's answers, from top to bottom. A function here does nothing: each clause of its contract is a theorem, of
 // whatever answers meet the contracts of the offered calls; so the check fails where one of them is not proved.
 
-ghost use Rattle.building.specs.Calls.{AlwaysMade, AfterCalls, IsEmpty};
+ghost use Rattle.api.specs.Calls.{AlwaysMade, AfterCalls, IsEmpty};
 ghost use Rattle.layout.specs.Columns.{empty_buffer};
 ghost use Rattle.laws.specs.Answers.{Demand3OfCode};
 ghost use Rattle.laws.specs.Demand2.{Demand2OfCode};
 ghost use Rattle.laws.specs.Filing.{FilingOfCode, WordsFit};
 ghost use Rattle.laws.specs.Mapped.{MappingLawsOfCode};
 ghost use Rattle.laws.specs.Lending.{AllowedAgain};
-ghost use Rattle.journal.specs.Statements.{CallUndone, CallUndoable, CopyUndone, CutCommutes, CutCommutesAll, CutTwice, CutWhole};
-ghost use Rattle.journal.specs.Statements.{UndoneParts, CallRead, CopyRead, MarkRead, BackRead, TestsRead, SoundRead, BareSound, CallSound};
-ghost use Rattle.journal.specs.Statements.{CopySound, MarkSound, BackSound, JournalShort};
+ghost use Rattle.undo_log.specs.JournalLaws.{CallUndone, CallUndoable, CopyUndone, CutCommutes, CutCommutesAll, CutTwice, CutWhole};
+ghost use Rattle.undo_log.specs.JournalLaws.{UndoneParts, CallRead, CopyRead, MarkRead, BackRead, TestsRead, SoundRead, BareSound, CallSound};
+ghost use Rattle.undo_log.specs.JournalLaws.{CopySound, MarkSound, BackSound, JournalShort};
 
 // ---- Calls one after the other
 

@@ -6,15 +6,15 @@ use native.Mathlib.Omega.{arith}
 use mathlib.Core.Bool.{Bool, true, false, cond}
 use mathlib.Core.List.{List, ◌∷◌, Memᴰ}
 use mathlib.Core.Logic.{◌↔◌}
-use mathlib.Core.Option.{Option, none, some}
+use Rattle.std.specs.Prelude.{Option, None, Some}
 use mathlib.Core.Path.{◌≡◌, refl, sym, ap, subst, ◌∙◌}
 use borrow.Author.Tests.{eqb-true, eq-eqb, le-leb, lt-leb}
 use lib.Dec.{eqb}
 use Rattle.rules.specs.Lists.{numbers_from, numbers_where}
-use Rattle.rules.specs.Store.{Op, Block, is_parent, ops_of, blocks_of, regions_of}
+use Rattle.rules.specs.Store.{Op, Block, is_parent, ops_of, blocks_of}
 use Rattle.rules.proofs.Basics.Tests.{clash}
 use Rattle.rules.proofs.Soundness.Children.{ops_in_lem, blocks_in_lem}
-use Rattle.layout.specs.Columns.{Cols, at, op_parent, region_op, region_block_first, region_block_end, block_region, block_op_first, block_op_end}
+use Rattle.layout.specs.Columns.{Cols, at, op_parent, region_block_first, region_block_end, block_region, block_op_first, block_op_end}
 use Rattle.layout.specs.Reading.{tabulate_from, tabulate, op_count, block_count, region_count, parent_from, op_of, block_of, store_of}
 use Rattle.layout.specs.Soundness.{placed}
 use Rattle.layout.specs.Children.{first_from}
@@ -24,8 +24,8 @@ use Rattle.layout.proofs.Nesting.{placed_facts}
 
 -- to look from n on for the first word that is c, up to the range's end, is to look for the list's first entry from n on
 pub record Scan (word : ℕ → ℕ) (c end : ℕ) (xs : List ℕ) : Type 0 where
-  pub found : (n m : ℕ) → n ≤ m → m < end → word m ≡ c → ((i : ℕ) → n ≤ i → i < m → word i ≡ c → ⊥) → first_from n xs ≡ some m
-  pub missing : (n : ℕ) → ((i : ℕ) → n ≤ i → i < end → word i ≡ c → ⊥) → first_from n xs ≡ none
+  pub found : (n m : ℕ) → n ≤ m → m < end → word m ≡ c → ((i : ℕ) → n ≤ i → i < m → word i ≡ c → ⊥) → first_from n xs ≡ Some m
+  pub missing : (n : ℕ) → ((i : ℕ) → n ≤ i → i < end → word i ≡ c → ⊥) → first_from n xs ≡ None
 
 -- ---- an entry passes the test exactly where its word is c
 
@@ -53,7 +53,7 @@ module _ {A : Type 0} (p : A → Bool) (f : ℕ → A) (word : ℕ → ℕ) (c :
       go false t d = refl
 
   found_from : (i k n m : ℕ) → n ≤ m → i ≤ m → m < i + k → word m ≡ c → ((j : ℕ) → n ≤ j → j < m → word j ≡ c → ⊥)
-      → first_from n (numbers_from i p (tabulate_from i k f)) ≡ some m
+      → first_from n (numbers_from i p (tabulate_from i k f)) ≡ Some m
   unfolding numbers_from tabulate_from first_from
   found_from i zero n m h h' l e before = absurd (omega arith)
   found_from i (suc k) n m h h' l e before = go (ℕ_discrete i m) (λ l'. found_from (suc i) k n m h l' (omega arith) e before)
@@ -61,11 +61,11 @@ module _ {A : Type 0} (p : A → Bool) (f : ℕ → A) (word : ℕ → ℕ) (c :
       rest : List ℕ
       rest = numbers_from (suc i) p (tabulate_from (suc i) k f)
 
-      go : Dec (i ≡ m) → (suc i ≤ m → first_from n rest ≡ some m) → first_from n (cond (p (f i)) (i ∷ rest) rest) ≡ some m
-      go (yes q) later = rw ((same i).1 (subst (λ (j : ℕ). word j ≡ c) (sym q) e), le-leb n i (omega arith)) (ap {B = Option ℕ} some q)
+      go : Dec (i ≡ m) → (suc i ≤ m → first_from n rest ≡ Some m) → first_from n (cond (p (f i)) (i ∷ rest) rest) ≡ Some m
+      go (yes q) later = rw ((same i).1 (subst (λ (j : ℕ). word j ≡ c) (sym q) e), le-leb n i (omega arith)) (ap {B = Option ℕ} Some q)
       go (no ne) later = skipped i n rest (λ a. before i a (omega arith)) ∙ later (omega arith)
 
-  none_from : (i k n : ℕ) → ((j : ℕ) → n ≤ j → j < i + k → word j ≡ c → ⊥) → first_from n (numbers_from i p (tabulate_from i k f)) ≡ none
+  none_from : (i k n : ℕ) → ((j : ℕ) → n ≤ j → j < i + k → word j ≡ c → ⊥) → first_from n (numbers_from i p (tabulate_from i k f)) ≡ None
   unfolding numbers_from tabulate_from first_from
   none_from i zero n out = refl
   none_from i (suc k) n out = skipped i n _ (λ a. out i a (omega arith)) ∙ none_from (suc i) k n (λ j a l. out j a (omega arith))

@@ -5,7 +5,7 @@ use native.Mathlib.Numerals.{add-one}
 use native.Mathlib.Omega.{arith}
 use mathlib.Core.Bool.{Bool, cond}
 use mathlib.Core.List.{List}
-use mathlib.Core.Option.{none, some}
+use Rattle.std.specs.Prelude.{None, Some}
 use mathlib.Core.Path.{◌≡◌, refl, sym, ap, subst, ◌∙◌}
 use borrow.Author.Tests.{eq-eqb, ne_eqb}
 use lib.Dec.{eqb}
@@ -17,25 +17,25 @@ use Rattle.layout.proofs.Laid.{Laid}
 use Rattle.layout.proofs.ChildList.{Scan, ops_scan_all, blocks_scan_all, ops_scan, ops_facts, ops_mem, blocks_scan, blocks_facts, blocks_mem}
 
 module _ (C : Cols) (k w : ℕ) where
-  step : (a n : ℕ) → first_word C k w a (suc n) ≡ cond (eqb (at C k a) w) (some a) (first_word C k w (suc a) n)
+  step : (a n : ℕ) → first_word C k w a (suc n) ≡ cond (eqb (at C k a) w) (Some a) (first_word C k w (suc a) n)
   unfolding first_word
   step a n = refl
 
-  pub word_none : (a e : ℕ) → e ≤ a → first_word C k w a (e - a) ≡ none
+  pub word_none : (a e : ℕ) → e ≤ a → first_word C k w a (e - a) ≡ None
   unfolding first_word
   word_none a e l = ap (first_word C k w a) (let z : e - a ≡ 0 = omega arith in z)
 
-  first_step : (a e : ℕ) → a < e → first_word C k w a (e - a) ≡ cond (eqb (at C k a) w) (some a) (first_word C k w (a + 1) (e - (a + 1)))
+  first_step : (a e : ℕ) → a < e → first_word C k w a (e - a) ≡ cond (eqb (at C k a) w) (Some a) (first_word C k w (a + 1) (e - (a + 1)))
   first_step a e l =
       let z : e - a ≡ suc (e - (a + 1)) = omega arith in
       let s : suc a ≡ a + 1 = omega arith in
-      ap (first_word C k w a) z ∙ step a (e - (a + 1)) ∙ ap (λ (b : ℕ). cond (eqb (at C k a) w) (some a) (first_word C k w b (e - (a + 1)))) s
+      ap (first_word C k w a) z ∙ step a (e - (a + 1)) ∙ ap (λ (b : ℕ). cond (eqb (at C k a) w) (Some a) (first_word C k w b (e - (a + 1)))) s
 
-  pub word_here : (a e : ℕ) → a < e → at C k a ≡ w → first_word C k w a (e - a) ≡ some a
-  word_here a e l h = first_step a e l ∙ ap (λ (b : Bool). cond b (some a) (first_word C k w (a + 1) (e - (a + 1)))) (eq-eqb _ w h)
+  pub word_here : (a e : ℕ) → a < e → at C k a ≡ w → first_word C k w a (e - a) ≡ Some a
+  word_here a e l h = first_step a e l ∙ ap (λ (b : Bool). cond b (Some a) (first_word C k w (a + 1) (e - (a + 1)))) (eq-eqb _ w h)
 
   pub word_next : (a e : ℕ) → a < e → (at C k a ≡ w → ⊥) → first_word C k w a (e - a) ≡ first_word C k w (a + 1) (e - (a + 1))
-  word_next a e l h = first_step a e l ∙ ap (λ (b : Bool). cond b (some a) (first_word C k w (a + 1) (e - (a + 1)))) (ne_eqb _ w h)
+  word_next a e l h = first_step a e l ∙ ap (λ (b : Bool). cond b (Some a) (first_word C k w (a + 1) (e - (a + 1)))) (ne_eqb _ w h)
 
   module _ (e : ℕ) (xs : List ℕ) (scan : Scan (at C k) w e xs) (n : ℕ) where
     -- no child stands from n on and before a

@@ -9,7 +9,7 @@ use Rattle.rules.specs.Store.{ops_of, blocks_of}
 use Rattle.layout.specs.Columns.{Cols, at, op_parent, op_next, region_block_first, region_block_end, block_region, block_op_first, block_op_end, block_next}
 use Rattle.layout.specs.Reading.{op_count, block_count, region_count, store_of}
 use Rattle.std.specs.Prelude as std
-use Rattle.layout.specs.Children.{first_from, first_word, word_from, found_from, link_found, behind_child}
+use Rattle.layout.specs.Children.{first_from, first_word, word_from, link_found, behind_child}
 use Rattle.layout.specs.Soundness.{next_child}
 use Rattle.layout.specs.Families.{Children, OwnsChildren, ops_in_blocks, blocks_in_regions}
 use Rattle.layout.proofs.Laid.{Laid}
@@ -27,7 +27,7 @@ module _ (C : Cols) (h : Laid C) where
 -- the two ways to a child, as the code goes them
 module _ {C : Cols} {owners links count w first end : ℕ} {xs : List ℕ} (k : Children C owners links count w first end xs) (from : ℕ) {found : std.Option ℕ} where
   pub by_link : {total link : ℕ} {t : Bool} → total ≡ count → t ≡ behind_child C owners total w from → t ≡ true
-      → link ≡ at C links (from - 1) → found ≡ link_found link → found ≡ found_from (first_from from xs)
+      → link ≡ at C links (from - 1) → found ≡ link_found link → found ≡ first_from from xs
   unfolding next_child
   by_link e q taken read r =
       let f = behind_facts C owners count w from (ap (λ (n : ℕ). behind_child C owners n w from) (sym e) ∙ sym q ∙ taken) in
@@ -36,12 +36,13 @@ module _ {C : Cols} {owners links count w first end : ℕ} {xs : List ℕ} (k : 
       ∙ ap link_found
       (read ∙ k.linked (from - 1) f.exists f.word ∙ ap₂ (λ (v a : ℕ). word_from (first_word C owners v a (count - a))) f.word z)
       ∙ link_leads C owners w from (count - from) f.above
-      ∙ ap found_from (sym (k.all from))
+      ∙ sym (k.all from)
 
-  pub by_search : {a start e : ℕ} → a ≡ first → start ≡ max from a → e ≡ end → found ≡ found_from (first_word C owners w start (e - start)) → found ≡ found_from (first_from from xs)
+  pub by_search : {a start e : ℕ} → a ≡ first → start ≡ max from a → e ≡ end → found ≡ first_word C owners w start (e - start) → found ≡ first_from from xs
   by_search p q z r =
       r
-      ∙ ap found_from (ap₂ (λ (s e : ℕ). first_word C owners w s (e - s)) (q ∙ ap (max from) p) z ∙ sym (k.ranged from))
+      ∙ ap₂ (λ (s e : ℕ). first_word C owners w s (e - s)) (q ∙ ap (max from) p) z
+      ∙ sym (k.ranged from)
 
 -- ---- the two sorts of children
 

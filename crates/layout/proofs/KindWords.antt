@@ -7,7 +7,8 @@ use mathlib.Core.Bool.{Bool, true, false, cond}
 use mathlib.Core.Path.{◌≡◌, refl, sym, ◌∙◌}
 use borrow.Author.Tests.{le-leb, lt-leb}
 use lib.Dec.{leb}
-use Rattle.rules.specs.Store.{Attribute, max_attribute_kind}
+use Rattle.rules.specs.Store.{max_attribute_kind}
+use Rattle.rules.specs.declared.types.Attribute.{Attribute}
 use Rattle.layout.specs.Reading.{kind_code, kind_from, inherent_from, attribute_read}
 
 kind_read_lem : (kind : ℕ) (inherent : Bool) → kind ≤ max_attribute_kind → kind_from (kind_code kind inherent) ≡ kind

@@ -5,7 +5,8 @@ use mathlib.Core.Path.{◌≡◌}
 use borrow.Author.Tests.{leb-true, le-leb, ltb-true, lt-ltb, eqb-true, eq-eqb}
 use lib.Dec.{eqb, leb, ltb}
 use lib.ListN.{length}
-use Rattle.rules.specs.Store.{of_op, of_block, max_ops, max_blocks, max_regions, max_values, max_operands, max_successors, max_attributes, max_own_keys}
+use Rattle.rules.specs.Store.{max_ops, max_blocks, max_regions, max_values, max_operands, max_successors, max_attributes, max_own_keys}
+use Rattle.rules.specs.declared.types.Owner.TheVariants.{Op as of_op, Block as of_block}
 use Rattle.rules.proofs.Basics.Tests.{and_left, and_right, and_both, passed, every_of, all_below_at, all_below_of}
 use Rattle.layout.specs.Columns.{Cols, column_size, at, op_parent, op_region_first, op_region_end, op_result_first, op_result_end, op_operand_first, op_operand_end, op_successor_first, op_successor_end, op_attributes, region_op, region_block_first, region_block_end, block_region, block_argument_first, block_argument_end, block_op_end, block_attributes, value_owner}
 use Rattle.layout.specs.Reading.{op_count, block_count, region_count, value_count, operand_count, successor_count, attribute_count, parent_from, owner_code}

@@ -23,4 +23,4 @@ pub mod Slots
 pub mod Empty
 pub mod OwnerKeys
 pub mod KindWords
-pub mod Std
+pub mod Bare

@@ -4,7 +4,7 @@ use native.Mathlib.Decide.{ℕ_discrete}
 use native.Mathlib.Numerals.{add-one}
 use native.Mathlib.Omega.{arith}
 use mathlib.Core.Bool.{Bool, true, false, cond, ◌&&◌}
-use mathlib.Core.Option.{Option, none, some}
+use Rattle.std.specs.Prelude.{Option, None, Some}
 use mathlib.Core.Path.{◌≡◌, refl, sym, ap, subst, ◌∙◌}
 use borrow.Author.Tests.{eqb-true, eq-eqb, ne_eqb, ltb-true, lt-ltb}
 use lib.Dec.{eqb, ltb}
@@ -12,7 +12,7 @@ use Rattle.rules.proofs.Basics.Tests.{and_left, and_right, and_both}
 use Rattle.layout.specs.Columns.{Cols, at, op_parent, op_next, region_block_end, block_region, block_op_end, block_next}
 use Rattle.layout.specs.Reading.{op_count, block_count, parent_from}
 use Rattle.std.specs.Prelude as std
-use Rattle.layout.specs.Children.{first_word, word_from, found_from, link_found, behind_child}
+use Rattle.layout.specs.Children.{first_word, word_from, link_found, behind_child}
 use Rattle.layout.specs.Soundness.{placed, next_child, link_holds, parent_linked, op_linked, block_linked}
 use Rattle.layout.proofs.Laid.{Laid}
 use Rattle.layout.proofs.Nesting.{placed_facts}
@@ -63,24 +63,24 @@ link_at zero ne = absurd (ne refl)
 link_at (suc n) ne = refl
 
 module _ (C : Cols) (k w : ℕ) where
-  word_above : (a n m : ℕ) → first_word C k w a n ≡ some m → a ≤ m
+  word_above : (a n m : ℕ) → first_word C k w a n ≡ Some m → a ≤ m
   unfolding first_word
   word_above a zero m e = absurd (let z : ◌≡◌ {A = ℕ} 0 1 = cc in omega arith)
   word_above a (suc n) m e = go (eqb (at C k a) w) e (λ q. word_above (suc a) n m q)
     where
-      go : (b : Bool) → cond b (some a) (first_word C k w (suc a) n) ≡ some m → (first_word C k w (suc a) n ≡ some m → suc a ≤ m) → a ≤ m
+      go : (b : Bool) → cond b (Some a) (first_word C k w (suc a) n) ≡ Some m → (first_word C k w (suc a) n ≡ Some m → suc a ≤ m) → a ≤ m
       go true q rest = let z : a ≡ m = cc in omega arith
       go false q rest = let l = rest q in omega arith
 
   -- a word from a number above 0 on leads to what was found
-  pub link_leads : (a n : ℕ) → 0 < a → link_found (word_from (first_word C k w a n)) ≡ found_from (first_word C k w a n)
-  unfolding link_found word_from found_from
+  pub link_leads : (a n : ℕ) → 0 < a → link_found (word_from (first_word C k w a n)) ≡ (first_word C k w a n)
+  unfolding link_found word_from
   link_leads a n l = go (first_word C k w a n) (λ m e. let b = word_above a n m e in omega arith)
     where
-      go : (o : Option ℕ) → ((m : ℕ) → o ≡ some m → 0 < m) → link_found (word_from o) ≡ found_from o
-      go none f = refl
-      go (some zero) f = absurd (let b = f zero refl in omega arith)
-      go (some (suc m)) f = refl
+      go : (o : Option ℕ) → ((m : ℕ) → o ≡ Some m → 0 < m) → link_found (word_from o) ≡ o
+      go None f = refl
+      go (Some zero) f = absurd (let b = f zero refl in omega arith)
+      go (Some (suc m)) f = refl
 
 -- ---- what the links of a laid out buffer lead to
 

@@ -3,11 +3,10 @@ use Prim.Native.Nat.{ℕ, zero, suc, ◌+◌, ◌-◌, ◌<◌, ◌≤◌}
 use native.Mathlib.Numerals.{add-one}
 use native.Mathlib.Omega.{arith}
 use mathlib.Core.Bool.{true}
-use mathlib.Core.Option.{Option, none, some}
+use Rattle.std.specs.Prelude.{Option, None, Some, is_some}
 use mathlib.Core.Path.{◌≡◌, refl, sym, ap, subst, ◌∙◌}
 use borrow.Author.Tests.{leb-true, le-leb, lt-leb, ltb-true, lt-ltb, eqb-true, eq-eqb}
 use lib.Dec.{leb, leb-suc-suc}
-use Rattle.rules.specs.Lists.{is_some}
 use Rattle.rules.specs.Store.{Store, parent_of, levels_left, max_nesting, nesting_holds, sound}
 use Rattle.rules.proofs.Basics.Tests.{passed, every_of}
 use Rattle.rules.proofs.Soundness.Sound.{facts}
@@ -25,7 +24,7 @@ pub record Placed (C : Cols) (n b : ℕ) : Type 0 where
   pub depth : at C op_depth n ≡ at C op_depth (around C b) + 1
   pub place : InRange (at C block_op_first b) (at C block_op_end b) n
 
-pub placed_facts : (C : Cols) (n b : ℕ) → placed C n (some b) ≡ true → Placed C n b
+pub placed_facts : (C : Cols) (n b : ℕ) → placed C n (Some b) ≡ true → Placed C n b
 unfolding placed
 placed_facts C n b h =
     let p = passed _ h in
@@ -37,7 +36,7 @@ placed_facts C n b h =
       place = within_facts _ _ _ p.1.1.1.1.0;
     }
 
-pub placed_of : (C : Cols) (n b : ℕ) → Placed C n b → placed C n (some b) ≡ true
+pub placed_of : (C : Cols) (n b : ℕ) → Placed C n b → placed C n (Some b) ≡ true
 unfolding placed
 placed_of C n b p =
     every_of _ (
@@ -45,25 +44,25 @@ placed_of C n b p =
       (lt-ltb _ _ p.region_in, (lt-ltb _ _ p.later, (eq-eqb _ _ p.depth, (within_of _ _ _ p.place, tt)))),
     )
 
-pub outermost : (k : ℕ) (s : Store) → is_some (levels_left k s none) ≡ true
-unfolding levels_left is_some
+pub outermost : (k : ℕ) (s : Store) → is_some (levels_left k s None) ≡ true
+unfolding levels_left
 outermost zero s = refl
 outermost (suc k) s = refl
 
 module _ (C : Cols) where
   Left : ℕ → Type 0
-  Left k = (b : ℕ) → b < block_count C → is_some (levels_left k (store_of C) (some b)) ≡ leb (at C op_depth (around C b) + 1) k
+  Left k = (b : ℕ) → b < block_count C → is_some (levels_left k (store_of C) (Some b)) ≡ leb (at C op_depth (around C b) + 1) k
 
   left_at : (k n : ℕ) (q : Option ℕ) → placed C n q ≡ true → Left k → is_some (levels_left k (store_of C) q) ≡ leb (at C op_depth n) k
   unfolding placed Left
-  left_at k n none h under =
+  left_at k n None h under =
       let z : at C op_depth n ≡ 0 = eqb-true _ 0 h in outermost k (store_of C) ∙ sym (le-leb (at C op_depth n) k (omega arith))
-  left_at k n (some b) h under =
+  left_at k n (Some b) h under =
       let p = placed_facts C n b h in under b p.block_in ∙ ap (λ (d : ℕ). leb d k) (sym p.depth)
 
 module _ (C : Cols) (h : Laid C) where
   left_under : (k : ℕ) → Left C k
-  unfolding levels_left is_some Left
+  unfolding levels_left Left
   left_under zero b l = sym (lt-leb (at C op_depth (around C b) + 1) 0 (omega arith))
   left_under (suc k) b l =
       let r = (h.block b l).region_in in
@@ -73,11 +72,11 @@ module _ (C : Cols) (h : Laid C) where
       ∙ sym (ap (λ (d : ℕ). leb d (suc k)) (add-one (at C op_depth (around C b))) ∙ leb-suc-suc (at C op_depth (around C b)) k)
 
   -- of k regions around, in block b
-  pub levels_under : (k b : ℕ) → b < block_count C → is_some (levels_left k (store_of C) (some b)) ≡ leb (at C op_depth (around C b) + 1) k
+  pub levels_under : (k b : ℕ) → b < block_count C → is_some (levels_left k (store_of C) (Some b)) ≡ leb (at C op_depth (around C b) + 1) k
   unfolding Left
   levels_under k b l = left_under k b l
 
-  pub nesting_under : (b : ℕ) → b < block_count C → nesting_holds (store_of C) (some b) ≡ leb (at C op_depth (around C b) + 1) max_nesting
+  pub nesting_under : (b : ℕ) → b < block_count C → nesting_holds (store_of C) (Some b) ≡ leb (at C op_depth (around C b) + 1) max_nesting
   unfolding nesting_holds
   nesting_under b l = levels_under max_nesting b l
 
@@ -89,23 +88,23 @@ module _ (C : Cols) (h : Laid C) where
 
   -- ---- what is left of so many levels inside an operation
 
-  levels_in : (k n : ℕ) (q : Option ℕ) → placed C n q ≡ true → at C op_depth n ≤ k → levels_left k (store_of C) q ≡ some (k - at C op_depth n)
+  levels_in : (k n : ℕ) (q : Option ℕ) → placed C n q ≡ true → at C op_depth n ≤ k → levels_left k (store_of C) q ≡ Some (k - at C op_depth n)
   unfolding levels_left placed
-  levels_in zero n none p l = ap some (let e : 0 ≡ 0 - at C op_depth n = omega arith in e)
-  levels_in (suc k) n none p l =
-      let z : at C op_depth n ≡ 0 = eqb-true _ 0 p in ap some (let e : suc k ≡ suc k - at C op_depth n = omega arith in e)
-  levels_in zero n (some b) p l = let d : at C op_depth n ≡ at C op_depth (around C b) + 1 = (placed_facts C n b p).depth in absurd (omega arith)
-  levels_in (suc k) n (some b) p l =
+  levels_in zero n None p l = ap Some (let e : 0 ≡ 0 - at C op_depth n = omega arith in e)
+  levels_in (suc k) n None p l =
+      let z : at C op_depth n ≡ 0 = eqb-true _ 0 p in ap Some (let e : suc k ≡ suc k - at C op_depth n = omega arith in e)
+  levels_in zero n (Some b) p l = let d : at C op_depth n ≡ at C op_depth (around C b) + 1 = (placed_facts C n b p).depth in absurd (omega arith)
+  levels_in (suc k) n (Some b) p l =
       let w = placed_facts C n b p in
       let d : at C op_depth n ≡ at C op_depth (around C b) + 1 = w.depth in
       let o = (h.region _ w.region_in).op_in in
       ap (levels_left k (store_of C)) (ap (parent_of (store_of C)) (around_read C b w.block_in w.region_in) ∙ parent_read_lem C (around C b) o)
       ∙ levels_in k (around C b) _ (h.op (around C b) o).place (omega arith)
-      ∙ ap some (let e : k - at C op_depth (around C b) ≡ suc k - at C op_depth n = omega arith in e)
+      ∙ ap Some (let e : k - at C op_depth (around C b) ≡ suc k - at C op_depth n = omega arith in e)
 
   module _ (sd : sound (store_of C) ≡ true) (n : ℕ) (l : n < op_count C) where
     pub depth_most : at C op_depth n ≤ max_nesting
     depth_most = leb-true _ _ (sym (nesting_at n l) ∙ ((facts (store_of C) sd).op n (subst (λ (k : ℕ). n < k) (sym (ops_length C)) l)).nesting)
 
-    pub levels_at : levels_left max_nesting (store_of C) (parent_of (store_of C) n) ≡ some (max_nesting - at C op_depth n)
+    pub levels_at : levels_left max_nesting (store_of C) (parent_of (store_of C) n) ≡ Some (max_nesting - at C op_depth n)
     levels_at = ap (levels_left max_nesting (store_of C)) (parent_read_lem C n l) ∙ levels_in max_nesting n _ (h.op n l).place depth_most

@@ -4,7 +4,9 @@ use native.Mathlib.Omega.{arith}
 use mathlib.Core.Bool.{true}
 use mathlib.Core.Path.{◌≡◌, sym, subst, ◌∙◌}
 use borrow.Author.Tests.{lt-ltb}
-use Rattle.rules.specs.Store.{Owner, of_op, of_block, owner_exists, max_own_keys}
+use Rattle.rules.specs.Store.{owner_exists, max_own_keys}
+use Rattle.rules.specs.declared.types.Owner.{Owner}
+use Rattle.rules.specs.declared.types.Owner.TheVariants.{Op as of_op, Block as of_block}
 use Rattle.layout.specs.Columns.{Cols, column_size, column_count, slot_count}
 use Rattle.layout.specs.Reading.{op_count, block_count, slots_of, store_of}
 use Rattle.layout.specs.Owners.{count_column, owner_number, key_count}

@@ -9,7 +9,9 @@ use borrow.Author.Tests.{eqb-true, eq-eqb}
 use lib.Dec.{eqb, ltb}
 use lib.ListN.{length}
 use Rattle.rules.specs.Lists.{numbers_from, numbers_where}
-use Rattle.rules.specs.Store.{Value, Owner, of_op, of_block, same_owner, regions_of, values_of}
+use Rattle.rules.specs.Store.{Value, same_owner, regions_of, values_of}
+use Rattle.rules.specs.declared.types.Owner.{Owner}
+use Rattle.rules.specs.declared.types.Owner.TheVariants.{Op as of_op, Block as of_block}
 use Rattle.rules.proofs.Basics.Tests.{clash, and_right}
 use Rattle.rules.proofs.Soundness.Children.{same_owner_lem}
 use Rattle.rules.proofs.Soundness.NewValues.{same_self}

@@ -3,13 +3,16 @@ use Prim.Native.Nat.{ℕ, zero, suc, ◌+◌, ◌<◌}
 use native.Mathlib.Omega.{arith}
 use mathlib.Core.Bool.{Bool, true, ◌&&◌, and-true}
 use mathlib.Core.List.{[], ◌∷◌}
-use mathlib.Core.Option.{Option, none, some}
+use Rattle.std.specs.Prelude.{Option, None, Some}
 use mathlib.Core.Path.{◌≡◌, refl, sym, ap, ap₂, ◌∙◌}
 use borrow.Author.Tests.{lt-ltb}
 use lib.Dec.{leb, ltb}
 use lib.ListN.{length}
-use Rattle.rules.specs.Lists.{every, all, all_below}
-use Rattle.rules.specs.Store.{Op, Block, Value, Owner, of_op, of_block, op_exists, block_exists, region_exists, value_exists, owner_exists, parent_exists, parent_of, op_after, block_after, results_of, arguments_of, attributes_hold, max_ops, max_blocks, max_regions, max_values, max_operands, max_successors, max_attributes, max_own_regions, max_own_values, max_own_operands, max_own_successors, totals_hold, op_holds, block_holds, sound}
+use Rattle.rules.specs.Lists.{every, all_below}
+use Rattle.std.specs.List.{list_all}
+use Rattle.rules.specs.Store.{Op, Block, Value, op_exists, block_exists, region_exists, value_exists, owner_exists, parent_exists, parent_of, op_after, block_after, results_of, arguments_of, attributes_hold, max_ops, max_blocks, max_regions, max_values, max_operands, max_successors, max_attributes, max_own_regions, max_own_values, max_own_operands, max_own_successors, totals_hold, op_holds, block_holds, sound}
+use Rattle.rules.specs.declared.types.Owner.{Owner}
+use Rattle.rules.specs.declared.types.Owner.TheVariants.{Op as of_op, Block as of_block}
 use Rattle.rules.proofs.Basics.Tests.{and_left, and_both}
 use Rattle.layout.specs.Columns.{Cols, at, region_op}
 use Rattle.layout.specs.Reading.{tabulate_from, tabulate, op_count, block_count, region_count, value_count, around, op_of, block_of, value_of, store_of}
@@ -24,12 +27,12 @@ use Rattle.layout.proofs.Totals.{operands_length, successors_length, operand_tot
 -- ---- tests
 
 module _ {A : Type 0} (p : A → Bool) (f : ℕ → A) where
-  all_from : (i n : ℕ) → ((k : ℕ) → k < i + n → p (f k) ≡ true) → all p (tabulate_from i n f) ≡ true
-  unfolding all tabulate_from
+  all_from : (i n : ℕ) → ((k : ℕ) → k < i + n → p (f k) ≡ true) → list_all p (tabulate_from i n f) ≡ true
+  unfolding tabulate_from
   all_from i zero h = refl
   all_from i (suc n) h = and_both _ _ (h i (omega arith)) (all_from (suc i) n (λ k l. h k (omega arith)))
 
-  pub all_tabulate : (n : ℕ) → ((k : ℕ) → k < n → p (f k) ≡ true) → all p (tabulate n f) ≡ true
+  pub all_tabulate : (n : ℕ) → ((k : ℕ) → k < n → p (f k) ≡ true) → list_all p (tabulate n f) ≡ true
   unfolding tabulate
   all_tabulate n h = all_from 0 n (λ k l. h k (omega arith))
 
@@ -38,13 +41,13 @@ module _ {A : Type 0} (p : A → Bool) (f : ℕ → A) where
 module _ (C : Cols) where
   parent_in_lem : (n : ℕ) (q : Option ℕ) → placed C n q ≡ true → parent_exists (store_of C) q ≡ true
   unfolding parent_exists
-  parent_in_lem n none h = refl
-  parent_in_lem n (some b) h = block_exists_lem C b ∙ lt-ltb b (block_count C) (placed_facts C n b h).block_in
+  parent_in_lem n None h = refl
+  parent_in_lem n (Some b) h = block_exists_lem C b ∙ lt-ltb b (block_count C) (placed_facts C n b h).block_in
 
   parent_before : (n : ℕ) (q : Option ℕ) → placed C n q ≡ true → op_after (store_of C) n q ≡ true
   unfolding op_after
-  parent_before n none h = refl
-  parent_before n (some b) h =
+  parent_before n None h = refl
+  parent_before n (Some b) h =
       let p = placed_facts C n b h in
       rw (around_read C b p.block_in p.region_in) (lt-ltb (around C b) n p.later)
 
@@ -64,8 +67,8 @@ module _ (C : Cols) (shaped : Shaped C) (h : Laid C) where
       λ i.
       every
       (parent_in i
-      ∷ all (λ (v : ℕ). ltb v (values_length C i)) (e i).operands
-      ∷ all (λ (b : ℕ). ltb b (blocks_length C i)) (e i).successors
+      ∷ list_all (λ (v : ℕ). ltb v (values_length C i)) (e i).operands
+      ∷ list_all (λ (b : ℕ). ltb b (blocks_length C i)) (e i).successors
       ∷ after i
       ∷ nesting_at C h n l i
       ∷ leb ((ap length (regions_range C h n l) ∙ length_range _ _) i) max_own_regions
@@ -90,11 +93,11 @@ module _ (C : Cols) (shaped : Shaped C) (h : Laid C) where
       ∷ attributes_hold (e i).attributes
       ∷ [])
 
-  regions_in_lem : all (op_exists (store_of C)) (store_of C).regions ≡ true
+  regions_in_lem : list_all (op_exists (store_of C)) (store_of C).regions ≡ true
   unfolding store_of
   regions_in_lem = all_tabulate _ (at C region_op) (region_count C) (λ r l. op_exists_lem C _ ∙ lt-ltb _ (op_count C) (h.region r l).op_in)
 
-  values_in_lem : all (λ (v : Value). owner_exists (store_of C) v.owner) (store_of C).values ≡ true
+  values_in_lem : list_all (λ (v : Value). owner_exists (store_of C) v.owner) (store_of C).values ≡ true
   unfolding store_of value_of value_laid
   values_in_lem = all_tabulate _ (value_of C) (value_count C) (λ v l. owner_named C v _ (h.value v l))
 

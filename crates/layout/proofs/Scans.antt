@@ -10,7 +10,8 @@ use borrow.Author.Tests.{le-leb, lt-leb}
 use lib.Dec.{eqb, leb}
 use lib.ListN.{length, get_or, drop, length-drop}
 use lib.Seq.{length-take-le, get_or-take, get_or-drop}
-use Rattle.rules.specs.Lists.{every, all, all_below, same_list}
+use Rattle.rules.specs.Lists.{every, all_below, same_list}
+use Rattle.std.specs.List.{list_all}
 use Rattle.rules.proofs.Basics.Tests.{and_both, all_at, all_below_at, all_below_of}
 use Rattle.rules.proofs.Basics.Appended.{mem_get_d}
 use Rattle.layout.specs.Columns.{Cols, at}
@@ -78,10 +79,9 @@ below_cong (suc n) p q same = ap₂ ◌&&◌ (same n (omega arith)) (below_cong 
 abbrev pub passes_at : (ℕ → Bool) → List ℕ → ℕ → Bool
 passes_at p xs k = p (get_or xs k 0)
 
-pub all_passes : (p : ℕ → Bool) (xs : List ℕ) → Before (passes_at p xs) (length xs) → all p xs ≡ true
-unfolding all
+pub all_passes : (p : ℕ → Bool) (xs : List ℕ) → Before (passes_at p xs) (length xs) → list_all p xs ≡ true
 all_passes p [] b = refl
-all_passes p (x ∷ xs) b = and_both (p x) (all p xs) (b 0 (omega arith)) (all_passes p xs (λ k h. b (suc k) (omega arith)))
+all_passes p (x ∷ xs) b = and_both (p x) (list_all p xs) (b 0 (omega arith)) (all_passes p xs (λ k h. b (suc k) (omega arith)))
 
 -- ---- lists of tests
 
@@ -123,18 +123,18 @@ same_tests true false f g = sym (f refl)
 same_tests false true f g = g refl
 same_tests false false f g = refl
 
-pub all_below_lem : (p : ℕ → Bool) (xs : List ℕ) → all p xs ≡ all_below (length xs) (passes_at p xs)
+pub all_below_lem : (p : ℕ → Bool) (xs : List ℕ) → list_all p xs ≡ all_below (length xs) (passes_at p xs)
 all_below_lem p xs =
-    same_tests (all p xs) (all_below (length xs) (passes_at p xs))
+    same_tests (list_all p xs) (all_below (length xs) (passes_at p xs))
     (λ h. all_below_of (length xs) (passes_at p xs) (λ i l. all_at p xs h (mem_get_d xs i 0 l)))
     (λ h. all_passes p xs (all_below_at (length xs) (passes_at p xs) h))
 
 -- a scan of the entries of a list
 module _ (p : ℕ → Bool) (xs : List ℕ) {i : ℕ} (g : Scanned (passes_at p xs) (length xs) (length xs) i) where
-  pub entry_fails : i < length xs → passes_at p xs i ≡ false → false ≡ all p xs
+  pub entry_fails : i < length xs → passes_at p xs i ≡ false → false ≡ list_all p xs
   entry_fails l h = scan_fails g l h ∙ sym (all_below_lem p xs)
 
-  pub entries_done : length xs ≤ i → true ≡ all p xs
+  pub entries_done : length xs ≤ i → true ≡ list_all p xs
   entries_done l = scan_done g l ∙ sym (all_below_lem p xs)
 
 pub slice_length : (xs : List ℕ) (a e : ℕ) → e ≤ length xs → length (slice xs a e) ≡ e - a
@@ -146,7 +146,7 @@ unfolding slice
 slice_at xs a e i l = get_or-take (e - a) (drop a xs) i 0 l ∙ get_or-drop a xs i 0
 
 -- the words of a column in a range are all w
-pub owned_slice : (C : Cols) (k a e w : ℕ) → e ≤ length (C k) → all (λ (x : ℕ). eqb x w) (slice (C k) a e) ≡ owned C k a e w
+pub owned_slice : (C : Cols) (k a e w : ℕ) → e ≤ length (C k) → list_all (λ (x : ℕ). eqb x w) (slice (C k) a e) ≡ owned C k a e w
 unfolding owned at
 owned_slice C k a e w h =
     all_below_lem (λ (x : ℕ). eqb x w) (slice (C k) a e)

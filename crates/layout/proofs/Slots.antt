@@ -7,8 +7,10 @@ use mathlib.Core.Path.{◌≡◌, refl, sym, ap, subst, ◌∙◌}
 use borrow.Author.Tests.{leb-true, le-leb, lt-leb, ltb-true, lt-ltb, le-ltb}
 use lib.Dec.{leb, ltb}
 use lib.ListN.{length}
-use Rattle.rules.specs.Lists.{all, all_below}
-use Rattle.rules.specs.Store.{Attribute, keys_rise, keys_rise_after, max_own_keys, max_attribute_kind, block_after}
+use Rattle.std.specs.List.{list_all}
+use Rattle.rules.specs.Lists.{all_below}
+use Rattle.rules.specs.Store.{keys_rise, keys_rise_after, max_own_keys, max_attribute_kind, block_after}
+use Rattle.rules.specs.declared.types.Attribute.{Attribute}
 use Rattle.rules.proofs.Basics.Tests.{all_at, all_below_at, all_below_of}
 use Rattle.rules.proofs.Basics.Appended.{mem_get_d}
 use Rattle.layout.specs.Columns.{Cols, at, slot_key, slot_kind}
@@ -58,9 +60,9 @@ keys_few C first count h = ap (λ (n : ℕ). leb n max_own_keys) (length_tabulat
 -- ---- the kinds
 
 module _ {A : Type 0} (p : A → Bool) (f : ℕ → A) where
-  tabulate_tests : (n : ℕ) → all p (tabulate n f) ≡ all_below n (λ (k : ℕ). p (f k))
+  tabulate_tests : (n : ℕ) → list_all p (tabulate n f) ≡ all_below n (λ (k : ℕ). p (f k))
   tabulate_tests n =
-      same_tests (all p (tabulate n f)) (all_below n (λ (k : ℕ). p (f k)))
+      same_tests (list_all p (tabulate n f)) (all_below n (λ (k : ℕ). p (f k)))
       (λ h. all_below_of n _ (λ k l. subst (λ (x : A). p x ≡ true) (get_d_tabulate n f k (f 0) l) (all_at p (tabulate n f) h (mem_get_d (tabulate n f) k (f 0) (omega (arith, length_tabulate n f))))))
       (λ h. all_tabulate p f n (all_below_at n _ h))
 
@@ -73,7 +75,7 @@ kind_test w = go (dec_le 64 w)
     go (yes l) = rw (le-leb 64 w l) (same_tests (ltb w 128) (leb (w - 64) 63) (λ t. let m = ltb-true w 128 t in le-leb (w - 64) 63 (omega arith)) (λ t. let m = leb-true (w - 64) 63 t in lt-ltb w 128 (omega arith)))
     go (no n) = rw (lt-leb 64 w (omega arith)) (lt-ltb w 128 (omega arith) ∙ sym (le-leb w 63 (omega arith)))
 
-pub kinds_slice : (C : Cols) (first count : ℕ) → first + count ≤ length (C slot_kind) → all (λ (x : ℕ). ltb x 128) (slice (C slot_kind) first (first + count)) ≡ all (λ (a : Attribute). leb a.kind max_attribute_kind) (attributes_from C first count)
+pub kinds_slice : (C : Cols) (first count : ℕ) → first + count ≤ length (C slot_kind) → list_all (λ (x : ℕ). ltb x 128) (slice (C slot_kind) first (first + count)) ≡ list_all (λ (a : Attribute). leb a.kind max_attribute_kind) (attributes_from C first count)
 unfolding attributes_from attribute_at at
 kinds_slice C first count h =
     let e : (first + count) - first ≡ count = omega arith in

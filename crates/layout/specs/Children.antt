@@ -1,13 +1,12 @@
 -- What a walk asks of a list of children: the next one.
-use Rattle.std.specs.Prelude.{ℕ, zero, suc, Bool, false, cond, ◌&&◌, List, [], ◌∷◌, eqb, leb, ltb}
-use Rattle.std.proofs.Math.Option.{Option, none, some}
+use Rattle.std.specs.Prelude.{ℕ, zero, suc, Bool, false, cond, ◌&&◌, List, [], ◌∷◌, eqb, leb, ltb, Option, None, Some}
 use Rattle.layout.specs.Columns.{Cols, at}
 use Rattle.std.specs.Prelude as std
 
 -- the first entry not below n
 unfoldable pub first_from : ℕ → List ℕ → Option ℕ
-first_from n [] = none
-first_from n (x ∷ xs) = cond (leb n x) (some x) (first_from n xs)
+first_from n [] = None
+first_from n (x ∷ xs) = cond (leb n x) (Some x) (first_from n xs)
 
 -- the entries from number n on
 unfoldable pub on_from : ℕ → List ℕ → List ℕ
@@ -16,18 +15,13 @@ on_from n (x ∷ xs) = cond (leb n x) (x ∷ xs) (on_from n xs)
 
 -- of n entries of a column from a on, the first that is w
 unfoldable pub first_word : Cols → ℕ → ℕ → ℕ → ℕ → Option ℕ
-first_word C k w a zero = none
-first_word C k w a (suc n) = cond (eqb (at C k a) w) (some a) (first_word C k w (suc a) n)
+first_word C k w a zero = None
+first_word C k w a (suc n) = cond (eqb (at C k a) w) (Some a) (first_word C k w (suc a) n)
 
 -- the same as a word: 0 for none
 unfoldable pub word_from : Option ℕ → ℕ
-word_from none = 0
-word_from (some n) = n
-
--- the same as the code's answer
-unfoldable pub found_from : Option ℕ → std.Option ℕ
-found_from none = std.None
-found_from (some n) = std.Some n
+word_from None = 0
+word_from (Some n) = n
 
 -- what a link leads to
 unfoldable pub link_found : ℕ → std.Option ℕ

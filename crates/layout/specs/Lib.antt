@@ -6,4 +6,5 @@ pub mod Soundness
 pub mod Children
 pub mod OpsLeft
 pub mod Families
-pub mod Causes
+pub mod Journal
+pub mod MarkedReading

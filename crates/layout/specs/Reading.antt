@@ -1,8 +1,10 @@
 -- What the words are read as: the rules' store. The columns of depth and of links, and the ranges that children lie in, are not read: they
 -- only help to find things, and soundness holds them to what is read.
-use Rattle.std.specs.Prelude.{ℕ, zero, suc, ◌+◌, ◌*◌, ◌-◌, ◌/◌, ◌%◌, Bool, cond, List, [], ◌∷◌, eqb, leb, take, drop}
-use Rattle.std.proofs.Math.Option.{Option, none, some}
-use Rattle.rules.specs.Store.{Store, Op, Block, Value, Attribute, Owner, of_op, of_block}
+use Rattle.std.specs.Prelude.{ℕ, zero, suc, ◌+◌, ◌*◌, ◌-◌, ◌/◌, ◌%◌, Bool, cond, List, [], ◌∷◌, eqb, leb, take, drop, Option, None, Some}
+use Rattle.rules.specs.Store.{Store, Op, Block, Value}
+use Rattle.rules.specs.declared.types.Attribute.{Attribute}
+use Rattle.rules.specs.declared.types.Owner.{Owner}
+use Rattle.rules.specs.declared.types.Owner.TheVariants.{Op as of_op, Block as of_block}
 use Rattle.layout.specs.Columns.{Cols, columns, at, counts, op_kind, op_parent, op_location, op_operand_first, op_operand_end, op_successor_first, op_successor_end, op_attributes, region_op, block_region, block_location, block_attributes, value_type, value_owner, operand_words, successor_words, slot_key, slot_kind, slot_content, first_block_slot}
 
 -- f at each number below n, by rising number
@@ -51,8 +53,8 @@ around C b = at C region_op (at C block_region b)
 -- ---- single words
 
 unfoldable pub parent_from : ℕ → Option ℕ
-parent_from zero = none
-parent_from (suc b) = some b
+parent_from zero = None
+parent_from (suc b) = Some b
 
 unfoldable pub owner_from : ℕ → Owner
 owner_from w = cond (eqb (w % 2) 0) (of_op (w / 2)) (of_block (w / 2))

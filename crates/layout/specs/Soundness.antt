@@ -1,8 +1,10 @@
 -- Which buffers are sound: of the right length, laid out, and sound by document 01's rules for what they are read as.
-use Rattle.std.specs.Prelude.{ℕ, zero, suc, ◌+◌, ◌-◌, Bool, true, false, cond, ◌&&◌, List, [], ◌∷◌, ◌≡◌, eqb, leb, ltb, length, get_or}
-use Rattle.std.proofs.Math.Option.{Option, none, some}
-use Rattle.rules.specs.Lists.{every, all, all_below, sum}
-use Rattle.rules.specs.Store.{Owner, of_op, of_block, sound, block_after, attributes_hold, max_nesting, max_ops, max_blocks, max_regions, max_values, max_operands, max_successors, max_attributes, max_own_keys, max_own_regions, max_own_values, max_own_operands, max_own_successors}
+use Rattle.std.specs.Prelude.{ℕ, zero, suc, ◌+◌, ◌-◌, Bool, true, false, cond, ◌&&◌, List, [], ◌∷◌, ◌≡◌, eqb, leb, ltb, length, get_or, Option, None, Some}
+use Rattle.rules.specs.Lists.{every, all_below, sum}
+use Rattle.std.specs.List.{list_all}
+use Rattle.rules.specs.Store.{sound, block_after, attributes_hold, max_nesting, max_ops, max_blocks, max_regions, max_values, max_operands, max_successors, max_attributes, max_own_keys, max_own_regions, max_own_values, max_own_operands, max_own_successors}
+use Rattle.rules.specs.declared.types.Owner.{Owner}
+use Rattle.rules.specs.declared.types.Owner.TheVariants.{Op as of_op, Block as of_block}
 use Rattle.layout.specs.Columns.{Cols, at, columns, buffer_length, op_parent, op_depth, op_region_first, op_region_end, op_result_first, op_result_end, op_operand_first, op_operand_end, op_successor_first, op_successor_end, op_attributes, region_op, region_block_first, region_block_end, block_region, block_argument_first, block_argument_end, block_op_first, block_op_end, block_attributes, value_owner, op_next, block_next}
 use Rattle.layout.specs.Reading.{tabulate, op_count, block_count, region_count, value_count, operand_count, successor_count, attribute_count, around, parent_from, owner_from, owner_code, op_of, block_of, store_of}
 use Rattle.layout.specs.Children.{first_word, word_from}
@@ -38,8 +40,8 @@ tiled C first end n total = eqb (at C first n) (end_before C end n) && ranged (a
 
 -- an operation stands in a block of the store that stands in an operation before it, one region deeper, and in its block's range
 unfoldable pub placed : Cols → ℕ → Option ℕ → Bool
-placed C n none = eqb (at C op_depth n) 0
-placed C n (some b) =
+placed C n None = eqb (at C op_depth n) 0
+placed C n (Some b) =
     every
     (ltb b (block_count C)
     ∷ ltb (at C block_region b) (region_count C)
@@ -114,8 +116,8 @@ link_holds next link end n = eqb link next && cond (eqb next 0) (eqb end (n + 1)
 
 -- an operation in a block, for the number of the next one
 unfoldable pub parent_linked : Cols → ℕ → Option ℕ → ℕ → Bool
-parent_linked C n none next = true
-parent_linked C n (some b) next = link_holds next (at C op_next n) (at C block_op_end b) n
+parent_linked C n None next = true
+parent_linked C n (Some b) next = link_holds next (at C op_next n) (at C block_op_end b) n
 
 unfoldable pub op_linked : Cols → ℕ → Bool
 op_linked C n = parent_linked C n (parent_from (at C op_parent n)) (next_child C op_parent (op_count C) n)
@@ -154,8 +156,8 @@ counts_laid C =
 unfoldable pub op_rules : Cols → ℕ → Bool
 op_rules C n =
     every
-    (all (λ (v : ℕ). ltb v (value_count C)) (op_of C n).operands
-    ∷ all (λ (b : ℕ). ltb b (block_count C)) (op_of C n).successors
+    (list_all (λ (v : ℕ). ltb v (value_count C)) (op_of C n).operands
+    ∷ list_all (λ (b : ℕ). ltb b (block_count C)) (op_of C n).successors
     ∷ leb (at C op_depth n) max_nesting
     ∷ leb (at C op_region_end n - at C op_region_first n) max_own_regions
     ∷ leb (at C op_result_end n - at C op_result_first n) max_own_values

@@ -12,19 +12,22 @@ use crate::columns::{
 use crate::links::{blocks_linked, ops_linked};
 use crate::row_checks::{block_laid, op_laid, region_laid, value_laid};
 use crate::rows::end_before;
+use rules::limits::{
+    MAX_ATTRIBUTES, MAX_BLOCKS, MAX_OPERANDS, MAX_OPS, MAX_REGIONS, MAX_SUCCESSORS, MAX_VALUES,
+};
 
 // The counts are within the totals of document 01.
 #[tactic(auto, unfolding(crate::specs::Soundness::counts_hold, crate::specs::Reading::op_count, crate::specs::Reading::block_count, crate::specs::Reading::region_count, crate::specs::Reading::value_count, crate::specs::Reading::operand_count, crate::specs::Reading::successor_count, crate::specs::Reading::attribute_count, rules::specs::Lists::every))]
 fn counts_hold(store: &StoreWords) -> bool
     ensures { result ≡ counts_hold (columns store.now) }
 {
-    number(store, COUNTS, OPS) <= 512
-        && number(store, COUNTS, BLOCKS) <= 256
-        && number(store, COUNTS, REGIONS) <= 256
-        && number(store, COUNTS, VALUES) <= 2048
-        && number(store, COUNTS, OPERANDS) <= 2048
-        && number(store, COUNTS, SUCCESSORS) <= 512
-        && number(store, COUNTS, ATTRIBUTES) <= 1024
+    number(store, COUNTS, OPS) <= MAX_OPS
+        && number(store, COUNTS, BLOCKS) <= MAX_BLOCKS
+        && number(store, COUNTS, REGIONS) <= MAX_REGIONS
+        && number(store, COUNTS, VALUES) <= MAX_VALUES
+        && number(store, COUNTS, OPERANDS) <= MAX_OPERANDS
+        && number(store, COUNTS, SUCCESSORS) <= MAX_SUCCESSORS
+        && number(store, COUNTS, ATTRIBUTES) <= MAX_ATTRIBUTES
 }
 
 // Row i of a table is laid out. A table is named by its index among the counts: OPS, BLOCKS, REGIONS or VALUES.
@@ -75,7 +78,7 @@ fn sum_of(store: &StoreWords, column: usize, n: usize) -> usize
 fn attribute_sum(store: &StoreWords) -> usize
     requires counts_bounded { CountsBounded store.now }
     requires store_value { all_below (op_count (columns store.now)) (op_laid (columns store.now)) ≡ true }
-    requires store_value_2 { all_below (block_count (columns store.now)) (block_laid (columns store.now)) ≡ true }
+    requires blocks_laid { all_below (block_count (columns store.now)) (block_laid (columns store.now)) ≡ true }
     ensures { result ≡ attribute_sum (columns store.now) }
 {
     let ops = number(store, COUNTS, OPS);
@@ -89,7 +92,7 @@ fn attribute_sum(store: &StoreWords) -> usize
 fn counts_laid(store: &StoreWords) -> bool
     requires counts_bounded { CountsBounded store.now }
     requires store_value { all_below (op_count (columns store.now)) (op_laid (columns store.now)) ≡ true }
-    requires store_value_2 { all_below (block_count (columns store.now)) (block_laid (columns store.now)) ≡ true }
+    requires blocks_laid { all_below (block_count (columns store.now)) (block_laid (columns store.now)) ≡ true }
     ensures { result ≡ counts_laid (columns store.now) }
 {
     let ops = number(store, COUNTS, OPS);

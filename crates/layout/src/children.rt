@@ -5,7 +5,7 @@ ghost use Rattle.rules.specs.Store.{ops_of, blocks_of};
 ghost use Rattle.layout.specs.Columns.{buffer_length, column_size, columns, column_count};
 ghost use Rattle.layout.specs.Reading.{block_count, region_count, around, store_in};
 ghost use Rattle.layout.specs.Soundness.{Arranged};
-ghost use Rattle.layout.specs.Children.{first_from, first_word, found_from, link_found, behind_child};
+ghost use Rattle.layout.specs.Children.{first_from, first_word, link_found, behind_child};
 ghost use Rattle.layout.specs.Families.{OwnsChildren};
 
 use crate::columns::{BLOCK_REGION, COUNTS, REGION_OP, StoreWords, at, number};
@@ -15,7 +15,7 @@ use crate::families::{BLOCKS_IN_REGIONS, Family, OPS_IN_BLOCKS};
 fn first_at(store: &StoreWords, column: usize, w: u32, a: usize, e: usize) -> Option<usize>
     requires column_lt_column_count { column < column_count }
     requires e_bound { e ≤ column_size column }
-    ensures { result ≡ found_from (first_word (columns store.now) column w a (e - a)) }
+    ensures { result ≡ (first_word (columns store.now) column w a (e - a)) }
 {
     for i in a..e {
         if at(store, column, i) == w {
@@ -51,10 +51,10 @@ fn linked(link: usize) -> Option<usize>
 fn next_child(store: &StoreWords, family: Family, owner: usize, from: usize) -> Option<usize>
     ghost children: { List ℕ }
     requires { OwnsChildren (columns store.now) family owner children }
-    ensures { result ≡ found_from (first_from from children) }
+    ensures { result ≡ (first_from from children) }
 {
     let count = number(store, COUNTS, family.table);
-    let word = (owner + family.shift) as u32;
+    let word = (owner + family.offset) as u32;
     if is_behind(store, family.owners, count, word, from) {
         return linked(number(store, family.links, from - 1));
     }
@@ -67,7 +67,7 @@ fn next_child(store: &StoreWords, family: Family, owner: usize, from: usize) -> 
 pub fn next_op(store: &StoreWords, block: usize, from: usize) -> Option<usize>
     requires arranged { Arranged store.now }
     requires block_bound { block < block_count (columns store.now) }
-    ensures { result ≡ found_from (first_from from (ops_of (store_in store.now) block)) }
+    ensures { result ≡ first_from from (ops_of (store_in store.now) block) }
 {
     next_child(store, OPS_IN_BLOCKS, block, from)
 }
@@ -76,7 +76,7 @@ pub fn next_op(store: &StoreWords, block: usize, from: usize) -> Option<usize>
 pub fn next_block(store: &StoreWords, region: usize, from: usize) -> Option<usize>
     requires arranged { Arranged store.now }
     requires region_bound { region < region_count (columns store.now) }
-    ensures { result ≡ found_from (first_from from (blocks_of (store_in store.now) region)) }
+    ensures { result ≡ first_from from (blocks_of (store_in store.now) region) }
 {
     next_child(store, BLOCKS_IN_REGIONS, region, from)
 }
@@ -92,7 +92,7 @@ pub fn op_around(store: &StoreWords, block: usize) -> usize
 
 // The same of a list that has only `n`.
 pub fn one_from(n: usize, from: usize) -> Option<usize>
-    ensures { result ≡ found_from (first_from from (n ∷ [])) }
+    ensures { result ≡ (first_from from (n ∷ [])) }
 {
     if from <= n {
         return Some(n);

@@ -5,13 +5,13 @@ use crate::columns::{
 };
 
 // The columns of a sort of child. `table` is the children's index among the counts. A child's word in the column `owners` is its owner's
-// number and `shift` more, and below `shift` where it has none; `links` has the next child of the same owner. An owner's children lie in
+// number and `offset` more, and below `offset` where it has none; `links` has the next child of the same owner. An owner's children lie in
 // the range from `firsts` up to `ends`.
 #[derive(Clone, Copy, PartialEq, Eq, Debug)]
 pub struct Family {
     pub table: usize,
     pub owners: usize,
-    pub shift: usize,
+    pub offset: usize,
     pub links: usize,
     pub firsts: usize,
     pub ends: usize,
@@ -20,7 +20,7 @@ pub struct Family {
 pub const OPS_IN_BLOCKS: Family = Family {
     table: OPS,
     owners: OP_PARENT,
-    shift: 1,
+    offset: 1,
     links: OP_NEXT,
     firsts: BLOCK_OP_FIRST,
     ends: BLOCK_OP_END,
@@ -29,7 +29,7 @@ pub const OPS_IN_BLOCKS: Family = Family {
 pub const BLOCKS_IN_REGIONS: Family = Family {
     table: BLOCKS,
     owners: BLOCK_REGION,
-    shift: 0,
+    offset: 0,
     links: BLOCK_NEXT,
     firsts: REGION_BLOCK_FIRST,
     ends: REGION_BLOCK_END,

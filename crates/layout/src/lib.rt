@@ -1,7 +1,6 @@
 // The store in memory: one lent buffer of words, in columns. docs/STORE.md has every column.
 #![tactic(auto)]
 
-pub mod causes;
 pub mod checks;
 pub mod children;
 pub mod columns;

@@ -29,13 +29,13 @@ fn link_holds(next: u32, link: u32, end: usize, n: usize) -> bool
 fn child_linked(store: &StoreWords, family: Family, n: usize, word: usize, next: u32) -> bool
     requires linkable { Linkable (columns store.now) family }
     requires n_bound { n < at (columns store.now) counts family.table }
-    requires word_bound { word < column_size family.ends + family.shift }
+    requires word_bound { word < column_size family.ends + family.offset }
     ensures { result ≡ child_linked_by (columns store.now) family n word next }
 {
-    if word < family.shift {
+    if word < family.offset {
         return true;
     }
-    let end = number(store, family.ends, word - family.shift);
+    let end = number(store, family.ends, word - family.offset);
     link_holds(next, at(store, family.links, n), end, n)
 }
 

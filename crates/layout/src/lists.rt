@@ -1,18 +1,18 @@
 // Tests of lists of words, and writing into one. Each is a line over the library's, under a promise in the rules' words that callers cite.
 ghost use Rattle.std.specs.Prelude.{◌≡◌, ◌∷◌, ◌+◌, ◌<◌, ◌≤◌, eqb, ltb, length, replicate, take, drop};
 ghost use Rattle.layout.specs.Columns.{pasted};
-ghost use Rattle.rules.specs.Lists.{all};
+ghost use Rattle.std.specs.List.{list_all};
 
 // Each entry is w.
 pub fn all_are(list: &[u32], w: u32) -> bool
-    ensures { result ≡ all (λ x. eqb x w) list.now }
+    ensures { result ≡ list_all (λ x. eqb x w) list.now }
 {
     list.iter().all(|x| *x == w)
 }
 
 // Each entry is below n.
 pub fn all_below(list: &[u32], n: u32) -> bool
-    ensures { result ≡ all (λ x. ltb x n) list.now }
+    ensures { result ≡ list_all (λ x. ltb x n) list.now }
 {
     list.iter().all(|x| *x < n)
 }

@@ -4,20 +4,14 @@ ghost use Rattle.rules.specs.Store.{owner_exists};
 ghost use Rattle.layout.specs.Columns.{buffer_length, columns};
 ghost use Rattle.layout.specs.Reading.{slots_of, store_in};
 ghost use Rattle.layout.specs.Soundness.{Arranged};
-ghost use Rattle.layout.specs.Owners.{owner_of, count_column, owner_number, key_count};
+ghost use Rattle.layout.specs.Owners.{count_column, owner_number, key_count};
 
 use crate::columns::{BLOCK_ATTRIBUTES, FIRST_BLOCK_SLOT, OP_ATTRIBUTES, StoreWords, number};
 use crate::existing::{block_exists, op_exists};
-
-// What an attribute is set on.
-#[derive(Clone, Copy, PartialEq, Eq, Debug)]
-pub enum Owner {
-    Op(u32),
-    Block(u32),
-}
+use rules::types::Owner;
 
 pub fn owner_exists(store: &StoreWords, owner: Owner) -> bool
-    ensures { result ≡ owner_exists (store_in store.now) (owner_of owner) }
+    ensures { result ≡ owner_exists (store_in store.now) owner }
 {
     match owner {
         Owner::Op(n) => op_exists(store, n),
@@ -27,7 +21,7 @@ pub fn owner_exists(store: &StoreWords, owner: Owner) -> bool
 
 // The column that has the owner's number of attributes.
 pub fn count_column(owner: Owner) -> usize
-    ensures { result ≡ count_column (owner_of owner) }
+    ensures { result ≡ count_column owner }
 {
     match owner {
         Owner::Op(_) => OP_ATTRIBUTES,
@@ -37,7 +31,7 @@ pub fn count_column(owner: Owner) -> usize
 
 // The owner's number.
 pub fn owner_number(owner: Owner) -> usize
-    ensures { result ≡ owner_number (owner_of owner) }
+    ensures { result ≡ owner_number owner }
 {
     match owner {
         Owner::Op(n) => n as usize,
@@ -47,7 +41,7 @@ pub fn owner_number(owner: Owner) -> usize
 
 // The owner's first attribute slot.
 pub fn first_slot(owner: Owner) -> usize
-    ensures { result ≡ slots_of (owner_of owner) }
+    ensures { result ≡ slots_of owner }
 {
     match owner {
         Owner::Op(n) => 8 * n as usize,
@@ -58,8 +52,8 @@ pub fn first_slot(owner: Owner) -> usize
 // How many keys the owner has.
 pub fn key_count(store: &StoreWords, owner: Owner) -> usize
     requires arranged { Arranged store.now }
-    requires owner_value { owner_exists (store_in store.now) (owner_of owner) ≡ true }
-    ensures { result ≡ key_count (columns store.now) (owner_of owner) }
+    requires owner_value { owner_exists (store_in store.now) owner ≡ true }
+    ensures { result ≡ key_count (columns store.now) owner }
 {
     number(store, count_column(owner), owner_number(owner))
 }

@@ -1,7 +1,6 @@
 // Is a row of the buffer laid out? Ranges of children and depths only help to find things: they must agree with the words that tell what
 // stands where.
-ghost use Rattle.std.specs.Prelude.{◌≡◌, ◌<◌, ◌+◌};
-ghost use Rattle.std.proofs.Math.Option.{some};
+ghost use Rattle.std.specs.Prelude.{◌≡◌, ◌<◌, ◌+◌, Some};
 ghost use Rattle.layout.specs.Columns.{columns, at, op_parent};
 ghost use Rattle.layout.specs.Reading.{parent_from};
 ghost use Rattle.layout.specs.Soundness.{CountsBounded, placed, regions_owned, results_owned, arguments_owned, lists_tiled, op_laid, block_laid, region_laid, value_laid};
@@ -14,6 +13,7 @@ use crate::columns::{
     SUCCESSORS, StoreWords, VALUE_OWNER, VALUES, at, number,
 };
 use crate::rows::{holds, is_tiled, owns};
+use rules::limits::MAX_OWN_KEYS;
 
 // Operation n may stand in block b: the operation around b has a smaller number and is one region less deep, and n lies in b's range of
 // operations.
@@ -21,7 +21,7 @@ use crate::rows::{holds, is_tiled, owns};
 fn placed_in(store: &StoreWords, n: usize, b: usize) -> bool
     requires counts_bounded { CountsBounded store.now }
     requires n_bound { n < 512 }
-    ensures { result ≡ placed (columns store.now) n (some b) }
+    ensures { result ≡ placed (columns store.now) n (Some b) }
 {
     if b >= number(store, COUNTS, BLOCKS) {
         return false;
@@ -113,7 +113,7 @@ pub fn op_laid(store: &StoreWords, n: usize) -> bool
         && regions_owned(store, n)
         && results_owned(store, n)
         && lists_tiled(store, n)
-        && number(store, OP_ATTRIBUTES, n) <= 8
+        && number(store, OP_ATTRIBUTES, n) <= MAX_OWN_KEYS
 }
 
 // Block m's row is laid out.
@@ -128,7 +128,7 @@ pub fn block_laid(store: &StoreWords, m: usize) -> bool
         && holds(store, REGION_BLOCK_FIRST, REGION_BLOCK_END, region, m)
         && arguments_owned(store, m)
         && number(store, BLOCK_OP_END, m) <= number(store, COUNTS, OPS)
-        && number(store, BLOCK_ATTRIBUTES, m) <= 8
+        && number(store, BLOCK_ATTRIBUTES, m) <= MAX_OWN_KEYS
 }
 
 // Region g's row is laid out.

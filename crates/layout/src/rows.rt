@@ -38,7 +38,7 @@ pub fn holds(store: &StoreWords, first: usize, end: usize, row: usize, n: usize)
     requires first_lt_column_count { first < column_count }
     requires end_lt_column_count { end < column_count }
     requires row_bound { row < column_size first }
-    requires row_bound_2 { row < column_size end }
+    requires end_bound { row < column_size end }
     ensures { result ≡ Rattle.layout.specs.Soundness.within (at (columns store.now) first row) (at (columns store.now) end row) n }
 {
     within(number(store, first, row), number(store, end, row), n)
@@ -49,8 +49,8 @@ pub fn at_most(store: &StoreWords, first: usize, end: usize, row: usize, most: u
     requires first_lt_column_count { first < column_count }
     requires end_lt_column_count { end < column_count }
     requires row_bound { row < column_size first }
-    requires row_bound_2 { row < column_size end }
-    requires row_bound_3 { at (columns store.now) first row ≤ at (columns store.now) end row }
+    requires end_bound { row < column_size end }
+    requires range_rises { at (columns store.now) first row ≤ at (columns store.now) end row }
     ensures { result ≡ leb (at (columns store.now) end row - at (columns store.now) first row) most }
 {
     let a = number(store, first, row);
@@ -64,9 +64,9 @@ pub fn row_words(store: &StoreWords, first: usize, end: usize, row: usize, colum
     requires end_lt_column_count { end < column_count }
     requires column_lt_column_count { column < column_count }
     requires row_bound { row < column_size first }
-    requires row_bound_2 { row < column_size end }
-    requires row_bound_3 { at (columns store.now) first row ≤ at (columns store.now) end row }
-    requires row_bound_4 { at (columns store.now) end row ≤ column_size column }
+    requires end_bound { row < column_size end }
+    requires range_rises { at (columns store.now) first row ≤ at (columns store.now) end row }
+    requires range_within { at (columns store.now) end row ≤ column_size column }
     ensures { result.now ≡ slice (columns store.now column) (at (columns store.now) first row) (at (columns store.now) end row) }
 {
     words(
@@ -105,7 +105,7 @@ pub fn is_tiled(store: &StoreWords, first: usize, end: usize, n: usize, total: u
     requires first_lt_column_count { first < column_count }
     requires end_lt_column_count { end < column_count }
     requires n_bound { n < column_size first }
-    requires n_bound_2 { n < column_size end }
+    requires end_bound { n < column_size end }
     ensures { result ≡ tiled (columns store.now) first end n total }
 {
     let a = number(store, first, n);

@@ -1,6 +1,7 @@
 // Document 01's rules of a store, row by row, over a buffer that is laid out.
 ghost use Rattle.std.specs.Prelude.{◌≡◌, ◌+◌, ◌-◌, ◌<◌, ◌≤◌, leb, ltb, length};
-ghost use Rattle.rules.specs.Lists.{all, all_below};
+ghost use Rattle.std.specs.List.{list_all};
+ghost use Rattle.rules.specs.Lists.{all_below};
 ghost use Rattle.rules.specs.Store.{keys_rise, attributes_hold, max_attribute_kind, block_after, sound};
 ghost use Rattle.layout.specs.Columns.{buffer_length, columns, op_parent, slot_count};
 ghost use Rattle.layout.specs.Reading.{attributes_from, op_count, block_count, value_count, around, parent_from, op_of, store_in};
@@ -14,9 +15,11 @@ use crate::columns::{
     StoreWords, VALUES, at, number, words,
 };
 use crate::lists::all_below;
-use crate::owners::{Owner, first_slot};
+use crate::owners::first_slot;
 use crate::rows::at_most;
 use crate::slices::{operands_of, successors_of};
+use rules::limits::MAX_NESTING;
+use rules::types::Owner;
 
 // The keys of `count` attribute slots, from slot `first` on, rise: each is above the one before it.
 fn keys_rise(store: &StoreWords, first: usize, count: usize) -> bool
@@ -36,7 +39,7 @@ fn keys_rise(store: &StoreWords, first: usize, count: usize) -> bool
 fn kinds_fit(store: &StoreWords, first: usize, count: usize) -> bool
     requires count_bound { count ≤ 8 }
     requires first_bound { first + 8 ≤ slot_count }
-    ensures { result ≡ all (λ a. leb a.kind max_attribute_kind) (attributes_from (columns store.now) first count) }
+    ensures { result ≡ list_all (λ a. leb a.kind max_attribute_kind) (attributes_from (columns store.now) first count) }
 {
     all_below(words(store, SLOT_KIND, first, first + count), 128)
 }
@@ -54,7 +57,7 @@ fn attributes_hold(store: &StoreWords, first: usize, count: usize) -> bool
 fn operands_exist(store: &StoreWords, n: usize) -> bool
     requires arranged { Arranged store.now }
     requires n_bound { n < op_count (columns store.now) }
-    ensures { result ≡ all (λ v. ltb v (value_count (columns store.now))) (op_of (columns store.now) n).operands }
+    ensures { result ≡ list_all (λ v. ltb v (value_count (columns store.now))) (op_of (columns store.now) n).operands }
 {
     let values = at(store, COUNTS, VALUES);
     all_below(operands_of(store, n), values)
@@ -64,7 +67,7 @@ fn operands_exist(store: &StoreWords, n: usize) -> bool
 fn successors_exist(store: &StoreWords, n: usize) -> bool
     requires arranged { Arranged store.now }
     requires n_bound { n < op_count (columns store.now) }
-    ensures { result ≡ all (λ b. ltb b (block_count (columns store.now))) (op_of (columns store.now) n).successors }
+    ensures { result ≡ list_all (λ b. ltb b (block_count (columns store.now))) (op_of (columns store.now) n).successors }
 {
     let blocks = at(store, COUNTS, BLOCKS);
     all_below(successors_of(store, n), blocks)
@@ -82,7 +85,7 @@ fn op_rules(store: &StoreWords, n: usize) -> bool
     if !successors_exist(store, n) {
         return false;
     }
-    if number(store, OP_DEPTH, n) > 32 {
+    if number(store, OP_DEPTH, n) > MAX_NESTING {
         return false;
     }
     if !at_most(store, OP_REGION_FIRST, OP_REGION_END, n, 8) {

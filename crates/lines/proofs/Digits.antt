@@ -13,7 +13,7 @@ use Rattle.rules.specs.Bytes.{digit, last_digits, digit_count, decimal}
 use Rattle.layout.specs.Columns.{pasted}
 use Rattle.layout.proofs.Pasted.{pasted_length}
 use Rattle.std.specs.Borrow.{MutBor}
-use Rattle.lines.specs.Wrote.{HasRoom, Writes}
+use Rattle.lines.specs.Writing.{HasRoom, Writes}
 use Rattle.lines.specs.declared.writing.LineWriter.{LineWriter}
 use Rattle.lines.proofs.Joined.{within}
 

@@ -7,7 +7,8 @@ use mathlib.Core.Path.{◌≡◌, refl, sym, ap, ap₂, subst, ◌∙◌}
 use lib.ListN.{length, take, drop, length-append, take-append-drop}
 use lib.Seq.{take_at, drop-append-add, drop-drop, length-take-le}
 use Rattle.layout.specs.Columns.{pasted}
-use Rattle.lines.specs.Wrote.{Wrote, Writes, HasRoom}
+use Rattle.lines.specs.Writing.{WritesAt}
+use Rattle.lines.specs.Writing.{Writes, HasRoom}
 use Rattle.lines.specs.declared.writing.LineWriter.{LineWriter}
 
 -- what stands behind the first m entries
@@ -89,7 +90,7 @@ nothing most a =
 
 -- what a writer that begins with the first of these bytes leaves of them
 pub from_start : {most r : ℕ} {bytes l k : List ℕ} {a b : LineWriter} → a.lent.now ≡ l → a.at ≡ 0 → b.lent.now ≡ k → r ≡ b.at
-    → Writes most bytes a b → Wrote most l k 0 bytes r
+    → Writes most bytes a b → WritesAt most l k 0 bytes r
 from_start {most} {r} {bytes} {l} {k} e f g h w =
     record {
       written = sym g ∙ w.wrote.written ∙ ap₂ (λ (xs : List ℕ) (n : ℕ). pasted xs n bytes) e f;

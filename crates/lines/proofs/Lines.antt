@@ -7,8 +7,10 @@ use mathlib.Core.List.{List, [], ◌∷◌, ◌++◌, append_assoc}
 use mathlib.Core.Path.{◌≡◌, refl, ap, ◌∙◌}
 use lib.Seq.{append_snoc}
 use lib.Dec.{eqb, ltb}
+use Rattle.rules.specs.Causes.{number_of}
+use Rattle.rules.specs.declared.types.Cause.{Cause}
 use Rattle.rules.specs.Bytes.{text, comma, line_feed, decimal, hexadecimal}
-use Rattle.rules.specs.Fragments.{Sort}
+use Rattle.rules.specs.declared.types.Sort.{Sort}
 use Rattle.rules.specs.Comparison.{pair_of}
 use Rattle.rules.specs.Listings.{printed, refusal, equal_line, sort_text, unequal_line, hashes_line, rounded_up, per_cent, share_line}
 
@@ -16,9 +18,9 @@ use Rattle.rules.specs.Listings.{printed, refusal, equal_line, sort_text, unequa
 fielded : (xs ys : List ℕ) (b : ℕ) (zs : List ℕ) → xs ++ (ys ++ (b ∷ [])) ++ zs ≡ xs ++ (ys ++ b ∷ zs)
 fielded xs ys b zs = append_assoc xs (ys ++ (b ∷ [])) zs ∙ ap (λ (l : List ℕ). xs ++ l) (append_snoc ys b zs)
 
-pub refusal_line : (line cause : ℕ) → text "refused," ++ (decimal line ++ (comma ∷ [])) ++ (decimal cause ++ (line_feed ∷ [])) ≡ refusal line cause
+pub refusal_line : (line : ℕ) (cause : Cause) → text "refused," ++ (decimal line ++ (comma ∷ [])) ++ (decimal (number_of cause) ++ (line_feed ∷ [])) ≡ refusal line cause
 unfolding refusal printed
-refusal_line line cause = fielded (text "refused,") (decimal line) comma (decimal cause ++ (line_feed ∷ []))
+refusal_line line cause = fielded (text "refused,") (decimal line) comma (decimal (number_of cause) ++ (line_feed ∷ []))
 
 pub equal_line_lem : (paired : ℕ) → text "eq,-,-," ++ (decimal paired ++ (line_feed ∷ [])) ≡ equal_line paired
 unfolding equal_line printed

@@ -2,8 +2,7 @@
 pub mod Pieces
 pub mod Fields
 pub mod Reading
-pub mod Editions
 pub mod Header
 pub mod Parsing
-pub mod Wrote
+pub mod Writing
 pub mod Room

@@ -1,17 +1,12 @@
 -- What the code tells of the lines behind their letters, as what the rules make of them.
 use Rattle.std.specs.Prelude as std
-use Rattle.std.specs.Prelude.{ℕ, ◌≤◌, List, ◌≡◌, length, take, option_map}
-use Rattle.std.proofs.Math.Option.{Option}
+use Rattle.std.specs.Prelude.{ℕ, ◌≤◌, List, ◌≡◌, length, take, option_map, Option, true, false}
 use Rattle.rules.specs.Store as rules
+use Rattle.rules.specs.declared.types.Owner.{Owner}
 use Rattle.rules.specs.Building.{new_operation, new_block, set_attribute, set_operand}
-use Rattle.std.specs.Prelude.{true, false}
-use Rattle.rules.specs.Lines.{Edition, Line, building, query, Reader, ◌>>=◌, giving, number, items, parent_block, owner, operation_line, block_line, attribute_line, operand_line, query_line, wholly}
-use Rattle.layout.specs.Owners.{owner_of}
-use Rattle.calling.specs.Types.{parent_of, attribute_of}
-use Rattle.calling.specs.declared.types.OpFields as code
-use Rattle.fragments.specs.Sorts.{sort_of}
-use Rattle.fragments.specs.Ignoring.{ignore_of}
-use Rattle.lines.specs.Reading.{told}
+use Rattle.rules.specs.Lines.{Line, building, query, Reader, ◌>>=◌, giving, number, items, parent_block, owner, operation_line, block_line, attribute_line, operand_line, query_line, wholly}
+use Rattle.rules.specs.declared.types.Edition.{Edition}
+use Rattle.mutation.specs.declared.types.OpFields as code
 use Rattle.lines.specs.declared.parsing.OpLists as lists
 use Rattle.lines.specs.declared.parsing.BlockLine.{BlockLine}
 use Rattle.lines.specs.declared.parsing.AttributeLine.{AttributeLine}
@@ -23,7 +18,7 @@ use Rattle.lines.specs.declared.letters.Letter.TheVariants as letters
 -- ---- fields of a line
 
 -- an owner: its letter and its number
-unfoldable pub owner_fields : Reader rules.Owner
+unfoldable pub owner_fields : Reader Owner
 owner_fields = do
   of ← owner
   n ← number
@@ -45,7 +40,7 @@ operation_fields = do
   giving (record { kind = kind; parent = parent; location = location; regions = regions })
 
 abbrev pub fields_as : code.OpFields → OpFields
-fields_as f = record { kind = f.kind; parent = parent_of f.parent; location = f.location; regions = f.regions }
+fields_as f = record { kind = f.kind; parent = f.parent; location = f.location; regions = f.regions }
 
 -- an operation's lists
 pub record OpLists : Type 0 where
@@ -71,7 +66,7 @@ ListsFit types operands successors std.None = Unit {0}
 ListsFit types operands successors (std.Some n) = (n.types ≤ length types) × (n.operands ≤ length operands) × (n.successors ≤ length successors)
 
 pub record ReadLists (fields : List (List ℕ)) (types operands successors : List ℕ) (r : std.Option lists.OpLists) : Type 0 where
-  pub same : wholly (operation_lists fields) ≡ told (option_map (lists_of types operands successors) r)
+  pub same : wholly (operation_lists fields) ≡ (option_map (lists_of types operands successors) r)
   pub fit : ListsFit types operands successors r
 
 -- the line that the two make
@@ -107,14 +102,14 @@ ArgumentsFit types std.None = Unit {0}
 ArgumentsFit types (std.Some b) = b.arguments ≤ length types
 
 pub record ReadBlock (e : Edition) (fields : List (List ℕ)) (types : List ℕ) (r : std.Option BlockLine) : Type 0 where
-  pub same : wholly (block_line e fields) ≡ told (option_map (block_line_of types) r)
+  pub same : wholly (block_line e fields) ≡ (option_map (block_line_of types) r)
   pub fit : ArgumentsFit types r
 
 abbrev pub attribute_line_of : AttributeLine → Line
-attribute_line_of a = building (set_attribute (owner_of a.owner) (attribute_of a.attribute))
+attribute_line_of a = building (set_attribute a.owner a.attribute)
 
 abbrev pub operand_line_of : OperandLine → Line
 operand_line_of o = building (set_operand (record { operation = o.operation; index = o.index; value = o.value }))
 
 abbrev pub query_of : Query → Line
-query_of q = query (sort_of q.sort) q.left q.right (ignore_of q.ignore)
+query_of q = query q.sort q.left q.right q.ignore

@@ -1,7 +1,6 @@
 -- What the code tells of the fields that it reads, as what the rules' readers give.
 use Rattle.std.specs.Prelude as std
-use Rattle.std.specs.Prelude.{ℕ, ◌-◌, ◌^◌, ◌≤◌, Bool, true, false, cond, not, List, [], ◌∷◌, ◌≡◌, eqb, length, take, option_map}
-use Rattle.std.proofs.Math.Option.{Option, none, some}
+use Rattle.std.specs.Prelude.{ℕ, ◌-◌, ◌^◌, ◌≤◌, Bool, true, false, cond, not, List, [], ◌∷◌, ◌≡◌, eqb, length, take, option_map, Option, None, Some}
 use Rattle.rules.specs.Lists.{same_list}
 use Rattle.rules.specs.Bytes.{is_digit}
 use Rattle.rules.specs.Lines.{Reader, and_then, giving, items}
@@ -13,9 +12,9 @@ nothing_left (f ∷ fs) = false
 
 -- the byte of a field of one byte
 abbrev pub one_byte : List ℕ → Option ℕ
-one_byte [] = none
-one_byte (b ∷ []) = some b
-one_byte (b ∷ c ∷ bs) = none
+one_byte [] = None
+one_byte (b ∷ []) = Some b
+one_byte (b ∷ c ∷ bs) = None
 
 -- the first field is this one byte
 abbrev pub begins_with : ℕ → List (List ℕ) → Bool
@@ -26,7 +25,7 @@ begins_with b (f ∷ fs) = same_list eqb f (b ∷ [])
 
 -- what a digit stands for
 abbrev pub digit_of : ℕ → Option ℕ
-digit_of b = cond (is_digit b) (some (b - 48)) none
+digit_of b = cond (is_digit b) (Some (b - 48)) None
 
 -- there are bytes, and the first of several is not `0`
 abbrev pub starts_well : List ℕ → Bool
@@ -36,18 +35,13 @@ starts_well (d ∷ e ∷ ds) = not (eqb d 48)
 
 -- ---- what the code answers
 
--- what was read, if it was
-abbrev pub told : {A : Type 0} → std.Option A → Option A
-told std.None = none
-told (std.Some a) = some a
-
 -- something read, and the fields that are left
 abbrev pub Answer : Type 0 → Type 0
 Answer A = Option (A × List (List ℕ))
 
 abbrev pub read : {A : Type 0} → std.Option A → List (List ℕ) → Answer A
-read std.None left = none
-read (std.Some a) left = some (a, left)
+read std.None left = None
+read (std.Some a) left = Some (a, left)
 
 -- the same is read, and nothing of it kept
 abbrev pub unkept : {A : Type 0} → Answer A → Answer (Unit {0})

@@ -1,14 +1,10 @@
 // The first line of a listing, which must be the header of an edition.
 ghost use Rattle.lines.specs.Header.{Headed};
 
-use crate::editions::Edition;
+use crate::editions::of_header;
 use crate::pieces::piece_end;
-use layout::causes::Cause;
-
-// The longest listing and the longest line, before its line feed.
-pub const MAX_LISTING: usize = 65536;
-
-pub const MAX_LINE: usize = 512;
+use rules::limits::{MAX_LINE, MAX_LISTING};
+use rules::types::{Cause, Edition};
 
 // Where the second line begins: behind the nine bytes of either header and their line feed.
 pub const SECOND_LINE: usize = 10;
@@ -30,7 +26,7 @@ pub fn header_cause(listing: &[u8]) -> Result<Edition, Cause>
     if end > MAX_LINE {
         return Err(Cause::BadLength);
     }
-    let Some(edition) = Edition::of_header(&listing[..end]) else {
+    let Some(edition) = of_header(&listing[..end]) else {
         return Err(Cause::BadHeader);
     };
     Ok(edition)

@@ -3,11 +3,10 @@ ghost use Rattle.std.specs.Prelude.{◌≡◌, drop, option_map};
 ghost use Rattle.rules.specs.Lines.{fields_of, letter};
 ghost use Rattle.rules.specs.Converting.{begins};
 ghost use Rattle.lines.specs.Reading.{read, begins_with};
-ghost use Rattle.lines.specs.Editions.{edition_as};
 ghost use Rattle.lines.specs.Parsing.{line_behind};
 
-use crate::editions::Edition;
 use crate::reading::Fields;
+use rules::types::Edition;
 
 // A line, by its letter.
 #[derive(Clone, Copy, PartialEq, Eq, Debug)]
@@ -23,7 +22,7 @@ pub enum Letter {
 // The letter in front. `i` is one of the second edition alone.
 #[tactic(auto, unfolding(rules::specs::Lines::letter, rules::specs::Lines::more_letters, rules::specs::Lines::field, rules::specs::Lines::one_of, rules::specs::Bytes::is_text, rules::specs::Lists::same_list))]
 pub fn read_letter(fields: &mut Fields<'_>, edition: Edition) -> Option<Letter>
-    ensures reads { letter (edition_as edition) fields.old ≡ read (option_map (line_behind (edition_as edition)) result) fields.new }
+    ensures reads { letter edition fields.old ≡ read (option_map (line_behind edition) result) fields.new }
     ensures passed { fields.new ≡ drop 1 fields.old }
 {
     match fields.letter()? {

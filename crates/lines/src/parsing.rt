@@ -1,18 +1,12 @@
 // The lines of a listing, from behind their first letter on. A line that has more fields than it may have is bad.
 ghost use Rattle.std.specs.Prelude.{◌≡◌, ℕ, ◌+◌, ◌≤◌, List, length, option_map};
 ghost use Rattle.rules.specs.Lines.{yes_or_no, sort, label, attribute_line, operand_line, query_line, wholly};
-ghost use Rattle.layout.specs.Owners.{owner_of};
-ghost use Rattle.fragments.specs.Sorts.{sort_of};
-ghost use Rattle.lines.specs.Reading.{told, read};
-ghost use Rattle.lines.specs.Editions.{edition_as};
+ghost use Rattle.lines.specs.Reading.{read};
 ghost use Rattle.lines.specs.Parsing.{owner_fields, fields_as, operation_fields, attribute_line_of, operand_line_of, query_of, ReadBlock, ReadLists};
 
-use crate::editions::Edition;
 use crate::reading::Fields;
-use calling::types::{Attribute, OpFields};
-use fragments::ignoring::Ignore;
-use fragments::types::Sort;
-use layout::owners::Owner;
+use mutation::types::OpFields;
+use rules::types::{Attribute, Edition, Ignore, Owner, Sort};
 
 // How many results, operands and successors there are.
 #[derive(Clone, Copy)]
@@ -55,9 +49,9 @@ pub struct Query {
 }
 
 // `o`, `b` or `r`.
-#[tactic(auto, unfolding(rules::specs::Lines::sort, rules::specs::Lines::field, rules::specs::Lines::one_of, rules::specs::Bytes::is_text, rules::specs::Lists::same_list, fragments::specs::Sorts::sort_of))]
+#[tactic(auto, unfolding(rules::specs::Lines::sort, rules::specs::Lines::field, rules::specs::Lines::one_of, rules::specs::Bytes::is_text, rules::specs::Lists::same_list))]
 fn read_sort(fields: &mut Fields<'_>) -> Option<Sort>
-    ensures { sort fields.old ≡ read (option_map sort_of result) fields.new }
+    ensures { sort fields.old ≡ read result fields.new }
 {
     match fields.letter()? {
         b'o' => Some(Sort::Op),
@@ -80,9 +74,9 @@ fn yes_or_no(n: u32) -> Option<bool>
 }
 
 // `o` or `b`, and a number.
-#[tactic(auto, unfolding(crate::specs::Parsing::owner_fields, rules::specs::Lines::owner, rules::specs::Lines::field, rules::specs::Lines::one_of, rules::specs::Bytes::is_text, rules::specs::Lists::same_list, layout::specs::Owners::owner_of))]
+#[tactic(auto, unfolding(crate::specs::Parsing::owner_fields, rules::specs::Lines::owner, rules::specs::Lines::field, rules::specs::Lines::one_of, rules::specs::Bytes::is_text, rules::specs::Lists::same_list))]
 fn read_owner(fields: &mut Fields<'_>) -> Option<Owner>
-    ensures { owner_fields fields.old ≡ read (option_map owner_of result) fields.new }
+    ensures { owner_fields fields.old ≡ read result fields.new }
 {
     let letter = fields.letter()?;
     let n = fields.number()?;
@@ -137,7 +131,7 @@ pub fn read_lists(
 // The label of a block, which stands in the first edition alone: it must be a number, and is dropped.
 #[tactic(auto, unfolding(rules::specs::Lines::label))]
 pub fn skip_label(fields: &mut Fields<'_>, edition: Edition) -> Option<()>
-    ensures reads { label (edition_as edition) fields.old ≡ read result fields.new }
+    ensures reads { label edition fields.old ≡ read result fields.new }
     ensures fewer { length fields.new ≤ length fields.old }
 {
     if edition == Edition::First {
@@ -150,7 +144,7 @@ pub fn skip_label(fields: &mut Fields<'_>, edition: Edition) -> Option<()>
 #[tactic(auto, unfolding(rules::specs::Lines::block_line, rules::specs::Lines::wholly))]
 pub fn block_line(fields: &mut Fields<'_>, types: &mut [u32], edition: Edition) -> Option<BlockLine>
     requires { length fields.old ≤ length types.old + 1 }
-    ensures { ReadBlock (edition_as edition) fields.old types.new result }
+    ensures { ReadBlock edition fields.old types.new result }
 {
     let region = fields.number()?;
     skip_label(fields, edition)?;
@@ -166,7 +160,7 @@ pub fn block_line(fields: &mut Fields<'_>, types: &mut [u32], edition: Edition) 
 // `a` or `i`: o or b, number, key, kind, content. Which of the two letters it is says whether the attribute is inherent.
 #[tactic(auto, unfolding(rules::specs::Lines::attribute_line, rules::specs::Lines::wholly))]
 pub fn attribute_line(fields: &mut Fields<'_>, inherent: bool) -> Option<AttributeLine>
-    ensures { wholly (attribute_line inherent fields.old) ≡ told (option_map attribute_line_of result) }
+    ensures { wholly (attribute_line inherent fields.old) ≡ (option_map attribute_line_of result) }
 {
     let owner = read_owner(fields)?;
     let key = fields.number()?;
@@ -186,7 +180,7 @@ pub fn attribute_line(fields: &mut Fields<'_>, inherent: bool) -> Option<Attribu
 // `s` operation, index, value.
 #[tactic(auto, unfolding(rules::specs::Lines::operand_line, rules::specs::Lines::wholly))]
 pub fn operand_line(fields: &mut Fields<'_>) -> Option<OperandLine>
-    ensures { wholly (operand_line fields.old) ≡ told (option_map operand_line_of result) }
+    ensures { wholly (operand_line fields.old) ≡ (option_map operand_line_of result) }
 {
     let operation = fields.number()?;
     let index = fields.number()?;
@@ -201,7 +195,7 @@ pub fn operand_line(fields: &mut Fields<'_>) -> Option<OperandLine>
 // `q` o, b or r, left, right, 1 to ignore locations or 0 not to, the 64 bits as one number.
 #[tactic(auto, unfolding(rules::specs::Lines::query_line, rules::specs::Lines::wholly))]
 pub fn query_line(fields: &mut Fields<'_>) -> Option<Query>
-    ensures { wholly (query_line fields.old) ≡ told (option_map query_of result) }
+    ensures { wholly (query_line fields.old) ≡ (option_map query_of result) }
 {
     let sort = read_sort(fields)?;
     let left = fields.number()?;

@@ -4,12 +4,11 @@ ghost use Rattle.rules.specs.Bytes.{comma, line_feed, decimal};
 ghost use Rattle.rules.specs.Store.{max_ops};
 ghost use Rattle.rules.specs.Listings.{refusal, equal_line, sort_text, unequal_line, hashes_line, rounded_up, per_cent, share_line};
 ghost use Rattle.rules.specs.Comparison.{pair_of};
-ghost use Rattle.fragments.specs.Sorts.{sort_of};
-ghost use Rattle.lines.specs.Wrote.{HasRoom, Writes};
+ghost use Rattle.lines.specs.Writing.{HasRoom, Writes};
 ghost use Rattle.lines.specs.Room.{number_room, refusal_room, equal_room, sort_room, unequal_room, hashes_room, share_room};
 
 use crate::writing::LineWriter;
-use fragments::types::Sort;
+use rules::types::{Cause, Sort};
 
 const COMMA: u8 = b',';
 
@@ -34,13 +33,13 @@ fn put_last(out: &mut LineWriter, n: u32)
 }
 
 // The line that says that a line of the listing is refused, and for which cause.
-pub fn put_refusal(out: &mut LineWriter, line: u32, cause: u32)
+pub fn put_refusal(out: &mut LineWriter, line: u32, cause: Cause)
     requires { HasRoom refusal_room out.old }
     ensures { Writes refusal_room (refusal line cause) out.old out.new }
 {
     out.put_text(b"refused,");
     put_field(out, line);
-    put_last(out, cause);
+    put_last(out, cause.number());
 }
 
 // The line of two equal fragments.
@@ -53,10 +52,10 @@ pub fn put_equal(out: &mut LineWriter, paired: u32)
 }
 
 // A sort of fragment and the comma behind it.
-#[tactic(auto, unfolding(rules::specs::Listings::sort_text, fragments::specs::Sorts::sort_of))]
+#[tactic(auto, unfolding(rules::specs::Listings::sort_text))]
 fn put_sort(out: &mut LineWriter, sort: Sort)
     requires { HasRoom sort_room out.old }
-    ensures { Writes sort_room (sort_text (sort_of sort) ++ (comma ∷ [])) out.old out.new }
+    ensures { Writes sort_room (sort_text sort ++ (comma ∷ [])) out.old out.new }
 {
     match sort {
         Sort::Op => out.put_text(b"op,"),
@@ -68,7 +67,7 @@ fn put_sort(out: &mut LineWriter, sort: Sort)
 // The line of two unequal fragments: the first unequal pair.
 pub fn put_unequal(out: &mut LineWriter, sort: Sort, l: u32, r: u32, paired: u32)
     requires { HasRoom unequal_room out.old }
-    ensures { Writes unequal_room (unequal_line (pair_of (sort_of sort) l r) paired) out.old out.new }
+    ensures { Writes unequal_room (unequal_line (pair_of sort l r) paired) out.old out.new }
 {
     put_sort(out, sort);
     put_field(out, l);

@@ -3,9 +3,8 @@
 ghost use Rattle.std.specs.Prelude.{◌≡◌, ◌≢◌, ◌+◌, ◌^◌, ◌≤◌, [], ◌∷◌, length, drop, MatchOption, option_map};
 ghost use Rattle.rules.specs.Bytes.{number_below};
 ghost use Rattle.rules.specs.Lines.{fields_of, field, number, numbers, items, ignore_bits, parent_block, parent_meaning};
-ghost use Rattle.calling.specs.Types.{parent_of};
 ghost use Rattle.lines.specs.Fields.{fields_left, FieldRead};
-ghost use Rattle.lines.specs.Reading.{nothing_left, one_byte, digit_of, starts_well, told, read, passing, ReadItems};
+ghost use Rattle.lines.specs.Reading.{nothing_left, one_byte, digit_of, starts_well, read, passing, ReadItems};
 
 use crate::pieces::piece_end;
 use crate::texts::same_bytes;
@@ -99,7 +98,7 @@ impl<'a> Fields<'a> {
     // A parent block or `-`.
     #[tactic(auto, unfolding(rules::specs::Lines::field, rules::specs::Lines::parent_block))]
     pub fn parent(&mut self) -> Option<Option<u32>>
-        ensures reads { parent_block self.old ≡ read (option_map parent_of result) self.new }
+        ensures reads { parent_block self.old ≡ read result self.new }
         ensures passed { self.new ≡ drop 1 self.old }
     {
         let field = self.next()?;
@@ -156,7 +155,7 @@ fn field_at(line: &[u8], at: usize) -> Option<&[u8]>
 // What a digit stands for.
 #[tactic(auto, unfolding(rules::specs::Bytes::is_digit))]
 fn digit(b: u8) -> Option<u64>
-    ensures { digit_of b ≡ told result }
+    ensures { digit_of b ≡ result }
 {
     match b {
         b'0'..=b'9' => Some((b - b'0') as u64),
@@ -177,7 +176,7 @@ fn starts_well(digits: &[u8]) -> bool
 
 // The number within 64 bits that the bytes stand for.
 fn parse_u64(digits: &[u8]) -> Option<u64>
-    ensures { number_below (2 ^ 64) digits.now ≡ told result }
+    ensures { number_below (2 ^ 64) digits.now ≡ result }
 {
     if !starts_well(digits) {
         return None;
@@ -192,7 +191,7 @@ fn parse_u64(digits: &[u8]) -> Option<u64>
 
 // The number within 32 bits that the bytes stand for.
 fn parse_u32(digits: &[u8]) -> Option<u32>
-    ensures { number_below (2 ^ 32) digits.now ≡ told result }
+    ensures { number_below (2 ^ 32) digits.now ≡ result }
 {
     let n = parse_u64(digits)?;
     u32::try_from(n).ok()
@@ -200,7 +199,7 @@ fn parse_u32(digits: &[u8]) -> Option<u32>
 
 // The byte that a field of one byte is.
 fn parse_letter(field: &[u8]) -> Option<u8>
-    ensures { one_byte field.now ≡ told result }
+    ensures { one_byte field.now ≡ result }
 {
     match field {
         [byte] => Some(*byte),
@@ -209,9 +208,9 @@ fn parse_letter(field: &[u8]) -> Option<u8>
 }
 
 // The parent block that the bytes stand for, which `-` says is none.
-#[tactic(auto, unfolding(rules::specs::Lines::parent_meaning, rules::specs::Bytes::is_text, calling::specs::Types::parent_of))]
+#[tactic(auto, unfolding(rules::specs::Lines::parent_meaning, rules::specs::Bytes::is_text))]
 fn parse_parent(field: &[u8]) -> Option<Option<u32>>
-    ensures { parent_meaning field.now ≡ told (option_map parent_of result) }
+    ensures { parent_meaning field.now ≡ result }
 {
     if same_bytes(field, b"-") {
         return Some(None);

@@ -30,7 +30,7 @@ fn digit_count(n: u32) -> usize
 }
 
 impl<'a> LineWriter<'a> {
-    ghost use Rattle.lines.specs.Wrote.{HasRoom, Writes};
+    ghost use Rattle.lines.specs.Writing.{HasRoom, Writes};
 
     // Nothing is written yet.
     pub fn new(lent: &'a mut [u8]) -> LineWriter<'a>

@@ -1,19 +1,20 @@
 -- A line that means a building call does what the call does. Assumes nothing.
 use Rattle.std.specs.Prelude as std
 use Rattle.std.proofs.Common.{◌≡◌, ℕ, List, refl, sym, ap, ap₂, subst, ◌∙◌}
-use Rattle.std.proofs.Math.Option.{Option, none, some, some-injective, none-ne-some}
+use Rattle.std.specs.Prelude.{Option, None, Some}
+use Rattle.std.proofs.lemmas.Option.{same_Some, none-some}
 use Rattle.rules.specs.Store.{Store}
 use Rattle.rules.specs.Building.{Call, Built, made, accepted, refused}
 use Rattle.rules.specs.Lines.{Line, building}
 use Rattle.rules.specs.Listings.{Tally, building_does, line_does}
 use Rattle.layout.specs.Reading.{store_in}
-use Rattle.layout.specs.Causes.{number_of, cause_of}
+use Rattle.rules.specs.Causes.{cause_of}
 use Rattle.layout.specs.Soundness.{IsSound}
-use Rattle.layout.specs.declared.causes.Cause.{Cause}
-use Rattle.layout.specs.declared.causes.Cause.TheVariants.{BadLine}
-use Rattle.journal.specs.Words.{mark_count}
-use Rattle.calling.specs.Types.{made_of, done_of}
-use Rattle.calling.specs.Doing.{Did}
+use Rattle.rules.specs.declared.types.Cause.{Cause}
+use Rattle.rules.specs.declared.types.Cause.TheVariants.{BadLine}
+use Rattle.layout.specs.MarkedReading.{mark_count}
+use Rattle.mutation.specs.Types.{made_of, done_of}
+use Rattle.mutation.specs.Doing.{Performs}
 use Rattle.listing.specs.Building.{led_to, LineDid}
 
 -- what a line that builds answers
@@ -21,7 +22,7 @@ abbrev pub Done : Type 0
 Done = std.Result (Unit {0}) Cause
 
 -- a line that means nothing
-pub unread : (entry : List ℕ) (line : Option Line) → line ≡ none → IsSound entry → LineDid entry entry line (std.Err BadLine)
+pub unread : (entry : List ℕ) (line : Option Line) → line ≡ None → IsSound entry → LineDid entry entry line (std.Err BadLine)
 unfolding line_does led_to cause_of
 unread entry line e h =
     record {
@@ -32,10 +33,10 @@ unread entry line e h =
     }
 
 -- why a call was refused, if it was
-unfoldable refusal_in : Built → Option ℕ
-refusal_in (made n) = none
-refusal_in accepted = none
-refusal_in (refused cause) = some cause
+unfoldable refusal_in : Built → Option Cause
+refusal_in (made n) = None
+refusal_in accepted = None
+refusal_in (refused cause) = Some cause
 
 outcome : (b : Built) (s s' : Store) (t : Tally) → building_does b s' (record { store = s; tally = t }) ≡ led_to (record { store = s'; tally = t }) (refusal_in b)
 unfolding building_does led_to refusal_in
@@ -43,11 +44,11 @@ outcome (made n) s s' t = refl
 outcome accepted s s' t = refl
 outcome (refused cause) s s' t = refl
 
-refused_is : (b : Built) (cause : ℕ) → refusal_in b ≡ some cause → b ≡ refused cause
+refused_is : (b : Built) (cause : Cause) → refusal_in b ≡ Some cause → b ≡ refused cause
 unfolding refusal_in
-refused_is (made n) cause h = absurd (none-ne-some _ h)
-refused_is accepted cause h = absurd (none-ne-some _ h)
-refused_is (refused k) cause h = ap refused (some-injective _ _ h)
+refused_is (made n) cause h = absurd (none-some _ h)
+refused_is accepted cause h = absurd (none-some _ h)
+refused_is (refused k) cause h = ap refused (same_Some _ _ h)
 
 refusal_of : (r : Done) → cause_of r ≡ refusal_in (done_of r)
 unfolding cause_of refusal_in done_of
@@ -55,8 +56,8 @@ refusal_of (std.Ok u) = refl
 refusal_of (std.Err k) = refl
 
 -- a line that means a call
-module _ {entry exit : List ℕ} {c : Call} {line : Option Line} (e : line ≡ some (building c)) where
-  answered : (b : Built) (r : Done) → Did entry exit c b → cause_of r ≡ refusal_in b → LineDid entry exit line r
+module _ {entry exit : List ℕ} {c : Call} {line : Option Line} (e : line ≡ Some (building c)) where
+  answered : (b : Built) (r : Done) → Performs entry exit c b → cause_of r ≡ refusal_in b → LineDid entry exit line r
   unfolding line_does cause_of mark_count
   answered b r did cause =
       record {
@@ -67,18 +68,18 @@ module _ {entry exit : List ℕ} {c : Call} {line : Option Line} (e : line ≡ s
             ∙ ap (led_to (record { store = store_in exit; tally = t })) (sym cause);
         sound = did.sound;
         marks = did.behind.marks;
-        unchanged = λ k q. did.unchanged (number_of k) (refused_is b (number_of k) (sym cause ∙ ap cause_of q));
+        unchanged = λ k q. did.unchanged k (refused_is b k (sym cause ∙ ap cause_of q));
       }
 
-  pub line_made : (n : ℕ) → Did entry exit c (made_of (std.Ok n)) → LineDid entry exit line (std.Ok tt)
+  pub line_made : (n : ℕ) → Performs entry exit c (made_of (std.Ok n)) → LineDid entry exit line (std.Ok tt)
   unfolding cause_of refusal_in made_of
   line_made n did = answered (made n) (std.Ok tt) did refl
 
-  pub line_refused : (k : Cause) → Did entry exit c (made_of (std.Err k)) → LineDid entry exit line (std.Err k)
+  pub line_refused : (k : Cause) → Performs entry exit c (made_of (std.Err k)) → LineDid entry exit line (std.Err k)
   unfolding cause_of refusal_in made_of
-  line_refused k did = answered (refused (number_of k)) (std.Err k) did refl
+  line_refused k did = answered (refused k) (std.Err k) did refl
 
-  pub line_done : (r : Done) → Did entry exit c (done_of r) → LineDid entry exit line r
+  pub line_done : (r : Done) → Performs entry exit c (done_of r) → LineDid entry exit line r
   line_done r did = answered (done_of r) r did (refusal_of r)
 
 -- the same line, said in another way

@@ -14,8 +14,8 @@ use Rattle.layout.specs.Reading.{store_in}
 use Rattle.layout.specs.Soundness.{IsSound}
 use Rattle.layout.proofs.Laid.{laid_of}
 use Rattle.layout.proofs.Empty.{empty_reads, empty_laid}
-use Rattle.journal.specs.Words.{mark_count}
-use Rattle.mapping.specs.MappingWords.{mapping_length, empty_words}
+use Rattle.layout.specs.MarkedReading.{mark_count}
+use Rattle.equivalence.specs.MappingWords.{mapping_length, empty_words}
 use Rattle.listing.specs.Stepping.{Bare}
 
 -- ---- the store

@@ -3,17 +3,15 @@ use Prim.Native.Nat.{ℕ}
 use native.Mathlib.Omega.{arith}
 use mathlib.Core.Bool.{true}
 use mathlib.Core.List.{List, []}
-use mathlib.Core.Option.{some}
+use Rattle.std.specs.Prelude.{Some}
 use mathlib.Core.Path.{refl}
 use Rattle.rules.specs.Listings.{hashes_line, line_does, sums_answer, sums_program}
-use Rattle.fragments.specs.Sorts.{sort_of}
-use Rattle.fragments.specs.Ignoring.{ignore_of}
-use Rattle.hashing.specs.Calls.{hashed_of, Answered}
+use Rattle.hashing.specs.Calls.{hashed_of, HashAnswers}
 use Rattle.std.specs.Prelude as std
-use Rattle.layout.specs.declared.causes.Cause.{Cause}
-use Rattle.tally.specs.declared.types.Place.{Place}
+use Rattle.rules.specs.declared.types.Cause.{Cause}
+use Rattle.listing.specs.declared.places.Place.{Place}
 use Rattle.lines.specs.Parsing.{query_of}
-use Rattle.lines.specs.Wrote.{Writes}
+use Rattle.lines.specs.Writing.{Writes}
 use Rattle.lines.specs.Room.{hashes_room}
 use Rattle.lines.specs.declared.parsing.Query.{Query}
 use Rattle.lines.specs.declared.writing.LineWriter.{LineWriter}
@@ -23,14 +21,14 @@ use Rattle.lines.proofs.Joined.{within}
 
 -- what a `q` of `sums` results in
 abbrev pub Sums : List ℕ → List Place → Query → LineWriter → LineWriter → LineResult → Type 0
-Sums b tally q out out' r = Stepped (line_does sums_program (progress_of b tally) (some (query_of q))) b tally out out' r
+Sums b tally q out out' r = Stepped (line_does sums_program (progress_of b tally) (Some (query_of q))) b tally out out' r
 
 module _ (b : List ℕ) (tally : List Place) (q : Query) where
   abbrev pub Left : std.Result ℕ Cause → Type 0
-  Left r = Answered true b [] (ignore_of q.ignore) (sort_of q.sort) q.left r
+  Left r = HashAnswers true b [] q.ignore q.sort q.left r
 
   abbrev pub Right : std.Result ℕ Cause → Type 0
-  Right r = Answered true b [] (ignore_of q.ignore) (sort_of q.sort) q.right r
+  Right r = HashAnswers true b [] q.ignore q.sort q.right r
 
   -- a right hash is asked for only where the left one is there, and is refused or not whatever is done first
   pub left_stops : (out : LineWriter) {cause : Cause} → Left (std.Err cause) → Sums b tally q out out (std.Err cause)

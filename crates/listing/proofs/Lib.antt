@@ -1,5 +1,10 @@
--- Why a listing is printed as the rules print it: its first line, what each line means and does, what a query prints and counts, and the
--- lines one after the other.
+-- Why a listing is printed as the rules print it, line by line, and why its tally counts what the rules count.
+pub mod Including
+pub mod Counts
+pub mod Empty
+pub mod Alike
+pub mod Tallies
+pub mod Turns
 mod Emptied
 mod Built
 mod Hashes

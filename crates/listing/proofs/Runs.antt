@@ -1,5 +1,6 @@
 -- The lines one after the other: what is printed so far, followed by what the rules print from here on, is what they print from the second
 -- line on; and five bytes of room for each byte of the listing are enough. Assumes nothing.
+use Rattle.rules.specs.declared.types.Cause.TheVariants.{BadLength}
 use Prim.Native.Nat.{ℕ, suc, ◌+◌, ◌-◌, ◌*◌, ◌<◌, ◌≤◌}
 use native.Mathlib.Numerals.{add-one}
 use native.Mathlib.Omega.{arith}
@@ -16,18 +17,16 @@ use Rattle.rules.specs.Listings.{LineOutcome, prints, stops, refusal, does, proc
 use Rattle.rules.proofs.Listings.Short.{Within, Terse, does_within, twins_terse, sums_terse}
 use Rattle.layout.specs.Reading.{slice, store_in}
 use Rattle.layout.proofs.Scans.{slice_length}
-use Rattle.journal.specs.Words.{marked_in, sound_lent}
-use Rattle.marks.proofs.Bare.{bare_lent, bare_reads}
-use Rattle.mapping.specs.MappingWords.{empty_words}
-use Rattle.tally.specs.Tally.{tally_of}
-use Rattle.tally.specs.declared.types.Place.{Place}
-use Rattle.layout.specs.Causes.{number_of}
-use Rattle.layout.specs.declared.causes.Cause.{Cause}
-use Rattle.lines.specs.Editions.{edition_as}
+use Rattle.layout.specs.MarkedReading.{marked_in, sound_lent}
+use Rattle.layout.proofs.Bare.{bare_lent, bare_reads}
+use Rattle.equivalence.specs.MappingWords.{empty_words}
+use Rattle.listing.specs.Tally.{tally_of}
+use Rattle.listing.specs.declared.places.Place.{Place}
+use Rattle.rules.specs.declared.types.Cause.{Cause}
 use Rattle.lines.specs.Header.{second_line}
 use Rattle.lines.proofs.Firsts.{none_left}
 use Rattle.lines.specs.Pieces.{pieces_from, PieceEnd}
-use Rattle.lines.specs.Wrote.{Writes, HasRoom}
+use Rattle.lines.specs.Writing.{Writes, HasRoom}
 use Rattle.lines.specs.declared.writing.LineWriter.{LineWriter}
 use Rattle.lines.specs.Room.{refusal_room, share_room}
 use Rattle.lines.proofs.Joined.{then, said, within, exactly, nothing}
@@ -58,65 +57,65 @@ front xs ys zs e = e ∙ sym (append_assoc xs ys zs)
 module _ (how : Reading) (listing : List ℕ) where
   -- what the rules print from a place on, at which line number n begins, and the store that they leave
   abbrev prints_from : ℕ → ℕ → rules.Progress → List ℕ
-  prints_from n at now = run (program_of how.program) (edition_as how.edition) n now (pieces_from line_feed listing at).whole (pieces_from line_feed listing at).rest
+  prints_from n at now = run (program_of how.program) how.edition n now (pieces_from line_feed listing at).whole (pieces_from line_feed listing at).rest
 
   abbrev leaves_from : ℕ → rules.Progress → Store
-  leaves_from at now = (leaves (program_of how.program) (edition_as how.edition) now (pieces_from line_feed listing at).whole).store
+  leaves_from at now = (leaves (program_of how.program) how.edition now (pieces_from line_feed listing at).whole).store
 
   -- ---- a line, and the lines behind it
 
   module _ (n start e : ℕ) (end : PieceEnd listing start line_feed e) (now : rules.Progress) where
-    line_first : e < length listing → prints_from n start now ≡ proceed (does (program_of how.program) (edition_as how.edition) now (slice listing start e)) n (λ next. prints_from (suc n) (e + 1) next)
+    line_first : e < length listing → prints_from n start now ≡ proceed (does (program_of how.program) how.edition now (slice listing start e)) n (λ next. prints_from (suc n) (e + 1) next)
     unfolding run
-    line_first l = ap (λ (q : Pieces). run (program_of how.program) (edition_as how.edition) n now q.whole q.rest) (end.ended l)
+    line_first l = ap (λ (q : Pieces). run (program_of how.program) how.edition n now q.whole q.rest) (end.ended l)
 
-    line_leaves : e < length listing → leaves_from start now ≡ (keeps (does (program_of how.program) (edition_as how.edition) now (slice listing start e)) now (λ next. leaves (program_of how.program) (edition_as how.edition) next (pieces_from line_feed listing (e + 1)).whole)).store
+    line_leaves : e < length listing → leaves_from start now ≡ (keeps (does (program_of how.program) how.edition now (slice listing start e)) now (λ next. leaves (program_of how.program) how.edition next (pieces_from line_feed listing (e + 1)).whole)).store
     unfolding leaves
-    line_leaves l = ap (λ (q : Pieces). (leaves (program_of how.program) (edition_as how.edition) now q.whole).store) (end.ended l)
+    line_leaves l = ap (λ (q : Pieces). (leaves (program_of how.program) how.edition now q.whole).store) (end.ended l)
 
     module _ (l : e < length listing) where
-      printed_on : (b : List ℕ) (next : rules.Progress) → does (program_of how.program) (edition_as how.edition) now (slice listing start e) ≡ prints b next → prints_from n start now ≡ b ++ prints_from (n + 1) (e + 1) next
+      printed_on : (b : List ℕ) (next : rules.Progress) → does (program_of how.program) how.edition now (slice listing start e) ≡ prints b next → prints_from n start now ≡ b ++ prints_from (n + 1) (e + 1) next
       unfolding proceed
       printed_on b next d =
           line_first l
           ∙ ap (λ (o : LineOutcome). proceed o n (λ next'. prints_from (suc n) (e + 1) next')) d
           ∙ ap (λ (k : ℕ). b ++ prints_from k (e + 1) next) (sym (add-one n))
 
-      left_on_lem : (b : List ℕ) (next : rules.Progress) → does (program_of how.program) (edition_as how.edition) now (slice listing start e) ≡ prints b next → leaves_from start now ≡ leaves_from (e + 1) next
+      left_on_lem : (b : List ℕ) (next : rules.Progress) → does (program_of how.program) how.edition now (slice listing start e) ≡ prints b next → leaves_from start now ≡ leaves_from (e + 1) next
       unfolding keeps
-      left_on_lem b next d = line_leaves l ∙ ap (λ (o : LineOutcome). (keeps o now (λ next'. leaves (program_of how.program) (edition_as how.edition) next' (pieces_from line_feed listing (e + 1)).whole)).store) d
+      left_on_lem b next d = line_leaves l ∙ ap (λ (o : LineOutcome). (keeps o now (λ next'. leaves (program_of how.program) how.edition next' (pieces_from line_feed listing (e + 1)).whole)).store) d
 
-      stops_here : (k : ℕ) → does (program_of how.program) (edition_as how.edition) now (slice listing start e) ≡ stops k → prints_from n start now ≡ refusal n k
+      stops_here : (k : Cause) → does (program_of how.program) how.edition now (slice listing start e) ≡ stops k → prints_from n start now ≡ refusal n k
       unfolding proceed
       stops_here k d = line_first l ∙ ap (λ (o : LineOutcome). proceed o n (λ next'. prints_from (suc n) (e + 1) next')) d
 
-      left_here_lem : (k : ℕ) → does (program_of how.program) (edition_as how.edition) now (slice listing start e) ≡ stops k → leaves_from start now ≡ now.store
+      left_here_lem : (k : Cause) → does (program_of how.program) how.edition now (slice listing start e) ≡ stops k → leaves_from start now ≡ now.store
       unfolding keeps
-      left_here_lem k d = line_leaves l ∙ ap (λ (o : LineOutcome). (keeps o now (λ next'. leaves (program_of how.program) (edition_as how.edition) next' (pieces_from line_feed listing (e + 1)).whole)).store) d
+      left_here_lem k d = line_leaves l ∙ ap (λ (o : LineOutcome). (keeps o now (λ next'. leaves (program_of how.program) how.edition next' (pieces_from line_feed listing (e + 1)).whole)).store) d
 
       -- five bytes for each byte of the line, its line feed included
-      line_short : (b : List ℕ) (next : rules.Progress) → does (program_of how.program) (edition_as how.edition) now (slice listing start e) ≡ prints b next → length b + per_byte * start ≤ per_byte * (e + 1)
+      line_short : (b : List ℕ) (next : rules.Progress) → does (program_of how.program) how.edition now (slice listing start e) ≡ prints b next → length b + per_byte * start ≤ per_byte * (e + 1)
       line_short b next d =
-          let w : length b ≤ per_byte * suc (length (slice listing start e)) = subst (Within (per_byte * suc (length (slice listing start e)))) d (does_within (program_of how.program) (terse how.program) (edition_as how.edition) now (slice listing start e)) in
+          let w : length b ≤ per_byte * suc (length (slice listing start e)) = subst (Within (per_byte * suc (length (slice listing start e)))) d (does_within (program_of how.program) (terse how.program) how.edition now (slice listing start e)) in
           let m : length (slice listing start e) ≡ e - start = slice_length listing start e end.within in
           let f : start ≤ e = end.behind in
           omega arith
 
-    some_bytes : (xs : List ℕ) → (length xs ≡ 0 → ⊥) → at_end (program_of how.program) n now xs ≡ refusal n 11
+    some_bytes : (xs : List ℕ) → (length xs ≡ 0 → ⊥) → at_end (program_of how.program) n now xs ≡ refusal n BadLength
     unfolding at_end
     some_bytes [] h = absurd (h refl)
     some_bytes (x ∷ xs) h = refl
 
     -- no line feed is left
-    pub unended : start < length listing → e ≡ length listing → prints_from n start now ≡ refusal n 11
+    pub unended : start < length listing → e ≡ length listing → prints_from n start now ≡ refusal n BadLength
     unfolding run
     unended l q =
-        ap (λ (r : Pieces). run (program_of how.program) (edition_as how.edition) n now r.whole r.rest) (end.unended (omega arith))
+        ap (λ (r : Pieces). run (program_of how.program) how.edition n now r.whole r.rest) (end.unended (omega arith))
         ∙ some_bytes (drop start listing) (λ z. absurd (let w : ⊥ = omega (arith, length-drop start listing) in w))
 
     pub nothing_more : start < length listing → e ≡ length listing → leaves_from start now ≡ now.store
     unfolding leaves
-    nothing_more l q = ap (λ (r : Pieces). (leaves (program_of how.program) (edition_as how.edition) now r.whole).store) (end.unended (omega arith))
+    nothing_more l q = ap (λ (r : Pieces). (leaves (program_of how.program) how.edition now r.whole).store) (end.unended (omega arith))
 
   -- ---- behind the last line
 
@@ -126,11 +125,11 @@ module _ (how : Reading) (listing : List ℕ) where
 
     closes_here : prints_from n start now ≡ (program_of how.program).close now
     unfolding run at_end
-    closes_here = ap (λ (q : Pieces). run (program_of how.program) (edition_as how.edition) n now q.whole q.rest) no_pieces
+    closes_here = ap (λ (q : Pieces). run (program_of how.program) how.edition n now q.whole q.rest) no_pieces
 
     leaves_here : leaves_from start now ≡ now.store
     unfolding leaves
-    leaves_here = ap (λ (q : Pieces). (leaves (program_of how.program) (edition_as how.edition) now q.whole).store) no_pieces
+    leaves_here = ap (λ (q : Pieces). (leaves (program_of how.program) how.edition now q.whole).store) no_pieces
 
 closing : (p : Program) (store : List ℕ) (tally : List Place) → (program_of p).close (progress_of store tally) ≡ closes p tally
 unfolding program_of closes progress_of twins_program sums_program
@@ -138,10 +137,6 @@ closing Twins store tally = refl
 closing Sums store tally = refl
 
 -- ---- the loop
-
--- a refusal, by the number of its cause
-pub numbered : {a b : LineWriter} (n : ℕ) {k q : ℕ} → k ≡ q → Writes refusal_room (refusal n k) a b → Writes refusal_room (refusal n q) a b
-numbered n e w = said w (ap (refusal n) e)
 
 module _ (how : Reading) (listing : List ℕ) (from : ℕ) (before : LineWriter) where
   pub record Running (store mapping : List ℕ) (tally : List Place) (out : LineWriter) (n start : ℕ) : Type 0 where
@@ -211,10 +206,10 @@ module _ {how : Reading} {listing : List ℕ} {from : ℕ} {before : LineWriter}
         mapping inv.empty
 
     module _ (e : ℕ) (end : PieceEnd listing start line_feed e) (l : start < length listing) where
-      pub ran_unended : (after : LineWriter) → e ≡ length listing → Writes refusal_room (refusal n 11) out after → Ran how listing from store mapping before after
+      pub ran_unended : (after : LineWriter) → e ≡ length listing → Writes refusal_room (refusal n BadLength) out after → Ran how listing from store mapping before after
       unfolding progress_of
       ran_unended after q w =
-          ran (refusal n 11) refusal_room store after refl (omega arith) w
+          ran (refusal n BadLength) refusal_room store after refl (omega arith) w
           (unended how listing n start e end (progress_of store tally) l q)
           (nothing_more how listing n start e end (progress_of store tally) l q)
           mapping inv.empty
@@ -224,7 +219,7 @@ module _ {how : Reading} {listing : List ℕ} {from : ℕ} {before : LineWriter}
         ended = let w : e ≤ length listing = end.within in omega arith
 
         module _ (k : Cause) (did : LineDoes how (slice listing start e) store store' tally tally' out out' (std.Err k)) where
-          stops_there : does (program_of how.program) (edition_as how.edition) (progress_of store tally) (slice listing start e) ≡ stops (number_of k)
+          stops_there : does (program_of how.program) how.edition (progress_of store tally) (slice listing start e) ≡ stops k
           unfolding outcome_of
           stops_there = did.step.does
 
@@ -235,16 +230,16 @@ module _ {how : Reading} {listing : List ℕ} {from : ℕ} {before : LineWriter}
           pub refusal_fits : HasRoom refusal_room out'
           refusal_fits = subst (HasRoom refusal_room) (sym same_out) (omega (arith, has_room))
 
-          pub ran_stopped : (mapping' : List ℕ) (after : LineWriter) → mapping' ≡ empty_words → Writes refusal_room (refusal n (number_of k)) out' after → Ran how listing from store' mapping' before after
+          pub ran_stopped : (mapping' : List ℕ) (after : LineWriter) → mapping' ≡ empty_words → Writes refusal_room (refusal n k) out' after → Ran how listing from store' mapping' before after
           unfolding progress_of
           ran_stopped mapping' after q w =
-              ran (refusal n (number_of k)) refusal_room store' after (did.unchanged k refl) (omega arith) (subst (λ (x : LineWriter). Writes refusal_room (refusal n (number_of k)) x after) same_out w)
-              (stops_here how listing n start e end (progress_of store tally) ended (number_of k) stops_there)
-              (left_here_lem how listing n start e end (progress_of store tally) ended (number_of k) stops_there)
+              ran (refusal n k) refusal_room store' after (did.unchanged k refl) (omega arith) (subst (λ (x : LineWriter). Writes refusal_room (refusal n k) x after) same_out w)
+              (stops_here how listing n start e end (progress_of store tally) ended k stops_there)
+              (left_here_lem how listing n start e end (progress_of store tally) ended k stops_there)
               mapping' q
 
         module _ (did : LineDoes how (slice listing start e) store store' tally tally' out out' (std.Ok tt)) where
-          goes_there : does (program_of how.program) (edition_as how.edition) (progress_of store tally) (slice listing start e) ≡ prints did.step.bytes (progress_of store' tally')
+          goes_there : does (program_of how.program) how.edition (progress_of store tally) (slice listing start e) ≡ prints did.step.bytes (progress_of store' tally')
           unfolding outcome_of
           goes_there = did.step.does
 

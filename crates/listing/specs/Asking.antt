@@ -4,16 +4,13 @@ use Rattle.std.specs.Prelude.{ℕ, true, List, [], ◌≡◌}
 use Rattle.rules.specs.Answers.{Compared, eq, neq, refused, comparison}
 use Rattle.rules.specs.Mapping.{empty_mapping}
 use Rattle.rules.specs.Listings.{LineOutcome, prints, stops, equal_line, unequal_line}
-use Rattle.layout.specs.Causes.{number_of}
 use Rattle.layout.specs.Reading.{store_in}
-use Rattle.layout.specs.declared.causes.Cause.{Cause}
-use Rattle.fragments.specs.Sorts.{sort_of}
-use Rattle.fragments.specs.Ignoring.{ignore_of}
-use Rattle.mapping.specs.MappingWords.{empty_words}
-use Rattle.pairing.specs.Told.{compared_of}
-use Rattle.pairing.specs.declared.types.Unequal.{Unequal}
-use Rattle.tally.specs.declared.types.Place.{Place}
-use Rattle.lines.specs.Wrote.{Writes}
+use Rattle.rules.specs.declared.types.Cause.{Cause}
+use Rattle.equivalence.specs.MappingWords.{empty_words}
+use Rattle.equivalence.specs.Compares.{compared_of}
+use Rattle.equivalence.specs.declared.verdicts.Unequal.{Unequal}
+use Rattle.listing.specs.declared.places.Place.{Place}
+use Rattle.lines.specs.Writing.{Writes}
 use Rattle.lines.specs.Room.{unequal_room}
 use Rattle.lines.specs.declared.parsing.Query.{Query}
 use Rattle.lines.specs.declared.writing.LineWriter.{LineWriter}
@@ -29,7 +26,7 @@ verdict_line (refused cause) = []
 
 -- the answer to a query, with no type renamed, begun with an empty mapping
 unfoldable pub answer_to : List ℕ → Query → Compared
-answer_to store q = (comparison true (store_in store) [] empty_mapping (ignore_of q.ignore) (sort_of q.sort) q.left q.right).answer
+answer_to store q = (comparison true (store_in store) [] empty_mapping q.ignore q.sort q.left q.right).answer
 
 -- it is answered, and the mapping is empty again
 pub record QueryCompared (store mapping : List ℕ) (q : Query) (r : std.Result (std.Result ℕ Unequal) Cause) : Type 0 where
@@ -48,7 +45,7 @@ LineResult = std.Result (Unit {0}) Cause
 
 unfoldable pub outcome_of : List ℕ → List Place → List ℕ → LineResult → LineOutcome
 outcome_of store tally bytes (std.Ok u) = prints bytes (progress_of store tally)
-outcome_of store tally bytes (std.Err cause) = stops (number_of cause)
+outcome_of store tally bytes (std.Err cause) = stops cause
 
 unfoldable pub Goes : LineWriter → LineWriter → List ℕ → LineResult → Type 0
 Goes before after bytes (std.Ok u) = Writes step_room bytes before after

@@ -3,8 +3,8 @@ use Rattle.std.specs.Prelude.{ℕ, List}
 use Rattle.rules.specs.Listings as rules
 use Rattle.rules.specs.Listings.{twins_program, sums_program}
 use Rattle.layout.specs.Reading.{store_in}
-use Rattle.tally.specs.Tally.{tally_of}
-use Rattle.tally.specs.declared.types.Place.{Place}
+use Rattle.listing.specs.Tally.{tally_of}
+use Rattle.listing.specs.declared.places.Place.{Place}
 use Rattle.listing.specs.declared.types.Program.{Program}
 use Rattle.listing.specs.declared.types.Program.TheVariants.{Twins, Sums}
 

@@ -1,20 +1,19 @@
 -- What a line does, and what the lines from one on do.
 use Rattle.std.specs.Prelude as std
-use Rattle.std.specs.Prelude.{ℕ, ◌≤◌, true, List, [], ◌≡◌, length}
+use Rattle.std.specs.Prelude.{ℕ, ◌≤◌, true, List, [], ◌≡◌}
 use Rattle.rules.specs.Bytes.{line_feed}
 use Rattle.rules.specs.Listings.{does, run, at_start, leaves, share, share_line, max_output}
 use Rattle.rules.specs.Marks.{unmarked}
 use Rattle.layout.specs.Columns.{columns}
 use Rattle.layout.specs.Soundness.{IsSound}
-use Rattle.layout.specs.declared.causes.Cause.{Cause}
-use Rattle.journal.specs.Words.{mark_count, marked_in, sound_lent}
-use Rattle.mapping.specs.MappingWords.{empty_words}
-use Rattle.tally.specs.Tally.{tally_of}
-use Rattle.tally.specs.declared.types.Place.{Place}
+use Rattle.rules.specs.declared.types.Cause.{Cause}
+use Rattle.layout.specs.MarkedReading.{mark_count, marked_in, sound_lent}
+use Rattle.equivalence.specs.MappingWords.{empty_words}
+use Rattle.listing.specs.Tally.{tally_of}
+use Rattle.listing.specs.declared.places.Place.{Place}
 use Rattle.lines.specs.Pieces.{pieces_from}
-use Rattle.lines.specs.Wrote.{Writes}
+use Rattle.lines.specs.Writing.{Writes}
 use Rattle.lines.specs.declared.writing.LineWriter.{LineWriter}
-use Rattle.lines.specs.Editions.{edition_as}
 use Rattle.listing.specs.declared.types.Program.{Program}
 use Rattle.listing.specs.declared.types.Program.TheVariants.{Twins, Sums}
 use Rattle.listing.specs.declared.types.Reading.{Reading}
@@ -35,7 +34,7 @@ pub record Bare (store : List ℕ) : Type 0 where
 
 -- what the code does for a line, as what the rules' program does
 pub record LineDoes (r : Reading) (line store store' : List ℕ) (tally tally' : List Place) (out out' : LineWriter) (did : LineResult) : Type 0 where
-  pub step : Stepped (does (program_of r.program) (edition_as r.edition) (progress_of store tally) line) store' tally' out out' did
+  pub step : Stepped (does (program_of r.program) r.edition (progress_of store tally) line) store' tally' out out' did
   pub sound : IsSound store'
   pub marks : mark_count (columns store') ≡ mark_count (columns store)
   pub unchanged : (cause : Cause) → did ≡ std.Err cause → store' ≡ store
@@ -44,7 +43,7 @@ pub record LineDoes (r : Reading) (line store store' : List ℕ) (tally tally' :
 
 -- all that they print is written, and the store is what they leave
 pub record Ran (r : Reading) (listing : List ℕ) (from : ℕ) (store mapping : List ℕ) (out out' : LineWriter) : Type 0 where
-  pub writes : Writes max_output (run (program_of r.program) (edition_as r.edition) 2 at_start (pieces_from line_feed listing from).whole (pieces_from line_feed listing from).rest) out out'
-  pub left : marked_in store ≡ unmarked (leaves (program_of r.program) (edition_as r.edition) at_start (pieces_from line_feed listing from).whole).store
+  pub writes : Writes max_output (run (program_of r.program) r.edition 2 at_start (pieces_from line_feed listing from).whole (pieces_from line_feed listing from).rest) out out'
+  pub left : marked_in store ≡ unmarked (leaves (program_of r.program) r.edition at_start (pieces_from line_feed listing from).whole).store
   pub sound : sound_lent store ≡ true
   pub empty : mapping ≡ empty_words

@@ -2,22 +2,21 @@
 ghost use Rattle.std.specs.Prelude.{◌≡◌, option_map};
 ghost use Rattle.rules.specs.Listings.{line_does};
 ghost use Rattle.layout.specs.Soundness.{IsSound};
-ghost use Rattle.mapping.specs.MappingWords.{empty_words};
+ghost use Rattle.equivalence.specs.MappingWords.{empty_words};
 ghost use Rattle.lines.specs.Parsing.{query_of};
-ghost use Rattle.lines.specs.Reading.{told};
-ghost use Rattle.lines.specs.Wrote.{HasRoom};
+ghost use Rattle.lines.specs.Writing.{HasRoom};
 ghost use Rattle.listing.specs.Progress.{program_of, progress_of};
 ghost use Rattle.listing.specs.Asking.{Stepped, step_room};
 
 use crate::comparing::twins_does;
+use crate::places::Tally;
 use crate::summing::sums_does;
 use crate::types::Program;
-use layout::causes::Cause;
+use equivalence::mapping::MappingWords;
 use layout::columns::StoreWords;
 use lines::parsing::Query;
 use lines::writing::LineWriter;
-use mapping::mapping::MappingWords;
-use tally::types::Tally;
+use rules::types::Cause;
 
 // A line `q`, as it was read behind its letter.
 pub fn query_does(
@@ -31,7 +30,7 @@ pub fn query_does(
     requires sound { IsSound store.now }
     requires mapping_value { mapping.old ≡ empty_words }
     requires step_room_in_bounds { HasRoom step_room out.old }
-    ensures stepped { Stepped (line_does (program_of program) (progress_of store.now tally.old) (told (option_map query_of line))) store.now tally.new out.old out.new result }
+    ensures stepped { Stepped (line_does (program_of program) (progress_of store.now tally.old) (option_map query_of line)) store.now tally.new out.old out.new result }
     ensures mapping_after { mapping.new ≡ empty_words }
 {
     let Some(query) = line else {

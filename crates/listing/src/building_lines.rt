@@ -3,19 +3,17 @@ ghost use Rattle.std.specs.Prelude.{◌+◌, ◌≤◌, length};
 ghost use Rattle.rules.specs.Listings.{max_line};
 ghost use Rattle.rules.specs.Lines.{operation_line, block_line, attribute_line, operand_line, wholly};
 ghost use Rattle.layout.specs.Soundness.{IsSound};
-ghost use Rattle.lines.specs.Editions.{edition_as};
 ghost use Rattle.listing.specs.Building.{LineDid};
 
-use adding::blocks::new_block;
-use adding::operations::new_operation;
-use layout::causes::Cause;
 use layout::columns::StoreWords;
-use lines::editions::Edition;
-use lines::header::MAX_LINE;
 use lines::parsing::{attribute_line, block_line, operand_line, read_lists, read_op_fields};
 use lines::reading::Fields;
-use setting::attributes::set_attribute;
-use setting::operands::set_operand;
+use mutation::attributes::set_attribute;
+use mutation::blocks::new_block;
+use mutation::operands::set_operand;
+use mutation::operations::new_operation;
+use rules::limits::MAX_LINE;
+use rules::types::{Cause, Edition};
 
 pub fn operation_does(store: &mut StoreWords, line: &mut Fields<'_>) -> Result<(), Cause>
     requires sound { IsSound store.old }
@@ -48,7 +46,7 @@ pub fn block_does(
 ) -> Result<(), Cause>
     requires sound { IsSound store.old }
     requires line_len_bound { length line.old ≤ max_line + 1 }
-    ensures { LineDid store.old store.new (wholly (block_line (edition_as edition) line.old)) result }
+    ensures { LineDid store.old store.new (wholly (block_line edition line.old)) result }
 {
     let mut types = [0; MAX_LINE];
     let Some(block) = block_line(line, &mut types, edition) else {

@@ -1,19 +1,19 @@
 // The two offered functions: a listing in, the bytes that the program prints for it out. Each refuses lent buffers that are not of their
 // lengths, and less room than is always enough.
 ghost use Rattle.rules.specs.Listings.{twins_program, sums_program};
-ghost use Rattle.mapping.specs.MappingWords.{empty_words};
-ghost use Rattle.listing.specs.Calls.{told_of, Answered, buffers};
+ghost use Rattle.equivalence.specs.MappingWords.{empty_words};
+ghost use Rattle.listing.specs.Calls.{listing_answer_of, ListingAnswers, buffers};
 
 use crate::running::listed;
 use crate::types::{Program, Unprinted};
-use layout::causes::Cause;
-use mapping::mapping::NO_IMAGE;
+use equivalence::mapping::NO_IMAGE;
+use rules::types::Cause;
 
 // How many words a store has, how many words a mapping has, and how many bytes are enough for all that may be printed: five for each byte of
 // the longest listing.
 pub const STORE: usize = layout::columns::STORE_LENGTH;
 
-pub const MAPPING: usize = mapping::mapping::MAPPING_LENGTH;
+pub const MAPPING: usize = equivalence::mapping::MAPPING_LENGTH;
 
 pub const ROOM: usize = 327680;
 
@@ -23,7 +23,7 @@ pub fn twins(
     mapping: &mut [u32],
     out: &mut [u8],
 ) -> Result<usize, Unprinted>
-    ensures { Answered twins_program listing.now (buffers store.old mapping.old out.old) (buffers store.new mapping.new out.new) (told_of result) }
+    ensures { ListingAnswers twins_program listing.now (buffers store.old mapping.old out.old) (buffers store.new mapping.new out.new) (listing_answer_of result) }
 {
     let Some(words) = store.as_mut_array() else {
         return Err(Unprinted::Refused(Cause::NotSound));
@@ -39,7 +39,7 @@ pub fn twins(
 
 // It compares nothing, and so is lent no mapping.
 pub fn sums(listing: &[u8], store: &mut [u32], out: &mut [u8]) -> Result<usize, Unprinted>
-    ensures { Answered sums_program listing.now (buffers store.old empty_words out.old) (buffers store.new empty_words out.new) (told_of result) }
+    ensures { ListingAnswers sums_program listing.now (buffers store.old empty_words out.old) (buffers store.new empty_words out.new) (listing_answer_of result) }
 {
     let Some(words) = store.as_mut_array() else {
         return Err(Unprinted::Refused(Cause::NotSound));

@@ -1,13 +1,13 @@
 // What is printed behind the last line.
-ghost use Rattle.lines.specs.Wrote.{HasRoom, Writes};
+ghost use Rattle.lines.specs.Writing.{HasRoom, Writes};
 ghost use Rattle.lines.specs.Room.{share_room};
 ghost use Rattle.listing.specs.Stepping.{closes};
 
+use crate::counting::counts;
+use crate::places::Tally;
 use crate::types::Program;
 use lines::printing::put_share;
 use lines::writing::LineWriter;
-use tally::counting::counts;
-use tally::types::Tally;
 
 // `twins` prints the share, `sums` nothing.
 pub fn close(program: Program, tally: &Tally, out: &mut LineWriter)

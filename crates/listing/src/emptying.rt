@@ -3,11 +3,11 @@ ghost use Rattle.std.specs.Prelude.{◌≡◌, length};
 ghost use Rattle.rules.specs.Store.{empty_store};
 ghost use Rattle.layout.specs.Columns.{buffer_length};
 ghost use Rattle.layout.specs.Reading.{store_in};
-ghost use Rattle.mapping.specs.MappingWords.{mapping_length, empty_words};
+ghost use Rattle.equivalence.specs.MappingWords.{mapping_length, empty_words};
 ghost use Rattle.listing.specs.Stepping.{Bare};
 
+use equivalence::mapping::{MappingWords, NO_IMAGE};
 use layout::columns::{COUNTS, StoreWords, put_same};
-use mapping::mapping::{MappingWords, NO_IMAGE};
 
 // A store is empty when its counts are 0, the number of set marks among them: no other word is read then, and so they stay as they are.
 pub fn empty_store(store: &mut StoreWords)

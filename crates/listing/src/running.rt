@@ -5,9 +5,9 @@ ghost use Rattle.rules.specs.Listings.{max_listing, max_output};
 ghost use Rattle.layout.specs.Columns.{buffer_length};
 ghost use Rattle.layout.specs.Reading.{store_in};
 ghost use Rattle.layout.specs.Soundness.{IsSound};
-ghost use Rattle.mapping.specs.MappingWords.{mapping_length, empty_words};
+ghost use Rattle.equivalence.specs.MappingWords.{mapping_length, empty_words};
 ghost use Rattle.lines.specs.Header.{second_line};
-ghost use Rattle.lines.specs.Wrote.{HasRoom};
+ghost use Rattle.lines.specs.Writing.{HasRoom};
 ghost use Rattle.listing.specs.Progress.{program_of};
 ghost use Rattle.listing.specs.Asking.{step_room};
 ghost use Rattle.listing.specs.Stepping.{Bare, LineDoes, Ran};
@@ -17,18 +17,19 @@ use crate::asking::query_does;
 use crate::building_lines::{attribute_does, block_does, operand_does, operation_does};
 use crate::closing::close;
 use crate::emptying::{empty_mapping, empty_store};
+use crate::places::{Place, Tally};
 use crate::types::{Program, Reading};
-use layout::causes::Cause;
+use equivalence::mapping::MappingWords;
 use layout::columns::StoreWords;
-use lines::header::{MAX_LINE, SECOND_LINE, header_cause};
+use lines::header::{SECOND_LINE, header_cause};
 use lines::letters::{Letter, read_letter};
 use lines::parsing::query_line;
 use lines::pieces::piece_end;
 use lines::printing::put_refusal;
 use lines::reading::Fields;
 use lines::writing::LineWriter;
-use mapping::mapping::MappingWords;
-use tally::types::{Place, TALLY_LENGTH, Tally};
+use rules::limits::{MAX_LINE, MAX_OPS};
+use rules::types::Cause;
 
 // One line: its length, its letter, and then what it does, of which only a query knows the program. The lent buffers are no struct: one of `&mut`s would need clauses of separation
 // logic at each caller, which is no plainer.
@@ -84,18 +85,18 @@ fn run(
     requires max_output_in_bounds { HasRoom max_output out.old }
     ensures { Ran reading listing.now from store.new mapping.new out.old out.new }
 {
-    let mut tally = [Place::Outside; TALLY_LENGTH];
+    let mut tally = [Place::Outside; MAX_OPS];
     let mut number = 2;
     let mut start = from;
     // From line end to line end, and no `for` over pieces: one that no line feed ends would have to be told apart all the same.
     while start < listing.len() {
         let end = piece_end(listing, start, b'\n');
         if end == listing.len() {
-            return put_refusal(out, number, Cause::BadLength.number());
+            return put_refusal(out, number, Cause::BadLength);
         }
         let line = &listing[start..end];
         if let Err(cause) = line_does(store, mapping, &mut tally, out, reading, line) {
-            return put_refusal(out, number, cause.number());
+            return put_refusal(out, number, cause);
         }
         start = end + 1;
         number += 1;
@@ -118,7 +119,7 @@ pub fn listed(
     let edition = match header_cause(listing) {
         Ok(edition) => edition,
         Err(cause) => {
-            put_refusal(&mut out, 1, cause.number());
+            put_refusal(&mut out, 1, cause);
             return out.length();
         }
     };

@@ -1,6 +1,5 @@
 // The two programs, what reads a listing, and why a listing is not printed.
-use layout::causes::Cause;
-use lines::editions::Edition;
+use rules::types::{Cause, Edition};
 
 #[derive(Clone, Copy, PartialEq, Eq, Debug)]
 pub enum Program {

@@ -10,10 +10,11 @@ use mathlib.Core.Path.{◌≡◌, refl}
 use borrow.Author.Tests.{eqb-true, eq-eqb}
 use lib.Dec.{eqb}
 use lib.ListN.{length}
-use Rattle.rules.specs.Lists.{any}
+use Rattle.std.specs.List.{list_any}
 use Rattle.rules.specs.Store.{Store, sound}
-use Rattle.rules.specs.Fragments.{op, fragment_ops}
-use Rattle.rules.specs.Shells.{Ignore}
+use Rattle.rules.specs.Fragments.{fragment_ops}
+use Rattle.rules.specs.declared.types.Sort.TheVariants.{Op as op}
+use Rattle.rules.specs.declared.types.Ignore.{Ignore}
 use Rattle.rules.specs.MappingLaws.{Table, defines_of}
 use Rattle.rules.proofs.Basics.Tests.{decided, clash}
 use Rattle.rules.proofs.Basics.Filtered.{any_at, any_where}
@@ -35,14 +36,14 @@ module _ (s : Store) (h : sound s ≡ true) (ig : Ignore) (t : Table) where
   Stays w = (q : ℕ) → Merged s ig q → Memᴰ w (defines_of s op q t) → ⊥
 
   goes : ℕ → ℕ → Bool
-  goes v q = any (eqb v) (defines_of s op q t)
+  goes v q = list_any (eqb v) (defines_of s op q t)
 
   -- one does, or none
   defined_or : (v : ℕ) → ((q : ℕ) × Merged s ig q × Memᴰ v (defines_of s op q t)) ⊎ Stays v
   unfolding goes Stays
-  defined_or v = go (decided (any (goes v) (merged_ops s ig)))
+  defined_or v = go (decided (list_any (goes v) (merged_ops s ig)))
     where
-      go : (any (goes v) (merged_ops s ig) ≡ true) ⊎ (any (goes v) (merged_ops s ig) ≡ false)
+      go : (list_any (goes v) (merged_ops s ig) ≡ true) ⊎ (list_any (goes v) (merged_ops s ig) ≡ false)
           → ((q : ℕ) × Merged s ig q × Memᴰ v (defines_of s op q t)) ⊎ Stays v
       go (inl e) =
           let w = any_where (goes v) (merged_ops s ig) e in

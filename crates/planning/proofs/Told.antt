@@ -7,15 +7,16 @@ use mathlib.Core.Bool.{true, false}
 use mathlib.Core.List.Memᴰ
 use mathlib.Core.List.{List, [], ◌∷◌, ◌++◌, Memᴰ}
 use mathlib.Core.Logic.{◌⊎◌, ◌↔◌, inl, inr}
-use mathlib.Core.Option.{Option, none, some}
+use Rattle.std.specs.Prelude.{Option, None, Some}
 use mathlib.Core.Path.{◌≡◌, refl, sym, subst, ◌∙◌}
 use borrow.Author.Tests.{eqb-true, eq-eqb}
 use lib.Dec.{eqb}
 use lib.ListN.{length, get_or, length-append}
 use Rattle.std.proofs.lemmas.List.{get_or_append_left, get_or_push, get_or_past}
 use Rattle.rules.specs.Store.{Store}
-use Rattle.rules.specs.Fragments.{op, fragment_ops}
-use Rattle.rules.specs.Shells.{Ignore}
+use Rattle.rules.specs.Fragments.{fragment_ops}
+use Rattle.rules.specs.declared.types.Sort.TheVariants.{Op as op}
+use Rattle.rules.specs.declared.types.Ignore.{Ignore}
 use Rattle.rules.specs.Runs.{first_of}
 use Rattle.rules.specs.Independence.{independent}
 use Rattle.rules.specs.Grouping.{is_twin}
@@ -141,8 +142,8 @@ module _ (s : Store) (ig : Ignore) where
 
     by_twin : Out n → (o : Option ℕ) → first_of n 0 (stands_for s ig before n) ≡ o → Says n (merged_or_kept o)
     unfolding merged_or_kept
-    by_twin free none e = (free, none_kept n (omega arith) (λ k b. first_none n 0 (stands_for s ig before n) e k (omega arith) (omega arith)))
-    by_twin free (some m) e =
+    by_twin free None e = (free, none_kept n (omega arith) (λ k b. first_none n 0 (stands_for s ig before n) e k (omega arith) (omega arith)))
+    by_twin free (Some m) e =
         let f = first_found n 0 (stands_for s ig before n) m e in
         let high : m < 0 + n = f.high in
         let b : m < n = omega arith in
@@ -152,10 +153,10 @@ module _ (s : Store) (ig : Ignore) where
     by_root : (o : Option ℕ) → first_of n 0 (goes_with s before n) ≡ o
         → Says n (inside_or o (merged_or_kept (first_of n 0 (stands_for s ig before n))))
     unfolding inside_or
-    by_root none e =
+    by_root None e =
         by_twin (out (λ r b. first_none n 0 (goes_with s before n) e r (omega arith) (omega arith)))
         (first_of n 0 (stands_for s ig before n)) refl
-    by_root (some r) e =
+    by_root (Some r) e =
         let f = first_found n 0 (goes_with s before n) r e in
         let high : r < 0 + n = f.high in
         goes r (omega arith) f.passes

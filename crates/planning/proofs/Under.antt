@@ -6,12 +6,16 @@ use mathlib.Core.Bool.{true}
 use mathlib.Core.List.Memᴰ
 use mathlib.Core.List.{Memᴰ}
 use mathlib.Core.Logic.{◌⊎◌, inl, inr, ⊎_elim}
-use mathlib.Core.Option.{Option, none, some, map, some-injective, none-ne-some}
+use Rattle.std.specs.Prelude.{Option, None, Some, option_map}
+use Rattle.std.proofs.lemmas.Option.{same_Some, none-some}
 use mathlib.Core.Path.{◌≡◌, refl, subst}
 use borrow.Author.Tests.{ltb-true, lt-ltb}
 use lib.ListN.{length}
-use Rattle.rules.specs.Store.{Store, Owner, of_op, of_block, parent_of, op_around, op_after, owner_exists, op_exists, block_exists, sound}
-use Rattle.rules.specs.Fragments.{op, exists, fragment_ops, defines_owners}
+use Rattle.rules.specs.Store.{Store, parent_of, op_around, op_after, owner_exists, op_exists, block_exists, sound}
+use Rattle.rules.specs.declared.types.Owner.{Owner}
+use Rattle.rules.specs.declared.types.Owner.TheVariants.{Op as of_op, Block as of_block}
+use Rattle.rules.specs.Fragments.{exists, fragment_ops, defines_owners}
+use Rattle.rules.specs.declared.types.Sort.TheVariants.{Op as op}
 use Rattle.rules.specs.Laws.{In}
 use Rattle.rules.proofs.Soundness.Sound.{Sound, facts}
 use Rattle.rules.proofs.Form.Ancestors.{up, Around, next, beyond, From, up_in_store, one_from_other}
@@ -32,19 +36,19 @@ module _ (s : Store) (h : sound s ≡ true) where
   unfolding exists op_exists
   op_in n l = lt-ltb n (length s.ops) l
 
-  up_smaller : (x p : Owner) → owner_exists s x ≡ true → up s x ≡ some p → rank s p < rank s x
+  up_smaller : (x p : Owner) → owner_exists s x ≡ true → up s x ≡ Some p → rank s p < rank s x
   unfolding up rank owner_exists op_exists block_exists op_after
   up_smaller (of_op n) p e u = go (parent_of s n) refl u
     where
-      go : (q : Option ℕ) → parent_of s n ≡ q → map of_block q ≡ some p → rank s p < 2 * n
-      go none f k = absurd (none-ne-some p k)
-      go (some b) f k =
-          let q : of_block b ≡ p = some-injective (of_block b) p k in
-          let a : op_after s n (some b) ≡ true = subst (λ (o : Option ℕ). op_after s n o ≡ true) f (sd.op n (ltb-true _ _ e)).later in
+      go : (q : Option ℕ) → parent_of s n ≡ q → option_map of_block q ≡ Some p → rank s p < 2 * n
+      go None f k = absurd (none-some p k)
+      go (Some b) f k =
+          let q : of_block b ≡ p = same_Some (of_block b) p k in
+          let a : op_after s n (Some b) ≡ true = subst (λ (o : Option ℕ). op_after s n o ≡ true) f (sd.op n (ltb-true _ _ e)).later in
           let m : op_around s b < n = ltb-true _ _ a in
           subst (λ (w : Owner). rank s w < 2 * n) q (omega arith)
   up_smaller (of_block b) p e u =
-      let f : of_op (op_around s b) ≡ p = some-injective (of_op (op_around s b)) p u in
+      let f : of_op (op_around s b) ≡ p = same_Some (of_op (op_around s b)) p u in
       subst (λ (w : Owner). rank s w < 2 * op_around s b + 1) f (omega arith)
 
   around_smaller : {a x : Owner} → owner_exists s x ≡ true → Around s a x → rank s a < rank s x

@@ -8,7 +8,7 @@ use mathlib.Core.Path.{◌≡◌, refl, sym, ap, subst, ◌∙◌}
 use borrow.Author.Tests.{eq-eqb, ne_eqb}
 use lib.ListN.{length, get_or}
 use Rattle.rules.specs.Store.{Store, sound, max_ops}
-use Rattle.rules.specs.Shells.{Ignore}
+use Rattle.rules.specs.declared.types.Ignore.{Ignore}
 use Rattle.rules.specs.Grouping.{no_twin}
 use Rattle.rules.proofs.Soundness.Sound.{facts}
 use Rattle.planning.specs.Plan.{Fate, kept, merged, inside, fate_in, merge_plan, fate_of, fate_word, word_fate, read_fate}

@@ -6,8 +6,8 @@ use mathlib.Core.List.{List, [], ◌∷◌}
 use mathlib.Core.Path.{◌≡◌}
 use lib.ListN.{length}
 use Rattle.rules.specs.Store.{Store, sound}
-use Rattle.rules.specs.Fragments.{op}
-use Rattle.rules.specs.Shells.{Ignore}
+use Rattle.rules.specs.declared.types.Sort.TheVariants.{Op as op}
+use Rattle.rules.specs.declared.types.Ignore.{Ignore}
 use Rattle.rules.specs.Laws.{LawsOfSound}
 use Rattle.rules.proofs.Laws.{premise_back, laws_of_sound}
 use Rattle.semantics.specs.Replaced.{Replacement, MayReplace, AllMayReplace, ReplacedWork}

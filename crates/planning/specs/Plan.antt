@@ -1,11 +1,13 @@
 -- A merge plan: of each operation of a store, by rising number, whether it is kept, merged into another, or inside a merged one.
-use Rattle.std.specs.Prelude.{ℕ, zero, suc, Bool, true, false, cond, not, ◌&&◌, List, [], ◌∷◌, ◌++◌, map, eqb, length, get_or}
-use Rattle.std.proofs.Math.Option.{Option, none, some}
-use Rattle.rules.specs.Lists.{any, sum, numbers_where}
+use Rattle.rules.specs.declared.types.Cause.{Cause}
+use Rattle.std.specs.Prelude.{ℕ, zero, suc, Bool, true, false, cond, not, ◌&&◌, List, [], ◌∷◌, ◌++◌, map, eqb, length, get_or, Option, None, Some}
+use Rattle.std.specs.List.{list_any}
+use Rattle.rules.specs.Lists.{sum, numbers_where}
 use Rattle.rules.specs.Store.{Store}
-use Rattle.rules.specs.Fragments.{op, levels, fragment_ops}
+use Rattle.rules.specs.Fragments.{levels, fragment_ops}
+use Rattle.rules.specs.declared.types.Sort.TheVariants.{Op as op}
 use Rattle.rules.specs.Building.{first_failed}
-use Rattle.rules.specs.Shells.{Ignore}
+use Rattle.rules.specs.declared.types.Ignore.{Ignore}
 use Rattle.rules.specs.Runs.{first_of}
 use Rattle.rules.specs.Types.{renamed}
 use Rattle.rules.specs.Keys.{written}
@@ -37,19 +39,19 @@ fate_in fates n = get_or fates n kept
 
 -- r is merged, and n is inside it
 unfoldable pub goes_with : Store → List Fate → ℕ → ℕ → Bool
-goes_with s fates n r = is_merged (fate_in fates r) && any (eqb n) (fragment_ops s op r)
+goes_with s fates n r = is_merged (fate_in fates r) && list_any (eqb n) (fragment_ops s op r)
 
 -- m is kept, and is a twin of n
 unfoldable pub stands_for : Store → Ignore → List Fate → ℕ → ℕ → Bool
 stands_for s ig fates n m = is_kept (fate_in fates m) && is_twin s ig n m
 
 unfoldable pub merged_or_kept : Option ℕ → Fate
-merged_or_kept none = kept
-merged_or_kept (some m) = merged m
+merged_or_kept None = kept
+merged_or_kept (Some m) = merged m
 
 unfoldable pub inside_or : Option ℕ → Fate → Fate
-inside_or none f = f
-inside_or (some r) f = inside r
+inside_or None f = f
+inside_or (Some r) f = inside r
 
 -- inside a merged one before it; else merged into the first that is kept before it and is its twin; else kept
 unfoldable pub next_fate : Store → Ignore → List Fate → ℕ → Fate
@@ -105,16 +107,16 @@ read_fate words n = word_fate words (get_or words n no_twin)
 -- how many operations are saved
 pub data Planned : Type 0 where
   planned : ℕ → Planned
-  refused_plan : ℕ → Planned
+  refused_plan : Cause → Planned
 
 -- the answer, and the lent words afterwards
 pub record Planning : Type 0 where
   pub answer : Planned
   pub words : List ℕ
 
-unfoldable pub planning_by : Option ℕ → Store → Ignore → List ℕ → Planning
-planning_by none s ig words = record { answer = planned (saved s ig); words = written (map fate_word (merge_plan s ig)) words }
-planning_by (some cause) s ig words = record { answer = refused_plan cause; words = words }
+unfoldable pub planning_by : Option Cause → Store → Ignore → List ℕ → Planning
+planning_by None s ig words = record { answer = planned (saved s ig); words = written (map fate_word (merge_plan s ig)) words }
+planning_by (Some cause) s ig words = record { answer = refused_plan cause; words = words }
 
 -- `merge_plan` with a lent list of types: 1, 14, 13
 unfoldable pub planning : Bool → Store → List ℕ → Ignore → List ℕ → Planning

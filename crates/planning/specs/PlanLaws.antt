@@ -3,8 +3,9 @@
 use Rattle.std.specs.Prelude.{ℕ, map, ◌<◌, true, length, ◌↔◌, ◌≡◌, ◌≢◌}
 use mathlib.Core.List.{Memᴰ}
 use Rattle.rules.specs.Store.{Store, sound}
-use Rattle.rules.specs.Fragments.{op, fragment_ops, Disjoint}
-use Rattle.rules.specs.Shells.{Ignore}
+use Rattle.rules.specs.Fragments.{fragment_ops, Disjoint}
+use Rattle.rules.specs.declared.types.Sort.TheVariants.{Op as op}
+use Rattle.rules.specs.declared.types.Ignore.{Ignore}
 use Rattle.rules.specs.GroupingLaws.{Twins}
 use Rattle.planning.specs.Plan.{Fate, kept, merged, inside, merge_plan, fate_of, gone_ops, fragment_size, saved, fate_word, read_fate}
 

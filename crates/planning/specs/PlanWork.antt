@@ -2,8 +2,8 @@
 -- `Replaced`).
 use Rattle.std.specs.Prelude.{ℕ, true, List, [], ◌∷◌, ◌≡◌}
 use Rattle.rules.specs.Store.{Store, sound}
-use Rattle.rules.specs.Fragments.{Sort}
-use Rattle.rules.specs.Shells.{Ignore}
+use Rattle.rules.specs.declared.types.Sort.{Sort}
+use Rattle.rules.specs.declared.types.Ignore.{Ignore}
 use Rattle.semantics.specs.Meaning.{Meaning}
 use Rattle.semantics.specs.Machine.{Registers, run_code, run_fragment}
 use Rattle.semantics.specs.Replaced.{Replacement, all_replaced}

@@ -1,4 +1,4 @@
-// Writes crates/windows/src/powers.rt: the table of powers that a window's hashes are multiplied by, computed here entry by entry.
+// Writes crates/repeated_runs/src/powers.rt: the table of powers that a window's hashes are multiplied by, computed here entry by entry.
 #![tactic(auto)]
 
 use std::io;

@@ -1,9 +1,10 @@
 -- What is printed for the bytes that were read is what is printed for all that the reader has: one byte more is read than a listing may
 -- have, and a longer one is refused by its length alone. Assumes nothing.
+use Rattle.rules.specs.declared.types.Cause.TheVariants.{BadLength}
 use Rattle.std.proofs.Common.{ℕ, suc, ◌<◌, ◌≤◌, List, [], ◌++◌, Option, None, Some, IfSome, ◌≡◌, ◌∙◌, ap, arith, sym, subst, take, length, length-append, length-take-le, append-nil}
 use Rattle.std.proofs.lemmas.Bool.{lt-leb}
 use native.Mathlib.Decide.{dec_le}
-use Rattle.std.proofs.Math.Option.{some}
+use Rattle.std.specs.Prelude.{Some}
 use Rattle.std.specs.Io.KnownBytes.{Appends, Consumes, IsAtEnd}
 use Rattle.rules.specs.Listings.{listed, listing_cause, unless, refusal, twins, sums, max_listing}
 use Rattle.rules.specs.Converting.{first_some, convert_refusal, unless_refused, convert}
@@ -11,11 +12,11 @@ use Rattle.programs.specs.Commands.{output_of}
 use Rattle.programs.specs.declared.commands.Command.{Command}
 use Rattle.programs.specs.declared.commands.Command.TheVariants.{Twins, Sums, Convert}
 
-cause_of_long : (bytes : List ℕ) → max_listing < length bytes → listing_cause bytes ≡ some 11
+cause_of_long : (bytes : List ℕ) → max_listing < length bytes → listing_cause bytes ≡ Some BadLength
 unfolding listing_cause
 cause_of_long bytes h = rw (lt-leb (length bytes) max_listing h)
 
-too_long_lem : (c : Command) (bytes : List ℕ) → max_listing < length bytes → output_of c bytes ≡ refusal 1 11
+too_long_lem : (c : Command) (bytes : List ℕ) → max_listing < length bytes → output_of c bytes ≡ refusal 1 BadLength
 unfolding output_of twins sums listed unless convert convert_refusal first_some unless_refused
 too_long_lem Twins bytes h = rw (cause_of_long bytes h)
 too_long_lem Sums bytes h = rw (cause_of_long bytes h)

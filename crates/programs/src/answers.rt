@@ -2,7 +2,7 @@
 ghost use Rattle.std.specs.Prelude.{◌≤◌, length};
 ghost use Rattle.rules.specs.Listings.{twins, sums, max_output};
 ghost use Rattle.rules.specs.Converting.{convert};
-ghost use Rattle.lines.specs.Wrote.{Wrote};
+ghost use Rattle.lines.specs.Writing.{WritesAt};
 ghost use Rattle.programs.specs.Commands.{output_of};
 
 use crate::commands::Command;
@@ -11,7 +11,7 @@ use listing::calls::{MAPPING, STORE, sums, twins};
 
 fn twins_printed(listing: &[u8], out: &mut [u8]) -> usize
     requires { max_output ≤ length out.old }
-    ensures { Wrote max_output out.old out.new 0 (twins listing.now) result }
+    ensures { WritesAt max_output out.old out.new 0 (twins listing.now) result }
 {
     let mut store = [0; STORE];
     let mut mapping = [0; MAPPING];
@@ -20,7 +20,7 @@ fn twins_printed(listing: &[u8], out: &mut [u8]) -> usize
 
 fn sums_printed(listing: &[u8], out: &mut [u8]) -> usize
     requires { max_output ≤ length out.old }
-    ensures { Wrote max_output out.old out.new 0 (sums listing.now) result }
+    ensures { WritesAt max_output out.old out.new 0 (sums listing.now) result }
 {
     let mut store = [0; STORE];
     sums(listing, &mut store, out).unwrap_or(0)
@@ -28,7 +28,7 @@ fn sums_printed(listing: &[u8], out: &mut [u8]) -> usize
 
 fn convert_printed(listing: &[u8], out: &mut [u8]) -> usize
     requires { max_output ≤ length out.old }
-    ensures { Wrote max_output out.old out.new 0 (convert listing.now) result }
+    ensures { WritesAt max_output out.old out.new 0 (convert listing.now) result }
 {
     convert(listing, out).unwrap_or(0)
 }
@@ -37,7 +37,7 @@ fn convert_printed(listing: &[u8], out: &mut [u8]) -> usize
 #[tactic(auto, unfolding(crate::specs::Commands::output_of))]
 pub fn printed(command: Command, listing: &[u8], out: &mut [u8]) -> usize
     requires { max_output ≤ length out.old }
-    ensures { Wrote max_output out.old out.new 0 (output_of command listing.now) result }
+    ensures { WritesAt max_output out.old out.new 0 (output_of command listing.now) result }
 {
     match command {
         Command::Twins => twins_printed(listing, out),

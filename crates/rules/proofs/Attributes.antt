@@ -10,21 +10,22 @@ use mathlib.Core.Path.{◌≡◌, refl, ap, subst}
 use borrow.Author.Tests.{ltb-true, lt-ltb}
 use lib.Dec.{ltb}
 use lib.ListN.{length}
-use Rattle.rules.specs.Lists.{any, filter, same_list}
-use Rattle.rules.specs.Store.{Attribute, keys_rise, keys_rise_after}
+use Rattle.std.specs.List.{list_any, filter}
+use Rattle.rules.specs.Lists.{same_list}
+use Rattle.rules.specs.Store.{keys_rise, keys_rise_after}
+use Rattle.rules.specs.declared.types.Attribute.{Attribute}
 use Rattle.rules.specs.Shells.{unignored, same_attribute}
-use Rattle.rules.specs.Statements.{SameByKey, UnignoredSame}
+use Rattle.rules.specs.EqualityLaws.{SameByKey, UnignoredSame}
 use Rattle.rules.proofs.Basics.Tests.{and_left, and_right, and_both, or_cases, or_left, or_right, all_at, all_of, clash}
 use Rattle.rules.proofs.Soundness.KeptAttributes.{rises_behind}
 use Rattle.rules.proofs.Form.SameShells.{attribute_same, attributes_same}
 
 module _ {A : Type 0} (p : A → A → Bool) (same : (a b : A) → (p a b ≡ true) ↔ (a ≡ b)) where
-  any_same : (a : A) (ys : List A) → (any (p a) ys ≡ true) ↔ Memᴰ a ys
-  unfolding any
+  any_same : (a : A) (ys : List A) → (list_any (p a) ys ≡ true) ↔ Memᴰ a ys
   any_same a [] = (λ h. clash h refl, λ m. absurd (Memᴰ.not-nil m))
   any_same a (y ∷ ys) = (
-    λ h. ⊎_elim (λ t. Memᴰ.head ((same a y).0 t)) (λ t. Memᴰ.tail ((any_same a ys).0 t)) (or_cases (p a y) (any (p a) ys) h),
-    λ m. ⊎_elim (λ e. or_left _ (any (p a) ys) ((same a y).1 e)) (λ k. or_right (p a y) _ ((any_same a ys).1 k)) (Memᴰ.cases_cons m),
+    λ h. ⊎_elim (λ t. Memᴰ.head ((same a y).0 t)) (λ t. Memᴰ.tail ((any_same a ys).0 t)) (or_cases (p a y) (list_any (p a) ys) h),
+    λ m. ⊎_elim (λ e. or_left _ (list_any (p a) ys) ((same a y).1 e)) (λ k. or_right (p a y) _ ((any_same a ys).1 k)) (Memᴰ.cases_cons m),
   )
 
 -- ---- rising keys
@@ -51,7 +52,7 @@ rise_at k (x ∷ xs) h a m =
 
 module _ (p : Attribute → Bool) where
   filter_after : (k : ℕ) (xs : List Attribute) → keys_rise_after k xs ≡ true → keys_rise_after k (filter p xs) ≡ true
-  unfolding keys_rise_after filter
+  unfolding keys_rise_after
   filter_after k [] h = refl
   filter_after k (x ∷ xs) h = go (p x) (filter_after x.key xs ((rise_cons k x xs).0 h).1)
     where
@@ -60,7 +61,7 @@ module _ (p : Attribute → Bool) where
       go false rest = rise_below k x.key (omega (arith, ((rise_cons k x xs).0 h).0)) (filter p xs) rest
 
   pub filter_rises : (xs : List Attribute) → keys_rise xs ≡ true → keys_rise (filter p xs) ≡ true
-  unfolding keys_rise filter
+  unfolding keys_rise
   filter_rises [] h = refl
   filter_rises (x ∷ xs) h = go (p x) (filter_after x.key xs h)
     where

@@ -3,16 +3,20 @@
 use Prim.Native.Nat.{ℕ, zero, suc, ◌+◌}
 use native.Mathlib.Omega.{arith}
 use mathlib.Core.Bool.{Bool, true, false, ◌&&◌}
-use mathlib.Core.List.{List, [], ◌∷◌, ◌++◌, map, append_assoc, append-nil}
-use mathlib.Core.Path.{◌≡◌, refl, sym, ap, ap₂, subst, subst₂, ◌∙◌}
+use mathlib.Core.List.{List, [], ◌∷◌, ◌++◌, append_assoc, append-nil}
+use mathlib.Core.Path.{◌≡◌, refl, sym, ap, subst, subst₂, ◌∙◌}
 use lib.ListN.{length, length-append}
 use Rattle.std.proofs.lemmas.List.{map-append}
-use Rattle.rules.specs.Lists.{concat_map}
-use Rattle.rules.specs.Store.{Store, Owner, of_op, of_block, ops_of, blocks_of, regions_of}
-use Rattle.rules.specs.Fragments.{Sort, op, block, region, levels, Step, full_op, list_steps, region_steps, steps, step_defines, defines_owners}
-use Rattle.rules.specs.Shells.{Ignore, same_shells}
-use Rattle.rules.specs.Mapping.{Mapping}
-use Rattle.rules.specs.Comparison.{State, Pair, WalkOf, Walk, on, ended, unequal, standing, ◌>>=◌, pairwise, each_pair, pair_of, expect, enter_ops, pair_ops, enter_blocks, pair_blocks, operands_agree, successors_agree, check_names, check_ops, pass1, pass2, pass3, compare_lists, compare_regions, compare_by, start, compare}
+use Rattle.std.specs.List.{flat_map}
+use Rattle.rules.specs.Store.{Store, ops_of, blocks_of, regions_of}
+use Rattle.rules.specs.declared.types.Owner.{Owner}
+use Rattle.rules.specs.declared.types.Owner.TheVariants.{Op as of_op, Block as of_block}
+use Rattle.rules.specs.Fragments.{levels, full_op, list_steps, region_steps, steps, step_defines, defines_owners}
+use Rattle.rules.specs.declared.types.Sort.{Sort}
+use Rattle.rules.specs.declared.types.Sort.TheVariants.{Op as op, Block as block, Region as region}
+use Rattle.rules.specs.Shells.{same_shells}
+use Rattle.rules.specs.declared.types.Ignore.{Ignore}
+use Rattle.rules.specs.Comparison.{State, Pair, WalkOf, Walk, on, ended, standing, ◌>>=◌, pairwise, each_pair, pair_of, expect, enter_ops, pair_ops, enter_blocks, pair_blocks, operands_agree, successors_agree, check_names, check_ops, pass1, pass2, pass3, compare_lists, compare_regions, compare_by, start, compare}
 use Rattle.rules.specs.Laws.{succeeds}
 use Rattle.rules.specs.Entering.{Entered, Noted, noted, noting, entering, testing, noted_ops, noted_blocks, noted_check, noted_lists, noted_regions, noted_by, entered, lefts, rights, unnoted, NotedIs, NotedCount, EnteredInOrder}
 use Rattle.rules.proofs.Basics.Tests.{impossible}
@@ -261,8 +265,8 @@ Adds : (ℕ → List Owner) → (ℕ → ℕ → Type 0) → (ℕ → ℕ → No
 Adds o R F = (l r : ℕ) → R l r → (t t' : Noted) → F l r t ≡ on t' → Notes t t' (o l) (o r)
 
 adds_each : (o : ℕ → List Owner) (R : ℕ → ℕ → Type 0) (F : ℕ → ℕ → Noted → WalkOf Noted) → Adds o R F
-    → (ls rs : List ℕ) → Pairs R ls rs → (t t' : Noted) → each_pair F ls rs t ≡ on t' → Notes t t' (concat_map o ls) (concat_map o rs)
-unfolding Adds each_pair concat_map
+    → (ls rs : List ℕ) → Pairs R ls rs → (t t' : Noted) → each_pair F ls rs t ≡ on t' → Notes t t' (flat_map o ls) (flat_map o rs)
+unfolding Adds each_pair
 adds_each o R F h [] [] q t t' e = same t t' e
   where
     same : (t t' : Noted) → on t ≡ on t' → Notes t t' [] []
@@ -274,8 +278,8 @@ adds_each o R F h (l ∷ ls) (r ∷ rs) q t t' e =
     notes_then (h l r q.0 t w.0 w.1.0) (adds_each o R F h ls rs q.1 w.0 t' w.1.1)
 
 adds_pairwise : (o : ℕ → List Owner) (F : ℕ → ℕ → Noted → WalkOf Noted) → Adds o (λ (l r : ℕ). Unit {0}) F
-    → (p : Pair) (ls rs : List ℕ) (t t' : Noted) → pairwise F p ls rs t ≡ on t' → Notes t t' (concat_map o ls) (concat_map o rs)
-unfolding Adds pairwise concat_map
+    → (p : Pair) (ls rs : List ℕ) (t t' : Noted) → pairwise F p ls rs t ≡ on t' → Notes t t' (flat_map o ls) (flat_map o rs)
+unfolding Adds pairwise
 adds_pairwise o F h p [] [] t t' e = same t t' e
   where
     same : (t t' : Noted) → on t ≡ on t' → Notes t t' [] []
@@ -319,7 +323,7 @@ module _ (s : Store) (ig : Ignore) where
   adds_blocks l r u t t' e = adds_pair (of_block l) (of_block r) (same_shells s ig (of_block l) (of_block r)) (pair_of block l r) (enter_blocks s l r t.state) t t' e
 
   adds_check : (o : ℕ → List Owner) (R : ℕ → ℕ → Type 0) (F : ℕ → ℕ → Noted → WalkOf Noted) → Adds o R F
-      → Adds (λ (n : ℕ). concat_map o (regions_of s n)) (Ops_alike s R) (noted_check s ig F)
+      → Adds (λ (n : ℕ). flat_map o (regions_of s n)) (Ops_alike s R) (noted_check s ig F)
   unfolding Adds Ops_alike noted_check testing check_names
   adds_check o R F h l r q t t' e =
       let w = went_on (testing (check_names s l r) t) (each_pair F (regions_of s l) (regions_of s r)) t' e in
@@ -330,7 +334,7 @@ module _ (s : Store) (ig : Ignore) where
   -- of a list of blocks: these, their operations, and what each of these holds
   listed : (ℕ → List Owner) → List ℕ → List Owner
   listed o bs =
-      concat_map block_alone bs ++ concat_map (λ (b : ℕ). concat_map op_alone (ops_of s b)) bs ++ concat_map (λ (b : ℕ). concat_map o (ops_of s b)) bs
+      flat_map block_alone bs ++ flat_map (λ (b : ℕ). flat_map op_alone (ops_of s b)) bs ++ flat_map (λ (b : ℕ). flat_map o (ops_of s b)) bs
 
   adds_lists : (o : ℕ → List Owner) (R : ℕ → ℕ → Type 0) (F : ℕ → ℕ → Noted → WalkOf Noted) → Adds o R F
       → (l r : ℕ) (f : Sort) (ls rs : List ℕ) → Lists_alike s R ls rs → (t t' : Noted) → noted_lists s ig F l r f ls rs t ≡ on t' → Notes t t' (listed o ls) (listed o rs)
@@ -347,24 +351,24 @@ module _ (s : Store) (ig : Ignore) where
   -- ---- that is what the walk defines
 
   region_owners : ℕ → ℕ → List Owner
-  region_owners k r = concat_map step_defines (region_steps k s r)
+  region_owners k r = flat_map step_defines (region_steps k s r)
 
   op_owners : ℕ → ℕ → List Owner
-  op_owners k n = concat_map (region_owners k) (regions_of s n)
+  op_owners k n = flat_map (region_owners k) (regions_of s n)
 
-  of_full : (k n : ℕ) → concat_map step_defines (full_op s (region_steps k s) n) ≡ op_owners k n
-  unfolding full_op concat_map step_defines op_owners region_owners
+  of_full : (k n : ℕ) → flat_map step_defines (full_op s (region_steps k s) n) ≡ op_owners k n
+  unfolding full_op step_defines op_owners region_owners
   of_full k n = concat_map_concat_map step_defines (region_steps k s) (regions_of s n)
 
-  of_list : (k : ℕ) (bs : List ℕ) → concat_map step_defines (list_steps s (full_op s (region_steps k s)) bs) ≡ listed (op_owners k) bs
+  of_list : (k : ℕ) (bs : List ℕ) → flat_map step_defines (list_steps s (full_op s (region_steps k s)) bs) ≡ listed (op_owners k) bs
   unfolding step_defines listed op_alone block_alone
   of_list k bs =
       parts s step_defines (λ j. refl) (full_op s (region_steps k s)) bs
-      ∙ ap (λ (xs : List Owner). concat_map block_alone bs ++ concat_map (λ (b : ℕ). concat_map op_alone (ops_of s b)) bs ++ xs)
+      ∙ ap (λ (xs : List Owner). flat_map block_alone bs ++ flat_map (λ (b : ℕ). flat_map op_alone (ops_of s b)) bs ++ xs)
       (concat_map_same _ _ bs (λ b m. concat_map_same _ _ (ops_of s b) (λ n i. of_full k n)))
 
   adds_regions : (k : ℕ) → Adds (region_owners k) (Regions_alike s k) (noted_regions s ig k)
-  unfolding Adds Regions_alike noted_regions region_owners region_steps op_owners concat_map
+  unfolding Adds Regions_alike noted_regions region_owners region_steps op_owners
   adds_regions zero l r q t t' e = let k : t ≡ t' = cc in subst (λ (u : Noted). Notes t u [] []) k (notes_none t)
   adds_regions (suc k) l r q t t' e =
       let full = adds_check (region_owners k) (Regions_alike s k) (noted_regions s ig k) (adds_regions k) in
@@ -377,7 +381,7 @@ module _ (s : Store) (ig : Ignore) where
 
   adds_by : (f : Sort) (l r : ℕ) (t t' : Noted) → noted_by s ig f l r t ≡ on t' → tested_by s ig f l r t.state ≡ on t'.state
       → Notes t t' (defines_owners s f l) (defines_owners s f r)
-  unfolding noted_by tested_by defines_owners steps concat_map step_defines Adds region_owners Full_alike op_alone
+  unfolding noted_by tested_by defines_owners steps step_defines Adds region_owners Full_alike op_alone
   adds_by op l r t t' e h =
       let w = went_on (noted_ops s ig l r t) (noted_check s ig (noted_regions s ig levels) l r) t' e in
       let v = went_on (pair_ops s ig l r t.state) (tested_ops s (tested_regions s ig levels) l r) t'.state h in

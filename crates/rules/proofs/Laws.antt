@@ -5,7 +5,8 @@ use Prim.Native.Nat.{ℕ}
 use mathlib.Core.Logic.{◌⊎◌, inl, inr}
 use mathlib.Core.Path.{◌≡◌, refl, sym, ◌∙◌}
 use Rattle.rules.specs.Store.{Store, empty_store}
-use Rattle.rules.specs.Fragments.{Sort, Premise, NamesNothingOf}
+use Rattle.rules.specs.Fragments.{Premise, NamesNothingOf}
+use Rattle.rules.specs.declared.types.Sort.{Sort}
 use Rattle.rules.specs.Building.{after}
 use Rattle.rules.specs.Laws.{Equal, In, LawsOfSound, Demand3}
 use Rattle.rules.specs.Form.{canonical}

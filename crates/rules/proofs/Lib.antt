@@ -1,7 +1,7 @@
 -- The laws over the rules.
 pub mod Basics
 pub mod Soundness
-pub mod Types
+pub mod RenamedTypes
 pub mod Walking
 pub mod Form
 pub mod Laws

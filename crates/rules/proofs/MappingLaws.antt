@@ -7,9 +7,9 @@ use mathlib.Core.Path.{◌≡◌}
 use lib.Dec.{lit≤}
 use lib.ListN.{length, get_or}
 use Rattle.rules.specs.Store.{Store, empty_store, sound, max_values, max_blocks, max_ops}
-use Rattle.rules.specs.Fragments.{Sort}
+use Rattle.rules.specs.declared.types.Sort.{Sort}
 use Rattle.rules.specs.Building.{after}
-use Rattle.rules.specs.Shells.{Ignore}
+use Rattle.rules.specs.declared.types.Ignore.{Ignore}
 use Rattle.rules.specs.Mapping.{no_image, empty_mapping, enter_all}
 use Rattle.rules.specs.Laws.{Equal, In, LawsOfSound}
 use Rattle.rules.specs.MappingLaws.{filed, Table, values, blocks, ops, table_of, defines_of, Bijection, Backwards, Followed, SideBySide, MappingLawsApart, MappingLawsOfSound, MappingLawsAfter}

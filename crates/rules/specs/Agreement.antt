@@ -1,8 +1,10 @@
 -- Demand 2 toward the Rust: where 01's answers are the Rust's (`Rust`, the Rust's own text).
 use Rattle.std.specs.Prelude.{ℕ, Bool, true, false, ◌≡◌}
 use Rattle.rules.specs.Store.{Store, sound}
-use Rattle.rules.specs.Fragments.{Sort, op, block, region, exists}
-use Rattle.rules.specs.Shells.{Ignore}
+use Rattle.rules.specs.Fragments.{exists}
+use Rattle.rules.specs.declared.types.Sort.{Sort}
+use Rattle.rules.specs.declared.types.Sort.TheVariants.{Op as op, Block as block, Region as region}
+use Rattle.rules.specs.declared.types.Ignore.{Ignore}
 use Rattle.rules.specs.Mapping.{Mapping}
 use Rattle.rules.specs.Comparison.{Pair, unequal, one_longer, Walk, on, ended, standing, compare}
 use Rattle.rules.specs.Hash.{hash}

@@ -1,13 +1,14 @@
 -- Which right fragments a listing asks `twins` about, each as it stood at its `q`, and whether it was found equal: what the share is said to
 -- be over.
-use Rattle.std.specs.Prelude.{ℕ, Bool, true, false, cond, ◌&&◌, List, [], ◌∷◌, ◌++◌, eqb, leb, length}
-use Rattle.std.proofs.Math.Option.{Option, none, some}
-use Rattle.rules.specs.Lists.{any}
+use Rattle.std.specs.Prelude.{ℕ, Bool, true, false, cond, ◌&&◌, List, [], ◌∷◌, ◌++◌, eqb, leb, length, Option, None, Some}
+use Rattle.std.specs.List.{list_any}
 use Rattle.rules.specs.Store.{Store}
-use Rattle.rules.specs.Fragments.{Sort, fragment_ops}
+use Rattle.rules.specs.Fragments.{fragment_ops}
+use Rattle.rules.specs.declared.types.Sort.{Sort}
 use Rattle.rules.specs.Mapping.{empty_mapping}
 use Rattle.rules.specs.Answers.{Compared, eq, neq, refused, comparison}
-use Rattle.rules.specs.Lines.{Edition, Line, building, query, parse}
+use Rattle.rules.specs.Lines.{Line, building, query, parse}
+use Rattle.rules.specs.declared.types.Edition.{Edition}
 use Rattle.rules.specs.Listings.{Progress, LineOutcome, prints, stops, does, max_line, twins_program}
 
 -- a right fragment, with the store as it stood at its `q`, found equal or not
@@ -24,9 +25,9 @@ answered_for (neq p paired) s f r = record { store = s; sort = f; right = r; fou
 answered_for (refused cause) s f r = []
 
 unfoldable pub asked_by : Progress → Option Line → List Asked
-asked_by now none = []
-asked_by now (some (building c)) = []
-asked_by now (some (query f l r ig)) = answered_for (comparison true now.store [] empty_mapping ig f l r).answer now.store f r
+asked_by now None = []
+asked_by now (Some (building c)) = []
+asked_by now (Some (query f l r ig)) = answered_for (comparison true now.store [] empty_mapping ig f l r).answer now.store f r
 
 unfoldable pub asked_in : Edition → Progress → List ℕ → List Asked
 asked_in e now line = cond (leb (length line) max_line) (asked_by now (parse e line)) []
@@ -43,7 +44,7 @@ asked e now (line ∷ lines) = asked_in e now line ++ asked_then (does twins_pro
 
 -- the operation was inside the right fragment at its `q`; and inside one that was found equal
 unfoldable pub inside : ℕ → Asked → Bool
-inside m q = any (eqb m) (fragment_ops q.store q.sort q.right)
+inside m q = list_any (eqb m) (fragment_ops q.store q.sort q.right)
 
 unfoldable pub inside_equal : ℕ → Asked → Bool
 inside_equal m q = q.found && inside m q

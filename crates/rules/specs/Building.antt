@@ -1,9 +1,14 @@
 -- 01, "Store": the four building calls. A call's tests stand in 01's order (6, 2, 7, 4, 5, 3), each with its cause: the first that
 -- fails is the answer, and leaves the store as it was. Arguments are any numbers, and lists of any length.
-use Rattle.std.specs.Prelude.{ℕ, ◌+◌, Bool, cond, ◌||◌, List, [], ◌∷◌, ◌++◌, map, eqb, leb, ltb, length, set, replicate}
-use Rattle.std.proofs.Math.Option.{Option, none, some}
-use Rattle.rules.specs.Lists.{every, all, any, update_at}
-use Rattle.rules.specs.Store.{Store, Op, Block, Value, Attribute, Owner, of_op, of_block, op_at, block_at, op_exists, block_exists, region_exists, value_exists, owner_exists, parent_exists, nesting_holds, operand_total, successor_total, attribute_total, max_ops, max_blocks, max_regions, max_values, max_operands, max_successors, max_attributes, max_own_values, max_own_operands, max_own_regions, max_own_successors, max_own_keys, max_attribute_kind}
+use Rattle.rules.specs.declared.types.Cause.{Cause}
+use Rattle.rules.specs.declared.types.Cause.TheVariants.{NotThere, StoreFull, OwnerFull, TooDeep, UnknownKind, NoOperand}
+use Rattle.std.specs.Prelude.{ℕ, ◌+◌, Bool, cond, ◌||◌, List, [], ◌∷◌, ◌++◌, map, eqb, leb, ltb, length, set, replicate, Option, None, Some}
+use Rattle.rules.specs.Lists.{every, update_at}
+use Rattle.std.specs.List.{list_all, list_any}
+use Rattle.rules.specs.Store.{Store, Op, Block, Value, op_at, block_at, op_exists, block_exists, region_exists, value_exists, owner_exists, parent_exists, nesting_holds, operand_total, successor_total, attribute_total, max_ops, max_blocks, max_regions, max_values, max_operands, max_successors, max_attributes, max_own_values, max_own_operands, max_own_regions, max_own_successors, max_own_keys, max_attribute_kind}
+use Rattle.rules.specs.declared.types.Attribute.{Attribute}
+use Rattle.rules.specs.declared.types.Owner.{Owner}
+use Rattle.rules.specs.declared.types.Owner.TheVariants.{Op as of_op, Block as of_block}
 
 -- "kind, parent block or none, location, 0 to 8 regions, 0 to 16 result types, 0 to 16 operands, 0 to 8 successors"
 pub record NewOperation : Type 0 where
@@ -41,12 +46,12 @@ attributes_of s (of_op n) = (op_at s n).attributes
 attributes_of s (of_block b) = (block_at s b).attributes
 
 unfoldable pub has_key : ℕ → List Attribute → Bool
-has_key k as' = any (λ (a : Attribute). eqb a.key k) as'
+has_key k as' = list_any (λ (a : Attribute). eqb a.key k) as'
 
 -- everything that a new operation names exists
 unfoldable pub operation_names : Store → NewOperation → Bool
 operation_names s o =
-    every (parent_exists s o.parent ∷ all (value_exists s) o.operands ∷ all (block_exists s) o.successors ∷ [])
+    every (parent_exists s o.parent ∷ list_all (value_exists s) o.operands ∷ list_all (block_exists s) o.successors ∷ [])
 
 -- its lists and regions are within the limits of one owner
 unfoldable pub operation_fits : NewOperation → Bool
@@ -73,33 +78,33 @@ unfoldable pub block_room : Store → NewBlock → Bool
 block_room s b = every (leb (length s.blocks + 1) max_blocks ∷ leb (length s.values + length b.types) max_values ∷ [])
 
 -- "Order for a call: 1, 8, 6, 2, 7, 4, 5, 3" (order 13)
-unfoldable pub tests : Store → Call → List (Bool × ℕ)
+unfoldable pub tests : Store → Call → List (Bool × Cause)
 tests s (new_operation o) =
-    (operation_names s o, 2)
-    ∷ (operation_fits o, 4)
-    ∷ (nesting_holds s o.parent, 5)
-    ∷ (operation_room s o, 3)
+    (operation_names s o, NotThere)
+    ∷ (operation_fits o, OwnerFull)
+    ∷ (nesting_holds s o.parent, TooDeep)
+    ∷ (operation_room s o, StoreFull)
     ∷ []
 tests s (new_block b) =
-    (region_exists s b.region, 2)
-    ∷ (leb (length b.types) max_own_values, 4)
-    ∷ (block_room s b, 3)
+    (region_exists s b.region, NotThere)
+    ∷ (leb (length b.types) max_own_values, OwnerFull)
+    ∷ (block_room s b, StoreFull)
     ∷ []
 tests s (set_attribute w a) =
-    (leb a.kind max_attribute_kind, 6)
-    ∷ (owner_exists s w, 2)
-    ∷ (has_key a.key (attributes_of s w) || leb (length (attributes_of s w) + 1) max_own_keys, 4)
-    ∷ (has_key a.key (attributes_of s w) || leb (attribute_total s + 1) max_attributes, 3)
+    (leb a.kind max_attribute_kind, UnknownKind)
+    ∷ (owner_exists s w, NotThere)
+    ∷ (has_key a.key (attributes_of s w) || leb (length (attributes_of s w) + 1) max_own_keys, OwnerFull)
+    ∷ (has_key a.key (attributes_of s w) || leb (attribute_total s + 1) max_attributes, StoreFull)
     ∷ []
 tests s (set_operand u) =
-    (every (op_exists s u.operation ∷ value_exists s u.value ∷ []), 2)
-    ∷ (ltb u.index (length (op_at s u.operation).operands), 7)
+    (every (op_exists s u.operation ∷ value_exists s u.value ∷ []), NotThere)
+    ∷ (ltb u.index (length (op_at s u.operation).operands), NoOperand)
     ∷ []
 
 -- the cause of the first test that fails
-unfoldable pub first_failed : List (Bool × ℕ) → Option ℕ
-first_failed [] = none
-first_failed (t ∷ ts) = cond t.0 (first_failed ts) (some t.1)
+unfoldable pub first_failed : List (Bool × Cause) → Option Cause
+first_failed [] = None
+first_failed (t ∷ ts) = cond t.0 (first_failed ts) (Some t.1)
 
 -- ---- the work of an accepted call
 
@@ -176,7 +181,7 @@ applied s (set_operand u) =
 pub data Built : Type 0 where
   made : ℕ → Built
   accepted : Built
-  refused : ℕ → Built
+  refused : Cause → Built
 
 unfoldable pub acceptance : Store → Call → Built
 acceptance s (new_operation o) = made (length s.ops)
@@ -184,13 +189,13 @@ acceptance s (new_block b) = made (length s.blocks)
 acceptance s (set_attribute w a) = accepted
 acceptance s (set_operand u) = accepted
 
-unfoldable pub answer_by : Option ℕ → Store → Call → Built
-answer_by none s c = acceptance s c
-answer_by (some cause) s c = refused cause
+unfoldable pub answer_by : Option Cause → Store → Call → Built
+answer_by None s c = acceptance s c
+answer_by (Some cause) s c = refused cause
 
-unfoldable pub store_by : Option ℕ → Store → Call → Store
-store_by none s c = applied s c
-store_by (some cause) s c = s
+unfoldable pub store_by : Option Cause → Store → Call → Store
+store_by None s c = applied s c
+store_by (Some cause) s c = s
 
 -- the answer of a call, and the store after it
 unfoldable pub answer : Store → Call → Built

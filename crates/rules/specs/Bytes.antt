@@ -1,10 +1,10 @@
 -- 01, "Listings": bytes, and what is written with them: texts, the pieces between commas or line feeds, and numbers.
 -- A byte is a number below 256; a larger one is no byte that any text or number has, and so is refused like a wrong byte.
-use Rattle.std.specs.Prelude.{ℕ, zero, suc, ◌+◌, ◌-◌, ◌*◌, ◌/◌, ◌%◌, Bool, false, cond, not, ◌&&◌, List, [], ◌∷◌, ◌++◌, eqb, leb, ltb}
+use Rattle.std.specs.Prelude.{ℕ, zero, suc, ◌+◌, ◌-◌, ◌*◌, ◌/◌, ◌%◌, Bool, false, cond, not, ◌&&◌, List, [], ◌∷◌, ◌++◌, eqb, leb, ltb, Option, None, Some}
 use Prim.Native.Char.{code}
 use Prim.Native.String.{String, [] as no_text, ◌∷◌ as ◌then◌}
-use Rattle.std.proofs.Math.Option.{Option, none, some}
-use Rattle.rules.specs.Lists.{every, all, same_list}
+use Rattle.rules.specs.Lists.{every, same_list}
+use Rattle.std.specs.List.{list_all}
 
 -- ---- texts
 
@@ -51,7 +51,7 @@ is_digit b = leb 48 b && leb b 57
 unfoldable pub well_written : List ℕ → Bool
 well_written [] = false
 well_written (d ∷ []) = is_digit d
-well_written (d ∷ e ∷ ds) = every (is_digit d ∷ not (eqb d 48) ∷ all is_digit (e ∷ ds) ∷ [])
+well_written (d ∷ e ∷ ds) = every (is_digit d ∷ not (eqb d 48) ∷ list_all is_digit (e ∷ ds) ∷ [])
 
 -- the number that digits stand for, behind those of n
 unfoldable pub value_from : ℕ → List ℕ → ℕ
@@ -59,7 +59,7 @@ value_from n [] = n
 value_from n (d ∷ ds) = value_from (n * 10 + (d - 48)) ds
 
 unfoldable pub number_below : ℕ → List ℕ → Option ℕ
-number_below limit ds = cond (well_written ds && ltb (value_from 0 ds) limit) (some (value_from 0 ds)) none
+number_below limit ds = cond (well_written ds && ltb (value_from 0 ds) limit) (Some (value_from 0 ds)) None
 
 -- ---- numbers written
 

@@ -1,11 +1,14 @@
 -- 01, "Twins and near twins": the starred cases, as one list, and cases that a porter's mistakes fail. Each says what calls are made
 -- from the empty store, what is then asked, and what the answer is.
-use Rattle.std.specs.Prelude.{ℕ, Bool, true, false, List, [], ◌∷◌, ◌++◌, map, ◌≡◌, set, replicate}
-use Rattle.std.proofs.Math.Option.{none, some}
-use Rattle.rules.specs.Store.{Attribute, of_op, of_block, empty_store, sound}
-use Rattle.rules.specs.Fragments.{Sort, op, block, region}
+use Rattle.rules.specs.declared.types.Cause.TheVariants.{NotThere, OwnerFull, UnknownKind, NoOperand, BadMapping}
+use Rattle.std.specs.Prelude.{ℕ, Bool, true, false, List, [], ◌∷◌, ◌++◌, map, ◌≡◌, set, replicate, None, Some}
+use Rattle.rules.specs.Store.{empty_store, sound}
+use Rattle.rules.specs.declared.types.Attribute.{Attribute}
+use Rattle.rules.specs.declared.types.Owner.TheVariants.{Op as of_op, Block as of_block}
+use Rattle.rules.specs.declared.types.Sort.{Sort}
+use Rattle.rules.specs.declared.types.Sort.TheVariants.{Op as op, Block as block, Region as region}
 use Rattle.rules.specs.Building.{Call, new_operation, new_block, set_attribute, set_operand, Built, made, accepted, refused, answer, after}
-use Rattle.rules.specs.Shells.{Ignore}
+use Rattle.rules.specs.declared.types.Ignore.{Ignore}
 use Rattle.rules.specs.Mapping.{Mapping, empty_mapping, image}
 use Rattle.rules.specs.Comparison.{pair_of}
 use Rattle.rules.specs.Answers.{Compared, eq, neq, refused as refused_compared, comparison}
@@ -49,12 +52,12 @@ inherent_one key kind content = record { key = key; kind = kind; content = conte
 -- an operation of this kind with these result types and operands, in no block and without regions
 unfoldable pub operation : ℕ → List ℕ → List ℕ → Call
 operation kind types operands =
-    new_operation (record { kind = kind; parent = none; location = 0; regions = 0; types = types; operands = operands; successors = [] })
+    new_operation (record { kind = kind; parent = None; location = 0; regions = 0; types = types; operands = operands; successors = [] })
 
 -- an operation of this kind with so many regions and these operands, in no block
 unfoldable pub enclosing : ℕ → ℕ → List ℕ → Call
 enclosing kind regions operands =
-    new_operation (record { kind = kind; parent = none; location = 0; regions = regions; types = []; operands = operands; successors = [] })
+    new_operation (record { kind = kind; parent = None; location = 0; regions = regions; types = []; operands = operands; successors = [] })
 
 -- a block in this region, with these argument types
 unfoldable pub block_in : ℕ → List ℕ → Call
@@ -67,9 +70,9 @@ first_operand n v = set_operand (record { operation = n; index = 0; value = v })
 -- at this location an operation of kind 7, whose region and block have this number, and in it one of kind 8, whose operand is value v
 unfoldable pub nested : ℕ → ℕ → ℕ → List Call
 nested location n v =
-    new_operation (record { kind = 7; parent = none; location = location; regions = 1; types = []; operands = []; successors = [] })
+    new_operation (record { kind = 7; parent = None; location = location; regions = 1; types = []; operands = []; successors = [] })
     ∷ new_block (record { region = n; location = location; types = 3 ∷ [] })
-    ∷ new_operation (record { kind = 8; parent = some n; location = location; regions = 0; types = 3 ∷ []; operands = v ∷ []; successors = [] })
+    ∷ new_operation (record { kind = 8; parent = Some n; location = location; regions = 0; types = 3 ∷ []; operands = v ∷ []; successors = [] })
     ∷ []
 
 -- the listing of "Listings"
@@ -92,7 +95,7 @@ two_users v = operation 1 (3 ∷ 3 ∷ []) [] ∷ operation 2 [] (0 ∷ []) ∷ 
 unfoldable pub full_and_empty : List Call
 full_and_empty =
     two_regions 2 0
-    ++ (new_operation (record { kind = 2; parent = some 0; location = 0; regions = 0; types = []; operands = []; successors = [] }) ∷ [])
+    ++ (new_operation (record { kind = 2; parent = Some 0; location = 0; regions = 0; types = []; operands = []; successors = [] }) ∷ [])
 
 unfoldable pub starred : List Case
 starred =
@@ -124,10 +127,10 @@ starred =
     ∷ compares (two_users 1) (ignoring false 0) op 1 2 (neq (pair_of op 1 2) 1)
     -- 16 results accepted, 17 give 4
     ∷ builds [] (operation 1 (replicate 16 3) []) (made 0)
-    ∷ builds [] (operation 1 (replicate 17 3) []) (refused 4)
+    ∷ builds [] (operation 1 (replicate 17 3) []) (refused OwnerFull)
     -- kind 63 accepted, 64 gives 6
     ∷ builds two_ops (set_attribute (of_op 0) (attribute 1 63 10)) accepted
-    ∷ builds two_ops (set_attribute (of_op 0) (attribute 1 64 10)) (refused 6)
+    ∷ builds two_ops (set_attribute (of_op 0) (attribute 1 64 10)) (refused UnknownKind)
     ∷ []
 
 -- two operations, each with a block in its one region; the operand of each is the argument of its own block
@@ -158,18 +161,18 @@ mistakes =
     -- a name's image is looked up once: that of value 0 is value 1, though value 1 has an image of its own by then
     ∷ begun chained 0 1 (ignoring false 0) op 1 2 (eq 1)
     -- a lent entry whose image or value does not exist is found before a fragment that does not
-    ∷ begun (two_users 1) 0 2 (ignoring false 0) op 1 2 (refused_compared 8)
-    ∷ begun (two_users 1) 2 0 (ignoring false 0) op 1 3 (refused_compared 8)
-    ∷ begun (two_users 1) 1 0 (ignoring false 0) op 1 3 (refused_compared 2)
+    ∷ begun (two_users 1) 0 2 (ignoring false 0) op 1 2 (refused_compared BadMapping)
+    ∷ begun (two_users 1) 2 0 (ignoring false 0) op 1 3 (refused_compared BadMapping)
+    ∷ begun (two_users 1) 1 0 (ignoring false 0) op 1 3 (refused_compared NotThere)
     -- a value that does not exist is found before a list that is too long
-    ∷ builds [] (operation 1 (replicate 17 3) (0 ∷ [])) (refused 2)
+    ∷ builds [] (operation 1 (replicate 17 3) (0 ∷ [])) (refused NotThere)
     -- an attribute's kind before its owner
-    ∷ builds [] (set_attribute (of_op 0) (attribute 1 64 10)) (refused 6)
-    ∷ builds [] (set_attribute (of_op 0) (attribute 1 63 10)) (refused 2)
+    ∷ builds [] (set_attribute (of_op 0) (attribute 1 64 10)) (refused UnknownKind)
+    ∷ builds [] (set_attribute (of_op 0) (attribute 1 63 10)) (refused NotThere)
     -- an operand's value before its index
-    ∷ builds two_ops (first_operand 0 0) (refused 2)
+    ∷ builds two_ops (first_operand 0 0) (refused NotThere)
     ∷ builds (two_users 0) (first_operand 1 1) accepted
-    ∷ builds (two_users 0) (set_operand (record { operation = 1; index = 1; value = 1 })) (refused 7)
+    ∷ builds (two_users 0) (set_operand (record { operation = 1; index = 1; value = 1 })) (refused NoOperand)
     ∷ []
 
 -- key 1 of both operations: on the left inherent, on the right of this attribute
@@ -201,8 +204,8 @@ inherent_cases =
     ∷ compares (inherent_left (attribute 1 5 10) ++ (set_attribute (of_op 0) (attribute 1 5 10) ∷ [])) (ignoring false 0) op 0 1 (eq 1)
     -- its kind is at most 63 too
     ∷ builds two_ops (set_attribute (of_op 0) (inherent_one 1 63 10)) accepted
-    ∷ builds two_ops (set_attribute (of_op 0) (inherent_one 1 64 10)) (refused 6)
+    ∷ builds two_ops (set_attribute (of_op 0) (inherent_one 1 64 10)) (refused UnknownKind)
     -- and so is it one of at most eight
-    ∷ builds (two_ops ++ eight_keys) (set_attribute (of_op 0) (inherent_one 9 5 10)) (refused 4)
+    ∷ builds (two_ops ++ eight_keys) (set_attribute (of_op 0) (inherent_one 9 5 10)) (refused OwnerFull)
     ∷ builds (two_ops ++ eight_keys) (set_attribute (of_op 0) (inherent_one 8 5 10)) accepted
     ∷ []

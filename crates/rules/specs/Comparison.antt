@@ -3,9 +3,13 @@
 -- its own.
 use Rattle.std.specs.Prelude.{ℕ, zero, suc, ◌+◌, Bool, cond, ◌&&◌, List, [], ◌∷◌, eqb, set}
 use Rattle.rules.specs.Lists.{all_pairs}
-use Rattle.rules.specs.Store.{Store, of_op, of_block, op_at, type_of, ops_of, blocks_of, regions_of, values_of}
-use Rattle.rules.specs.Fragments.{Sort, op, block, region, levels}
-use Rattle.rules.specs.Shells.{Ignore, same_shells}
+use Rattle.rules.specs.Store.{Store, op_at, type_of, ops_of, blocks_of, regions_of, values_of}
+use Rattle.rules.specs.declared.types.Owner.TheVariants.{Op as of_op, Block as of_block}
+use Rattle.rules.specs.Fragments.{levels}
+use Rattle.rules.specs.declared.types.Sort.{Sort}
+use Rattle.rules.specs.declared.types.Sort.TheVariants.{Op as op, Block as block, Region as region}
+use Rattle.rules.specs.Shells.{same_shells}
+use Rattle.rules.specs.declared.types.Ignore.{Ignore}
 use Rattle.rules.specs.Mapping.{Mapping, image, enter_all}
 
 -- what is handed from step to step: the mapping, and "`paired`: operations plus blocks entered by this call"

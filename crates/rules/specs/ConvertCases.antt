@@ -1,7 +1,7 @@
 -- Listings and what the converter prints for them: 01's example in both editions, then each way in which a line is refused.
 use Rattle.std.specs.Prelude.{ℕ, List, [], ◌∷◌, ◌++◌, ◌≡◌, replicate}
 use Prim.Native.String.{String}
-use Rattle.rules.specs.Lists.{concat_map}
+use Rattle.std.specs.List.{flat_map}
 use Rattle.rules.specs.Bytes.{text, line_feed}
 use Rattle.rules.specs.Converting.{convert}
 use Rattle.rules.specs.ListingCases.{lines, example_listing, example_2}
@@ -19,7 +19,7 @@ AllConverted (c ∷ cs) = Converted c × AllConverted cs
 
 -- a `b` line of edition 2 with so many arguments, which says how many: 8 bytes and those of the region and the count, and 2 for each
 unfoldable pub long_block : String → String → ℕ → List ℕ
-long_block region count n = text "b," ++ text region ++ text ",0," ++ text count ++ concat_map text (replicate n ",0") ++ line_feed ∷ []
+long_block region count n = text "b," ++ text region ++ text ",0," ++ text count ++ flat_map text (replicate n ",0") ++ line_feed ∷ []
 
 unfoldable pub from_1 : List String → List ℕ
 from_1 ls = lines ("opstore,1" ∷ ls)
@@ -59,7 +59,7 @@ convert_cases =
     ∷ prints (from_2 ("i,o,0,1,5" ∷ [])) (refused_at "2,10")
     ∷ prints (from_2 ("i,o,0,1,5,2" ∷ []) ++ text "b,3,5,0") (refused_at "2,20")
     -- `b` lines of 510, 511 and 512 bytes in edition 2: the first alone has room for a label; and of 513
-    ∷ prints (from_2 [] ++ long_block "10" "250" 250) (from_1 [] ++ text "b,10,0,0,250" ++ concat_map text (replicate 250 ",0") ++ line_feed ∷ [])
+    ∷ prints (from_2 [] ++ long_block "10" "250" 250) (from_1 [] ++ text "b,10,0,0,250" ++ flat_map text (replicate 250 ",0") ++ line_feed ∷ [])
     ∷ prints (from_2 [] ++ long_block "0" "251" 251) (refused_at "2,11")
     ∷ prints (from_2 ("b,3,5,0" ∷ []) ++ long_block "10" "251" 251) (refused_at "3,11")
     ∷ prints (from_2 [] ++ long_block "0" "252" 252 ++ lines ("x" ∷ [])) (refused_at "2,11")
@@ -67,5 +67,5 @@ convert_cases =
     ∷ prints (from_2 [] ++ long_block "0" "251" 251 ++ lines ("x" ∷ [])) (refused_at "3,10")
     ∷ prints (from_2 [] ++ long_block "0" "251" 251 ++ lines ("i,o,0,1,5,2" ∷ [])) (refused_at "3,20")
     -- 65,530 bytes, and 65,908 with labels: the whole is tested first
-    ∷ prints (from_2 [] ++ concat_map (λ (l : List ℕ). l) (replicate 127 (long_block "0" "251" 251)) ++ lines (replicate 62 "b,0,0,0")) (refused_at "1,11")
+    ∷ prints (from_2 [] ++ flat_map (λ (l : List ℕ). l) (replicate 127 (long_block "0" "251" 251)) ++ lines (replicate 62 "b,0,0,0")) (refused_at "1,11")
     ∷ []

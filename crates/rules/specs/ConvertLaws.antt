@@ -1,19 +1,19 @@
 -- Order 14: what is proved of converted listings.
-use Rattle.std.specs.Prelude.{ℕ, ◌≤◌, cond, List, [], ◌∷◌, ◌++◌, ◌≡◌, length, take, drop}
-use Rattle.std.proofs.Math.Option.{none}
-use Rattle.rules.specs.Lists.{concat_map}
+use Rattle.std.specs.Prelude.{ℕ, ◌≤◌, cond, List, [], ◌∷◌, ◌++◌, ◌≡◌, length, take, drop, None}
+use Rattle.std.specs.List.{flat_map}
 use Rattle.rules.specs.Bytes.{text, line_feed}
-use Rattle.rules.specs.Lines.{edition_1, edition_2, fields_of}
+use Rattle.rules.specs.Lines.{fields_of}
+use Rattle.rules.specs.declared.types.Edition.TheVariants.{First as edition_1, Second as edition_2}
 use Rattle.rules.specs.Listings.{printed, Program, listed, store_after, max_listing, listing_cause, edition}
 use Rattle.rules.specs.Converting.{other, header, begins, lines_behind, convert_refusal, convert}
 
 -- the converter refuses nothing of it
 abbrev pub Converts : List ℕ → Type 0
-Converts bytes = convert_refusal bytes ≡ none
+Converts bytes = convert_refusal bytes ≡ None
 
 -- what is written is a listing of the other edition: `converted_edition`
 unfoldable pub ConvertedEdition : Type 0
-ConvertedEdition = (bytes : List ℕ) → Converts bytes → (listing_cause (convert bytes) ≡ none) × (edition (convert bytes) ≡ other (edition bytes))
+ConvertedEdition = (bytes : List ℕ) → Converts bytes → (listing_cause (convert bytes) ≡ None) × (edition (convert bytes) ≡ other (edition bytes))
 
 -- "Converted listings give the same output in both programs, where no line is refused": by the converter. Where a program refuses a line of
 -- the one, it refuses that line of the other by the same number, and has built the same store: `same_output`
@@ -28,7 +28,7 @@ zeroed_line line =
     cond (begins "b" (fields_of line)) (printed (take 2 (fields_of line) ++ text "0" ∷ drop 3 (fields_of line))) (line ++ line_feed ∷ [])
 
 unfoldable pub labels_zeroed : List ℕ → List ℕ
-labels_zeroed bytes = header edition_1 ++ line_feed ∷ concat_map zeroed_line (lines_behind bytes)
+labels_zeroed bytes = header edition_1 ++ line_feed ∷ flat_map zeroed_line (lines_behind bytes)
 
 -- from edition 1 and back: labels become 0, and nothing else changes: `there_and_back`
 unfoldable pub ThereAndBack : Type 0

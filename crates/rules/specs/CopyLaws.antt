@@ -1,11 +1,11 @@
 -- Order 11: what is proved of copies. The copy has the number that the store's operations had before; it is the original's twin.
-use Rattle.std.specs.Prelude.{ℕ, ◌+◌, ◌<◌, true, false, ◌&&◌, List, ◌↔◌, ◌≡◌, length, get_or}
-use Rattle.std.proofs.Math.Option.{Option, none}
-use Rattle.rules.specs.Lists.{concat_map}
+use Rattle.std.specs.Prelude.{ℕ, ◌+◌, ◌<◌, true, false, ◌&&◌, List, ◌↔◌, ◌≡◌, length, get_or, Option, None}
+use Rattle.std.specs.List.{flat_map}
 use Rattle.rules.specs.Store.{Store, sound, regions_of, values_of, op_exists, parent_exists, totals_hold}
-use Rattle.rules.specs.Fragments.{op, steps, op_owner, block_owner, Premise}
+use Rattle.rules.specs.Fragments.{steps, op_owner, block_owner, Premise}
+use Rattle.rules.specs.declared.types.Sort.TheVariants.{Op as op}
 use Rattle.rules.specs.Building.{first_failed}
-use Rattle.rules.specs.Shells.{Ignore}
+use Rattle.rules.specs.declared.types.Ignore.{Ignore}
 use Rattle.rules.specs.Types.{renamed}
 use Rattle.rules.specs.Mapping.{empty_mapping}
 use Rattle.rules.specs.Hash.{no_numbers, hash}
@@ -14,10 +14,24 @@ use Rattle.rules.specs.Laws.{equal, Equal}
 use Rattle.rules.specs.Entering.{Entered, entered, rights}
 use Rattle.rules.specs.MappingLaws.{filed}
 use Rattle.rules.specs.Copying.{copied, copy_mapping, placed_outside, in_time, copy_nests, copy_tests}
+use Rattle.rules.specs.declared.types.Cause.TheVariants.{JournalFull}
+use Rattle.std.specs.Prelude.{ℕ, ◌+◌, ◌<◌, Bool, true, false, ◌↔◌, ◌≡◌, length, get_or, Option, None, Some}
+use mathlib.Core.List.{List}
+use Rattle.std.specs.List.{flat_map}
+use Rattle.rules.specs.Store.{Store, op_exists, sound}
+use Rattle.rules.specs.Fragments.{steps, Premise}
+use Rattle.rules.specs.declared.types.Sort.TheVariants.{Op as op}
+use Rattle.rules.specs.Building.{first_failed}
+use Rattle.rules.specs.Mapping.{empty_mapping}
+use Rattle.rules.specs.Types.{renamed}
+use Rattle.rules.specs.Hash.{hash}
+use Rattle.rules.specs.Keys.{key, fields_fit}
+use Rattle.rules.specs.Laws.{Equal, equal}
+use Rattle.rules.specs.Marks.{MarkedStore, set_mark, go_back, copy, is_mark, max_remembered, marked_tests, marked, marks_hold}
 
 -- the copy is accepted
 abbrev pub Copies : Store → ℕ → Option ℕ → Type 0
-Copies s n place = first_failed (copy_tests s n place) ≡ none
+Copies s n place = first_failed (copy_tests s n place) ≡ None
 
 -- a copy keeps a sound store sound: `copy_sound`
 unfoldable pub CopySound : Type 0
@@ -45,10 +59,10 @@ Consecutive next ns = (i : ℕ) → i < length ns → get_or ns i 0 ≡ next + i
 
 -- what stands on the right of pairs has the numbers next behind the store's: operations, with the regions of each, blocks, and the values of both
 pub record NumberedInOrder (s with : Store) (ps : List Entered) : Type 0 where
-  pub ops : Consecutive (length s.ops) (concat_map op_owner (rights ps))
-  pub regions : Consecutive (length s.regions) (concat_map (regions_of with) (concat_map op_owner (rights ps)))
-  pub blocks : Consecutive (length s.blocks) (concat_map block_owner (rights ps))
-  pub values : Consecutive (length s.values) (concat_map (values_of with) (rights ps))
+  pub ops : Consecutive (length s.ops) (flat_map op_owner (rights ps))
+  pub regions : Consecutive (length s.regions) (flat_map (regions_of with) (flat_map op_owner (rights ps)))
+  pub blocks : Consecutive (length s.blocks) (flat_map block_owner (rights ps))
+  pub values : Consecutive (length s.values) (flat_map (values_of with) (rights ps))
 
 -- new numbers are given in the order in which a comparison of original with copy enters pairs: `copy_order`
 unfoldable pub CopyOrder : Type 0
@@ -82,3 +96,17 @@ EarlyUnequal =
     (s : Store) → sound s ≡ true → (n : ℕ) (place : Option ℕ) → (op_exists s n && parent_exists s place) ≡ true
     → placed_outside s n place ≡ true → copy_nests s n place ≡ true → totals_hold (copied s n place) ≡ true
     → in_time s n (steps s op n) no_numbers ≡ false → (ig : Ignore) → equal (copied s n place) ig op n (length s.ops) ≡ false
+
+-- order 11: a copy, accepted or refused, leaves the marks and what they remember as they are: its keys are no replacements: `copy_uncounted_lem`
+unfoldable pub CopyUncounted : Type 0
+CopyUncounted = (t : MarkedStore) (ok : Bool) (n : ℕ) (place : Option ℕ) → (marked t (copy ok n place)).marks ≡ t.marks
+
+-- so it is never refused for want of room to remember: `copy_never_journal_full`
+unfoldable pub CopyNeverJournalFull : Type 0
+CopyNeverJournalFull = (t : MarkedStore) (ok : Bool) (n : ℕ) (place : Option ℕ) → first_failed (marked_tests t (copy ok n place)) ≡ Some JournalFull → ⊥
+
+-- and going back takes it away: `copy_taken_back`
+unfoldable pub CopyTakenBack : Type 0
+CopyTakenBack =
+    (t : MarkedStore) → marks_hold max_remembered t.marks ≡ true → (k : ℕ) → is_mark k ≡ true → (ok : Bool) (n : ℕ) (place : Option ℕ)
+    → marked (marked (marked t (set_mark k)) (copy ok n place)) (go_back k) ≡ marked t (set_mark k)

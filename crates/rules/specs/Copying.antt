@@ -1,10 +1,15 @@
 -- Order 11, "Copying an operation": the operation with all inside it, made once more. Each thing that it defines is copied in the order of the
 -- walk, which is the order in which a comparison enters pairs, and gets the next number of its table; an operation's regions come with it.
-use Rattle.std.specs.Prelude.{ℕ, ◌+◌, Bool, true, cond, not, ◌&&◌, ◌||◌, List, [], ◌∷◌, ◌++◌, map, eqb, length, get_or}
-use Rattle.std.proofs.Math.Option.{Option, none, some}
-use Rattle.rules.specs.Lists.{all, is_some, concat_map, position}
-use Rattle.rules.specs.Store.{Store, Op, Block, Value, Owner, of_op, of_block, op_at, block_at, value_at, parent_of, regions_of, op_exists, parent_exists, nesting_holds, totals_hold}
-use Rattle.rules.specs.Fragments.{Step, shell, names, counted, steps, op, fragment_ops, defines_blocks, defines_values}
+use Rattle.rules.specs.declared.types.Cause.{Cause}
+use Rattle.rules.specs.declared.types.Cause.TheVariants.{NotThere, StoreFull, TooDeep, PlacedInside, NamedEarly}
+use Rattle.std.specs.Prelude.{ℕ, ◌+◌, Bool, true, cond, not, ◌&&◌, ◌||◌, List, [], ◌∷◌, ◌++◌, map, eqb, length, get_or, Option, None, Some, is_some}
+use Rattle.std.specs.List.{list_all, flat_map}
+use Rattle.rules.specs.Lists.{position}
+use Rattle.rules.specs.Store.{Store, Op, Block, Value, op_at, block_at, value_at, parent_of, regions_of, op_exists, parent_exists, nesting_holds, totals_hold}
+use Rattle.rules.specs.declared.types.Owner.{Owner}
+use Rattle.rules.specs.declared.types.Owner.TheVariants.{Op as of_op, Block as of_block}
+use Rattle.rules.specs.Fragments.{Step, shell, names, counted, steps, fragment_ops, defines_blocks, defines_values}
+use Rattle.rules.specs.declared.types.Sort.TheVariants.{Op as op}
 use Rattle.rules.specs.Hash.{Numbering, no_numbers, numbered}
 use Rattle.rules.specs.Mapping.{Mapping, empty_mapping, enter_all}
 
@@ -16,11 +21,11 @@ copied_ops s n = fragment_ops s op n
 
 -- the regions of what is copied, operation by operation
 unfoldable pub copied_regions : Store → ℕ → List ℕ
-copied_regions s n = concat_map (regions_of s) (copied_ops s n)
+copied_regions s n = flat_map (regions_of s) (copied_ops s n)
 
 unfoldable pub or_next : Option ℕ → ℕ → ℕ → ℕ
-or_next none next n = n
-or_next (some i) next n = next + i
+or_next None next n = n
+or_next (Some i) next n = next + i
 
 -- of those that are copied, the one at place i gets the i-th next number; any other keeps its own
 unfoldable pub renumbered : List ℕ → ℕ → ℕ → ℕ
@@ -45,8 +50,8 @@ owner_copy s n (of_block b) = of_block (block_copy s n b)
 -- ---- the store with the copy
 
 unfoldable pub inner : (ℕ → ℕ) → Option ℕ → Option ℕ
-inner f none = none
-inner f (some b) = some (f b)
+inner f None = None
+inner f (Some b) = Some (f b)
 
 -- the copy itself goes to the end of the named block, or has no parent; what is inside it goes with its block
 unfoldable pub parent_copy : Store → ℕ → Option ℕ → ℕ → Option ℕ
@@ -100,12 +105,12 @@ has_place xs n = is_some (position n xs)
 
 -- 18: the block lies inside the original
 unfoldable pub placed_outside : Store → ℕ → Option ℕ → Bool
-placed_outside s n none = true
-placed_outside s n (some b) = not (has_place (defines_blocks s op n) b)
+placed_outside s n None = true
+placed_outside s n (Some b) = not (has_place (defines_blocks s op n) b)
 
 -- what is inside is named only once it has a number
 unfoldable pub numbered_names : List ℕ → List ℕ → List ℕ → Bool
-numbered_names inside sofar ns = all (λ (v : ℕ). not (has_place inside v) || has_place sofar v) ns
+numbered_names inside sofar ns = list_all (λ (v : ℕ). not (has_place inside v) || has_place sofar v) ns
 
 unfoldable pub step_in_time : Store → ℕ → Step → Numbering → Bool
 step_in_time s n (shell w) N = true
@@ -121,14 +126,14 @@ in_time s n (x ∷ xs) N = step_in_time s n x N && in_time s n xs (numbered s x 
 
 -- 5, for the whole copy
 unfoldable pub copy_nests : Store → ℕ → Option ℕ → Bool
-copy_nests s n place = all (λ (m : ℕ). nesting_holds (copied s n place) (parent_copy s n place m)) (fragment_ops s op n)
+copy_nests s n place = list_all (λ (m : ℕ). nesting_holds (copied s n place) (parent_copy s n place m)) (fragment_ops s op n)
 
 -- the causes in order: 1 and 8, which are of what is lent, stand ahead of these
-unfoldable pub copy_tests : Store → ℕ → Option ℕ → List (Bool × ℕ)
+unfoldable pub copy_tests : Store → ℕ → Option ℕ → List (Bool × Cause)
 copy_tests s n place =
-    (op_exists s n && parent_exists s place, 2)
-    ∷ (placed_outside s n place, 18)
-    ∷ (in_time s n (steps s op n) no_numbers, 19)
-    ∷ (copy_nests s n place, 5)
-    ∷ (totals_hold (copied s n place), 3)
+    (op_exists s n && parent_exists s place, NotThere)
+    ∷ (placed_outside s n place, PlacedInside)
+    ∷ (in_time s n (steps s op n) no_numbers, NamedEarly)
+    ∷ (copy_nests s n place, TooDeep)
+    ∷ (totals_hold (copied s n place), StoreFull)
     ∷ []

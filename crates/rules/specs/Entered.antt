@@ -2,7 +2,9 @@
 -- can have one.
 use Rattle.std.specs.Prelude.{ℕ, ◌+◌, ◌≤◌, Bool, not, List, ◌≡◌, eqb, length, get_or}
 use Rattle.rules.specs.Lists.{count_below}
-use Rattle.rules.specs.Store.{Store, Owner, of_op, of_block, value_at, max_blocks, max_ops}
+use Rattle.rules.specs.Store.{Store, value_at, max_blocks, max_ops}
+use Rattle.rules.specs.declared.types.Owner.{Owner}
+use Rattle.rules.specs.declared.types.Owner.TheVariants.{Op as of_op, Block as of_block}
 use Rattle.rules.specs.Mapping.{Mapping, no_image}
 use Rattle.rules.specs.Answers.{Compared, eq, neq, refused}
 

@@ -1,9 +1,13 @@
 -- The pairs that a comparison enters, in order: the comparison once more, which besides notes each two operations or blocks as it enters
 -- them. Without its notes it is the comparison (`NotedIs`), and it notes as many pairs as `paired` counts (`NotedCount`).
-use Rattle.std.specs.Prelude.{ℕ, zero, suc, ◌+◌, true, ◌≡◌, List, [], ◌∷◌, ◌++◌, map, length}
-use Rattle.rules.specs.Store.{Store, Owner, of_op, of_block, ops_of, blocks_of, regions_of, sound}
-use Rattle.rules.specs.Fragments.{Sort, op, block, region, levels, defines_owners}
-use Rattle.rules.specs.Shells.{Ignore}
+use Rattle.std.specs.Prelude.{ℕ, zero, suc, true, ◌≡◌, List, [], ◌∷◌, ◌++◌, map, length}
+use Rattle.rules.specs.Store.{Store, ops_of, blocks_of, regions_of}
+use Rattle.rules.specs.declared.types.Owner.{Owner}
+use Rattle.rules.specs.declared.types.Owner.TheVariants.{Op as of_op, Block as of_block}
+use Rattle.rules.specs.Fragments.{levels, defines_owners}
+use Rattle.rules.specs.declared.types.Sort.{Sort}
+use Rattle.rules.specs.declared.types.Sort.TheVariants.{Op as op, Block as block, Region as region}
+use Rattle.rules.specs.declared.types.Ignore.{Ignore}
 use Rattle.rules.specs.Mapping.{Mapping}
 use Rattle.rules.specs.Comparison.{State, WalkOf, Walk, on, ended, standing, ◌>>=◌, pairwise, each_pair, pair_of, pair_ops, pair_blocks, check_names, compare_by, start, compare}
 use Rattle.rules.specs.Laws.{succeeds}

@@ -1,8 +1,8 @@
 -- Extents of small fragments, number by number.
-use Rattle.std.specs.Prelude.{ℕ, true, false, List, [], ◌∷◌, ◌++◌, ◌≡◌}
-use Rattle.std.proofs.Math.Option.{some}
-use Rattle.rules.specs.Store.{of_op}
-use Rattle.rules.specs.Fragments.{op, block, region}
+use Rattle.rules.specs.declared.types.Cause.TheVariants.{NotSound, NotThere}
+use Rattle.std.specs.Prelude.{ℕ, true, false, List, [], ◌∷◌, ◌++◌, ◌≡◌, Some}
+use Rattle.rules.specs.declared.types.Owner.TheVariants.{Op as of_op}
+use Rattle.rules.specs.declared.types.Sort.TheVariants.{Op as op, Block as block, Region as region}
 use Rattle.rules.specs.Building.{Call, new_operation, set_attribute}
 use Rattle.rules.specs.Cases.{ignoring, attribute, inherent_one, operation, enclosing, block_in, first_operand}
 use Rattle.rules.specs.KeyCases.{having}
@@ -15,7 +15,7 @@ extent_of bytes values blocks ops nesting = record { bytes = bytes; values = val
 -- an operation in this block, with so many regions
 unfoldable pub standing_in : ℕ → ℕ → Call
 standing_in b regions =
-    new_operation (record { kind = 8; parent = some b; location = 0; regions = regions; types = []; operands = []; successors = [] })
+    new_operation (record { kind = 8; parent = Some b; location = 0; regions = regions; types = []; operands = []; successors = [] })
 
 -- an operation with a region, in it a block, in it an operation with a region without blocks
 unfoldable pub two_deep : List Call
@@ -50,5 +50,5 @@ pub record ExtentCases : Type 0 where
   pub of_an_operation : (extent (having two_deep) (ignoring false 0) op 0).nesting ≡ 1
   pub of_its_block : (extent (having two_deep) (ignoring false 0) block 0).nesting ≡ 0
   pub of_its_region : (extent (having two_deep) (ignoring false 0) region 0).nesting ≡ 0
-  pub refused_first : sized false (having []) (ignoring false 0) op 0 ≡ refused_extent 1
-  pub not_there : sized true (having []) (ignoring false 0) op 0 ≡ refused_extent 2
+  pub refused_first : sized false (having []) (ignoring false 0) op 0 ≡ refused_extent NotSound
+  pub not_there : sized true (having []) (ignoring false 0) op 0 ≡ refused_extent NotThere

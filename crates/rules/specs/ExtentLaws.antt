@@ -2,8 +2,9 @@
 use Rattle.std.specs.Prelude.{ℕ, zero, suc, ◌+◌, ◌≤◌, true, ◌↔◌, ◌⊎◌, ◌≡◌, length}
 use mathlib.Core.List.{List, [], Memᴰ}
 use Rattle.rules.specs.Store.{Store, sound, max_ops, max_blocks, max_values, max_nesting}
-use Rattle.rules.specs.Fragments.{Sort, ops_inside, outermost, fragment_ops}
-use Rattle.rules.specs.Shells.{Ignore}
+use Rattle.rules.specs.Fragments.{ops_inside, outermost, fragment_ops}
+use Rattle.rules.specs.declared.types.Sort.{Sort}
+use Rattle.rules.specs.declared.types.Ignore.{Ignore}
 use Rattle.rules.specs.Mapping.{Mapping, allowed}
 use Rattle.rules.specs.Types.{types_hold, renamed}
 use Rattle.rules.specs.Answers.{eq, comparison}

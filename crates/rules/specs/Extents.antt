@@ -1,11 +1,13 @@
 -- Order 12, "How large a key will be": what to reserve for a fragment before its key is written. No type is read, so no list of renamed types
 -- is lent.
-use Rattle.std.specs.Prelude.{ℕ, zero, suc, Bool, List, [], ◌∷◌, length, max}
-use Rattle.std.proofs.Math.Option.{Option, none, some}
+use Rattle.rules.specs.declared.types.Cause.{Cause}
+use Rattle.rules.specs.declared.types.Cause.TheVariants.{NotSound, NotThere}
+use Rattle.std.specs.Prelude.{ℕ, zero, suc, Bool, List, [], ◌∷◌, length, max, Option, None, Some}
 use Rattle.rules.specs.Store.{Store, max_nesting}
-use Rattle.rules.specs.Fragments.{Sort, exists, ops_inside, outermost, fragment_ops, defines_values, defines_blocks}
+use Rattle.rules.specs.Fragments.{exists, ops_inside, outermost, fragment_ops, defines_values, defines_blocks}
+use Rattle.rules.specs.declared.types.Sort.{Sort}
 use Rattle.rules.specs.Building.{first_failed}
-use Rattle.rules.specs.Shells.{Ignore}
+use Rattle.rules.specs.declared.types.Ignore.{Ignore}
 use Rattle.rules.specs.Keys.{key}
 
 -- the largest of what f gives, 0 where there is nothing
@@ -43,14 +45,14 @@ extent s ig f n =
 
 pub data Sized : Type 0 where
   extent_is : Extent → Sized
-  refused_extent : ℕ → Sized
+  refused_extent : Cause → Sized
 
-unfoldable pub extent_tests : Bool → Store → Sort → ℕ → List (Bool × ℕ)
-extent_tests lent s f n = (lent, 1) ∷ (exists s f n, 2) ∷ []
+unfoldable pub extent_tests : Bool → Store → Sort → ℕ → List (Bool × Cause)
+extent_tests lent s f n = (lent, NotSound) ∷ (exists s f n, NotThere) ∷ []
 
-unfoldable pub sized_by : Option ℕ → Store → Ignore → Sort → ℕ → Sized
-sized_by none s ig f n = extent_is (extent s ig f n)
-sized_by (some cause) s ig f n = refused_extent cause
+unfoldable pub sized_by : Option Cause → Store → Ignore → Sort → ℕ → Sized
+sized_by None s ig f n = extent_is (extent s ig f n)
+sized_by (Some cause) s ig f n = refused_extent cause
 
 -- `operation_extent`, `basic_block_extent`, `region_extent`
 unfoldable pub sized : Bool → Store → Ignore → Sort → ℕ → Sized

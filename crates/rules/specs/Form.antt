@@ -1,10 +1,16 @@
 -- The canonical form of a fragment: what two fragments are equal by. Its walk as a list of events, and each event as a token in which a
--- name that is defined already stands by its walk number, and any other by its store number. `Statements` says what it is good for.
+-- name that is defined already stands by its walk number, and any other by its store number. `EqualityLaws` says what it is good for.
 use Rattle.std.specs.Prelude.{ℕ, zero, suc, List, [], ◌∷◌, ◌++◌, map, length}
-use Rattle.rules.specs.Store.{Store, Owner, of_op, of_block, op_at, type_of, ops_of, blocks_of, regions_of}
-use Rattle.rules.specs.Fragments.{Sort, op, block, region, levels, Step, shell, names, counted}
-use Rattle.rules.specs.Shells.{Ignore, Shell, shell_of, counts_of}
-use Rattle.rules.specs.Hash.{Numbering, no_numbers, numbered, Name, name_of}
+use Rattle.rules.specs.Store.{Store, op_at, type_of, ops_of, blocks_of, regions_of}
+use Rattle.rules.specs.declared.types.Owner.{Owner}
+use Rattle.rules.specs.declared.types.Owner.TheVariants.{Op as of_op, Block as of_block}
+use Rattle.rules.specs.Fragments.{levels, Step, shell, names, counted}
+use Rattle.rules.specs.declared.types.Sort.{Sort}
+use Rattle.rules.specs.declared.types.Sort.TheVariants.{Op as op, Block as block, Region as region}
+use Rattle.rules.specs.Shells.{Shell, shell_of, counts_of}
+use Rattle.rules.specs.declared.types.Ignore.{Ignore}
+use Rattle.rules.specs.Hash.{Numbering, no_numbers, numbered, name_of}
+use Rattle.rules.specs.declared.types.Name.{Name}
 
 -- ---- events: the steps of the walk, with a sign ahead of each list item and at each list's end
 

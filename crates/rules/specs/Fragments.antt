@@ -2,13 +2,12 @@
 -- and which operations are next inside it.
 use Rattle.std.specs.Prelude.{ℕ, zero, suc, Bool, ◌⊎◌, ◌≡◌, length}
 use mathlib.Core.List.{List, [], ◌∷◌, ◌++◌, map, Memᴰ}
-use Rattle.rules.specs.Lists.{concat_map}
-use Rattle.rules.specs.Store.{Store, Owner, of_op, of_block, op_at, ops_of, blocks_of, regions_of, values_of, op_exists, block_exists, region_exists, max_nesting}
-
-pub data Sort : Type 0 where
-  op : Sort
-  block : Sort
-  region : Sort
+use Rattle.std.specs.List.{flat_map}
+use Rattle.rules.specs.Store.{Store, op_at, ops_of, blocks_of, regions_of, values_of, op_exists, block_exists, region_exists, max_nesting}
+use Rattle.rules.specs.declared.types.Sort.{Sort}
+use Rattle.rules.specs.declared.types.Sort.TheVariants.{Op as op, Block as block, Region as region}
+use Rattle.rules.specs.declared.types.Owner.{Owner}
+use Rattle.rules.specs.declared.types.Owner.TheVariants.{Op as of_op, Block as of_block}
 
 unfoldable pub exists : Store → Sort → ℕ → Bool
 exists s op n = op_exists s n
@@ -26,7 +25,7 @@ pub data Step : Type 0 where
 
 -- "Full operation: each operand, then each successor ... Then its regions."
 unfoldable pub full_op : Store → (ℕ → List Step) → ℕ → List Step
-full_op s in_region n = names n ∷ concat_map in_region (regions_of s n)
+full_op s in_region n = names n ∷ flat_map in_region (regions_of s n)
 
 -- a list of blocks, or of operations, by their shells
 unfoldable pub shells : (ℕ → Owner) → List ℕ → List Step
@@ -37,8 +36,8 @@ shells w ns = counted (length ns) ∷ map (λ (n : ℕ). shell (w n)) ns
 unfoldable pub list_steps : Store → (ℕ → List Step) → List ℕ → List Step
 list_steps s full bs =
     shells of_block bs
-    ++ concat_map (λ (b : ℕ). shells of_op (ops_of s b)) bs
-    ++ concat_map (λ (b : ℕ). concat_map full (ops_of s b)) bs
+    ++ flat_map (λ (b : ℕ). shells of_op (ops_of s b)) bs
+    ++ flat_map (λ (b : ℕ). flat_map full (ops_of s b)) bs
 
 -- the first number is that of regions, one in another, that the walk may still enter
 unfoldable pub region_steps : ℕ → Store → ℕ → List Step
@@ -46,7 +45,7 @@ region_steps zero s r = []
 region_steps (suc k) s r = list_steps s (full_op s (region_steps k s)) (blocks_of s r)
 
 -- a walk enters at most 33 regions, one in another: those around operations of the deepest nesting, and theirs. What stands at 0 levels,
--- here, in `compare_regions` and in `region_events`, may be anything: no walk over a sound store comes there (`Statements`, `LevelsEnough`)
+-- here, in `compare_regions` and in `region_events`, may be anything: no walk over a sound store comes there (`LevelsEnough`)
 abbrev pub levels : ℕ
 levels = suc max_nesting
 
@@ -83,23 +82,23 @@ step_successors s (counted k) = []
 
 -- the operations and blocks in a fragment, the fragment itself included
 unfoldable pub defines_owners : Store → Sort → ℕ → List Owner
-defines_owners s f n = concat_map step_defines (steps s f n)
+defines_owners s f n = flat_map step_defines (steps s f n)
 
 -- the operations inside a fragment, "a fragment's own operation included"
 unfoldable pub fragment_ops : Store → Sort → ℕ → List ℕ
-fragment_ops s f n = concat_map op_owner (defines_owners s f n)
+fragment_ops s f n = flat_map op_owner (defines_owners s f n)
 
 unfoldable pub defines_values : Store → Sort → ℕ → List ℕ
-defines_values s f n = concat_map (values_of s) (defines_owners s f n)
+defines_values s f n = flat_map (values_of s) (defines_owners s f n)
 
 unfoldable pub defines_blocks : Store → Sort → ℕ → List ℕ
-defines_blocks s f n = concat_map block_owner (defines_owners s f n)
+defines_blocks s f n = flat_map block_owner (defines_owners s f n)
 
 unfoldable pub names_values : Store → Sort → ℕ → List ℕ
-names_values s f n = concat_map (step_operands s) (steps s f n)
+names_values s f n = flat_map (step_operands s) (steps s f n)
 
 unfoldable pub names_blocks : Store → Sort → ℕ → List ℕ
-names_blocks s f n = concat_map (step_successors s) (steps s f n)
+names_blocks s f n = flat_map (step_successors s) (steps s f n)
 
 -- no entry of one list stands in the other
 abbrev pub Disjoint : {A : Type 0} → List A → List A → Type 0
@@ -125,10 +124,10 @@ Premise s f a b =
 
 -- the operations in a list of blocks, and in an operation's regions
 unfoldable pub ops_in_blocks : Store → List ℕ → List ℕ
-ops_in_blocks s bs = concat_map (ops_of s) bs
+ops_in_blocks s bs = flat_map (ops_of s) bs
 
 unfoldable pub ops_inside : Store → ℕ → List ℕ
-ops_inside s n = concat_map (λ (r : ℕ). ops_in_blocks s (blocks_of s r)) (regions_of s n)
+ops_inside s n = flat_map (λ (r : ℕ). ops_in_blocks s (blocks_of s r)) (regions_of s n)
 
 -- the outermost operations of a fragment
 unfoldable pub outermost : Store → Sort → ℕ → List ℕ

@@ -1,11 +1,12 @@
 -- The twins among a store's operations: for each operation the first one before it that is independent of it and equal to it.
-use Rattle.std.specs.Prelude.{ℕ, Bool, true, ◌&&◌, List, [], ◌∷◌, map, leb, length}
-use Rattle.std.proofs.Math.Option.{Option, none, some}
+use Rattle.rules.specs.declared.types.Cause.{Cause}
+use Rattle.rules.specs.declared.types.Cause.TheVariants.{NotSound, NoRoom, BadTypes}
+use Rattle.std.specs.Prelude.{ℕ, Bool, true, ◌&&◌, List, [], ◌∷◌, map, leb, length, Option, None, Some}
 use Rattle.rules.specs.Lists.{numbers_where}
 use Rattle.rules.specs.Store.{Store, Op}
-use Rattle.rules.specs.Fragments.{op}
+use Rattle.rules.specs.declared.types.Sort.TheVariants.{Op as op}
 use Rattle.rules.specs.Building.{first_failed}
-use Rattle.rules.specs.Shells.{Ignore}
+use Rattle.rules.specs.declared.types.Ignore.{Ignore}
 use Rattle.rules.specs.Types.{types_hold, renamed}
 use Rattle.rules.specs.Laws.{equal}
 use Rattle.rules.specs.Keys.{written}
@@ -31,13 +32,13 @@ abbrev pub no_twin : ℕ
 no_twin = 4294967295
 
 unfoldable pub twin_word : Option ℕ → ℕ
-twin_word none = no_twin
-twin_word (some m) = m
+twin_word None = no_twin
+twin_word (Some m) = m
 
 -- how many operations there are
 pub data Grouped : Type 0 where
   grouped : ℕ → Grouped
-  refused_twins : ℕ → Grouped
+  refused_twins : Cause → Grouped
 
 -- the answer, and the lent words afterwards
 pub record Grouping : Type 0 where
@@ -45,12 +46,12 @@ pub record Grouping : Type 0 where
   pub words : List ℕ
 
 -- 13 for fewer lent words than there are operations
-unfoldable pub twin_tests : Bool → Store → List ℕ → ℕ → List (Bool × ℕ)
-twin_tests lent s types room = (lent, 1) ∷ (types_hold types, 14) ∷ (leb (length s.ops) room, 13) ∷ []
+unfoldable pub twin_tests : Bool → Store → List ℕ → ℕ → List (Bool × Cause)
+twin_tests lent s types room = (lent, NotSound) ∷ (types_hold types, BadTypes) ∷ (leb (length s.ops) room, NoRoom) ∷ []
 
-unfoldable pub grouping_by : Option ℕ → Store → Ignore → List ℕ → Grouping
-grouping_by none s ig words = record { answer = grouped (length s.ops); words = written (map twin_word (twins_of s ig)) words }
-grouping_by (some cause) s ig words = record { answer = refused_twins cause; words = words }
+unfoldable pub grouping_by : Option Cause → Store → Ignore → List ℕ → Grouping
+grouping_by None s ig words = record { answer = grouped (length s.ops); words = written (map twin_word (twins_of s ig)) words }
+grouping_by (Some cause) s ig words = record { answer = refused_twins cause; words = words }
 
 -- `twins_of_operations` with a lent list of types
 unfoldable pub grouping : Bool → Store → List ℕ → Ignore → List ℕ → Grouping

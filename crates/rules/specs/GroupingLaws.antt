@@ -2,18 +2,19 @@
 -- list of calls, since those stores are sound too (`RenamedSound`, `AfterMarkedSound`). They are of one store that doesn't change: what
 -- stands for an operation may lie inside another that has a twin itself (`GroupingCases`, `inside_another`), so that not every merge of a
 -- store's twins leaves the others as they are.
-use Rattle.std.specs.Prelude.{ℕ, ◌<◌, true, false, ◌↔◌, ◌≡◌}
-use Rattle.std.proofs.Math.Option.{Option, none, some}
+use Rattle.std.specs.Prelude.{ℕ, ◌<◌, true, false, ◌↔◌, ◌≡◌, Option, None, Some}
 use Rattle.rules.specs.Store.{Store, empty_store, sound}
-use Rattle.rules.specs.Fragments.{Sort, op, Premise}
+use Rattle.rules.specs.Fragments.{Premise}
+use Rattle.rules.specs.declared.types.Sort.{Sort}
+use Rattle.rules.specs.declared.types.Sort.TheVariants.{Op as op}
 use Rattle.rules.specs.Building.{after}
-use Rattle.rules.specs.Shells.{Ignore}
+use Rattle.rules.specs.declared.types.Ignore.{Ignore}
 use Rattle.rules.specs.Hash.{hash}
 use Rattle.rules.specs.Keys.{key}
 use Rattle.rules.specs.Laws.{In, equal, Equal}
 use Rattle.rules.specs.Independence.{independent}
 use Rattle.rules.specs.Grouping.{twin_of}
-use Rattle.rules.specs.Statements.{tangled}
+use Rattle.rules.specs.EqualityLaws.{tangled}
 use Rattle.rules.specs.Cases.{ignoring}
 
 -- ---- independence
@@ -38,34 +39,34 @@ Twins s ig m n = Premise s op m n × Equal s ig op m n
 -- an operation's twin comes before it, is independent of it and equal to it, and is the first such: `twin_found`
 unfoldable pub TwinFound : Type 0
 TwinFound =
-    (s : Store) (ig : Ignore) (n m : ℕ) → twin_of s ig n ≡ some m
+    (s : Store) (ig : Ignore) (n m : ℕ) → twin_of s ig n ≡ Some m
     → (m < n) × Twins s ig m n × ((k : ℕ) → k < m → Twins s ig k n → ⊥)
 
 -- none is given exactly where no operation before it is independent of it and equal to it: `twin_none`
 unfoldable pub TwinNone : Type 0
-TwinNone = (s : Store) (ig : Ignore) (n : ℕ) → (twin_of s ig n ≡ none) ↔ ((m : ℕ) → m < n → Twins s ig m n → ⊥)
+TwinNone = (s : Store) (ig : Ignore) (n : ℕ) → (twin_of s ig n ≡ None) ↔ ((m : ℕ) → m < n → Twins s ig m n → ⊥)
 
 -- the two are equal the other way too, and have one hash and one key: candidates by their hashes miss none: `twin_alike`
 unfoldable pub TwinAlike : Type 0
 TwinAlike =
-    (s : Store) → sound s ≡ true → (ig : Ignore) (n m : ℕ) → In s op n → twin_of s ig n ≡ some m
+    (s : Store) → sound s ≡ true → (ig : Ignore) (n m : ℕ) → In s op n → twin_of s ig n ≡ Some m
     → Equal s ig op n m × (hash s ig op m ≡ hash s ig op n) × (key s ig op m ≡ key s ig op n)
 
 -- an operation that stands for another has no twin itself: `twin_stays`
 unfoldable pub TwinStays : Type 0
-TwinStays = (s : Store) → sound s ≡ true → (ig : Ignore) (n m : ℕ) → In s op n → twin_of s ig n ≡ some m → twin_of s ig m ≡ none
+TwinStays = (s : Store) → sound s ≡ true → (ig : Ignore) (n m : ℕ) → In s op n → twin_of s ig n ≡ Some m → twin_of s ig m ≡ None
 
 -- two operations for which the same one stands are twins of each other: so a store's operations fall into groups, each with its first
 -- operation: `twins_together`
 unfoldable pub TwinsTogether : Type 0
 TwinsTogether =
     (s : Store) → sound s ≡ true → (ig : Ignore) (n k m : ℕ) → In s op n → In s op k
-    → twin_of s ig n ≡ some m → twin_of s ig k ≡ some m → Twins s ig n k
+    → twin_of s ig n ≡ Some m → twin_of s ig k ≡ Some m → Twins s ig n k
 
 -- the first of a group: the one that stands for n, or n itself
 unfoldable pub first_or : ℕ → Option ℕ → Option ℕ
-first_or n none = some n
-first_or n (some m) = some m
+first_or n None = Some n
+first_or n (Some m) = Some m
 
 -- and twins of each other have the same first one: of two twins, the later has a twin, and the earlier has the same or is it: `twins_share`
 unfoldable pub TwinsShare : Type 0
@@ -78,4 +79,4 @@ TwinsShare =
 unfoldable pub TwinlessEqual : Type 0
 TwinlessEqual =
     (equal (after empty_store tangled) (ignoring false 0) op 1 2 ≡ true)
-    × (twin_of (after empty_store tangled) (ignoring false 0) 2 ≡ none)
+    × (twin_of (after empty_store tangled) (ignoring false 0) 2 ≡ None)

@@ -1,12 +1,19 @@
 -- 01, "Hash": the bytes that each step of the walk feeds, and FNV-1a over them. The bytes have one parameter: what stands ahead of a
 -- list, given its length. In a hash that is nothing; in a key (`Keys`) it is the count.
-use Rattle.std.specs.Prelude.{ℕ, zero, suc, ◌*◌, ◌/◌, ◌%◌, ◌^◌, Bool, cond, List, [], ◌∷◌, ◌++◌, length}
-use Rattle.std.proofs.Math.Option.{Option, none, some}
+use Rattle.std.specs.Prelude.{ℕ, zero, suc, ◌*◌, ◌/◌, ◌%◌, ◌^◌, Bool, cond, List, [], ◌∷◌, ◌++◌, length, Option, None, Some}
 use Rattle.std.specs.Int.Bits.{bit_xor}
-use Rattle.rules.specs.Lists.{concat_map, position}
-use Rattle.rules.specs.Store.{Store, Attribute, Owner, of_op, of_block, op_at, regions_of, values_of}
-use Rattle.rules.specs.Fragments.{Sort, Step, shell, names, counted, steps, block_owner}
-use Rattle.rules.specs.Shells.{Ignore, Shell, shell_of}
+use Rattle.rules.specs.declared.types.Name.{Name}
+use Rattle.rules.specs.declared.types.Name.TheVariants.{WalkNumber as walk_number, StoreNumber as store_number}
+use Rattle.std.specs.List.{flat_map}
+use Rattle.rules.specs.Lists.{position}
+use Rattle.rules.specs.Store.{Store, op_at, regions_of, values_of}
+use Rattle.rules.specs.declared.types.Attribute.{Attribute}
+use Rattle.rules.specs.declared.types.Owner.{Owner}
+use Rattle.rules.specs.declared.types.Owner.TheVariants.{Op as of_op, Block as of_block}
+use Rattle.rules.specs.Fragments.{Step, shell, names, counted, steps, block_owner}
+use Rattle.rules.specs.declared.types.Sort.{Sort}
+use Rattle.rules.specs.Shells.{Shell, shell_of}
+use Rattle.rules.specs.declared.types.Ignore.{Ignore}
 
 -- ---- FNV-1a: "start 14695981039346656037; each byte is xored in, then the word is multiplied by 1099511628211 modulo 2^64"
 
@@ -49,13 +56,13 @@ uncounted n = []
 
 -- a list, behind what stands ahead of it
 unfoldable pub list_bytes : {A : Type 0} → (ℕ → List ℕ) → (A → List ℕ) → List A → List ℕ
-list_bytes ahead f xs = ahead (length xs) ++ concat_map f xs
+list_bytes ahead f xs = ahead (length xs) ++ flat_map f xs
 
 -- ---- shells
 
 unfoldable pub location_bytes : Option ℕ → List ℕ
-location_bytes none = []
-location_bytes (some l) = leaf l
+location_bytes None = []
+location_bytes (Some l) = leaf l
 
 -- "one byte, 1 for yes and 0 for no"
 unfoldable pub flag : Bool → List ℕ
@@ -70,7 +77,7 @@ unfoldable pub shell_bytes : (ℕ → List ℕ) → Shell → List ℕ
 shell_bytes ahead sh =
     location_bytes sh.location
     ++ count (length sh.attributes)
-    ++ concat_map attribute_bytes sh.attributes
+    ++ flat_map attribute_bytes sh.attributes
     ++ list_bytes ahead leaf sh.types
 
 -- "Operation shell: kind, number of regions", then as a block's
@@ -94,13 +101,9 @@ numbered s (names n) N = N
 numbered s (counted k) N = N
 
 -- a name inside the walk has a walk number, one outside its store number
-pub data Name : Type 0 where
-  walk_number : ℕ → Name
-  store_number : ℕ → Name
-
 unfoldable pub name_at : Option ℕ → ℕ → Name
-name_at none n = store_number n
-name_at (some i) n = walk_number i
+name_at None n = store_number n
+name_at (Some i) n = walk_number i
 
 unfoldable pub name_of : List ℕ → ℕ → Name
 name_of defined n = name_at (position n defined) n

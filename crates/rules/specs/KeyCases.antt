@@ -1,7 +1,8 @@
 -- Keys of small fragments, byte by byte, and how bytes compare.
+use Rattle.rules.specs.declared.types.Cause.TheVariants.{NoRoom}
 use Rattle.std.specs.Prelude.{ℕ, true, false, List, [], ◌∷◌, ◌++◌, ◌≡◌, replicate}
 use Rattle.rules.specs.Store.{Store, empty_store}
-use Rattle.rules.specs.Fragments.{op, block, region}
+use Rattle.rules.specs.declared.types.Sort.TheVariants.{Op as op, Block as block, Region as region}
 use Rattle.rules.specs.Building.{Call, after}
 use Rattle.rules.specs.Hash.{hash}
 use Rattle.rules.specs.Keys.{key, less, same, greater, compare_bytes, keyed, key_length, refused_key}
@@ -47,7 +48,7 @@ pub record KeyCases : Type 0 where
   pub one_hash_of : hash (having one_hash) (ignoring false 0) op 1 ≡ hash (having one_hash) (ignoring false 0) op 2
   pub two_keys : compare_bytes (key (having one_hash) (ignoring false 0) op 1) (key (having one_hash) (ignoring false 0) op 2) ≡ less
   -- one byte too few, and bytes behind the key
-  pub too_short : keyed true (having (enclosing 1 1 [] ∷ [])) [] (ignoring false 0) region 0 (replicate 7 238) ≡ record { answer = refused_key 13; bytes = replicate 7 238 }
+  pub too_short : keyed true (having (enclosing 1 1 [] ∷ [])) [] (ignoring false 0) region 0 (replicate 7 238) ≡ record { answer = refused_key NoRoom; bytes = replicate 7 238 }
   pub behind_it : keyed true (having (enclosing 1 1 [] ∷ [])) [] (ignoring false 0) region 0 (replicate 9 238) ≡ record { answer = key_length 8; bytes = eight 0 ++ (238 ∷ []) }
   -- a proper beginning first, whatever follows; else the first byte that differs decides
   pub beginning : compare_bytes (1 ∷ []) (1 ∷ 0 ∷ []) ≡ less

@@ -2,9 +2,10 @@
 -- fragments have equal hashes, under 01's premise", after every list of building calls from the empty store.
 use Rattle.std.specs.Prelude.{ℕ, Bool, true, false, List, ◌≡◌}
 use Rattle.rules.specs.Store.{Store, empty_store, sound}
-use Rattle.rules.specs.Fragments.{Sort, exists, Premise}
+use Rattle.rules.specs.Fragments.{exists, Premise}
+use Rattle.rules.specs.declared.types.Sort.{Sort}
 use Rattle.rules.specs.Building.{Call, after}
-use Rattle.rules.specs.Shells.{Ignore}
+use Rattle.rules.specs.declared.types.Ignore.{Ignore}
 use Rattle.rules.specs.Mapping.{empty_mapping}
 use Rattle.rules.specs.Comparison.{Walk, on, ended, compare}
 use Rattle.rules.specs.Hash.{hash}

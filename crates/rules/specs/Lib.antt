@@ -1,6 +1,7 @@
 -- The rules: the order ("document 01", "01") as definitions that compute, in its order and with its sentences quoted, apart from any layout
 -- in memory. Read from top to bottom; docs/LISTING.md and docs/CAUSES.md say the same in words.
 pub mod Lists
+pub mod Causes
 pub mod Store
 pub mod Fragments
 pub mod Building
@@ -33,7 +34,14 @@ pub mod Grouping
 pub mod Marks
 pub mod Form
 pub mod Entered
-pub mod Statements
+pub mod EqualityLaws
+pub mod HashLaws
+pub mod KeyLaws
+pub mod TypeLaws
+pub mod RunLaws
+pub mod MarkLaws
+pub mod BuildingLaws
+pub mod ListingLaws
 pub mod Cases
 pub mod GroupingLaws
 pub mod ListingCases

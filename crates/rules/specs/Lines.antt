@@ -1,18 +1,16 @@
 -- 01, "Listings": what the fields of a line mean, letter by letter, in either edition (02, order 14: "Both editions are read"). A line that
 -- means nothing is cause 10: "unknown letter, bad number, field missing or extra".
-use Rattle.std.specs.Prelude.{ℕ, zero, suc, ◌^◌, Bool, true, false, cond, List, [], ◌∷◌, ◌++◌, eqb}
+use Rattle.std.specs.Prelude.{ℕ, zero, suc, ◌^◌, Bool, true, false, cond, List, [], ◌∷◌, ◌++◌, eqb, Option, None, Some, option_map}
 use Prim.Native.String.{String}
-use Rattle.std.proofs.Math.Option.{Option, none, some, map}
-use Rattle.rules.specs.Store.{Owner, of_op, of_block}
-use Rattle.rules.specs.Fragments.{Sort, op, block, region}
+use Rattle.rules.specs.declared.types.Edition.{Edition}
+use Rattle.rules.specs.declared.types.Edition.TheVariants.{First as edition_1, Second as edition_2}
+use Rattle.rules.specs.declared.types.Owner.{Owner}
+use Rattle.rules.specs.declared.types.Owner.TheVariants.{Op as of_op, Block as of_block}
+use Rattle.rules.specs.declared.types.Sort.{Sort}
+use Rattle.rules.specs.declared.types.Sort.TheVariants.{Op as op, Block as block, Region as region}
 use Rattle.rules.specs.Building.{Call, new_operation, new_block, set_attribute, set_operand}
-use Rattle.rules.specs.Shells.{Ignore}
+use Rattle.rules.specs.declared.types.Ignore.{Ignore}
 use Rattle.rules.specs.Bytes.{comma, is_text, cut_at, number_below}
-
--- the edition of a listing, which its first line says
-pub data Edition : Type 0 where
-  edition_1 : Edition
-  edition_2 : Edition
 
 -- one of the four building calls, or a query: the sort of fragment, left, right, and the ignore rule
 pub data Line : Type 0 where
@@ -29,25 +27,25 @@ abbrev pub Reader : Type 0 → Type 0
 Reader A = List (List ℕ) → Option (A × List (List ℕ))
 
 abbrev pub and_then : {A B : Type 0} → Option (A × List (List ℕ)) → (A → Reader B) → Option (B × List (List ℕ))
-and_then none f = none
-and_then (some got) f = f got.0 got.1
+and_then None f = None
+and_then (Some got) f = f got.0 got.1
 
 infixl 20 ◌>>=◌
 abbrev pub ◌>>=◌ : {A B : Type 0} → Reader A → (A → Reader B) → Reader B
 ◌>>=◌ r f fs = and_then (r fs) f
 
 abbrev pub giving : {A : Type 0} → A → Reader A
-giving a fs = some (a, fs)
+giving a fs = Some (a, fs)
 
 -- one field, by what its bytes mean
 unfoldable pub field : {A : Type 0} → (List ℕ → Option A) → Reader A
-field meaning [] = none
-field meaning (f ∷ fs) = map (λ a. (a, fs)) (meaning f)
+field meaning [] = None
+field meaning (f ∷ fs) = option_map (λ a. (a, fs)) (meaning f)
 
 -- one of these words
 unfoldable pub one_of : {A : Type 0} → List (String × A) → List ℕ → Option A
-one_of [] f = none
-one_of (w ∷ ws) f = cond (is_text w.0 f) (some w.1) (one_of ws f)
+one_of [] f = None
+one_of (w ∷ ws) f = cond (is_text w.0 f) (Some w.1) (one_of ws f)
 
 -- "numbers without sign or leading zero, within 32 bits (the ignore bits within 64)"
 unfoldable pub number : Reader ℕ
@@ -69,7 +67,7 @@ items = number >>= numbers
 
 -- "parent or `-`"
 unfoldable pub parent_meaning : List ℕ → Option (Option ℕ)
-parent_meaning f = cond (is_text "-" f) (some none) (map some (number_below (2 ^ 32) f))
+parent_meaning f = cond (is_text "-" f) (Some None) (option_map Some (number_below (2 ^ 32) f))
 
 unfoldable pub parent_block : Reader (Option ℕ)
 parent_block = field parent_meaning
@@ -84,7 +82,7 @@ sort = field (one_of (("o", op) ∷ ("b", block) ∷ ("r", region) ∷ []))
 
 -- "1 to ignore locations or 0 not to (any other number is bad)"
 unfoldable pub yes_or_no : ℕ → Reader Bool
-yes_or_no n fs = cond (eqb n 0) (some (false, fs)) (cond (eqb n 1) (some (true, fs)) none)
+yes_or_no n fs = cond (eqb n 0) (Some (false, fs)) (cond (eqb n 1) (Some (true, fs)) None)
 
 -- ---- the lines, behind their letters
 
@@ -171,12 +169,12 @@ letter e =
 
 -- nothing is left
 unfoldable pub all_read : {A : Type 0} → A → List (List ℕ) → Option A
-all_read a [] = some a
-all_read a (f ∷ fs) = none
+all_read a [] = Some a
+all_read a (f ∷ fs) = None
 
 unfoldable pub wholly : {A : Type 0} → Option (A × List (List ℕ)) → Option A
-wholly none = none
-wholly (some got) = all_read got.0 got.1
+wholly None = None
+wholly (Some got) = all_read got.0 got.1
 
 -- the meaning of a line's bytes
 unfoldable pub parse : Edition → List ℕ → Option Line

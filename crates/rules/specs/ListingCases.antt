@@ -1,13 +1,14 @@
 -- Listings and what the programs print for them: 01's example first, then each way in which a line is refused.
 use Rattle.std.specs.Prelude.{ℕ, true, List, [], ◌∷◌, ◌++◌, ◌≡◌, eqb, replicate}
 use Prim.Native.String.{String}
-use Rattle.rules.specs.Lists.{every, concat_map}
+use Rattle.rules.specs.Lists.{every}
+use Rattle.std.specs.List.{flat_map}
 use Rattle.rules.specs.Bytes.{text, line_feed}
 use Rattle.rules.specs.Listings.{per_cent, twins, sums}
 
 -- these lines, each ended by its line feed
 unfoldable pub lines : List String → List ℕ
-lines ls = concat_map (λ (l : String). text l ++ (line_feed ∷ [])) ls
+lines ls = flat_map (λ (l : String). text l ++ (line_feed ∷ [])) ls
 
 pub data ListingCase : Type 0 where
   -- for this listing `twins` prints these lines

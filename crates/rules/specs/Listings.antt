@@ -1,17 +1,24 @@
 -- 01, "Listings": the two programs, from the bytes of a listing to the bytes that are printed. "A program tests 11 (listing's length,
 -- line 1), then per line 11, 9, 10, then the call."
-use Rattle.std.specs.Prelude.{ℕ, suc, ◌+◌, ◌*◌, ◌/◌, ◌%◌, Bool, true, false, cond, ◌&&◌, ◌||◌, List, [], ◌∷◌, ◌++◌, eqb, leb, ltb, length}
-use Rattle.std.proofs.Math.Option.{Option, none, some}
-use Rattle.rules.specs.Lists.{is_some, any, count_below}
+use Rattle.rules.specs.declared.types.Cause.{Cause}
+use Rattle.rules.specs.declared.types.Cause.TheVariants.{BadHeader, BadLength, BadLine}
+use Rattle.std.specs.Prelude.{ℕ, suc, ◌+◌, ◌*◌, ◌/◌, ◌%◌, Bool, true, false, cond, ◌&&◌, ◌||◌, List, [], ◌∷◌, ◌++◌, eqb, leb, ltb, length, Option, None, Some, is_some}
+use Rattle.rules.specs.Causes.{number_of}
+use Rattle.std.specs.List.{list_any}
+use Rattle.rules.specs.Lists.{count_below}
 use Rattle.rules.specs.Store.{Store, empty_store, max_ops}
-use Rattle.rules.specs.Fragments.{Sort, op, block, region, fragment_ops}
+use Rattle.rules.specs.Fragments.{fragment_ops}
+use Rattle.rules.specs.declared.types.Sort.{Sort}
+use Rattle.rules.specs.declared.types.Sort.TheVariants.{Op as op, Block as block, Region as region}
 use Rattle.rules.specs.Building.{Built, made, accepted, refused, answer, built, first_failed}
-use Rattle.rules.specs.Shells.{Ignore}
+use Rattle.rules.specs.declared.types.Ignore.{Ignore}
 use Rattle.rules.specs.Mapping.{empty_mapping}
 use Rattle.rules.specs.Comparison.{Pair}
 use Rattle.rules.specs.Answers.{Compared, eq, neq, refused as refused_compared, comparison, Hashed, hash_is, refused_hash, hashed}
 use Rattle.rules.specs.Bytes.{text, comma, line_feed, cut_at, decimal, hexadecimal}
-use Rattle.rules.specs.Lines.{Edition, edition_1, edition_2, Line, building, query, one_of, parse}
+use Rattle.rules.specs.Lines.{Line, building, query, one_of, parse}
+use Rattle.rules.specs.declared.types.Edition.{Edition}
+use Rattle.rules.specs.declared.types.Edition.TheVariants.{First as edition_1, Second as edition_2}
 
 -- ---- what is printed
 
@@ -22,8 +29,8 @@ printed (f ∷ []) = f ++ (line_feed ∷ [])
 printed (f ∷ g ∷ fs) = f ++ comma ∷ printed (g ∷ fs)
 
 -- "A refused line prints `refused,LINE,NUMBER`"
-unfoldable pub refusal : ℕ → ℕ → List ℕ
-refusal line cause = printed (text "refused" ∷ decimal line ∷ decimal cause ∷ [])
+unfoldable pub refusal : ℕ → Cause → List ℕ
+refusal line cause = printed (text "refused" ∷ decimal line ∷ decimal (number_of cause) ∷ [])
 
 -- "Output: eq, op, block or region, the named pair, paired."
 unfoldable pub equal_line : ℕ → List ℕ
@@ -57,8 +64,8 @@ no_tally = record { equal = λ (m : ℕ). false; all = λ (m : ℕ). false }
 unfoldable pub tallied : Bool → List ℕ → Tally → Tally
 tallied found ops t =
     record {
-      equal = λ (m : ℕ). t.equal m || (found && any (eqb m) ops);
-      all = λ (m : ℕ). t.all m || any (eqb m) ops;
+      equal = λ (m : ℕ). t.equal m || (found && list_any (eqb m) ops);
+      all = λ (m : ℕ). t.all m || list_any (eqb m) ops;
     }
 
 -- whether a quotient is rounded up, 1 or 0: by twice the rest, beside the divisor
@@ -93,7 +100,7 @@ pub data LineOutcome : Type 0 where
   -- what a line prints, and what it leaves
   prints : List ℕ → Progress → LineOutcome
   -- the cause for which it is refused
-  stops : ℕ → LineOutcome
+  stops : Cause → LineOutcome
 
 pub record Program : Type 0 where
   -- what a `q` does
@@ -108,16 +115,16 @@ building_does accepted s now = prints [] (record { store = s; tally = now.tally 
 building_does (refused cause) s now = stops cause
 
 unfoldable pub line_does : Program → Progress → Option Line → LineOutcome
-line_does p now none = stops 10
-line_does p now (some (building c)) = building_does (answer now.store c) (built now.store c) now
-line_does p now (some (query f l r ig)) = p.ask now f l r ig
+line_does p now None = stops BadLine
+line_does p now (Some (building c)) = building_does (answer now.store c) (built now.store c) now
+line_does p now (Some (query f l r ig)) = p.ask now f l r ig
 
 -- "lines of at most 512 bytes before the one line feed that ends each"
 abbrev pub max_line : ℕ
 max_line = 512
 
 unfoldable pub does : Program → Edition → Progress → List ℕ → LineOutcome
-does p e now line = cond (leb (length line) max_line) (line_does p now (parse e line)) (stops 11)
+does p e now line = cond (leb (length line) max_line) (line_does p now (parse e line)) (stops BadLength)
 
 -- a refused line "ends either program; what was printed before stands, and no share follows"
 unfoldable pub proceed : LineOutcome → ℕ → (Progress → List ℕ) → List ℕ
@@ -127,7 +134,7 @@ proceed (stops cause) n more = refusal n cause
 -- the bytes behind the last line feed: "no last line feed" is refused
 unfoldable pub at_end : Program → ℕ → Progress → List ℕ → List ℕ
 at_end p n now [] = p.close now
-at_end p n now (x ∷ rest) = refusal n 11
+at_end p n now (x ∷ rest) = refusal n BadLength
 
 -- the lines from number n on, and the bytes behind the last line feed
 unfoldable pub run : Program → Edition → ℕ → Progress → List (List ℕ) → List ℕ → List ℕ
@@ -138,13 +145,13 @@ run p e n now (line ∷ lines) rest = proceed (does p e now line) n (λ next. ru
 unfoldable pub edition_of : List ℕ → Option Edition
 edition_of line = one_of (("opstore,1", edition_1) ∷ ("opstore,2", edition_2) ∷ []) line
 
-unfoldable pub header_tests : List ℕ → List (Bool × ℕ)
-header_tests line = (leb (length line) max_line, 11) ∷ (is_some (edition_of line), 9) ∷ []
+unfoldable pub header_tests : List ℕ → List (Bool × Cause)
+header_tests line = (leb (length line) max_line, BadLength) ∷ (is_some (edition_of line), BadHeader) ∷ []
 
 -- why the first line is refused. "An empty listing gives 9, line 1."
-unfoldable pub header_cause : List (List ℕ) → List ℕ → Option ℕ
-header_cause [] [] = some 9
-header_cause [] (x ∷ rest) = some 11
+unfoldable pub header_cause : List (List ℕ) → List ℕ → Option Cause
+header_cause [] [] = Some BadHeader
+header_cause [] (x ∷ rest) = Some BadLength
 header_cause (line ∷ lines) rest = first_failed (header_tests line)
 
 -- "At most 65,536 bytes"
@@ -152,9 +159,9 @@ abbrev pub max_listing : ℕ
 max_listing = 65536
 
 -- why no line behind the first is read
-unfoldable pub listing_cause : List ℕ → Option ℕ
+unfoldable pub listing_cause : List ℕ → Option Cause
 listing_cause bytes =
-    cond (leb (length bytes) max_listing) (header_cause (cut_at line_feed bytes).whole (cut_at line_feed bytes).rest) (some 11)
+    cond (leb (length bytes) max_listing) (header_cause (cut_at line_feed bytes).whole (cut_at line_feed bytes).rest) (Some BadLength)
 
 -- the lines behind the first
 unfoldable pub behind_first : List (List ℕ) → List (List ℕ)
@@ -163,8 +170,8 @@ behind_first (line ∷ lines) = lines
 
 -- the edition that the first line says; where it says none, `listing_cause` is 9 and this may be either
 unfoldable pub or_first : Option Edition → Edition
-or_first none = edition_1
-or_first (some e) = e
+or_first None = edition_1
+or_first (Some e) = e
 
 unfoldable pub edition_in : List (List ℕ) → Edition
 edition_in [] = edition_1
@@ -173,9 +180,9 @@ edition_in (line ∷ lines) = or_first (edition_of line)
 unfoldable pub edition : List ℕ → Edition
 edition bytes = edition_in (cut_at line_feed bytes).whole
 
-unfoldable pub unless : Option ℕ → List ℕ → List ℕ
-unless none out = out
-unless (some cause) out = refusal 1 cause
+unfoldable pub unless : Option Cause → List ℕ → List ℕ
+unless None out = out
+unless (Some cause) out = refusal 1 cause
 
 -- the first line has number 1
 unfoldable pub listed : Program → List ℕ → List ℕ

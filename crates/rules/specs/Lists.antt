@@ -1,6 +1,5 @@
 -- Tests and list functions that the rules are written with. Nothing here is particular to document 01.
-use Rattle.std.specs.Prelude.{ℕ, zero, suc, ◌+◌, Bool, true, false, cond, not, ◌&&◌, ◌||◌, List, [], ◌∷◌, ◌++◌, eqb}
-use Rattle.std.proofs.Math.Option.{Option, none, some}
+use Rattle.std.specs.Prelude.{ℕ, zero, suc, ◌+◌, Bool, true, false, cond, not, ◌&&◌, ◌||◌, List, [], ◌∷◌, ◌++◌, eqb, Option, None, Some}
 
 -- all of these tests pass
 unfoldable pub every : List Bool → Bool
@@ -25,24 +24,7 @@ unfoldable pub sum : List ℕ → ℕ
 sum [] = 0
 sum (n ∷ ns) = n + sum ns
 
-unfoldable pub is_some {ℓ} : {A : Type ℓ} → Option A → Bool
-is_some none = false
-is_some (some a) = true
-
 module _ {ℓ} {A : Type ℓ} where
-  unfoldable pub all : (A → Bool) → List A → Bool
-  all p [] = true
-  all p (x ∷ xs) = p x && all p xs
-
-  unfoldable pub any : (A → Bool) → List A → Bool
-  any p [] = false
-  any p (x ∷ xs) = p x || any p xs
-
-  -- the entries that pass the test, in their order
-  unfoldable pub filter : (A → Bool) → List A → List A
-  filter p [] = []
-  filter p (x ∷ xs) = cond (p x) (x ∷ filter p xs) (filter p xs)
-
   -- the places of the entries that pass the test, by rising number, the first place being n
   unfoldable pub numbers_from : ℕ → (A → Bool) → List A → List ℕ
   numbers_from n p [] = []
@@ -71,16 +53,11 @@ module _ {ℓ} {A : Type ℓ} where
   same_list p (x ∷ xs) [] = false
   same_list p (x ∷ xs) (y ∷ ys) = p x y && same_list p xs ys
 
-module _ {ℓ κ} {A : Type ℓ} {B : Type κ} where
-  unfoldable pub concat_map : (A → List B) → List A → List B
-  concat_map f [] = []
-  concat_map f (x ∷ xs) = f x ++ concat_map f xs
-
 unfoldable pub later : Option ℕ → Option ℕ
-later none = none
-later (some i) = some (suc i)
+later None = None
+later (Some i) = Some (suc i)
 
 -- the first place at which n stands
 unfoldable pub position : ℕ → List ℕ → Option ℕ
-position n [] = none
-position n (x ∷ xs) = cond (eqb n x) (some 0) (later (position n xs))
+position n [] = None
+position n (x ∷ xs) = cond (eqb n x) (Some 0) (later (position n xs))

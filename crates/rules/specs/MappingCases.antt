@@ -1,9 +1,8 @@
 -- Mappings that comparisons leave in small stores: entries obey the laws of `MappingLaws` where images don't; and where the premise fails,
 -- a mapping reads backwards only if the comparison the other way is equal too.
-use Rattle.std.specs.Prelude.{ℕ, false, List, [], ◌∷◌, ◌++◌, ◌≡◌, take}
-use Rattle.std.proofs.Math.Option.{none, some}
+use Rattle.std.specs.Prelude.{ℕ, false, List, [], ◌∷◌, ◌++◌, ◌≡◌, take, None, Some}
 use Rattle.rules.specs.Store.{Store, empty_store}
-use Rattle.rules.specs.Fragments.{op}
+use Rattle.rules.specs.declared.types.Sort.TheVariants.{Op as op}
 use Rattle.rules.specs.Building.{Call, new_operation, after}
 use Rattle.rules.specs.Mapping.{Mapping, no_image, image}
 use Rattle.rules.specs.Laws.{Equal, equal}
@@ -20,7 +19,7 @@ pair = after empty_store (operation 0 [] [] ∷ operation 0 [] [] ∷ [])
 
 -- an operation in no block with a result, one region, and value 0 as operand
 unfoldable pub holder : Call
-holder = new_operation (record { kind = 2; parent = none; location = 0; regions = 1; types = 3 ∷ []; operands = 0 ∷ []; successors = [] })
+holder = new_operation (record { kind = 2; parent = None; location = 0; regions = 1; types = 3 ∷ []; operands = 0 ∷ []; successors = [] })
 
 -- operations 1 and 2, of which both name the second one's result, each with a block in it; and what is made then
 abbrev pub tangled_with : List Call → Store
@@ -31,7 +30,7 @@ tangled_with inner =
 -- an operation in the second one's block
 unfoldable pub in_second : List Call
 in_second =
-    new_operation (record { kind = 3; parent = some 1; location = 0; regions = 0; types = []; operands = []; successors = [] }) ∷ []
+    new_operation (record { kind = 3; parent = Some 1; location = 0; regions = 0; types = []; operands = []; successors = [] }) ∷ []
 
 -- `mapping_cases_hold`
 pub record MappingCases : Type 0 where

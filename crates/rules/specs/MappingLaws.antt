@@ -3,14 +3,26 @@
 use Rattle.std.specs.Prelude.{ℕ, true, ◌↔◌, ◌≢◌, ◌≡◌, length, get_or}
 use mathlib.Core.List.{List, Memᴰ}
 use Rattle.rules.specs.Store.{Store, empty_store, sound}
-use Rattle.rules.specs.Fragments.{Sort, defines_values, defines_blocks, fragment_ops, Premise}
+use Rattle.rules.specs.Fragments.{defines_values, defines_blocks, fragment_ops, Premise}
+use Rattle.rules.specs.declared.types.Sort.{Sort}
 use Rattle.rules.specs.Building.{Call, after}
-use Rattle.rules.specs.Shells.{Ignore}
+use Rattle.rules.specs.declared.types.Ignore.{Ignore}
 use Rattle.rules.specs.Mapping.{Mapping, no_image, empty_mapping, enter_all}
 use Rattle.rules.specs.Comparison.{standing, compare}
 use Rattle.rules.specs.Marks.{MarkedCall, unmarked, after_marked}
 use Rattle.rules.specs.Types.{renamed}
 use Rattle.rules.specs.Laws.{Equal, In}
+use Rattle.std.specs.Prelude.{ℕ, true, ◌↔◌, ◌≡◌, length, get_or}
+use mathlib.Core.List.{List, Memᴰ}
+use Rattle.rules.specs.Store.{Store, empty_store, sound}
+use Rattle.rules.specs.Fragments.{Premise, fragment_ops}
+use Rattle.rules.specs.Building.{Call, after}
+use Rattle.rules.specs.Mapping.{Mapping, empty_mapping, allowed}
+use Rattle.rules.specs.Types.{renamed}
+use Rattle.rules.specs.Comparison.{standing, compare}
+use Rattle.rules.specs.Laws.{In, Equal}
+use Rattle.rules.specs.Marks.{unmarked, MarkedCall, after_marked}
+use Rattle.rules.specs.Entered.{EnteredBy}
 
 -- the mapping that is filed
 unfoldable pub filed : Store → Ignore → Sort → ℕ → ℕ → Mapping
@@ -88,3 +100,15 @@ unfoldable pub MappingLawsMarked : Type 0
 MappingLawsMarked =
     (calls : List MarkedCall) (types : List ℕ) (ig : Ignore) (f : Sort)
     → MappingLaws (renamed types (after_marked (unmarked empty_store) calls).store) ig f
+
+-- it leaves the mapping allowed, so that it may be lent again: `allowed_kept`
+unfoldable pub AllowedKept : Type 0
+AllowedKept =
+    (s : Store) → sound s ≡ true → (ig : Ignore) (f : Sort) (m : Mapping) → allowed s m ≡ true → (l r : ℕ) → In s f l → In s f r
+    → allowed s (standing (compare s ig f l r m)).mapping ≡ true
+
+-- begun with an empty mapping, it enters no more operations and blocks than it counts, and values only with their owner: `entered_by`
+unfoldable pub EntersPaired : Type 0
+EntersPaired =
+    (s : Store) → sound s ≡ true → (ig : Ignore) (f : Sort) (l r : ℕ) → In s f l → In s f r
+    → EnteredBy s (standing (compare s ig f l r empty_mapping)).mapping (standing (compare s ig f l r empty_mapping)).paired

@@ -1,8 +1,10 @@
 -- 02, order 7: marks to go back to. A marked store is the present store and its set marks. Comparison, hash, key and runs speak of the
 -- present store alone; here the building calls are wrapped, and three calls added: two on marks, and order 11's copy.
-use Rattle.std.specs.Prelude.{ℕ, ◌+◌, ◌-◌, Bool, true, false, cond, not, ◌&&◌, ◌||◌, List, [], ◌∷◌, ◌++◌, map, eqb, leb, ltb, length}
-use Rattle.std.proofs.Math.Option.{Option, none, some}
-use Rattle.rules.specs.Lists.{every, all, any, filter}
+use Rattle.rules.specs.declared.types.Cause.{Cause}
+use Rattle.rules.specs.declared.types.Cause.TheVariants.{BadMapping, NoMark, JournalFull}
+use Rattle.std.specs.Prelude.{ℕ, ◌+◌, ◌-◌, Bool, true, false, cond, not, ◌&&◌, ◌||◌, List, [], ◌∷◌, ◌++◌, map, eqb, leb, ltb, length, Option, None, Some}
+use Rattle.rules.specs.Lists.{every}
+use Rattle.std.specs.List.{list_all, list_any, filter}
 use Rattle.rules.specs.Store.{Store, sound}
 use Rattle.rules.specs.Building.{Call, new_operation, new_block, set_attribute, set_operand, attributes_of, has_key, tests, first_failed, applied, Built, made, accepted, refused, acceptance}
 use Rattle.rules.specs.Keys.{call_fits}
@@ -43,7 +45,7 @@ unfoldable pub has_number : ℕ → Mark → Bool
 has_number k m = eqb m.number k
 
 unfoldable pub is_set : ℕ → List Mark → Bool
-is_set k marks = any (has_number k) marks
+is_set k marks = list_any (has_number k) marks
 
 -- "Each accepted call that sets an operand, even to the value it has, and each attribute set on a key already there, counts as one"
 unfoldable pub replaces : Store → Call → Bool
@@ -66,11 +68,11 @@ can_remember t c = not (replaces t.store c) || ltb (remembered t.marks) max_reme
 
 -- "16, after 1, for a mark outside 1 to 8, or not set when going back; 17, after 3, for a replacement that can't be remembered": a copy
 -- replaces nothing
-unfoldable pub marked_tests : MarkedStore → MarkedCall → List (Bool × ℕ)
-marked_tests t (build c) = tests t.store c ++ ((can_remember t c, 17) ∷ [])
-marked_tests t (set_mark k) = (is_mark k, 16) ∷ []
-marked_tests t (go_back k) = (is_mark k && is_set k t.marks, 16) ∷ []
-marked_tests t (copy ok n place) = (ok, 8) ∷ copy_tests t.store n place
+unfoldable pub marked_tests : MarkedStore → MarkedCall → List (Bool × Cause)
+marked_tests t (build c) = tests t.store c ++ ((can_remember t c, JournalFull) ∷ [])
+marked_tests t (set_mark k) = (is_mark k, NoMark) ∷ []
+marked_tests t (go_back k) = (is_mark k && is_set k t.marks, NoMark) ∷ []
+marked_tests t (copy ok n place) = (ok, BadMapping) ∷ copy_tests t.store n place
 
 -- ---- the work of an accepted call
 
@@ -122,13 +124,13 @@ marked_acceptance t (set_mark k) = accepted
 marked_acceptance t (go_back k) = accepted
 marked_acceptance t (copy ok n place) = made (length t.store.ops)
 
-unfoldable pub marked_answer_by : Option ℕ → MarkedStore → MarkedCall → Built
-marked_answer_by none t c = marked_acceptance t c
-marked_answer_by (some cause) t c = refused cause
+unfoldable pub marked_answer_by : Option Cause → MarkedStore → MarkedCall → Built
+marked_answer_by None t c = marked_acceptance t c
+marked_answer_by (Some cause) t c = refused cause
 
-unfoldable pub marked_by : Option ℕ → MarkedStore → MarkedCall → MarkedStore
-marked_by none t c = marked_applied t c
-marked_by (some cause) t c = t
+unfoldable pub marked_by : Option Cause → MarkedStore → MarkedCall → MarkedStore
+marked_by None t c = marked_applied t c
+marked_by (Some cause) t c = t
 
 -- the answer of a call, and the marked store after it; a refused call changes nothing
 unfoldable pub marked_answer : MarkedStore → MarkedCall → Built
@@ -151,7 +153,7 @@ marks_hold most (m ∷ ms) =
     every (is_mark m.number ∷ not (is_set m.number ms) ∷ leb m.since most ∷ marks_hold m.since ms ∷ [])
 
 unfoldable pub snapshots_sound : List Mark → Bool
-snapshots_sound marks = all (λ (m : Mark). sound m.snapshot) marks
+snapshots_sound marks = list_all (λ (m : Mark). sound m.snapshot) marks
 
 -- "A store is sound only if going back to any set mark, then to any still set, and so on, would each time give tables that are sound by
 -- document 01's rules"

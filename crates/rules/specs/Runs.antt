@@ -1,11 +1,14 @@
 -- Order 4, "Repeated runs inside a block": when two runs of a block's operations are equal, which two are found, the window by which
 -- candidates are found, and what the call answers.
-use Rattle.std.specs.Prelude.{ℕ, zero, suc, ◌+◌, ◌-◌, ◌*◌, ◌%◌, ◌^◌, Bool, cond, ◌&&◌, List, [], ◌∷◌, map, leb, length, take, drop}
-use Rattle.std.proofs.Math.Option.{Option, none, some}
-use Rattle.rules.specs.Store.{Store, of_op, ops_of}
-use Rattle.rules.specs.Fragments.{block, exists, levels, shell}
+use Rattle.rules.specs.declared.types.Cause.{Cause}
+use Rattle.rules.specs.declared.types.Cause.TheVariants.{NotSound, NotThere, BadTypes, BadRunLength}
+use Rattle.std.specs.Prelude.{ℕ, zero, suc, ◌+◌, ◌-◌, ◌*◌, ◌%◌, ◌^◌, Bool, cond, ◌&&◌, List, [], ◌∷◌, map, leb, length, take, drop, Option, None, Some}
+use Rattle.rules.specs.Store.{Store, ops_of}
+use Rattle.rules.specs.declared.types.Owner.TheVariants.{Op as of_op}
+use Rattle.rules.specs.Fragments.{exists, levels, shell}
+use Rattle.rules.specs.declared.types.Sort.TheVariants.{Block as block}
 use Rattle.rules.specs.Building.{first_failed}
-use Rattle.rules.specs.Shells.{Ignore}
+use Rattle.rules.specs.declared.types.Ignore.{Ignore}
 use Rattle.rules.specs.Mapping.{empty_mapping}
 use Rattle.rules.specs.Types.{types_hold, renamed}
 use Rattle.rules.specs.Comparison.{Walk, pairwise, each_pair, pair_of, pair_ops, check_ops, compare_regions, ◌>>=◌, start}
@@ -36,8 +39,8 @@ pub record Run : Type 0 where
 
 -- of k numbers, from i on, the first that passes the test
 unfoldable pub first_of : ℕ → ℕ → (ℕ → Bool) → Option ℕ
-first_of zero i p = none
-first_of (suc k) i p = cond (p i) (some i) (first_of k (suc i) p)
+first_of zero i p = None
+first_of (suc k) i p = cond (p i) (Some i) (first_of k (suc i) p)
 
 -- the smallest left start that is equal to this right one, and whose run ends before it: i + n ≤ j
 unfoldable pub left_start : Store → Ignore → ℕ → ℕ → ℕ → Option ℕ
@@ -45,12 +48,12 @@ left_start s ig b n j = first_of (suc j - n) 0 (λ (i : ℕ). same_runs s ig b n
 
 -- with this right start if it has a left one, else what comes later
 unfoldable pub or_later : Option ℕ → ℕ → Option Run → Option Run
-or_later none j later = later
-or_later (some i) j later = some (record { left = i; right = j })
+or_later None j later = later
+or_later (Some i) j later = Some (record { left = i; right = j })
 
 -- of k right starts, from j on, the first that has a left one
 unfoldable pub first_run : ℕ → ℕ → (ℕ → Option ℕ) → Option Run
-first_run zero j lefts = none
+first_run zero j lefts = None
 first_run (suc k) j lefts = or_later (lefts j) j (first_run k (suc j) lefts)
 
 -- right starts are those whose run ends in the block: j + n ≤ its number of operations
@@ -89,23 +92,23 @@ max_run = 256
 pub data Repeated : Type 0 where
   run_found : Run → Repeated
   no_run : Repeated
-  refused_run : ℕ → Repeated
+  refused_run : Cause → Repeated
 
-unfoldable pub run_tests : Bool → Store → List ℕ → ℕ → ℕ → List (Bool × ℕ)
+unfoldable pub run_tests : Bool → Store → List ℕ → ℕ → ℕ → List (Bool × Cause)
 run_tests lent s types b n =
-    (lent, 1)
-    ∷ (types_hold types, 14)
-    ∷ (exists s block b, 2)
-    ∷ (leb 1 n && leb n max_run, 15)
+    (lent, NotSound)
+    ∷ (types_hold types, BadTypes)
+    ∷ (exists s block b, NotThere)
+    ∷ (leb 1 n && leb n max_run, BadRunLength)
     ∷ []
 
 unfoldable pub repeated_of : Option Run → Repeated
-repeated_of none = no_run
-repeated_of (some r) = run_found r
+repeated_of None = no_run
+repeated_of (Some r) = run_found r
 
-unfoldable pub repeated_by : Option ℕ → Option Run → Repeated
-repeated_by none found = repeated_of found
-repeated_by (some cause) found = refused_run cause
+unfoldable pub repeated_by : Option Cause → Option Run → Repeated
+repeated_by None found = repeated_of found
+repeated_by (Some cause) found = refused_run cause
 
 -- `repeated_run` with a lent list of types
 unfoldable pub repeated_run : Bool → Store → List ℕ → Ignore → ℕ → ℕ → Repeated

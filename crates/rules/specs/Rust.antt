@@ -4,12 +4,16 @@
 -- `IgnoreConfig` is the ignore rule; `FxHasher` is FNV-1a. What a function is lent by `&mut` it takes, and gives back as it leaves it.
 -- The Rust's recursion ends because the regions do; here the number of regions, one in another, that may still be entered falls.
 -- Its agreement with 01 is stated in `Agreement`.
-use Rattle.std.specs.Prelude.{ℕ, zero, suc, Bool, true, false, cond, not, ◌&&◌, ◌||◌, List, [], ◌∷◌, ◌++◌, map, eqb, leb, length, get_or, set}
-use Rattle.std.proofs.Math.Option.{Option, none, some}
-use Rattle.rules.specs.Lists.{every, same_bool, all, any, filter}
-use Rattle.rules.specs.Store.{Store, Attribute, op_at, block_at, type_of, ops_of, blocks_of, regions_of, results_of, arguments_of}
-use Rattle.rules.specs.Fragments.{Sort, op, block, region, levels}
-use Rattle.rules.specs.Shells.{Ignore, ignored}
+use Rattle.std.specs.Prelude.{ℕ, zero, suc, Bool, true, false, cond, not, ◌&&◌, ◌||◌, List, [], ◌∷◌, ◌++◌, eqb, leb, length, get_or, set, Option, None, Some}
+use Rattle.rules.specs.Lists.{every, same_bool}
+use Rattle.std.specs.List.{list_all, list_any, filter}
+use Rattle.rules.specs.Store.{Store, op_at, block_at, type_of, ops_of, blocks_of, regions_of, results_of, arguments_of}
+use Rattle.rules.specs.declared.types.Attribute.{Attribute}
+use Rattle.rules.specs.Fragments.{levels}
+use Rattle.rules.specs.declared.types.Sort.{Sort}
+use Rattle.rules.specs.declared.types.Sort.TheVariants.{Op as op, Block as block, Region as region}
+use Rattle.rules.specs.Shells.{ignored}
+use Rattle.rules.specs.declared.types.Ignore.{Ignore}
 use Rattle.rules.specs.Mapping.{Mapping, image}
 use Rattle.rules.specs.Hash.{fnv_start, fnv_from, leaf, count, tag, flag}
 
@@ -17,8 +21,8 @@ use Rattle.rules.specs.Hash.{fnv_start, fnv_from, leaf, count, tag, flag}
 
 -- what `next` gives
 unfoldable pub next : List ℕ → Option ℕ
-next [] = none
-next (x ∷ xs) = some x
+next [] = None
+next (x ∷ xs) = Some x
 
 -- `l.by_ref().zip(r.by_ref())`, run to its end: the pairs that it gives, and what it leaves on each side
 pub record Zipped : Type 0 where
@@ -34,10 +38,10 @@ zip (l ∷ ls) (r ∷ rs) = record { pairs = (l, r) ∷ (zip ls rs).pairs; left 
 
 -- `a != b` of two that `next` gave
 unfoldable pub differ : Option ℕ → Option ℕ → Bool
-differ none none = false
-differ none (some b) = true
-differ (some a) none = true
-differ (some a) (some b) = not (eqb a b)
+differ None None = false
+differ None (Some b) = true
+differ (Some a) None = true
+differ (Some a) (Some b) = not (eqb a b)
 
 -- so many numbers from a on
 unfoldable pub count_from : ℕ → ℕ → List ℕ
@@ -90,20 +94,20 @@ is_relevant ig a = not (ignored ig a)
 
 -- `rhs_relevant.get(lhs_id)`
 unfoldable pub get : ℕ → List Attribute → Option Attribute
-get key [] = none
-get key (a ∷ as') = cond (eqb key a.key) (some a) (get key as')
+get key [] = None
+get key (a ∷ as') = cond (eqb key a.key) (Some a) (get key as')
 
 -- `.is_some_and(|rhs_attr| lhs_attr == rhs_attr)`: an attribute "is its kind and content", and its flag
 unfoldable pub is_some_and_equal : Attribute → Option Attribute → Bool
-is_some_and_equal a none = false
-is_some_and_equal a (some b) = every (eqb a.kind b.kind ∷ eqb a.content b.content ∷ same_bool a.inherent b.inherent ∷ [])
+is_some_and_equal a None = false
+is_some_and_equal a (Some b) = every (eqb a.kind b.kind ∷ eqb a.content b.content ∷ same_bool a.inherent b.inherent ∷ [])
 
 unfoldable pub attributes_eq : Ignore → List Attribute → List Attribute → Bool
 attributes_eq ig lhs rhs =
     let lhs_relevant = filter (is_relevant ig) lhs in
     let rhs_relevant = filter (is_relevant ig) rhs in
     cond (not (eqb (length lhs_relevant) (length rhs_relevant))) false
-    (all (λ (a : Attribute). is_some_and_equal a (get a.key rhs_relevant)) lhs_relevant)
+    (list_all (λ (a : Attribute). is_some_and_equal a (get a.key rhs_relevant)) lhs_relevant)
 
 -- ---- op_eq_map
 
@@ -114,7 +118,7 @@ map_values (p ∷ ps) values = map_values ps (set values p.0 p.1)
 
 -- `.any(|(l, r)| l.get_type(ctx) != r.get_type(ctx))`
 unfoldable pub types_differ : Store → List (ℕ × ℕ) → Bool
-types_differ s ps = any (λ (p : ℕ × ℕ). not (eqb (type_of s p.0) (type_of s p.1))) ps
+types_differ s ps = list_any (λ (p : ℕ × ℕ). not (eqb (type_of s p.0) (type_of s p.1))) ps
 
 unfoldable pub op_eq_map : Store → Ignore → ℕ → ℕ → Mapping → Returned
 op_eq_map s ig lhs rhs mapper =
@@ -142,22 +146,22 @@ op_eq_map s ig lhs rhs mapper =
 -- `mapper.lookup_value_or_default(l_opd) != r_opd || l_opd.get_type(ctx) != r_opd.get_type(ctx)`, of any pair
 unfoldable pub operands_differ : Store → Mapping → List (ℕ × ℕ) → Bool
 operands_differ s mapper ps =
-    any (λ (p : ℕ × ℕ). not (eqb (image mapper.values p.0) p.1) || not (eqb (type_of s p.0) (type_of s p.1))) ps
+    list_any (λ (p : ℕ × ℕ). not (eqb (image mapper.values p.0) p.1) || not (eqb (type_of s p.0) (type_of s p.1))) ps
 
 -- `mapper.lookup_block_or_default(l_succ) != r_succ`, of any pair
 unfoldable pub successors_differ : Mapping → List (ℕ × ℕ) → Bool
-successors_differ mapper ps = any (λ (p : ℕ × ℕ). not (eqb (image mapper.blocks p.0) p.1)) ps
+successors_differ mapper ps = list_any (λ (p : ℕ × ℕ). not (eqb (image mapper.blocks p.0) p.1)) ps
 
 -- `get_region(region_idx)`; none past the end of an operation's regions, where it panics
 unfoldable pub get_region : List ℕ → ℕ → Option ℕ
-get_region [] i = none
-get_region (r ∷ rs) zero = some r
+get_region [] i = None
+get_region (r ∷ rs) zero = Some r
 get_region (r ∷ rs) (suc i) = get_region rs i
 
 unfoldable pub with_both : (ℕ → ℕ → Mapping → Returned) → Option ℕ → Option ℕ → Mapping → Returned
-with_both f none r mapper = answers no_answer mapper
-with_both f (some l) none mapper = answers no_answer mapper
-with_both f (some l) (some r) mapper = f l r mapper
+with_both f None r mapper = answers no_answer mapper
+with_both f (Some l) None mapper = answers no_answer mapper
+with_both f (Some l) (Some r) mapper = f l r mapper
 
 -- `for region_idx in indices { match region_eq(lhs.get_region(region_idx), rhs.get_region(region_idx)) { .. } }`, and then `Eq`
 unfoldable pub for_regions : (ℕ → ℕ → Mapping → Returned) → List ℕ → List ℕ → List ℕ → Mapping → Returned
@@ -269,8 +273,8 @@ insert k v [] = (k, v) ∷ []
 insert k v (e ∷ es) = cond (eqb k e.0) ((k, v) ∷ es) (e ∷ insert k v es)
 
 unfoldable pub lookup : ℕ → List (ℕ × ℕ) → Option ℕ
-lookup k [] = none
-lookup k (e ∷ es) = cond (eqb k e.0) (some e.1) (lookup k es)
+lookup k [] = None
+lookup k (e ∷ es) = cond (eqb k e.0) (Some e.1) (lookup k es)
 
 pub record HashNumbering : Type 0 where
   pub values : List (ℕ × ℕ)
@@ -295,8 +299,8 @@ feed bs h = record { numbering = h.numbering; state = fnv_from h.state bs }
 
 -- `Some(id) => (0u8, id).hash(state)`, `None => (1u8, v).hash(state)`
 unfoldable pub use_bytes : Option ℕ → ℕ → List ℕ
-use_bytes none n = tag 1 ++ leaf n
-use_bytes (some id) n = tag 0 ++ count id
+use_bytes None n = tag 1 ++ leaf n
+use_bytes (Some id) n = tag 0 ++ count id
 
 unfoldable pub hash_value : ℕ → HashState → HashState
 hash_value v h = feed (use_bytes (lookup v h.numbering.values) v) h

@@ -1,14 +1,13 @@
 -- 01, "Leaves": "Kinds, types, locations, keys and attributes are numbers and equal when the numbers are". The ignore rule, and the
 -- shell of an operation or a block: what two of them are compared by, apart from what they name, and what the hash feeds of them.
-use Rattle.std.specs.Prelude.{ℕ, ◌/◌, ◌%◌, ◌^◌, Bool, true, false, cond, not, ◌&&◌, List, [], ◌∷◌, map, eqb, length}
-use Rattle.std.proofs.Math.Option.{Option, none, some}
-use Rattle.rules.specs.Lists.{every, same_bool, filter, same_list}
-use Rattle.rules.specs.Store.{Store, Attribute, Owner, of_op, of_block, op_at, block_at, type_of, regions_of, values_of}
-
--- "An ignore rule is a yes or no for locations and 64 bits"
-pub record Ignore : Type 0 where
-  pub locations : Bool
-  pub bits : ℕ
+use Rattle.std.specs.Prelude.{ℕ, ◌/◌, ◌%◌, ◌^◌, Bool, true, false, cond, not, ◌&&◌, List, [], ◌∷◌, map, eqb, length, Option, None, Some}
+use Rattle.rules.specs.Lists.{every, same_bool, same_list}
+use Rattle.std.specs.List.{filter}
+use Rattle.rules.specs.Store.{Store, op_at, block_at, type_of, regions_of, values_of}
+use Rattle.rules.specs.declared.types.Attribute.{Attribute}
+use Rattle.rules.specs.declared.types.Ignore.{Ignore}
+use Rattle.rules.specs.declared.types.Owner.{Owner}
+use Rattle.rules.specs.declared.types.Owner.TheVariants.{Op as of_op, Block as of_block}
 
 -- "an attribute is ignored when the bit of its kind (bit 0 the lowest) is set, whatever its key"; "An inherent one is always counted, compared
 -- and hashed."
@@ -20,7 +19,7 @@ unfoldable pub unignored : Ignore → List Attribute → List Attribute
 unignored ig as' = filter (λ (a : Attribute). not (ignored ig a)) as'
 
 unfoldable pub unignored_location : Ignore → ℕ → Option ℕ
-unignored_location ig l = cond ig.locations none (some l)
+unignored_location ig l = cond ig.locations None (Some l)
 
 pub record Shell : Type 0 where
   pub location : Option ℕ
@@ -63,10 +62,10 @@ same_attribute a b =
     ∷ [])
 
 unfoldable pub same_location : Option ℕ → Option ℕ → Bool
-same_location none none = true
-same_location none (some b) = false
-same_location (some a) none = false
-same_location (some a) (some b) = eqb a b
+same_location None None = true
+same_location None (Some b) = false
+same_location (Some a) None = false
+same_location (Some a) (Some b) = eqb a b
 
 -- "kind, numbers of regions, successors, operands, results; locations unless ignored; attributes; result types", and
 -- "number of arguments, location, attributes, argument types"

@@ -2,21 +2,12 @@
 -- Child lists are not kept: the children of an owner are the numbers of those that name it, by rising number. So "each list holds
 -- exactly its owner's children by rising number" and "belong to one owner each" hold of every store that can be written here.
 -- "Other fields are 32-bit unsigned": here they are any numbers, and the words of the layout bound them.
-use Rattle.std.specs.Prelude.{ℕ, zero, suc, ◌+◌, Bool, true, false, ◌&&◌, List, [], ◌∷◌, map, eqb, leb, ltb, length, get_or}
-use Rattle.std.proofs.Math.Option.{Option, none, some}
-use Rattle.rules.specs.Lists.{every, all, all_below, sum, is_some, numbers_where}
-
--- "an attribute is its kind and content", and (order 9) "a yes or no, inherent"; it stands under a key
-pub record Attribute : Type 0 where
-  pub key : ℕ
-  pub kind : ℕ
-  pub content : ℕ
-  pub inherent : Bool
-
--- an operation or a block: what owns values and attributes
-pub data Owner : Type 0 where
-  of_op : ℕ → Owner
-  of_block : ℕ → Owner
+use Rattle.std.specs.Prelude.{ℕ, zero, suc, ◌+◌, Bool, true, false, ◌&&◌, List, [], ◌∷◌, map, eqb, leb, ltb, length, get_or, Option, None, Some, is_some}
+use Rattle.rules.specs.declared.types.Attribute.{Attribute}
+use Rattle.rules.specs.declared.types.Owner.{Owner}
+use Rattle.rules.specs.declared.types.Owner.TheVariants.{Op as of_op, Block as of_block}
+use Rattle.rules.specs.Lists.{every, all_below, sum, numbers_where}
+use Rattle.std.specs.List.{list_all}
 
 -- the parent is a block or none; attributes stand by rising key, so that key order is without effect
 pub record Op : Type 0 where
@@ -50,7 +41,7 @@ empty_store = record { ops = []; blocks = []; regions = []; values = [] }
 
 -- what a number past the end of its list is read as; no rule reads one in a sound store
 unfoldable pub no_op : Op
-no_op = record { kind = 0; parent = none; location = 0; operands = []; successors = []; attributes = [] }
+no_op = record { kind = 0; parent = None; location = 0; operands = []; successors = []; attributes = [] }
 
 unfoldable pub no_block : Block
 no_block = record { region = 0; location = 0; attributes = [] }
@@ -80,8 +71,8 @@ same_owner (of_block a) (of_op b) = false
 same_owner (of_block a) (of_block b) = eqb a b
 
 unfoldable pub is_parent : ℕ → Option ℕ → Bool
-is_parent b none = false
-is_parent b (some p) = eqb p b
+is_parent b None = false
+is_parent b (Some p) = eqb p b
 
 unfoldable pub ops_of : Store → ℕ → List ℕ
 ops_of s b = numbers_where (λ (o : Op). is_parent b o.parent) s.ops
@@ -121,8 +112,8 @@ owner_exists s (of_op n) = op_exists s n
 owner_exists s (of_block b) = block_exists s b
 
 unfoldable pub parent_exists : Store → Option ℕ → Bool
-parent_exists s none = true
-parent_exists s (some b) = block_exists s b
+parent_exists s None = true
+parent_exists s (Some b) = block_exists s b
 
 -- ---- nesting
 
@@ -136,10 +127,10 @@ op_around s b = get_or s.regions (block_at s b).region 0
 -- "An operation's nesting is the number of regions around it": of k regions that may be around an operation with this parent, how
 -- many are left for those inside it; none where there are more than k
 unfoldable pub levels_left : ℕ → Store → Option ℕ → Option ℕ
-levels_left zero s none = some 0
-levels_left zero s (some b) = none
-levels_left (suc k) s none = some (suc k)
-levels_left (suc k) s (some b) = levels_left k s (parent_of s (op_around s b))
+levels_left zero s None = Some 0
+levels_left zero s (Some b) = None
+levels_left (suc k) s None = Some (suc k)
+levels_left (suc k) s (Some b) = levels_left k s (parent_of s (op_around s b))
 
 -- "at most 32"
 abbrev pub max_nesting : ℕ
@@ -150,13 +141,13 @@ nesting_holds s p = is_some (levels_left max_nesting s p)
 
 -- "a nested operation has a larger number than any operation around it": than the one next around it, and so than any
 unfoldable pub op_after : Store → ℕ → Option ℕ → Bool
-op_after s n none = true
-op_after s n (some b) = ltb (op_around s b) n
+op_after s n None = true
+op_after s n (Some b) = ltb (op_around s b) n
 
 -- "and a nested block than any block around it", likewise
 unfoldable pub block_after : ℕ → Option ℕ → Bool
-block_after m none = true
-block_after m (some b) = ltb b m
+block_after m None = true
+block_after m (Some b) = ltb b m
 
 -- ---- totals: "512 operations, 256 blocks, 256 regions, 2,048 values, 2,048 operands, 512 successors, 1,024 attributes"
 
@@ -238,7 +229,7 @@ attributes_hold as' =
     every
     (keys_rise as'
     ∷ leb (length as') max_own_keys
-    ∷ all (λ (a : Attribute). leb a.kind max_attribute_kind) as'
+    ∷ list_all (λ (a : Attribute). leb a.kind max_attribute_kind) as'
     ∷ [])
 
 -- ---- "A store is sound when every name in it exists, a nested operation has a larger number than any operation around it and a nested
@@ -249,8 +240,8 @@ op_holds s n =
     let o = op_at s n in
     every
     (parent_exists s o.parent
-    ∷ all (value_exists s) o.operands
-    ∷ all (block_exists s) o.successors
+    ∷ list_all (value_exists s) o.operands
+    ∷ list_all (block_exists s) o.successors
     ∷ op_after s n o.parent
     ∷ nesting_holds s o.parent
     ∷ leb (length (regions_of s n)) max_own_regions
@@ -274,7 +265,7 @@ sound s =
     every
     (all_below (length s.ops) (op_holds s)
     ∷ all_below (length s.blocks) (block_holds s)
-    ∷ all (op_exists s) s.regions
-    ∷ all (λ (v : Value). owner_exists s v.owner) s.values
+    ∷ list_all (op_exists s) s.regions
+    ∷ list_all (λ (v : Value). owner_exists s v.owner) s.values
     ∷ totals_hold s
     ∷ [])

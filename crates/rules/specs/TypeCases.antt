@@ -1,7 +1,8 @@
 -- Lists of renamed types: which hold, what types they make one, and which cause comes first.
+use Rattle.rules.specs.declared.types.Cause.TheVariants.{NotSound, NotThere, BadMapping, BadTypes}
 use Rattle.std.specs.Prelude.{ℕ, zero, suc, ◌+◌, true, false, List, [], ◌∷◌, ◌≡◌}
 use Rattle.rules.specs.Store.{Store, empty_store}
-use Rattle.rules.specs.Fragments.{op, region}
+use Rattle.rules.specs.declared.types.Sort.TheVariants.{Op as op, Region as region}
 use Rattle.rules.specs.Building.{Call, after}
 use Rattle.rules.specs.Mapping.{empty_mapping}
 use Rattle.rules.specs.Types.{types_hold, present}
@@ -59,9 +60,9 @@ pub record TypeCases : Type 0 where
   -- one of the two renamed to the other
   pub renamed_to_other : (comparison true types12 (1 ∷ 2 ∷ []) empty_mapping (ignoring false 0) op 0 1).answer ≡ eq 1
   -- 1, 8, 14, 2 in this order
-  pub unsound_first : (comparison false types12 (1 ∷ []) (one_entry 9 9) (ignoring false 0) op 99 99).answer ≡ refused 1
-  pub mapping_next : (comparison true types12 (1 ∷ []) (one_entry 9 9) (ignoring false 0) op 99 99).answer ≡ refused 8
-  pub list_next : (comparison true types12 (1 ∷ []) empty_mapping (ignoring false 0) op 99 99).answer ≡ refused 14
-  pub missing_last : (comparison true types12 merging empty_mapping (ignoring false 0) op 99 99).answer ≡ refused 2
-  pub hash_refused : hashed true types12 (1 ∷ []) (ignoring false 0) op 99 ≡ refused_hash 14
-  pub key_refused : (keyed true types12 (1 ∷ []) (ignoring false 0) op 99 []).answer ≡ refused_key 14
+  pub unsound_first : (comparison false types12 (1 ∷ []) (one_entry 9 9) (ignoring false 0) op 99 99).answer ≡ refused NotSound
+  pub mapping_next : (comparison true types12 (1 ∷ []) (one_entry 9 9) (ignoring false 0) op 99 99).answer ≡ refused BadMapping
+  pub list_next : (comparison true types12 (1 ∷ []) empty_mapping (ignoring false 0) op 99 99).answer ≡ refused BadTypes
+  pub missing_last : (comparison true types12 merging empty_mapping (ignoring false 0) op 99 99).answer ≡ refused NotThere
+  pub hash_refused : hashed true types12 (1 ∷ []) (ignoring false 0) op 99 ≡ refused_hash BadTypes
+  pub key_refused : (keyed true types12 (1 ∷ []) (ignoring false 0) op 99 []).answer ≡ refused_key BadTypes

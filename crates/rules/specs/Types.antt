@@ -1,6 +1,7 @@
 -- Order 3, "Renamed types": "A lent list of at most 64 rows gives old type and present type." Its words are old, present, old, present.
 use Rattle.std.specs.Prelude.{ℕ, Bool, true, false, cond, not, ◌&&◌, List, [], ◌∷◌, map, eqb, leb, length}
-use Rattle.rules.specs.Lists.{every, all, any}
+use Rattle.rules.specs.Lists.{every}
+use Rattle.std.specs.List.{list_all, list_any}
 use Rattle.rules.specs.Store.{Store, Value}
 
 -- ---- cause 14: "a half row, over 64 rows, an old type given twice, or a present type that has a row itself"
@@ -25,7 +26,7 @@ max_rows = 64
 
 -- the number stands in the list
 unfoldable pub stands_in : List ℕ → ℕ → Bool
-stands_in ns n = any (eqb n) ns
+stands_in ns n = list_any (eqb n) ns
 
 unfoldable pub each_once : List ℕ → Bool
 each_once [] = true
@@ -38,7 +39,7 @@ types_hold rows =
     (whole_rows rows
     ∷ leb (length (old_types rows)) max_rows
     ∷ each_once (old_types rows)
-    ∷ all (λ (t : ℕ). not (stands_in (old_types rows) t)) (present_types rows)
+    ∷ list_all (λ (t : ℕ). not (stands_in (old_types rows) t)) (present_types rows)
     ∷ [])
 
 -- ---- "a type without a row is its own"; a type that has one is looked up once

@@ -2,15 +2,29 @@
 // specs/ and proved in proofs/, so the check fails where one of them is not proved.
 
 ghost use Rattle.rules.specs.Laws.{LawsOfSound, Demand3};
-ghost use Rattle.rules.specs.Statements.{Demand3Marked, LawsRenamed, LawsMarked, PremiseNeeded, PremiseNeededThrice, CanonicalEqual};
-ghost use Rattle.rules.specs.Statements.{EqualCanonical, CanonicalHash, NeverRefused, ComparisonIs, EqualAnswered, HashedIs, AllowedKept};
-ghost use Rattle.rules.specs.Statements.{EntersPaired, KeyEqual, EqualKey, KeyedIs, KeyLongest, FilersLaw, FieldsFitKept, FilersLawAfter};
-ghost use Rattle.rules.specs.Statements.{FilersLawRenamed, FilersLawMarked, TotalOrder, RenamedSound, RenamedIn, RenamedPremise};
-ghost use Rattle.rules.specs.Statements.{RenamedNone, PresentOnce, RepeatedFound, RepeatedNone, RepeatedIs, LongestRun, SameWindow};
-ghost use Rattle.rules.specs.Statements.{KeptSum, FirstUses, AcceptedExactly, BuiltSound, AfterSound, NestedAtMost, WalkStays};
-ghost use Rattle.rules.specs.Statements.{LevelsEnough, SizeMost, PairedMost, MarkedSound, AfterMarkedSound, SoundByGoingBack};
-ghost use Rattle.rules.specs.Statements.{UnmarkedAfter, WentBack, WentBackWhole, CopyUncounted, CopyNever17, CopyTakenBack, CountedExactly};
-ghost use Rattle.rules.specs.Statements.{ShareMost, PerCentNearest, OutputFits, InherentKept, UnignoredSame};
+ghost use Rattle.rules.specs.MarkLaws.{Demand3Marked, LawsMarked};
+ghost use Rattle.rules.specs.TypeLaws.{LawsRenamed};
+ghost use Rattle.rules.specs.EqualityLaws.{PremiseNeeded, PremiseNeededThrice, CanonicalEqual};
+ghost use Rattle.rules.specs.EqualityLaws.{EqualCanonical, NeverRefused, ComparisonIs, EqualAnswered};
+ghost use Rattle.rules.specs.HashLaws.{CanonicalHash, HashedIs};
+ghost use Rattle.rules.specs.MappingLaws.{AllowedKept};
+ghost use Rattle.rules.specs.MappingLaws.{EntersPaired};
+ghost use Rattle.rules.specs.KeyLaws.{KeyEqual, EqualKey, KeyedIs, KeyLongest, FilersLaw, FieldsFitKept, FilersLawAfter};
+ghost use Rattle.rules.specs.TypeLaws.{FilersLawRenamed, RenamedSound, RenamedIn, RenamedPremise};
+ghost use Rattle.rules.specs.MarkLaws.{FilersLawMarked};
+ghost use Rattle.rules.specs.KeyLaws.{TotalOrder};
+ghost use Rattle.rules.specs.TypeLaws.{RenamedNone, PresentOnce};
+ghost use Rattle.rules.specs.RunLaws.{RepeatedFound, RepeatedNone, RepeatedIs, LongestRun, SameWindow};
+ghost use Rattle.rules.specs.RunLaws.{KeptSum, FirstUses};
+ghost use Rattle.rules.specs.BuildingLaws.{AcceptedExactly, BuiltSound, AfterSound, NestedAtMost, WalkStays};
+ghost use Rattle.rules.specs.BuildingLaws.{LevelsEnough, SizeMost};
+ghost use Rattle.rules.specs.EqualityLaws.{PairedMost};
+ghost use Rattle.rules.specs.MarkLaws.{MarkedSound, AfterMarkedSound, SoundByGoingBack};
+ghost use Rattle.rules.specs.MarkLaws.{UnmarkedAfter, WentBack, WentBackWhole};
+ghost use Rattle.rules.specs.CopyLaws.{CopyUncounted, CopyNeverJournalFull, CopyTakenBack};
+ghost use Rattle.rules.specs.ListingLaws.{CountedExactly};
+ghost use Rattle.rules.specs.ListingLaws.{ShareMost, PerCentNearest, OutputFits};
+ghost use Rattle.rules.specs.EqualityLaws.{InherentKept, UnignoredSame};
 ghost use Rattle.rules.specs.Agreement.{ComparesAsTheRust, HashesAsTheRust};
 ghost use Rattle.rules.specs.ExtentLaws.{SizedIs, ExtentFills, ExtentPaired, ExtentNesting, ExtentRenamed, ExtentMost};
 ghost use Rattle.rules.specs.MappingLaws.{SideBySide, MappingLawsOfSound, MappingLawsAfter, MappingLawsMarked};
@@ -244,7 +258,7 @@ pub fn copies_are_twins()
 // A copy is no replacement: it leaves the marks as they are, is never refused for want of room to remember, and going back takes it away.
 pub fn copies_and_marks()
     ensures uncounted { CopyUncounted }
-    ensures never_out_of_room { CopyNever17 }
+    ensures never_out_of_room { CopyNeverJournalFull }
     ensures taken_back { CopyTakenBack }
 {}
 

@@ -5,16 +5,22 @@ use mathlib.Core.Bool.{Bool, true, false}
 use mathlib.Core.List.Memᴰ
 use mathlib.Core.List.{List, [], ◌∷◌, ◌++◌, map, map-map, map-append, head-eq_of_cons-eq, tail-eq_of_cons-eq, Memᴰ}
 use mathlib.Core.Logic.{◌⊎◌, inl, inr, ⊎_elim}
-use mathlib.Core.Option.{Option, none, some}
+use Rattle.std.specs.Prelude.{Option, None, Some}
 use mathlib.Core.Path.{◌≡◌, refl, sym, ap, ap₂, subst, ◌∙◌}
 use borrow.Author.Tests.{eqb-true, eqb-false, ne_eqb, eq-eqb}
 use lib.Dec.{eqb}
-use Rattle.rules.specs.Lists.{concat_map, position}
-use Rattle.rules.specs.Store.{Store, Owner, of_op, of_block, op_at, type_of, ops_of, blocks_of, regions_of, results_of, arguments_of, values_of, sound}
-use Rattle.rules.specs.Fragments.{Sort, Step, shell, names, counted, op, block, region, levels, step_operands, step_successors, op_owner, block_owner, fragment_ops, defines_blocks, defines_values, NamesNothingOf}
-use Rattle.rules.specs.Shells.{Ignore}
+use Rattle.std.specs.List.{flat_map}
+use Rattle.rules.specs.Lists.{position}
+use Rattle.rules.specs.Store.{Store, op_at, type_of, ops_of, blocks_of, regions_of, results_of, arguments_of, values_of, sound}
+use Rattle.rules.specs.declared.types.Owner.{Owner}
+use Rattle.rules.specs.declared.types.Owner.TheVariants.{Op as of_op, Block as of_block}
+use Rattle.rules.specs.Fragments.{Step, shell, names, counted, levels, step_operands, step_successors, op_owner, block_owner, fragment_ops, defines_blocks, defines_values, NamesNothingOf}
+use Rattle.rules.specs.declared.types.Sort.{Sort}
+use Rattle.rules.specs.declared.types.Sort.TheVariants.{Op as op, Block as block, Region as region}
+use Rattle.rules.specs.declared.types.Ignore.{Ignore}
 use Rattle.rules.specs.Mapping.{Mapping, image}
-use Rattle.rules.specs.Hash.{Name, Numbering, numbered, no_numbers, name_at, name_of}
+use Rattle.rules.specs.Hash.{Numbering, numbered, no_numbers, name_at, name_of}
+use Rattle.rules.specs.declared.types.Name.{Name}
 use Rattle.rules.specs.Laws.{Equal, In}
 use Rattle.rules.specs.MappingLaws.{values, blocks, table_of, defines_of, Bijection}
 use Rattle.rules.specs.Form.{Event, step, more, done, shell_token, names_token, list_events, one, shell_events, op_events, blocks_events, region_events, events, numbered_by, token, tokens, canonical}
@@ -163,11 +169,11 @@ module _ (table VA VB : List ℕ) (bi : Bijection table VA VB) where
   name_image v xs (inl i) out sub = go (position v xs) refl
     where
       go : (o : Option ℕ) → position v xs ≡ o → name_at (position v xs) v ≡ name_at (position (image table v) (map (image table) xs)) (image table v)
-      go none e = absurd (position_none v xs e i)
-      go (some j) e = rw (position_image v xs (sub v i) sub, e)
+      go None e = absurd (position_none v xs e i)
+      go (Some j) e = rw (position_image v xs (sub v i) sub, e)
   name_image v xs (inr i) out sub =
       let e = image_out table VA VB bi v i in
-      let here : position v (map (image table) xs) ≡ none =
+      let here : position v (map (image table) xs) ≡ None =
       position_out v (map (image table) xs) (λ k. let w = Memᴰ.of_map (image table) xs k in out (subst (λ (x : ℕ). Memᴰ x VB) w.2 (image_in table VA VB bi w.0 (sub w.0 w.1))))
       in
       rw (e, here, position_out v xs (λ k. i (sub v k)))
@@ -192,23 +198,22 @@ module _ (s : Store) (ig : Ignore) (m : Mapping) (f : Sort) (a b : ℕ)
 
   -- the left events name nothing that the right fragment defines
   record Out (es : List Event) : Type 0 where
-    values : (v : ℕ) → Memᴰ v (concat_map (event_operands s) es) → Memᴰ v (defines_values s f b) → ⊥
-    blocks : (c : ℕ) → Memᴰ c (concat_map (event_successors s) es) → Memᴰ c (defines_blocks s f b) → ⊥
+    values : (v : ℕ) → Memᴰ v (flat_map (event_operands s) es) → Memᴰ v (defines_values s f b) → ⊥
+    blocks : (c : ℕ) → Memᴰ c (flat_map (event_successors s) es) → Memᴰ c (defines_blocks s f b) → ⊥
 
   out_next : (e : Event) (es : List Event) → Out (e ∷ es) → Out es
-  unfolding concat_map
   out_next e es o =
       record { values = λ v i. o.values v (Memᴰ.append_right (event_operands s e) i); blocks = λ c i. o.blocks c (Memᴰ.append_right (event_successors s e) i) }
 
   numbered_values : (N : Numbering) (es : List Event) → Left s f a N es → (v : ℕ) → Memᴰ v N.values → Memᴰ v (defines_values s f a)
-  numbered_values N es l v i = subst (Memᴰ v) l.values (Memᴰ.append_left (concat_map (event_values s) es) i)
+  numbered_values N es l v i = subst (Memᴰ v) l.values (Memᴰ.append_left (flat_map (event_values s) es) i)
 
   numbered_blocks : (N : Numbering) (es : List Event) → Left s f a N es → (c : ℕ) → Memᴰ c N.blocks → Memᴰ c (defines_blocks s f a)
-  numbered_blocks N es l c i = subst (Memᴰ c) l.blocks (Memᴰ.append_left (concat_map (event_blocks s) es) i)
+  numbered_blocks N es l c i = subst (Memᴰ c) l.blocks (Memᴰ.append_left (flat_map (event_blocks s) es) i)
 
   names_token_same : (n n' : ℕ) (es : List Event) (N N' : Numbering) → NamesAlike s ig m n n' → Moved N N' → Left s f a N es
       → step_numbered s f a (names n) N ≡ true → Out (step (names n) ∷ es) → token s ig (step (names n)) N ≡ token s ig (step (names n')) N'
-  unfolding token step_numbered concat_map event_operands event_successors step_operands step_successors
+  unfolding token step_numbered event_operands event_successors step_operands step_successors
   names_token_same n n' es N N' na mv l q o =
       let xs = (op_at s n).operands in
       let cs = (op_at s n).successors in
@@ -219,12 +224,12 @@ module _ (s : Store) (ig : Ignore) (m : Mapping) (f : Sort) (a b : ℕ)
       let value = λ (v : ℕ) (i : Memᴰ v xs).
       name_image m.values (defines_values s f a) (defines_values s f b) vi v N.values
       (numbered_or_out (defines_values s f a) N.values xs (and_left _ _ q) v i)
-      (o.values v (Memᴰ.append_left (concat_map (event_operands s) es) i)) (numbered_values N es l)
+      (o.values v (Memᴰ.append_left (flat_map (event_operands s) es) i)) (numbered_values N es l)
       ∙ ap (λ (ys : List ℕ). name_of ys (image m.values v)) (sym mv.values) in
       let block = λ (c : ℕ) (i : Memᴰ c cs).
       name_image m.blocks (defines_blocks s f a) (defines_blocks s f b) bl c N.blocks
       (numbered_or_out (defines_blocks s f a) N.blocks cs (and_right (numbered_names (defines_values s f a) N.values xs) _ q) c i)
-      (o.blocks c (Memᴰ.append_left (concat_map (event_successors s) es) i)) (numbered_blocks N es l)
+      (o.blocks c (Memᴰ.append_left (flat_map (event_successors s) es) i)) (numbered_blocks N es l)
       ∙ ap (λ (ys : List ℕ). name_of ys (image m.blocks c)) (sym mv.blocks) in
       let operands : map F xs ≡ map G (op_at s n').operands =
       map_same F (λ (v : ℕ). G (image m.values v)) xs

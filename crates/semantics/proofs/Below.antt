@@ -7,8 +7,11 @@ use mathlib.Core.List.{List, [], ◌∷◌, Memᴰ}
 use mathlib.Core.Logic.{⊎_elim}
 use mathlib.Core.Path.{◌≡◌, refl, ap, ◌∙◌}
 use lib.ListN.{get_or}
-use Rattle.rules.specs.Store.{Store, of_op, of_block, op_at, block_at, op_around, ops_of, blocks_of, regions_of, results_of, arguments_of, values_of, sound}
-use Rattle.rules.specs.Fragments.{Sort, op, block, region, Step, shell, names, full_op, list_steps, region_steps, levels, steps, step_operands, step_successors, fragment_ops, defines_blocks, defines_values, defines_owners, names_values, names_blocks}
+use Rattle.rules.specs.Store.{Store, op_at, block_at, op_around, ops_of, blocks_of, regions_of, results_of, arguments_of, values_of, sound}
+use Rattle.rules.specs.declared.types.Owner.TheVariants.{Op as of_op, Block as of_block}
+use Rattle.rules.specs.Fragments.{Step, shell, names, full_op, list_steps, region_steps, levels, steps, step_operands, step_successors, fragment_ops, defines_blocks, defines_values, defines_owners, names_values, names_blocks}
+use Rattle.rules.specs.declared.types.Sort.{Sort}
+use Rattle.rules.specs.declared.types.Sort.TheVariants.{Op as op, Block as block, Region as region}
 use Rattle.rules.proofs.Basics.Distinct.{mem_concat_map}
 use Rattle.rules.proofs.Soundness.Children.{blocks_in_lem, regions_in_lem}
 use Rattle.rules.proofs.Form.Roots.{Root}

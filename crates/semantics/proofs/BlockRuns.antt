@@ -6,13 +6,15 @@ use mathlib.Core.Bool.{true}
 use mathlib.Core.List.Memᴰ
 use mathlib.Core.List.{List, [], ◌∷◌, ◌++◌, map-map, append-nil, Memᴰ}
 use mathlib.Core.Logic.{⊎_elim, inr, ◌≢◌}
-use mathlib.Core.Option.{some}
+use Rattle.std.specs.Prelude.{Some}
 use mathlib.Core.Path.{◌≡◌, refl, sym, ap, ap₂, subst, ◌∙◌}
 use lib.ListN.{length, take, drop, take-append-drop}
-use Rattle.rules.specs.Lists.{concat_map}
-use Rattle.rules.specs.Store.{Store, of_op, of_block, ops_of, blocks_of, regions_of, sound}
-use Rattle.rules.specs.Fragments.{op, block, levels, counted, steps, fragment_ops, defines_values, defines_blocks, names_values, names_blocks}
-use Rattle.rules.specs.Shells.{Ignore}
+use Rattle.std.specs.List.{flat_map}
+use Rattle.rules.specs.Store.{Store, ops_of, blocks_of, regions_of, sound}
+use Rattle.rules.specs.declared.types.Owner.TheVariants.{Op as of_op, Block as of_block}
+use Rattle.rules.specs.Fragments.{levels, counted, steps, fragment_ops, defines_values, defines_blocks, names_values, names_blocks}
+use Rattle.rules.specs.declared.types.Sort.TheVariants.{Op as op, Block as block}
+use Rattle.rules.specs.declared.types.Ignore.{Ignore}
 use Rattle.rules.specs.Mapping.{Mapping, no_image, empty_mapping, image}
 use Rattle.rules.specs.Comparison.{State, Walk, on, standing, start}
 use Rattle.rules.specs.Laws.{In}
@@ -68,21 +70,21 @@ part_both xs ys vs ws p q =
     }
 
 -- what some consecutive entries come to
-part_of : {A B : Type 0} (f : A → List B) (ns whole ahead rest : List A) → ahead ++ (ns ++ rest) ≡ whole → Part (concat_map f ns) (concat_map f whole)
+part_of : {A B : Type 0} (f : A → List B) (ns whole ahead rest : List A) → ahead ++ (ns ++ rest) ≡ whole → Part (flat_map f ns) (flat_map f whole)
 part_of f ns whole ahead rest e =
-    subst (λ (xs : List _). Part (concat_map f ns) xs)
-    (sym (concat_map_append f ahead (ns ++ rest) ∙ ap (λ (xs : List _). concat_map f ahead ++ xs) (concat_map_append f ns rest)) ∙ ap (concat_map f) e)
-    (part_along (concat_map f ns) (concat_map f ns ++ concat_map f rest) (concat_map f ahead ++ (concat_map f ns ++ concat_map f rest))
-    (part_left (concat_map f ns) (concat_map f rest)) (part_right (concat_map f ahead) (concat_map f ns ++ concat_map f rest)))
+    subst (λ (xs : List _). Part (flat_map f ns) xs)
+    (sym (concat_map_append f ahead (ns ++ rest) ∙ ap (λ (xs : List _). flat_map f ahead ++ xs) (concat_map_append f ns rest)) ∙ ap (flat_map f) e)
+    (part_along (flat_map f ns) (flat_map f ns ++ flat_map f rest) (flat_map f ahead ++ (flat_map f ns ++ flat_map f rest))
+    (part_left (flat_map f ns) (flat_map f rest)) (part_right (flat_map f ahead) (flat_map f ns ++ flat_map f rest)))
 
 -- ---- what stands in the events of a run
 
 module _ (s : Store) {A : Type 0} (G : Event → List A) (at_more : G more ≡ []) (at_done : G done ≡ []) where
   abbrev all : List Event → List A
-  all = concat_map G
+  all = flat_map G
 
-  in_list : (ev : ℕ → List Event) (ns : List ℕ) → all (list_events ev ns) ≡ concat_map (λ (n : ℕ). all (ev n)) ns
-  unfolding list_events concat_map
+  in_list : (ev : ℕ → List Event) (ns : List ℕ) → all (list_events ev ns) ≡ flat_map (λ (n : ℕ). all (ev n)) ns
+  unfolding list_events
   in_list ev [] = ap (λ (l : List A). l ++ []) at_done
   in_list ev (n ∷ ns) =
       ap (λ (l : List A). l ++ all (ev n ++ list_events ev ns)) at_more
@@ -90,10 +92,10 @@ module _ (s : Store) {A : Type 0} (G : Event → List A) (at_more : G more ≡ [
       ∙ ap (λ (l : List A). all (ev n) ++ l) (in_list ev ns)
 
   abbrev shells_of : List ℕ → List A
-  shells_of ns = concat_map (λ (n : ℕ). all (one_shell s n)) ns
+  shells_of ns = flat_map (λ (n : ℕ). all (one_shell s n)) ns
 
   abbrev fulls_of : List ℕ → List A
-  fulls_of ns = concat_map (λ (n : ℕ). all (full_events s n)) ns
+  fulls_of ns = flat_map (λ (n : ℕ). all (full_events s n)) ns
 
   of_events : (ns : List ℕ) → all (run_events s ns) ≡ shells_of ns ++ fulls_of ns
   of_events ns =
@@ -130,7 +132,7 @@ module _ (s : Store) {A : Type 0} (G : Event → List A) (at_more : G more ≡ [
     op_fulls c = list_events (full_events s) (ops_of s c)
 
     shells_part : Part (shells_of ns) (all (list_events op_shells (b ∷ [])))
-    unfolding shell_events concat_map
+    unfolding shell_events
     shells_part =
         rw (in_list op_shells (b ∷ []), append-nil (all (op_shells b)), in_list (one_shell s) (ops_of s b))
         (part_along (shells_of ns) (shells_of (ops_of s b)) (G (step (counted (length (ops_of s b)))) ++ shells_of (ops_of s b))
@@ -138,7 +140,6 @@ module _ (s : Store) {A : Type 0} (G : Event → List A) (at_more : G more ≡ [
         (part_right (G (step (counted (length (ops_of s b))))) (shells_of (ops_of s b))))
 
     fulls_part : Part (fulls_of ns) (all (list_events op_fulls (b ∷ [])))
-    unfolding concat_map
     fulls_part =
         rw (in_list op_fulls (b ∷ []), append-nil (all (op_fulls b)), in_list (full_events s) (ops_of s b))
         (part_of (λ (n : ℕ). all (full_events s n)) ns (ops_of s b) ahead rest e)
@@ -161,18 +162,18 @@ module _ (s : Store) {A : Type 0} (G : Event → List A) (at_more : G more ≡ [
 module _ (s : Store) (sd : sound s ≡ true) (ig : Ignore) (b : ℕ) (ib : In s block b) where
   -- what a run's events define of each table, and what its operations do
   abbrev D : Table → List ℕ → List ℕ
-  D t ns = concat_map (event_defines s t) (run_events s ns)
+  D t ns = flat_map (event_defines s t) (run_events s ns)
 
   abbrev A : Table → List ℕ → List ℕ
-  A t ns = concat_map (λ (n : ℕ). defines_of s op n t) ns
+  A t ns = flat_map (λ (n : ℕ). defines_of s op n t) ns
 
-  op_defines : (t : Table) (n : ℕ) → concat_map (event_defines s t) (events s op n) ≡ defines_of s op n t
+  op_defines : (t : Table) (n : ℕ) → flat_map (event_defines s t) (events s op n) ≡ defines_of s op n t
   unfolding event_defines defines_of
   op_defines values n = values_in_events s op n
   op_defines blocks n = blocks_in_events s op n
   op_defines ops n = ops_in_events s op n
 
-  block_defines : (t : Table) → concat_map (event_defines s t) (events s block b) ≡ defines_of s block b t
+  block_defines : (t : Table) → flat_map (event_defines s t) (events s block b) ≡ defines_of s block b t
   unfolding event_defines defines_of
   block_defines values = values_in_events s block b
   block_defines blocks = blocks_in_events s block b
@@ -208,7 +209,7 @@ module _ (s : Store) (sd : sound s ≡ true) (ig : Ignore) (b : ℕ) (ib : In s 
     abbrev m : Mapping
     m = st.mapping
 
-    locked : lock s ig (run_events s ls) (run_events s rs) (start empty_mapping) ≡ some st
+    locked : lock s ig (run_events s ls) (run_events s rs) (start empty_mapping) ≡ Some st
     locked = run_lock s ig b ls rs st e
 
     some_number : (t : Table) (y : ℕ) → Memᴰ y (D t rs) → y ≢ no_image

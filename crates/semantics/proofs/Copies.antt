@@ -4,24 +4,29 @@ use native.Mathlib.Omega.{arith}
 use mathlib.Core.Bool.{true}
 use mathlib.Core.List.Memᴰ
 use mathlib.Core.List.{List, [], ◌∷◌, Memᴰ}
-use mathlib.Core.Option.{Option}
+use Rattle.std.specs.Prelude.{Option}
 use mathlib.Core.Path.{◌≡◌, subst}
 use borrow.Author.Tests.{ltb-true, lt-ltb}
 use lib.ListN.{length}
 use Rattle.rules.specs.Store.{Store, op_exists, sound}
-use Rattle.rules.specs.Fragments.{op, exists, fragment_ops}
+use Rattle.rules.specs.Fragments.{exists, fragment_ops}
+use Rattle.rules.specs.declared.types.Sort.TheVariants.{Op as op}
 use Rattle.rules.specs.Mapping.{Mapping}
 use Rattle.rules.specs.Types.{renamed}
 use Rattle.rules.specs.Laws.{In}
-use Rattle.rules.specs.Statements.{RenamedPremise}
+use Rattle.rules.specs.TypeLaws.{RenamedPremise}
 use Rattle.rules.specs.Copying.{copied, copy_tests}
 use Rattle.rules.specs.CopyLaws.{Copies, CopySound, CopyEqual, CopyFiled, CopyPremise}
 use Rattle.rules.specs.GroupingLaws.{TwinFound}
 use Rattle.rules.proofs.Basics.Tests.{and_left}
 use Rattle.rules.proofs.Soundness.Accepted.{first_failed_none}
 use Rattle.rules.proofs.Copying.Tables.{ops_length}
-use Rattle.rules.proofs.Types.Under.{renamed_premise}
-use Rattle.rules.proofs.Stated as rules
+use Rattle.rules.proofs.RenamedTypes.Under.{renamed_premise}
+use Rattle.rules.proofs.Copying.Laws.{copy_equal}
+use Rattle.rules.proofs.Copying.Laws.{copy_filed}
+use Rattle.rules.proofs.Copying.Laws.{copy_premise}
+use Rattle.rules.proofs.Copying.Kept.{copy_sound}
+use Rattle.rules.proofs.Grouping.Twins.{twin_found}
 use Rattle.semantics.specs.SameWork.{SameWork, WorkAlike}
 use Rattle.semantics.specs.Copies.{CopyWork, TwinWork}
 use Rattle.semantics.proofs.Below.{op_root}
@@ -56,13 +61,13 @@ module _ (Data World Mind : Type 0) where
   unfolding CopyWork SameWork CopySound CopyEqual CopyFiled CopyPremise
   copy_work s sd n place c types ig =
       subst (λ (m : Mapping). WorkAlike Data World Mind (renamed types (copied s n place)) ig op n (length s.ops) m)
-      (rules.copy_filed s sd n place c types ig)
-      (same_work Data World Mind (copied s n place) (rules.copy_sound s sd n place c) types ig op n (length s.ops)
-      (original_in s sd n place c) (copy_in s sd n place c) (rules.copy_premise s sd n place c) (rules.copy_equal s sd n place c types ig))
+      (copy_filed s sd n place c types ig)
+      (same_work Data World Mind (copied s n place) (copy_sound s sd n place c) types ig op n (length s.ops)
+      (original_in s sd n place c) (copy_in s sd n place c) (copy_premise s sd n place c) (copy_equal s sd n place c types ig))
 
   pub twin_work : TwinWork Data World Mind
   unfolding TwinWork SameWork TwinFound RenamedPremise exists op_exists
   twin_work s sd types ig n m i e =
-      let t = rules.twin_found (renamed types s) ig n m e in
+      let t = twin_found (renamed types s) ig n m e in
       let here : n < length s.ops = ltb-true n (length s.ops) i in
       same_work Data World Mind s sd types ig op m n (lt-ltb m (length s.ops) (omega (arith, t.0))) i ((renamed_premise types s op m n).0 t.1.0) t.1.1

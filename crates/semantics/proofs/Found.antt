@@ -6,14 +6,18 @@ use mathlib.Core.Bool.{true}
 use mathlib.Core.List.Memᴰ
 use mathlib.Core.List.{List, [], ◌∷◌, ◌++◌, map, map-id, append-nil, Memᴰ, head-eq_of_cons-eq, tail-eq_of_cons-eq}
 use mathlib.Core.Logic.{⊎_elim, ◌≢◌}
-use mathlib.Core.Option.{some}
+use Rattle.std.specs.Prelude.{Some}
 use mathlib.Core.Path.{◌≡◌, refl, sym, ap, ap₂, subst, ◌∙◌}
 use lib.Dec.{lit≤}
 use lib.ListN.{length, get_or}
-use Rattle.rules.specs.Lists.{concat_map}
-use Rattle.rules.specs.Store.{Store, Owner, of_op, of_block, op_at, ops_of, blocks_of, regions_of, results_of, arguments_of, sound, max_values, max_blocks, max_ops}
-use Rattle.rules.specs.Fragments.{Sort, op, block, region, Step, shell, names, counted, levels, full_op, shells, list_steps, region_steps, steps, step_defines, op_owner, block_owner, fragment_ops, defines_owners, defines_blocks, defines_values, NamesNothingOf, Premise}
-use Rattle.rules.specs.Shells.{Ignore}
+use Rattle.std.specs.List.{flat_map}
+use Rattle.rules.specs.Store.{Store, op_at, ops_of, blocks_of, regions_of, results_of, arguments_of, sound, max_values, max_blocks, max_ops}
+use Rattle.rules.specs.declared.types.Owner.{Owner}
+use Rattle.rules.specs.declared.types.Owner.TheVariants.{Op as of_op, Block as of_block}
+use Rattle.rules.specs.Fragments.{Step, shell, names, counted, levels, full_op, shells, list_steps, region_steps, steps, step_defines, op_owner, block_owner, fragment_ops, defines_owners, defines_blocks, defines_values, NamesNothingOf, Premise}
+use Rattle.rules.specs.declared.types.Sort.{Sort}
+use Rattle.rules.specs.declared.types.Sort.TheVariants.{Op as op, Block as block, Region as region}
+use Rattle.rules.specs.declared.types.Ignore.{Ignore}
 use Rattle.rules.specs.Mapping.{Mapping, no_image, empty_mapping, image, enter_all}
 use Rattle.rules.specs.Comparison.{start, compare}
 use Rattle.rules.specs.Hash.{no_numbers}
@@ -135,12 +139,12 @@ module _ (s : Store) (ig : Ignore) (m : Mapping) where
         let q = pair_at _ (ops_of s v.0) (ops_of s p.0) (pairs_both _ _ (ops_of s v.0) (ops_of s p.0) p.1.0 p.1.1) u.1 in
         subst Good u.2 (good_op u.0 q.0 q.1.0 q.1.1))
         (Memᴰ.append_cases (shells of_block bs) j))
-        (λ j. let v = mem_concat_map (λ (b : ℕ). concat_map (full_op s (region_steps k s)) (ops_of s b)) bs j in
+        (λ j. let v = mem_concat_map (λ (b : ℕ). flat_map (full_op s (region_steps k s)) (ops_of s b)) bs j in
         let u = mem_concat_map (full_op s (region_steps k s)) (ops_of s v.0) v.2 in
         let p = pair_at _ bs cs h.full v.1 in
         let q = pair_at _ (ops_of s v.0) (ops_of s p.0) p.1 u.1 in
         full_found k inner u.0 q.0 q.1 w u.2)
-        (Memᴰ.append_cases (shells of_block bs ++ concat_map (λ (b : ℕ). shells of_op (ops_of s b)) bs) i)
+        (Memᴰ.append_cases (shells of_block bs ++ flat_map (λ (b : ℕ). shells of_op (ops_of s b)) bs) i)
 
     region_found : (k l r : ℕ) → Regions s ig m l r → Found (region_steps k s l)
     unfolding region_steps
@@ -200,22 +204,22 @@ module _ (s : Store) (sd : sound s ≡ true) (f : Sort) where
         rw w.0
         (begun (E t) (defines_of s f a t) (defines_of s f b t) (none_in t) (listed t a ia).once w.1 (listed t a ia).inside (some_number t b ib))
 
-pub ops_in_events : (s : Store) (f : Sort) (n : ℕ) → concat_map event_ops (events s f n) ≡ fragment_ops s f n
-unfolding fragment_ops defines_owners event_ops concat_map step_defines
+pub ops_in_events : (s : Store) (f : Sort) (n : ℕ) → flat_map event_ops (events s f n) ≡ fragment_ops s f n
+unfolding fragment_ops defines_owners event_ops step_defines
 ops_in_events s f n =
-    in_fragment event_ops (λ (x : Step). concat_map op_owner (step_defines x)) at_step refl refl s f n
+    in_fragment event_ops (λ (x : Step). flat_map op_owner (step_defines x)) at_step refl refl s f n
     ∙ sym (concat_map_concat_map op_owner step_defines (steps s f n))
   where
-    at_step : (x : Step) → event_ops (step x) ≡ concat_map op_owner (step_defines x)
+    at_step : (x : Step) → event_ops (step x) ≡ flat_map op_owner (step_defines x)
     at_step (shell w) = sym (append-nil (op_owner w))
     at_step (names m) = refl
     at_step (counted k) = refl
 
-pub values_in_events : (s : Store) (f : Sort) (n : ℕ) → concat_map (event_values s) (events s f n) ≡ defines_values s f n
+pub values_in_events : (s : Store) (f : Sort) (n : ℕ) → flat_map (event_values s) (events s f n) ≡ defines_values s f n
 unfolding all_defined no_numbers
 values_in_events s f n = (events_rest s f n).values
 
-pub blocks_in_events : (s : Store) (f : Sort) (n : ℕ) → concat_map (event_blocks s) (events s f n) ≡ defines_blocks s f n
+pub blocks_in_events : (s : Store) (f : Sort) (n : ℕ) → flat_map (event_blocks s) (events s f n) ≡ defines_blocks s f n
 unfolding all_defined no_numbers
 blocks_in_events s f n = (events_rest s f n).blocks
 
@@ -240,7 +244,7 @@ module _ (s : Store) (sd : sound s ≡ true) (ig : Ignore) (f : Sort) (a b : ℕ
   unfolding equal
   different out =
       let w = goes (compare s ig f a b empty_mapping) e in
-      let q : lock s ig (events s f a) (events s f b) (start empty_mapping) ≡ some w.0 = sym (pass s ig f empty_mapping a b) ∙ ap going w.1 in
+      let q : lock s ig (events s f a) (events s f b) (start empty_mapping) ≡ Some w.0 = sym (pass s ig f empty_mapping a b) ∙ ap going w.1 in
       let found = fragment_found s ig (filed s ig f a b) sd f a b (met s ig (filed s ig f a b) (events s f a) (events s f b) (start empty_mapping) w.0 q (begins_course out)) in
       record {
         one_to_one = one_to_one;

@@ -4,12 +4,13 @@ use Prim.Native.Nat.{ℕ}
 use mathlib.Core.Bool.{Bool, true, false}
 use mathlib.Core.List.{List, [], ◌∷◌, map, Memᴰ}
 use mathlib.Core.Logic.{◌⊎◌, inl, inr}
-use mathlib.Core.Option.{Option, none, some}
+use Rattle.std.specs.Prelude.{Option, None, Some}
 use mathlib.Core.Path.{◌≡◌, refl, sym, ap, subst, ◌∙◌}
 use borrow.Author.Tests.{eqb-true, eqb-false, ne_eqb, eq-eqb}
 use lib.Dec.{eqb}
 use lib.ListN.{get_or}
-use Rattle.rules.specs.Lists.{any, position}
+use Rattle.std.specs.List.{list_any}
+use Rattle.rules.specs.Lists.{position}
 use Rattle.rules.specs.Mapping.{no_image, or_self, image}
 use Rattle.rules.specs.MappingLaws.{Entry, Bijection}
 use Rattle.rules.proofs.Basics.Appended.{mem_get_d}
@@ -20,8 +21,8 @@ pub stands : (v : ℕ) (xs : List ℕ) → Memᴰ v xs ⊎ (Memᴰ v xs → ⊥)
 stands v xs = go (position v xs) refl
   where
     go : (o : Option ℕ) → position v xs ≡ o → Memᴰ v xs ⊎ (Memᴰ v xs → ⊥)
-    go none e = inr (position_none v xs e)
-    go (some i) e = let p = position_some v xs i e in inl (subst (λ (x : ℕ). Memᴰ x xs) p.1 (mem_get_d xs i 0 p.0))
+    go None e = inr (position_none v xs e)
+    go (Some i) e = let p = position_some v xs i e in inl (subst (λ (x : ℕ). Memᴰ x xs) p.1 (mem_get_d xs i 0 p.0))
 
 -- the entry at a number is what it has as image, or there is none and it is its own
 image_entry : (table : List ℕ) (v : ℕ) → Entry table v (image table v) ⊎ ((get_or table v no_image ≡ no_image) × (image table v ≡ v))
@@ -68,8 +69,7 @@ module _ (table left right : List ℕ) (bi : Bijection table left right) where
 
   -- a number stands among some that are defined exactly where its image stands among theirs
   pub any_image : (c : ℕ) (bs : List ℕ) → ((x : ℕ) → Memᴰ x bs → Memᴰ x left) → (Memᴰ c left ⊎ (Memᴰ c right → ⊥))
-      → any (eqb (image table c)) (map (image table) bs) ≡ any (eqb c) bs
-  unfolding any
+      → list_any (eqb (image table c)) (map (image table) bs) ≡ list_any (eqb c) bs
   any_image c [] sub h = refl
   any_image c (x ∷ bs) sub h =
       rw (any_image c bs (λ y m. sub y (Memᴰ.tail m)) h, first (eqb c x) refl)

@@ -6,8 +6,10 @@ use mathlib.Core.List.{List, [], ◌∷◌, map-map, Memᴰ}
 use mathlib.Core.Logic.{◌⊎◌, inl, inr}
 use mathlib.Core.Path.{◌≡◌, refl, sym, subst, ◌∙◌}
 use Rattle.rules.specs.Store.{Store, blocks_of, regions_of, sound}
-use Rattle.rules.specs.Fragments.{Sort, op, block, region, fragment_ops, defines_blocks, defines_values, names_values, names_blocks, Disjoint, NamesNothingOf, Premise}
-use Rattle.rules.specs.Shells.{Ignore}
+use Rattle.rules.specs.Fragments.{fragment_ops, defines_blocks, defines_values, names_values, names_blocks, Disjoint, NamesNothingOf, Premise}
+use Rattle.rules.specs.declared.types.Sort.{Sort}
+use Rattle.rules.specs.declared.types.Sort.TheVariants.{Op as op, Block as block, Region as region}
+use Rattle.rules.specs.declared.types.Ignore.{Ignore}
 use Rattle.rules.specs.Mapping.{Mapping, image}
 use Rattle.rules.specs.MappingLaws.{values, blocks, table_of, defines_of}
 use Rattle.semantics.specs.Meaning.{Meaning}

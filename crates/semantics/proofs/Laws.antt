@@ -3,11 +3,12 @@ use Prim.Native.Nat.{ℕ}
 use mathlib.Core.Bool.{true}
 use mathlib.Core.List.{List}
 use mathlib.Core.Logic.{⊎_elim}
-use mathlib.Core.Option.{some}
+use Rattle.std.specs.Prelude.{Some}
 use mathlib.Core.Path.{◌≡◌, sym, ap, ◌∙◌}
 use Rattle.rules.specs.Store.{Store, sound}
-use Rattle.rules.specs.Fragments.{Sort, NamesNothingOf, Premise}
-use Rattle.rules.specs.Shells.{Ignore}
+use Rattle.rules.specs.Fragments.{NamesNothingOf, Premise}
+use Rattle.rules.specs.declared.types.Sort.{Sort}
+use Rattle.rules.specs.declared.types.Ignore.{Ignore}
 use Rattle.rules.specs.Mapping.{empty_mapping}
 use Rattle.rules.specs.Comparison.{start, compare}
 use Rattle.rules.specs.Hash.{no_numbers}
@@ -17,9 +18,9 @@ use Rattle.rules.proofs.Form.Events.{bare_events, lock}
 use Rattle.rules.proofs.Form.LockStep.{going}
 use Rattle.rules.proofs.Form.Canonical.{goes, pass}
 use Rattle.rules.specs.Types.{renamed}
-use Rattle.rules.specs.Statements.{RenamedSound, RenamedIn, RenamedPremise}
+use Rattle.rules.specs.TypeLaws.{RenamedSound, RenamedIn, RenamedPremise}
 use Rattle.rules.specs.MappingLaws.{filed}
-use Rattle.rules.proofs.Types.Under.{renamed_sound, renamed_in, renamed_premise}
+use Rattle.rules.proofs.RenamedTypes.Under.{renamed_sound, renamed_in, renamed_premise}
 use Rattle.semantics.specs.Isomorphic.{Isomorphic}
 use Rattle.semantics.specs.SameWork.{SameWork, SameWorkFresh, SameWorkAcross, IsomorphicWorkAcross, EqualIsomorphic, EqualExactly, all_numbered, none_early}
 use Rattle.semantics.proofs.IsomorphicWork.{isomorphic_work_across, across→alike, alike→fresh}
@@ -58,7 +59,7 @@ equal_timely : (s : Store) (sd : sound s ≡ true) (ig : Ignore) (f : Sort) (a b
 unfolding none_early equal no_numbers
 equal_timely s sd ig f a b ia ib out e =
     let w = goes (compare s ig f a b empty_mapping) e in
-    let q : lock s ig (events s f a) (events s f b) (start empty_mapping) ≡ some w.0 = sym (pass s ig f empty_mapping a b) ∙ ap going w.1 in
+    let q : lock s ig (events s f a) (events s f b) (start empty_mapping) ≡ Some w.0 = sym (pass s ig f empty_mapping a b) ∙ ap going w.1 in
     sym (ap (λ (xs : _). all_numbered s f a xs no_numbers) (bare_events s f a))
     ∙ in_time_numbered s f a (events s f a) no_numbers
     (record { values = values_in_events s f a; blocks = blocks_in_events s f a })

@@ -7,9 +7,11 @@ use mathlib.Core.List.Memᴰ
 use mathlib.Core.List.{List, [], ◌∷◌, ◌++◌, append_assoc, append-nil, Memᴰ}
 use mathlib.Core.Logic.{inl, inr}
 use mathlib.Core.Path.{◌≡◌, sym, subst, subst₂}
-use Rattle.rules.specs.Store.{Store, Owner, of_op, of_block, ops_of, blocks_of, regions_of, sound}
+use Rattle.rules.specs.Store.{Store, ops_of, blocks_of, regions_of, sound}
+use Rattle.rules.specs.declared.types.Owner.{Owner}
+use Rattle.rules.specs.declared.types.Owner.TheVariants.{Op as of_op, Block as of_block}
 use Rattle.rules.specs.Fragments.{levels, shell}
-use Rattle.rules.specs.Shells.{Ignore}
+use Rattle.rules.specs.declared.types.Ignore.{Ignore}
 use Rattle.rules.specs.Mapping.{Mapping}
 use Rattle.rules.specs.Form.{Event, list_events, one, shell_events, op_events, blocks_events, region_events}
 use Rattle.rules.proofs.Form.Tested.{Pairs}

@@ -6,8 +6,9 @@ use mathlib.Core.List.{List, [], ◌∷◌, map, map-map, map-id, Memᴰ}
 use mathlib.Core.Logic.{◌⊎◌, inl, inr}
 use mathlib.Core.Path.{◌≡◌, refl, sym, ap, ◌∙◌}
 use Rattle.rules.specs.Store.{Store, sound}
-use Rattle.rules.specs.Fragments.{op, fragment_ops, defines_blocks, Premise}
-use Rattle.rules.specs.Shells.{Ignore}
+use Rattle.rules.specs.Fragments.{fragment_ops, defines_blocks, Premise}
+use Rattle.rules.specs.declared.types.Sort.TheVariants.{Op as op}
+use Rattle.rules.specs.declared.types.Ignore.{Ignore}
 use Rattle.rules.specs.Mapping.{image}
 use Rattle.rules.specs.Laws.{In, Equal, LawsOfSound}
 use Rattle.rules.specs.MappingLaws.{Table, values, blocks, ops, table_of, defines_of, Backwards, MappingLaws, MappingLawsOfSound}

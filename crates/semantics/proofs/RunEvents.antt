@@ -3,13 +3,18 @@
 use Prim.Native.Nat.{ℕ, ◌+◌}
 use mathlib.Core.Bool.{Bool, true, false, cond, ◌&&◌}
 use mathlib.Core.List.{List, [], ◌∷◌, ◌++◌}
-use mathlib.Core.Option.{Option, none, some, some-injective, none-ne-some}
+use Rattle.std.specs.Prelude.{Option, None, Some}
+use Rattle.std.proofs.lemmas.Option.{same_Some, none-some}
 use mathlib.Core.Path.{◌≡◌, refl, sym, ap, ap₂, subst, ◌∙◌}
 use lib.ListN.{length, get_or, length-append}
-use Rattle.rules.specs.Lists.{concat_map}
-use Rattle.rules.specs.Store.{Store, Owner, of_op, regions_of}
-use Rattle.rules.specs.Fragments.{op, block, region, levels, shell, names, counted, block_owner, op_owner}
-use Rattle.rules.specs.Shells.{Ignore, counts_of, same_shells}
+use Rattle.std.specs.List.{flat_map}
+use Rattle.rules.specs.Store.{Store, regions_of}
+use Rattle.rules.specs.declared.types.Owner.{Owner}
+use Rattle.rules.specs.declared.types.Owner.TheVariants.{Op as of_op}
+use Rattle.rules.specs.Fragments.{levels, shell, names, counted, block_owner, op_owner}
+use Rattle.rules.specs.declared.types.Sort.TheVariants.{Op as op, Block as block, Region as region}
+use Rattle.rules.specs.Shells.{counts_of, same_shells}
+use Rattle.rules.specs.declared.types.Ignore.{Ignore}
 use Rattle.rules.specs.Mapping.{enter_all, empty_mapping}
 use Rattle.rules.specs.Comparison.{State, Walk, on, ended, unequal, ◌>>=◌, each_pair, pairwise, pair_of, expect, pair_ops, enter_ops, operands_agree, successors_agree, check_names, check_ops, compare_regions, compare_by, start}
 use Rattle.rules.specs.MappingLaws.{Table, values, blocks, ops, table_of}
@@ -46,31 +51,31 @@ module _ (s : Store) where
 
     -- ---- a pass over what is put together
 
-    lock_append : (e e' E E' : List Event) (st st₁ : State) → L e e' st ≡ some st₁ → L (e ++ E) (e' ++ E') st ≡ L E E' st₁
+    lock_append : (e e' E E' : List Event) (st st₁ : State) → L e e' st ≡ Some st₁ → L (e ++ E) (e' ++ E') st ≡ L E E' st₁
     unfolding lock
-    lock_append [] [] E E' st st₁ h = ap (L E E') (some-injective st st₁ h)
-    lock_append [] (y ∷ e') E E' st st₁ h = absurd (none-ne-some st₁ h)
-    lock_append (x ∷ e) [] E E' st st₁ h = absurd (none-ne-some st₁ h)
+    lock_append [] [] E E' st st₁ h = ap (L E E') (same_Some st st₁ h)
+    lock_append [] (y ∷ e') E E' st st₁ h = absurd (none-some st₁ h)
+    lock_append (x ∷ e) [] E E' st st₁ h = absurd (none-some st₁ h)
     lock_append (x ∷ e) (y ∷ e') E E' st st₁ h = go (meet s ig x y st) (λ st₂ q. lock_append e e' E E' st₂ st₁ q) h
       where
-        go : (o : Option State) → ((st₂ : State) → L e e' st₂ ≡ some st₁ → L (e ++ E) (e' ++ E') st₂ ≡ L E E' st₁)
-            → and_then o (L e e') ≡ some st₁ → and_then o (L (e ++ E) (e' ++ E')) ≡ L E E' st₁
-        go none rest q = absurd (none-ne-some st₁ q)
-        go (some st₂) rest q = rest st₂ q
+        go : (o : Option State) → ((st₂ : State) → L e e' st₂ ≡ Some st₁ → L (e ++ E) (e' ++ E') st₂ ≡ L E E' st₁)
+            → and_then o (L e e') ≡ Some st₁ → and_then o (L (e ++ E) (e' ++ E')) ≡ L E E' st₁
+        go None rest q = absurd (none-some st₁ q)
+        go (Some st₂) rest q = rest st₂ q
 
     -- lists of one length, by what each pair comes to
     each_lock : (f : ℕ → ℕ → State → Walk) (ev : ℕ → List Event) (Q : ℕ → ℕ → Type 0)
-        → ((l r : ℕ) → Q l r → (st st₁ : State) → f l r st ≡ on st₁ → L (ev l) (ev r) st ≡ some st₁)
-        → (ls rs : List ℕ) → Pairs Q ls rs → (st st₁ : State) → each_pair f ls rs st ≡ on st₁ → L (list_events ev ls) (list_events ev rs) st ≡ some st₁
+        → ((l r : ℕ) → Q l r → (st st₁ : State) → f l r st ≡ on st₁ → L (ev l) (ev r) st ≡ Some st₁)
+        → (ls rs : List ℕ) → Pairs Q ls rs → (st st₁ : State) → each_pair f ls rs st ≡ on st₁ → L (list_events ev ls) (list_events ev rs) st ≡ Some st₁
     unfolding each_pair list_events lock meet
-    each_lock f ev Q item [] [] q st st₁ h = let e : st ≡ st₁ = cc in ap some e
+    each_lock f ev Q item [] [] q st st₁ h = let e : st ≡ st₁ = cc in ap Some e
     each_lock f ev Q item [] (r ∷ rs) q st st₁ h = absurd q
     each_lock f ev Q item (l ∷ ls) [] q st st₁ h = absurd q
     each_lock f ev Q item (l ∷ ls) (r ∷ rs) q st st₁ h = go (f l r st) refl (λ st₂ k. each_lock f ev Q item ls rs q.1 st₂ st₁ k) h
       where
         go : (w : Walk) → f l r st ≡ w
-            → ((st₂ : State) → each_pair f ls rs st₂ ≡ on st₁ → L (list_events ev ls) (list_events ev rs) st₂ ≡ some st₁)
-            → w >>= each_pair f ls rs ≡ on st₁ → L (ev l ++ list_events ev ls) (ev r ++ list_events ev rs) st ≡ some st₁
+            → ((st₂ : State) → each_pair f ls rs st₂ ≡ on st₁ → L (list_events ev ls) (list_events ev rs) st₂ ≡ Some st₁)
+            → w >>= each_pair f ls rs ≡ on st₁ → L (ev l ++ list_events ev ls) (ev r ++ list_events ev rs) st ≡ Some st₁
         go (on st₂) e rest k = lock_append (ev l) (ev r) (list_events ev ls) (list_events ev rs) st st₂ (item l r q.0 st st₂ e) ∙ rest st₂ k
         go (ended why st₂) e rest k = impossible cc
 
@@ -87,20 +92,20 @@ module _ (s : Store) where
         go true q = refl
         go false q = impossible cc
 
-    shell_lock : (l r : ℕ) → SameShells l r → (st st₁ : State) → pair_ops s ig l r st ≡ on st₁ → L (one_shell l) (one_shell r) st ≡ some st₁
+    shell_lock : (l r : ℕ) → SameShells l r → (st st₁ : State) → pair_ops s ig l r st ≡ on st₁ → L (one_shell l) (one_shell r) st ≡ Some st₁
     unfolding pair_ops expect lock meet enter_owners enter_ops block_owner op_owner enter_all
     shell_lock l r q st st₁ h =
         let k : on (enter_ops s l r st) ≡ on st₁ = rw q at h in
         let e : enter_ops s l r st ≡ st₁ = cc in
-        rw q (ap some e)
+        rw q (ap Some e)
 
     region_lock : (l r : ℕ) → Unit {0} → (st st₁ : State) → compare_regions levels s ig l r st ≡ on st₁
-        → L (region_events s levels l) (region_events s levels r) st ≡ some st₁
+        → L (region_events s levels l) (region_events s levels r) st ≡ Some st₁
     unfolding compare_by events
     region_lock l r q st st₁ h = sym (lock_step s ig region l r st) ∙ ap going h
 
     full_lock : (l r : ℕ) → SameShells l r → (st st₁ : State) → check_ops s (compare_regions levels s ig) l r st ≡ on st₁
-        → L (full_events l) (full_events r) st ≡ some st₁
+        → L (full_events l) (full_events r) st ≡ Some st₁
     unfolding check_ops check_names expect op_events lock meet names_agree counts_of
     full_lock l r q st st₁ h = go (operands_agree s st.mapping l r && successors_agree s st.mapping l r) refl h
       where
@@ -109,7 +114,7 @@ module _ (s : Store) where
 
         go : (b : Bool) → (operands_agree s st.mapping l r && successors_agree s st.mapping l r) ≡ b
             → cond b (on st) (ended (unequal (pair_of op l r)) st) >>= each_pair (compare_regions levels s ig) (regions_of s l) (regions_of s r) ≡ on st₁
-            → L (full_events l) (full_events r) st ≡ some st₁
+            → L (full_events l) (full_events r) st ≡ Some st₁
         go true e k =
             rw (and_both _ _ ((numbers_same (counts_of s (of_op l)) (counts_of s (of_op r))).1 counts) e)
             (each_lock (compare_regions levels s ig) (region_events s levels) (λ (x y : ℕ). Unit {0}) region_lock (regions_of s l) (regions_of s r)
@@ -119,12 +124,12 @@ module _ (s : Store) where
     -- ---- the whole
 
     pub run_lock : (b : ℕ) (ls rs : List ℕ) (st₁ : State) → compare_runs s ig b ls rs ≡ on st₁
-        → L (run_events ls) (run_events rs) (start empty_mapping) ≡ some st₁
+        → L (run_events ls) (run_events rs) (start empty_mapping) ≡ Some st₁
     unfolding compare_runs
     run_lock b ls rs st₁ h = go (pairwise (pair_ops s ig) (pair_of block b b) ls rs (start empty_mapping)) refl h
       where
         go : (w : Walk) → pairwise (pair_ops s ig) (pair_of block b b) ls rs (start empty_mapping) ≡ w
-            → w >>= each_pair (check_ops s (compare_regions levels s ig)) ls rs ≡ on st₁ → L (run_events ls) (run_events rs) (start empty_mapping) ≡ some st₁
+            → w >>= each_pair (check_ops s (compare_regions levels s ig)) ls rs ≡ on st₁ → L (run_events ls) (run_events rs) (start empty_mapping) ≡ Some st₁
         go (on st₂) e k =
             let q = gained (pair_ops s ig) (pair_of block b b) SameShells shells_paired ls rs (start empty_mapping) st₂ e in
             let same = testing (pair_ops s ig) (pair_ops s ig) (pair_of block b b) SameShells (λ l r i st. refl) ls rs q (start empty_mapping) in
@@ -139,11 +144,11 @@ module _ (s : Store) where
       pub made : table_of st₁.mapping t ≡ enter_all xs ys (table_of st.mapping t)
       pub lengths : length xs ≡ length ys
 
-    nothing : (t : Table) (e e' : Event) (st st₁ : State) → event_defines t e ≡ [] → event_defines t e' ≡ [] → some st ≡ some st₁
+    nothing : (t : Table) (e e' : Event) (st st₁ : State) → event_defines t e ≡ [] → event_defines t e' ≡ [] → Some st ≡ Some st₁
         → Entered t st st₁ (event_defines t e) (event_defines t e')
     unfolding enter_all
     nothing t e e' st st₁ p q h =
-        rw (p, q) (record { made = ap (λ (x : State). table_of x.mapping t) (sym (some-injective st st₁ h)); lengths = refl })
+        rw (p, q) (record { made = ap (λ (x : State). table_of x.mapping t) (sym (same_Some st st₁ h)); lengths = refl })
 
     owner_entered : (t : Table) (l r : Owner) (st : State) → same_shells s ig l r ≡ true
         → Entered t st (enter_owners s l r st) (event_defines t (step (shell l))) (event_defines t (step (shell r)))
@@ -176,58 +181,58 @@ module _ (s : Store) where
     done_defines blocks = refl
     done_defines ops = refl
 
-    entered_one : (t : Table) (e e' : Event) (st st₁ : State) → meet s ig e e' st ≡ some st₁ → Entered t st st₁ (event_defines t e) (event_defines t e')
+    entered_one : (t : Table) (e e' : Event) (st st₁ : State) → meet s ig e e' st ≡ Some st₁ → Entered t st st₁ (event_defines t e) (event_defines t e')
     unfolding meet
     entered_one t (step (shell l)) (step (shell r)) st st₁ h = go (same_shells s ig l r) refl h
       where
-        go : (b : Bool) → same_shells s ig l r ≡ b → cond b (some (enter_owners s l r st)) none ≡ some st₁
+        go : (b : Bool) → same_shells s ig l r ≡ b → cond b (Some (enter_owners s l r st)) None ≡ Some st₁
             → Entered t st st₁ (event_defines t (step (shell l))) (event_defines t (step (shell r)))
         go true e k =
             subst (λ (x : State). Entered t st x (event_defines t (step (shell l))) (event_defines t (step (shell r))))
-            (some-injective (enter_owners s l r st) st₁ k) (owner_entered t l r st e)
-        go false e k = absurd (none-ne-some st₁ k)
+            (same_Some (enter_owners s l r st) st₁ k) (owner_entered t l r st e)
+        go false e k = absurd (none-some st₁ k)
     entered_one t (step (names l)) (step (names r)) st st₁ h = go (names_agree s l r st) h
       where
-        go : (b : Bool) → cond b (some st) none ≡ some st₁ → Entered t st st₁ (event_defines t (step (names l))) (event_defines t (step (names r)))
+        go : (b : Bool) → cond b (Some st) None ≡ Some st₁ → Entered t st st₁ (event_defines t (step (names l))) (event_defines t (step (names r)))
         go true k = nothing t (step (names l)) (step (names r)) st st₁ (names_define t l) (names_define t r) k
-        go false k = absurd (none-ne-some st₁ k)
+        go false k = absurd (none-some st₁ k)
     entered_one t (step (counted i)) (step (counted j)) st st₁ h =
         nothing t (step (counted i)) (step (counted j)) st st₁ (counts_define t i) (counts_define t j) h
     entered_one t more more st st₁ h = nothing t more more st st₁ (more_defines t) (more_defines t) h
     entered_one t done done st st₁ h = nothing t done done st st₁ (done_defines t) (done_defines t) h
-    entered_one t (step (shell l)) (step (names r)) st st₁ h = absurd (none-ne-some st₁ h)
-    entered_one t (step (shell l)) (step (counted j)) st st₁ h = absurd (none-ne-some st₁ h)
-    entered_one t (step (names l)) (step (shell r)) st st₁ h = absurd (none-ne-some st₁ h)
-    entered_one t (step (names l)) (step (counted j)) st st₁ h = absurd (none-ne-some st₁ h)
-    entered_one t (step (counted j)) (step (shell r)) st st₁ h = absurd (none-ne-some st₁ h)
-    entered_one t (step (counted j)) (step (names r)) st st₁ h = absurd (none-ne-some st₁ h)
-    entered_one t (step x) more st st₁ h = absurd (none-ne-some st₁ h)
-    entered_one t (step x) done st st₁ h = absurd (none-ne-some st₁ h)
-    entered_one t more (step y) st st₁ h = absurd (none-ne-some st₁ h)
-    entered_one t more done st st₁ h = absurd (none-ne-some st₁ h)
-    entered_one t done (step y) st st₁ h = absurd (none-ne-some st₁ h)
-    entered_one t done more st st₁ h = absurd (none-ne-some st₁ h)
+    entered_one t (step (shell l)) (step (names r)) st st₁ h = absurd (none-some st₁ h)
+    entered_one t (step (shell l)) (step (counted j)) st st₁ h = absurd (none-some st₁ h)
+    entered_one t (step (names l)) (step (shell r)) st st₁ h = absurd (none-some st₁ h)
+    entered_one t (step (names l)) (step (counted j)) st st₁ h = absurd (none-some st₁ h)
+    entered_one t (step (counted j)) (step (shell r)) st st₁ h = absurd (none-some st₁ h)
+    entered_one t (step (counted j)) (step (names r)) st st₁ h = absurd (none-some st₁ h)
+    entered_one t (step x) more st st₁ h = absurd (none-some st₁ h)
+    entered_one t (step x) done st st₁ h = absurd (none-some st₁ h)
+    entered_one t more (step y) st st₁ h = absurd (none-some st₁ h)
+    entered_one t more done st st₁ h = absurd (none-some st₁ h)
+    entered_one t done (step y) st st₁ h = absurd (none-some st₁ h)
+    entered_one t done more st st₁ h = absurd (none-some st₁ h)
 
-    pub entered_all : (t : Table) (es es' : List Event) (st st₁ : State) → L es es' st ≡ some st₁
-        → Entered t st st₁ (concat_map (event_defines t) es) (concat_map (event_defines t) es')
-    unfolding lock concat_map enter_all
-    entered_all t [] [] st st₁ h = record { made = ap (λ (x : State). table_of x.mapping t) (sym (some-injective st st₁ h)); lengths = refl }
-    entered_all t [] (y ∷ es') st st₁ h = absurd (none-ne-some st₁ h)
-    entered_all t (x ∷ es) [] st st₁ h = absurd (none-ne-some st₁ h)
+    pub entered_all : (t : Table) (es es' : List Event) (st st₁ : State) → L es es' st ≡ Some st₁
+        → Entered t st st₁ (flat_map (event_defines t) es) (flat_map (event_defines t) es')
+    unfolding lock enter_all
+    entered_all t [] [] st st₁ h = record { made = ap (λ (x : State). table_of x.mapping t) (sym (same_Some st st₁ h)); lengths = refl }
+    entered_all t [] (y ∷ es') st st₁ h = absurd (none-some st₁ h)
+    entered_all t (x ∷ es) [] st st₁ h = absurd (none-some st₁ h)
     entered_all t (x ∷ es) (y ∷ es') st st₁ h = go (meet s ig x y st) refl (λ st₂ q. entered_all t es es' st₂ st₁ q) h
       where
         go : (o : Option State) → meet s ig x y st ≡ o
-            → ((st₂ : State) → L es es' st₂ ≡ some st₁ → Entered t st₂ st₁ (concat_map (event_defines t) es) (concat_map (event_defines t) es'))
-            → and_then o (L es es') ≡ some st₁
-            → Entered t st st₁ (event_defines t x ++ concat_map (event_defines t) es) (event_defines t y ++ concat_map (event_defines t) es')
-        go none e rest q = absurd (none-ne-some st₁ q)
-        go (some st₂) e rest q =
+            → ((st₂ : State) → L es es' st₂ ≡ Some st₁ → Entered t st₂ st₁ (flat_map (event_defines t) es) (flat_map (event_defines t) es'))
+            → and_then o (L es es') ≡ Some st₁
+            → Entered t st st₁ (event_defines t x ++ flat_map (event_defines t) es) (event_defines t y ++ flat_map (event_defines t) es')
+        go None e rest q = absurd (none-some st₁ q)
+        go (Some st₂) e rest q =
             let a = entered_one t x y st st₂ e in
             let b = rest st₂ q in
             record {
               made =
                   b.made
-                  ∙ ap (enter_all (concat_map (event_defines t) es) (concat_map (event_defines t) es')) a.made
-                  ∙ sym (enter_append (event_defines t x) (event_defines t y) (concat_map (event_defines t) es) (concat_map (event_defines t) es') (table_of st.mapping t) a.lengths);
+                  ∙ ap (enter_all (flat_map (event_defines t) es) (flat_map (event_defines t) es')) a.made
+                  ∙ sym (enter_append (event_defines t x) (event_defines t y) (flat_map (event_defines t) es) (flat_map (event_defines t) es') (table_of st.mapping t) a.lengths);
               lengths = simp length-append (ap₂ ◌+◌ a.lengths b.lengths);
             }

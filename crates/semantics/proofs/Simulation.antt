@@ -4,11 +4,11 @@ use Prim.Native.Nat.{ℕ, zero, suc}
 use mathlib.Core.Bool.{Bool, true, false, cond}
 use mathlib.Core.List.{List, [], ◌∷◌, map, map-map, Memᴰ}
 use mathlib.Core.Logic.{◌⊎◌, inl, inr}
-use mathlib.Core.Option.{Option, none, some}
+use Rattle.std.specs.Prelude.{Option, None, Some}
 use mathlib.Core.Path.{◌≡◌, refl, sym, ap, subst, ◌∙◌}
 use borrow.Author.Tests.{eqb-true, eqb-false, ne_eqb, eq-eqb}
 use lib.Dec.{eqb}
-use Rattle.rules.specs.Lists.{any}
+use Rattle.std.specs.List.{list_any}
 use Rattle.rules.specs.Mapping.{Mapping, image}
 use Rattle.rules.specs.MappingLaws.{Bijection}
 use Rattle.rules.proofs.Basics.Filtered.{any_where}
@@ -79,9 +79,9 @@ module _ (C D : Code) (m : Mapping) (VA VB BA BB OA : List ℕ) where
     unfolding write
     held_write [] ds R S sub h = h
     held_write (v ∷ vs) [] R S sub h =
-        held_write vs [] (put v none R) (put (image m.values v) none S) (λ u k. sub u (Memᴰ.tail k)) (held_put v none R S (sub v (Memᴰ.head refl)) h)
+        held_write vs [] (put v None R) (put (image m.values v) None S) (λ u k. sub u (Memᴰ.tail k)) (held_put v None R S (sub v (Memᴰ.head refl)) h)
     held_write (v ∷ vs) (d ∷ ds) R S sub h =
-        held_write vs ds (put v (some d) R) (put (image m.values v) (some d) S) (λ u k. sub u (Memᴰ.tail k)) (held_put v (some d) R S (sub v (Memᴰ.head refl)) h)
+        held_write vs ds (put v (Some d) R) (put (image m.values v) (Some d) S) (λ u k. sub u (Memᴰ.tail k)) (held_put v (Some d) R S (sub v (Memᴰ.head refl)) h)
 
     -- what is named is read alike
     read_one : (R S : Registers Data) → Held R S → (v : ℕ) → Memᴰ v VA ⊎ (Memᴰ v VB → ⊥) → R v ≡ S (image m.values v)
@@ -156,9 +156,9 @@ module _ (C D : Code) (m : Mapping) (VA VB BA BB OA : List ℕ) where
     jumps_alike c ds [] q k = record { place = refl; in_a = tt }
     jumps_alike c ds (kept n x ∷ fs) q k = jumps_alike c ds fs q k.1
     jumps_alike c ds (behind bs ns ∷ fs) q k =
-        rw (any_image m.blocks BA BB g.of_blocks c bs k.0.0 q) (go (any (eqb c) bs) refl (jumps_alike c ds fs q k.1))
+        rw (any_image m.blocks BA BB g.of_blocks c bs k.0.0 q) (go (list_any (eqb c) bs) refl (jumps_alike c ds fs q k.1))
       where
-        go : (t : Bool) → any (eqb c) bs ≡ t → Stand (jumps M (image m.blocks c) ds (map frame fs)) (jumps M c ds fs)
+        go : (t : Bool) → list_any (eqb c) bs ≡ t → Stand (jumps M (image m.blocks c) ds (map frame fs)) (jumps M c ds fs)
             → Stand (cond t (arrives (images m.blocks bs) (image m.blocks c) ds (map frame fs)) (jumps M (image m.blocks c) ds (map frame fs)))
             (cond t (arrives bs c ds fs) (jumps M c ds fs))
         go true e rest =

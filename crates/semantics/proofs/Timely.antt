@@ -6,15 +6,20 @@ use mathlib.Core.Bool.{Bool, true, false, cond, not, ◌&&◌, ◌||◌}
 use mathlib.Core.List.Memᴰ
 use mathlib.Core.List.{List, [], ◌∷◌, ◌++◌, append_assoc, Memᴰ}
 use mathlib.Core.Logic.{◌⊎◌, inl, inr, ⊎_elim}
-use mathlib.Core.Option.{Option, none, some, none-ne-some}
+use Rattle.std.specs.Prelude.{Option, None, Some}
+use Rattle.std.proofs.lemmas.Option.{none-some}
 use mathlib.Core.Path.{◌≡◌, refl, sym, ap, subst, ◌∙◌}
 use borrow.Author.Tests.{eqb-true}
 use lib.Dec.{eqb}
 use lib.ListN.{length, get_or}
-use Rattle.rules.specs.Lists.{concat_map, all_pairs, same_list}
-use Rattle.rules.specs.Store.{Store, of_op, op_at, type_of, values_of}
-use Rattle.rules.specs.Fragments.{Sort, shell, names, counted, block_owner, step_operands, step_successors, defines_values, defines_blocks}
-use Rattle.rules.specs.Shells.{Ignore, counts_of}
+use Rattle.std.specs.List.{flat_map}
+use Rattle.rules.specs.Lists.{all_pairs, same_list}
+use Rattle.rules.specs.Store.{Store, op_at, type_of, values_of}
+use Rattle.rules.specs.declared.types.Owner.TheVariants.{Op as of_op}
+use Rattle.rules.specs.Fragments.{shell, names, counted, block_owner, step_operands, step_successors, defines_values, defines_blocks}
+use Rattle.rules.specs.declared.types.Sort.{Sort}
+use Rattle.rules.specs.Shells.{counts_of}
+use Rattle.rules.specs.declared.types.Ignore.{Ignore}
 use Rattle.rules.specs.Mapping.{Mapping, no_image, or_self, image}
 use Rattle.rules.specs.Comparison.{State, operands_agree, successors_agree}
 use Rattle.rules.specs.Hash.{Numbering, numbered}
@@ -44,8 +49,8 @@ module _ (s : Store) where
   -- what an event names is nothing that is still to come
   abbrev pub InTime : Event → List Event → Type 0
   InTime (step (names n)) es =
-      ((v : ℕ) → Memᴰ v (op_at s n).operands → Memᴰ v (concat_map (event_values s) es) → ⊥)
-      × ((c : ℕ) → Memᴰ c (op_at s n).successors → Memᴰ c (concat_map (event_blocks s) es) → ⊥)
+      ((v : ℕ) → Memᴰ v (op_at s n).operands → Memᴰ v (flat_map (event_values s) es) → ⊥)
+      × ((c : ℕ) → Memᴰ c (op_at s n).successors → Memᴰ c (flat_map (event_blocks s) es) → ⊥)
   InTime _ es = Unit {0}
 
   abbrev pub AllInTime : List Event → Type 0
@@ -61,7 +66,7 @@ module _ (s : Store) where
 
     timely_names : (st : State) (es es' : List Event) (l r : ℕ) → names_agree s l r st ≡ true → Course s ig m st (step (names l) ∷ es) (step (names r) ∷ es')
         → InTime (step (names l)) es
-    unfolding names_agree operands_agree successors_agree counts_of concat_map event_values event_blocks event_operands event_successors step_operands step_successors
+    unfolding names_agree operands_agree successors_agree counts_of event_values event_blocks event_operands event_successors step_operands step_successors
     timely_names st es es' l r h k =
         let counts : counts_of s (of_op l) ≡ counts_of s (of_op r) = (numbers_same (counts_of s (of_op l)) (counts_of s (of_op r))).0 (and_left _ _ h) in
         let agree : (operands_agree s st.mapping l r && successors_agree s st.mapping l r) ≡ true = and_right (same_list eqb (counts_of s (of_op l)) (counts_of s (of_op r))) _ h in
@@ -72,14 +77,14 @@ module _ (s : Store) where
           λ v i j.
               let w = found_pair (λ (a b : ℕ). eqb (image st.mapping.values a) b && eqb (type_of s a) (type_of s b)) xs ys (ap (λ (ns : List ℕ). get_or ns 3 0) counts) (and_left _ _ agree) i in
               let e : v ≡ w.0 = sym (free_self st.mapping.values v (k.values.free v j)) ∙ eqb-true (image st.mapping.values v) w.0 (and_left _ _ w.2) in
-              k.operands_out v (Memᴰ.append_left (concat_map (event_operands s) es') (subst (λ (x : ℕ). Memᴰ x ys) (sym e) w.1)) j,
+              k.operands_out v (Memᴰ.append_left (flat_map (event_operands s) es') (subst (λ (x : ℕ). Memᴰ x ys) (sym e) w.1)) j,
           λ c i j.
               let w = found_pair (λ (a b : ℕ). eqb (image st.mapping.blocks a) b) cs ds (ap (λ (ns : List ℕ). get_or ns 2 0) counts) (and_right (operands_agree s st.mapping l r) _ agree) i in
               let e : c ≡ w.0 = sym (free_self st.mapping.blocks c (k.blocks.free c j)) ∙ eqb-true (image st.mapping.blocks c) w.0 w.2 in
-              k.successors_out c (Memᴰ.append_left (concat_map (event_successors s) es') (subst (λ (x : ℕ). Memᴰ x ds) (sym e) w.1)) j,
+              k.successors_out c (Memᴰ.append_left (flat_map (event_successors s) es') (subst (λ (x : ℕ). Memᴰ x ds) (sym e) w.1)) j,
         )
 
-    timely_one : (st : State) (es es' : List Event) (e e' : Event) (st₁ : State) → meet s ig e e' st ≡ some st₁ → Course s ig m st (e ∷ es) (e' ∷ es') → InTime e es
+    timely_one : (st : State) (es es' : List Event) (e e' : Event) (st₁ : State) → meet s ig e e' st ≡ Some st₁ → Course s ig m st (e ∷ es) (e' ∷ es') → InTime e es
     unfolding meet
     timely_one st es es' (step (shell w)) e' st₁ h k = tt
     timely_one st es es' (step (counted j)) e' st₁ h k = tt
@@ -87,24 +92,24 @@ module _ (s : Store) where
     timely_one st es es' done e' st₁ h k = tt
     timely_one st es es' (step (names l)) (step (names r)) st₁ h k = go (names_agree s l r st) refl h
       where
-        go : (b : Bool) → names_agree s l r st ≡ b → cond b (some st) none ≡ some st₁ → InTime (step (names l)) es
+        go : (b : Bool) → names_agree s l r st ≡ b → cond b (Some st) None ≡ Some st₁ → InTime (step (names l)) es
         go true e q = timely_names st es es' l r e k
-        go false e q = absurd (none-ne-some st₁ q)
-    timely_one st es es' (step (names l)) (step (shell r)) st₁ h k = absurd (none-ne-some st₁ h)
-    timely_one st es es' (step (names l)) (step (counted j)) st₁ h k = absurd (none-ne-some st₁ h)
-    timely_one st es es' (step (names l)) more st₁ h k = absurd (none-ne-some st₁ h)
-    timely_one st es es' (step (names l)) done st₁ h k = absurd (none-ne-some st₁ h)
+        go false e q = absurd (none-some st₁ q)
+    timely_one st es es' (step (names l)) (step (shell r)) st₁ h k = absurd (none-some st₁ h)
+    timely_one st es es' (step (names l)) (step (counted j)) st₁ h k = absurd (none-some st₁ h)
+    timely_one st es es' (step (names l)) more st₁ h k = absurd (none-some st₁ h)
+    timely_one st es es' (step (names l)) done st₁ h k = absurd (none-some st₁ h)
 
-    pub timely : (es es' : List Event) (st st' : State) → lock s ig es es' st ≡ some st' → Course s ig m st es es' → AllInTime es
+    pub timely : (es es' : List Event) (st st' : State) → lock s ig es es' st ≡ Some st' → Course s ig m st es es' → AllInTime es
     unfolding lock
     timely [] es' st st' h k = tt
-    timely (e ∷ es) [] st st' h k = absurd (none-ne-some st' h)
+    timely (e ∷ es) [] st st' h k = absurd (none-some st' h)
     timely (e ∷ es) (e' ∷ es') st st' h k = go (meet s ig e e' st) refl (λ st₁ c q. timely es es' st₁ st' q c) h
       where
-        go : (o : Option State) → meet s ig e e' st ≡ o → ((st₁ : State) → Course s ig m st₁ es es' → lock s ig es es' st₁ ≡ some st' → AllInTime es)
-            → and_then o (lock s ig es es') ≡ some st' → InTime e es × AllInTime es
-        go none p rest q = absurd (none-ne-some st' q)
-        go (some st₁) p rest q = (timely_one st es es' e e' st₁ p k, rest st₁ (one s ig m st es es' e e' st₁ p k).1 q)
+        go : (o : Option State) → meet s ig e e' st ≡ o → ((st₁ : State) → Course s ig m st₁ es es' → lock s ig es es' st₁ ≡ Some st' → AllInTime es)
+            → and_then o (lock s ig es es') ≡ Some st' → InTime e es × AllInTime es
+        go None p rest q = absurd (none-some st' q)
+        go (Some st₁) p rest q = (timely_one st es es' e e' st₁ p k, rest st₁ (one s ig m st es es' e e' st₁ p k).1 q)
 
 -- ---- what the test says
 
@@ -132,15 +137,15 @@ numbered_or_out D N ns h v i =
 module _ (s : Store) (f : Sort) (a : ℕ) where
   -- what is numbered, and what is still to come, is what the fragment defines
   pub record Left (N : Numbering) (es : List Event) : Type 0 where
-    pub values : N.values ++ concat_map (event_values s) es ≡ defines_values s f a
-    pub blocks : N.blocks ++ concat_map (event_blocks s) es ≡ defines_blocks s f a
+    pub values : N.values ++ flat_map (event_values s) es ≡ defines_values s f a
+    pub blocks : N.blocks ++ flat_map (event_blocks s) es ≡ defines_blocks s f a
 
   pub left_next : (N : Numbering) (e : Event) (es : List Event) → Left N (e ∷ es) → Left (numbered_by s e N) es
-  unfolding numbered_by numbered concat_map event_values event_blocks
+  unfolding numbered_by numbered event_values event_blocks
   left_next N (step (shell w)) es r =
       record {
-        values = append_assoc N.values (values_of s w) (concat_map (event_values s) es) ∙ r.values;
-        blocks = append_assoc N.blocks (block_owner w) (concat_map (event_blocks s) es) ∙ r.blocks;
+        values = append_assoc N.values (values_of s w) (flat_map (event_values s) es) ∙ r.values;
+        blocks = append_assoc N.blocks (block_owner w) (flat_map (event_blocks s) es) ∙ r.blocks;
       }
   left_next N (step (names n)) es r = record { values = r.values; blocks = r.blocks }
   left_next N (step (counted k)) es r = record { values = r.values; blocks = r.blocks }
@@ -148,7 +153,7 @@ module _ (s : Store) (f : Sort) (a : ℕ) where
   left_next N done es r = record { values = r.values; blocks = r.blocks }
 
   pub in_time_numbered : (es : List Event) (N : Numbering) → Left N es → AllInTime s es → all_numbered s f a (bare_steps es) N ≡ true
-  unfolding all_numbered step_numbered bare_steps numbered_by numbered concat_map event_values event_blocks
+  unfolding all_numbered step_numbered bare_steps numbered_by numbered event_values event_blocks
   in_time_numbered [] N r t = refl
   in_time_numbered (step (shell w) ∷ es) N r t = in_time_numbered es (numbered s (shell w) N) (left_next N (step (shell w)) es r) t.1
   in_time_numbered (step (counted k) ∷ es) N r t = in_time_numbered es N (left_next N (step (counted k)) es r) t.1
@@ -159,6 +164,6 @@ module _ (s : Store) (f : Sort) (a : ℕ) where
       (numbered_names (defines_values s f a) N.values (op_at s n).operands && numbered_names (defines_blocks s f a) N.blocks (op_at s n).successors)
       (all_numbered s f a (bare_steps es) N)
       (and_both (numbered_names (defines_values s f a) N.values (op_at s n).operands) (numbered_names (defines_blocks s f a) N.blocks (op_at s n).successors)
-      (names_numbered (defines_values s f a) N.values (concat_map (event_values s) es) (op_at s n).operands r.values t.0.0)
-      (names_numbered (defines_blocks s f a) N.blocks (concat_map (event_blocks s) es) (op_at s n).successors r.blocks t.0.1))
+      (names_numbered (defines_values s f a) N.values (flat_map (event_values s) es) (op_at s n).operands r.values t.0.0)
+      (names_numbered (defines_blocks s f a) N.blocks (flat_map (event_blocks s) es) (op_at s n).successors r.blocks t.0.1))
       (in_time_numbered es N (left_next N (step (names n)) es r) t.1)

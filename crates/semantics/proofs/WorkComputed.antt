@@ -1,6 +1,6 @@
 -- The cases of runs, by computing. Assumes nothing.
 use mathlib.Core.Path.{refl}
-use Rattle.rules.specs.Lists.{every, sum, is_some, all, any, all_below, filter, numbers_from, numbers_where, update_at, all_pairs, same_list, concat_map, position, later, same_bool}
+use Rattle.rules.specs.Lists.{every, sum, all_below, numbers_from, numbers_where, update_at, all_pairs, same_list, position, later, same_bool}
 use Rattle.rules.specs.Store.{empty_store, op_at, block_at, value_at, type_of, same_owner, is_parent, ops_of, blocks_of, regions_of, values_of, results_of, arguments_of, op_exists, block_exists, region_exists, value_exists, owner_exists, parent_exists, parent_of, op_around, levels_left, nesting_holds, op_after, block_after, operand_total, successor_total, attribute_total, totals_hold, keys_rise, keys_rise_after, attributes_hold, op_holds, block_holds, sound, no_op, no_block, no_value}
 use Rattle.rules.specs.Fragments.{full_op, shells, list_steps, region_steps, steps, step_defines, op_owner, block_owner, step_operands, step_successors, fragment_ops, names_values, names_blocks, defines_owners, defines_values, defines_blocks}
 use Rattle.rules.specs.Building.{tests, operation_names, operation_fits, operation_room, block_room, first_failed, op_with_operand, values_for, applied, store_by, built, after}
@@ -21,7 +21,7 @@ use Rattle.semantics.specs.SameWork.{step_numbered, all_numbered, none_early}
 use Rattle.semantics.specs.WorkCases.{held, acts, told, counting, in_block, looping, form, runs, runs_in, crossed, late, crossed_runs, crossed_run, replaced_run, early, WorkCases}
 
 pub work_cases_hold : WorkCases
-unfolding every sum is_some all any all_below filter numbers_from numbers_where update_at all_pairs same_list concat_map position later same_bool empty_store op_at block_at value_at type_of same_owner is_parent ops_of blocks_of regions_of values_of results_of arguments_of op_exists block_exists region_exists value_exists owner_exists parent_exists parent_of op_around levels_left nesting_holds op_after block_after operand_total successor_total attribute_total totals_hold keys_rise keys_rise_after attributes_hold op_holds block_holds sound no_op no_block no_value full_op shells list_steps region_steps steps step_defines op_owner block_owner defines_owners defines_values defines_blocks tests operation_names operation_fits operation_room block_room first_failed op_with_operand values_for applied store_by built after ignored unignored unignored_location shell_of counts_of same_attribute same_location same_shells empty_mapping or_self image enter_all no_numbers numbered standing pairwise each_pair pair_of expect enter_ops pair_ops enter_blocks pair_blocks operands_agree successors_agree check_names check_ops pass1 pass2 pass3 compare_lists compare_regions compare_by start compare succeeds equal ignoring enclosing block_in has_place numbered_names operand_types_of own_fields put write entry_at leaves jumps jumps_to begins goes_on enters enters_region does run first run_code run_fragment run_ops run_of compare_runs same_runs crossed_runs crossed_run replaced all_replaced replaced_run filed fragment_ops step_numbered all_numbered none_early held acts told counting in_block looping form runs operation first_operand disjoint names_nothing_of independent step_operands step_successors names_values names_blocks runs_in crossed late early
+unfolding every sum all_below numbers_from numbers_where update_at all_pairs same_list position later same_bool empty_store op_at block_at value_at type_of same_owner is_parent ops_of blocks_of regions_of values_of results_of arguments_of op_exists block_exists region_exists value_exists owner_exists parent_exists parent_of op_around levels_left nesting_holds op_after block_after operand_total successor_total attribute_total totals_hold keys_rise keys_rise_after attributes_hold op_holds block_holds sound no_op no_block no_value full_op shells list_steps region_steps steps step_defines op_owner block_owner defines_owners defines_values defines_blocks tests operation_names operation_fits operation_room block_room first_failed op_with_operand values_for applied store_by built after ignored unignored unignored_location shell_of counts_of same_attribute same_location same_shells empty_mapping or_self image enter_all no_numbers numbered standing pairwise each_pair pair_of expect enter_ops pair_ops enter_blocks pair_blocks operands_agree successors_agree check_names check_ops pass1 pass2 pass3 compare_lists compare_regions compare_by start compare succeeds equal ignoring enclosing block_in has_place numbered_names operand_types_of own_fields put write entry_at leaves jumps jumps_to begins goes_on enters enters_region does run first run_code run_fragment run_ops run_of compare_runs same_runs crossed_runs crossed_run replaced all_replaced replaced_run filed fragment_ops step_numbered all_numbered none_early held acts told counting in_block looping form runs operation first_operand disjoint names_nothing_of independent step_operands step_successors names_values names_blocks runs_in crossed late early
 work_cases_hold =
     record {
       is_sound = refl;

@@ -2,10 +2,11 @@
 -- defines they do the same work, each as a list of operations by itself. Without that they may not (`WorkCases`, `crossed_runs`). All of it
 -- holds under every list of renamed types, since that store is sound too.
 use Rattle.std.specs.Prelude.{ℕ, true, List, ◌≡◌}
-use Rattle.rules.specs.Lists.{concat_map}
+use Rattle.std.specs.List.{flat_map}
 use Rattle.rules.specs.Store.{Store, ops_of, sound}
-use Rattle.rules.specs.Fragments.{op, block, defines_values, defines_blocks, names_values, names_blocks, Disjoint}
-use Rattle.rules.specs.Shells.{Ignore}
+use Rattle.rules.specs.Fragments.{defines_values, defines_blocks, names_values, names_blocks, Disjoint}
+use Rattle.rules.specs.declared.types.Sort.TheVariants.{Op as op, Block as block}
+use Rattle.rules.specs.declared.types.Ignore.{Ignore}
 use Rattle.rules.specs.Mapping.{Mapping}
 use Rattle.rules.specs.Comparison.{standing}
 use Rattle.rules.specs.Laws.{In}
@@ -16,15 +17,15 @@ use Rattle.semantics.specs.SameWork.{HoldAlike, RunsAlike}
 
 -- what these operations define and name, with all inside them
 abbrev pub all_values : Store → List ℕ → List ℕ
-all_values s ns = concat_map (defines_values s op) ns
+all_values s ns = flat_map (defines_values s op) ns
 
 abbrev pub all_blocks : Store → List ℕ → List ℕ
-all_blocks s ns = concat_map (defines_blocks s op) ns
+all_blocks s ns = flat_map (defines_blocks s op) ns
 
 -- the first name no value and no block that the second define
 pub record NameNothingOf (s : Store) (ls rs : List ℕ) : Type 0 where
-  pub values : Disjoint (concat_map (names_values s op) ls) (all_values s rs)
-  pub blocks : Disjoint (concat_map (names_blocks s op) ls) (all_blocks s rs)
+  pub values : Disjoint (flat_map (names_values s op) ls) (all_values s rs)
+  pub blocks : Disjoint (flat_map (names_blocks s op) ls) (all_blocks s rs)
 
 -- what the comparison of two runs leaves
 abbrev pub runs_mapping : Store → Ignore → ℕ → List ℕ → List ℕ → Mapping

@@ -1,9 +1,8 @@
 -- Copies and twins do the same work as what they are copies and twins of.
-use Rattle.std.specs.Prelude.{ℕ, true, List, length, ◌≡◌}
-use Rattle.std.proofs.Math.Option.{Option, some}
+use Rattle.std.specs.Prelude.{ℕ, true, List, length, ◌≡◌, Option, Some}
 use Rattle.rules.specs.Store.{Store, sound}
-use Rattle.rules.specs.Fragments.{op}
-use Rattle.rules.specs.Shells.{Ignore}
+use Rattle.rules.specs.declared.types.Sort.TheVariants.{Op as op}
+use Rattle.rules.specs.declared.types.Ignore.{Ignore}
 use Rattle.rules.specs.Types.{renamed}
 use Rattle.rules.specs.Laws.{In}
 use Rattle.rules.specs.MappingLaws.{filed}
@@ -23,5 +22,5 @@ module _ (Data World Mind : Type 0) where
   -- an operation's twin does the same work as it, by the mapping that the comparison leaves with the twin on the left
   unfoldable pub TwinWork : Type 0
   TwinWork =
-      (s : Store) → sound s ≡ true → (types : List ℕ) (ig : Ignore) (n m : ℕ) → In s op n → twin_of (renamed types s) ig n ≡ some m
+      (s : Store) → sound s ≡ true → (types : List ℕ) (ig : Ignore) (n m : ℕ) → In s op n → twin_of (renamed types s) ig n ≡ Some m
       → WorkAlike Data World Mind (renamed types s) ig op m n (filed (renamed types s) ig op m n)

@@ -3,9 +3,12 @@
 -- read, only what is in them.
 use Rattle.std.specs.Prelude.{ℕ, List, ◌≡◌, map}
 use mathlib.Core.List.{Memᴰ}
-use Rattle.rules.specs.Store.{Store, of_op, of_block, op_at, ops_of, blocks_of, regions_of, results_of, arguments_of}
-use Rattle.rules.specs.Fragments.{Sort, op, block, region, defines_blocks, fragment_ops}
-use Rattle.rules.specs.Shells.{Ignore}
+use Rattle.rules.specs.Store.{Store, op_at, ops_of, blocks_of, regions_of, results_of, arguments_of}
+use Rattle.rules.specs.declared.types.Owner.TheVariants.{Op as of_op, Block as of_block}
+use Rattle.rules.specs.Fragments.{defines_blocks, fragment_ops}
+use Rattle.rules.specs.declared.types.Sort.{Sort}
+use Rattle.rules.specs.declared.types.Sort.TheVariants.{Op as op, Block as block, Region as region}
+use Rattle.rules.specs.declared.types.Ignore.{Ignore}
 use Rattle.rules.specs.Mapping.{Mapping, image}
 use Rattle.rules.specs.MappingLaws.{Table, table_of, defines_of, Bijection}
 use Rattle.semantics.specs.Meaning.{own_fields}

@@ -1,12 +1,13 @@
 -- Running a fragment by a meaning. Values are registers. What an operation or a block is comes in only through the meaning; what the store
 -- adds is where control and data go: operands and results, successors, regions, the order of blocks and operations. That is a store's code;
 -- a machine is given no more of the store.
-use Rattle.std.specs.Prelude.{ℕ, zero, suc, cond, List, [], ◌∷◌, map, eqb}
-use Rattle.std.proofs.Math.Option.{Option, none, some}
-use Rattle.rules.specs.Lists.{any}
-use Rattle.rules.specs.Store.{Store, of_op, of_block, op_at, ops_of, blocks_of, regions_of, results_of, arguments_of}
-use Rattle.rules.specs.Fragments.{Sort, op, block, region}
-use Rattle.rules.specs.Shells.{Ignore}
+use Rattle.std.specs.Prelude.{ℕ, zero, suc, cond, List, [], ◌∷◌, map, eqb, Option, None, Some}
+use Rattle.std.specs.List.{list_any}
+use Rattle.rules.specs.Store.{Store, op_at, ops_of, blocks_of, regions_of, results_of, arguments_of}
+use Rattle.rules.specs.declared.types.Owner.TheVariants.{Op as of_op, Block as of_block}
+use Rattle.rules.specs.declared.types.Sort.{Sort}
+use Rattle.rules.specs.declared.types.Sort.TheVariants.{Op as op, Block as block, Region as region}
+use Rattle.rules.specs.declared.types.Ignore.{Ignore}
 use Rattle.semantics.specs.Meaning.{OwnFields, own_fields, Act, give, jump, leave, enter, Meaning}
 
 -- ---- code: what a run reads
@@ -48,8 +49,8 @@ put v x R u = cond (eqb u v) x (R u)
 -- data for these values, one each: nothing where there are fewer data, and data too many are dropped
 unfoldable pub write : {Data : Type 0} → List ℕ → List Data → Registers Data → Registers Data
 write [] ds R = R
-write (v ∷ vs) [] R = write vs [] (put v none R)
-write (v ∷ vs) (d ∷ ds) R = write vs ds (put v (some d) R)
+write (v ∷ vs) [] R = write vs [] (put v None R)
+write (v ∷ vs) (d ∷ ds) R = write vs ds (put v (Some d) R)
 
 -- ---- where a run stands
 
@@ -89,8 +90,8 @@ pub record Ran (Data World : Type 0) : Type 0 where
 
 -- the entry at a place, if there is one
 unfoldable pub entry_at : {A : Type 0} → List A → ℕ → Option A
-entry_at [] i = none
-entry_at (x ∷ xs) zero = some x
+entry_at [] i = None
+entry_at (x ∷ xs) zero = Some x
 entry_at (x ∷ xs) (suc i) = entry_at xs i
 
 module _ {Data World Mind : Type 0} (M : Meaning Data World Mind) where
@@ -98,17 +99,17 @@ module _ {Data World Mind : Type 0} (M : Meaning Data World Mind) where
   unfoldable pub leaves : List Data → List (Frame Mind) → Now Data Mind
   leaves ds [] = ended (left ds)
   leaves ds (behind bs ns ∷ fs) = leaves ds fs
-  leaves ds (kept n m ∷ fs) = works n (M.resume m (some ds)) fs
+  leaves ds (kept n m ∷ fs) = works n (M.resume m (Some ds)) fs
 
   -- a jump goes to the innermost list of blocks that has the block, and ends what is inside that list
   unfoldable pub jumps : ℕ → List Data → List (Frame Mind) → Now Data Mind
   jumps b ds [] = ended (jumped b ds)
-  jumps b ds (behind bs ns ∷ fs) = cond (any (eqb b) bs) (arrives bs b ds fs) (jumps b ds fs)
+  jumps b ds (behind bs ns ∷ fs) = cond (list_any (eqb b) bs) (arrives bs b ds fs) (jumps b ds fs)
   jumps b ds (kept n m ∷ fs) = jumps b ds fs
 
   unfoldable pub jumps_to : Option ℕ → List Data → List (Frame Mind) → Now Data Mind
-  jumps_to none ds fs = ended stuck
-  jumps_to (some b) ds fs = jumps b ds fs
+  jumps_to None ds fs = ended stuck
+  jumps_to (Some b) ds fs = jumps b ds fs
 
   module _ (C : Code) where
     -- an operation begins, with what its operands hold
@@ -120,7 +121,7 @@ module _ {Data World Mind : Type 0} (M : Meaning Data World Mind) where
     goes_on [] R = ended passed
     goes_on (behind bs [] ∷ fs) R = goes_on fs R
     goes_on (behind bs (n ∷ ns) ∷ fs) R = begins n (behind bs ns ∷ fs) R
-    goes_on (kept n m ∷ fs) R = works n (M.resume m none) fs
+    goes_on (kept n m ∷ fs) R = works n (M.resume m None) fs
 
     -- a list of blocks is entered at its first block
     unfoldable pub enters : List ℕ → List Data → List (Frame Mind) → Registers Data → Now Data Mind
@@ -128,8 +129,8 @@ module _ {Data World Mind : Type 0} (M : Meaning Data World Mind) where
     enters (b ∷ bs) ds fs R = arrives (b ∷ bs) b ds fs
 
     unfoldable pub enters_region : Option (List ℕ) → List Data → List (Frame Mind) → Registers Data → Now Data Mind
-    enters_region none ds fs R = ended stuck
-    enters_region (some bs) ds fs R = enters bs ds fs R
+    enters_region None ds fs R = ended stuck
+    enters_region (Some bs) ds fs R = enters bs ds fs R
 
     -- what an operation has chosen to do
     unfoldable pub does : Act Data Mind → ℕ → List (Frame Mind) → Registers Data → Now Data Mind × Registers Data

@@ -3,8 +3,10 @@
 -- there by the numbers of n's. All of it holds under every list of renamed types, since that store is sound too.
 use Rattle.std.specs.Prelude.{ℕ, true, cond, List, [], ◌∷◌, map, ◌≡◌}
 use Rattle.rules.specs.Store.{Store, sound}
-use Rattle.rules.specs.Fragments.{Sort, op, fragment_ops, defines_blocks, Premise}
-use Rattle.rules.specs.Shells.{Ignore}
+use Rattle.rules.specs.Fragments.{fragment_ops, defines_blocks, Premise}
+use Rattle.rules.specs.declared.types.Sort.{Sort}
+use Rattle.rules.specs.declared.types.Sort.TheVariants.{Op as op}
+use Rattle.rules.specs.declared.types.Ignore.{Ignore}
 use Rattle.rules.specs.Mapping.{Mapping, image}
 use Rattle.rules.specs.Laws.{In, Equal}
 use Rattle.rules.specs.MappingLaws.{filed}

@@ -1,10 +1,10 @@
 -- The law: equal fragments do the same work, whatever the operations mean, as long as a meaning depends only on what is compared.
-use Rattle.std.specs.Prelude.{ℕ, Bool, true, ◌&&◌, List, [], ◌∷◌, ◌↔◌, ◌≢◌, ◌≡◌}
-use Rattle.std.proofs.Math.Option.{none}
+use Rattle.std.specs.Prelude.{ℕ, Bool, true, ◌&&◌, List, [], ◌∷◌, ◌↔◌, ◌≢◌, ◌≡◌, None}
 use mathlib.Core.List.{Memᴰ}
 use Rattle.rules.specs.Store.{Store, op_at, sound}
-use Rattle.rules.specs.Fragments.{Sort, Step, shell, names, counted, steps, defines_values, defines_blocks, Premise}
-use Rattle.rules.specs.Shells.{Ignore}
+use Rattle.rules.specs.Fragments.{Step, shell, names, counted, steps, defines_values, defines_blocks, Premise}
+use Rattle.rules.specs.declared.types.Sort.{Sort}
+use Rattle.rules.specs.declared.types.Ignore.{Ignore}
 use Rattle.rules.specs.Mapping.{Mapping, image}
 use Rattle.rules.specs.Hash.{Numbering, no_numbers, numbered}
 use Rattle.rules.specs.Laws.{Equal, In}
@@ -37,7 +37,7 @@ HoldAlike m R vs = (v : ℕ) → Memᴰ v vs → R v ≡ R (image m.values v)
 
 -- registers that hold nothing
 abbrev pub HoldNothing : {Data : Type 0} → Registers Data → List ℕ → Type 0
-HoldNothing R vs = (v : ℕ) → Memᴰ v vs → R v ≡ none
+HoldNothing R vs = (v : ℕ) → Memᴰ v vs → R v ≡ None
 
 -- two runs, from the registers R and S, of what defines these values
 pub record RunsAlike {Data World : Type 0} (m : Mapping) (in_a in_b : List ℕ) (R S : Registers Data) (x y : Ran Data World) : Type 0 where

@@ -1,10 +1,10 @@
 -- A small meaning and what runs by it come to, so that neither meanings nor runs are empty words: there are runs that loop by a jump, enter
 -- a region twice, leave, fall, jump outwards, are stuck and are spent, and unequal fragments that end differently.
-use Rattle.std.specs.Prelude.{ℕ, zero, suc, ◌+◌, true, false, cond, List, [], ◌∷◌, ◌++◌, ◌≡◌, ltb, get_or}
-use Rattle.std.proofs.Math.Option.{Option, none, some}
+use Rattle.std.specs.Prelude.{ℕ, zero, suc, ◌+◌, true, false, cond, List, [], ◌∷◌, ◌++◌, ◌≡◌, ltb, get_or, Option, None, Some}
 use Rattle.rules.specs.Lists.{sum}
 use Rattle.rules.specs.Store.{Store, empty_store, sound}
-use Rattle.rules.specs.Fragments.{Sort, op, block, region}
+use Rattle.rules.specs.declared.types.Sort.{Sort}
+use Rattle.rules.specs.declared.types.Sort.TheVariants.{Op as op, Block as block, Region as region}
 use Rattle.rules.specs.Building.{Call, new_operation, after}
 use Rattle.rules.specs.Laws.{equal}
 use Rattle.rules.specs.Independence.{independent}
@@ -25,8 +25,8 @@ pub record Mind : Type 0 where
 
 unfoldable pub held : List (Option ℕ) → List ℕ
 held [] = []
-held (none ∷ xs) = held xs
-held (some x ∷ xs) = x ∷ held xs
+held (None ∷ xs) = held xs
+held (Some x ∷ xs) = x ∷ held xs
 
 -- kind 0 gives the world's count, 1 gives one more than the sum of its operands; 2 jumps to its first successor with its operands while the
 -- count is below 5, and then leaves with them; 3 enters its region twice, and gives what the region was left with; any other jumps to a
@@ -39,8 +39,8 @@ acts (suc (suc (suc zero))) ds t w = cond (ltb t 2) (enter 0 ds (record { kind =
 acts (suc (suc (suc (suc k)))) ds t w = jump 9 ds
 
 unfoldable pub told : Mind → Option (List ℕ) → Mind
-told m none = m
-told m (some ds) = record { kind = m.kind; data_held = ds; entered = m.entered }
+told m None = m
+told m (Some ds) = record { kind = m.kind; data_held = ds; entered = m.entered }
 
 unfoldable pub counting : Meaning ℕ ℕ Mind
 counting =
@@ -56,7 +56,7 @@ counting =
 -- an operation in block b, without regions
 unfoldable pub in_block : ℕ → ℕ → List ℕ → List ℕ → List ℕ → Call
 in_block b kind types operands successors =
-    new_operation (record { kind = kind; parent = some b; location = 0; regions = 0; types = types; operands = operands; successors = successors })
+    new_operation (record { kind = kind; parent = Some b; location = 0; regions = 0; types = types; operands = operands; successors = successors })
 
 -- an operation of kind 3; in its region a block with an argument v, in it one that adds 1 to v and one that jumps back with that or leaves
 unfoldable pub looping : ℕ → ℕ → List Call
@@ -72,12 +72,12 @@ unfoldable pub form : Store
 form = after empty_store (looping 0 0 ++ looping 1 2 ++ enclosing 3 1 [] ∷ enclosing 4 0 [] ∷ enclosing 0 0 [] ∷ [])
 
 unfoldable pub runs : Sort → ℕ → List ℕ → ℕ → Ran ℕ ℕ
-runs f n ds k = run_fragment counting form (ignoring false 0) f n ds (λ v. none) 0 k
+runs f n ds k = run_fragment counting form (ignoring false 0) f n ds (λ v. None) 0 k
 
 -- operation 0 with the code of operation 3 at its place
 unfoldable pub replaced_run : Ran ℕ ℕ
 replaced_run =
-    run_code counting form (all_replaced form (ignoring false 0) (record { place = 0; code = 3 } ∷ [])) op 0 [] (λ v. none) 0 100
+    run_code counting form (all_replaced form (ignoring false 0) (record { place = 0; code = 3 } ∷ [])) op 0 [] (λ v. None) 0 100
 
 -- ---- forms that show what the law asks
 
@@ -132,7 +132,7 @@ crossed_runs =
 
 -- some operations of its block, from registers that hold nothing
 unfoldable pub crossed_run : List ℕ → Ran ℕ ℕ
-crossed_run ns = run_ops counting crossed_runs (ignoring false 0) ns (λ v. none) 1 100
+crossed_run ns = run_ops counting crossed_runs (ignoring false 0) ns (λ v. None) 1 100
 
 -- operations 1 and 2 are isomorphic; each names the argument of the block inside it
 unfoldable pub early : Store
@@ -154,19 +154,19 @@ pub record WorkCases : Type 0 where
   pub twice_how : (runs op 0 [] 100).how ≡ passed
   pub twice_steps : (runs op 0 [] 100).steps ≡ 88
   pub twice_world : (runs op 0 [] 100).world ≡ 12
-  pub twice_argument : (runs op 0 [] 100).registers 0 ≡ some 2
-  pub twice_result : (runs op 0 [] 100).registers 1 ≡ some 3
+  pub twice_argument : (runs op 0 [] 100).registers 0 ≡ Some 2
+  pub twice_result : (runs op 0 [] 100).registers 1 ≡ Some 3
   -- its twin's registers are others
   pub twin_how : (runs op 3 [] 100).how ≡ passed
   pub twin_steps : (runs op 3 [] 100).steps ≡ 88
-  pub twin_result : (runs op 3 [] 100).registers 3 ≡ some 3
-  pub twin_other : (runs op 3 [] 100).registers 1 ≡ none
+  pub twin_result : (runs op 3 [] 100).registers 3 ≡ Some 3
+  pub twin_other : (runs op 3 [] 100).registers 1 ≡ None
   -- the region and the block by themselves are left, with data
   pub region_left : (runs region 0 (10 ∷ []) 100).how ≡ left (12 ∷ [])
   pub block_left : (runs block 0 (10 ∷ []) 100).how ≡ left (12 ∷ [])
   -- with the code of its twin at its place it runs as it did
   pub replaced_steps : replaced_run.steps ≡ 88
-  pub replaced_result : replaced_run.registers 1 ≡ some 3
+  pub replaced_result : replaced_run.registers 1 ≡ Some 3
   -- an operation by itself jumps outwards, and has nothing around it to go on
   pub jumps_out : (runs op 2 [] 100).how ≡ jumped 0 []
   -- a region without blocks has fallen at once, twice; by itself too, with no step made
@@ -186,17 +186,17 @@ pub record WorkCases : Type 0 where
   -- without the premise equal fragments may do other work
   pub crossed_equal : equal crossed (ignoring false 0) block 0 1 ≡ true
   pub crossed_dependent : independent crossed block 0 1 ≡ false
-  pub crossed_left : (runs_in crossed (λ v. none) block 0).registers 2 ≡ some 1
-  pub crossed_right : (runs_in crossed (λ v. none) block 1).registers 3 ≡ some 2
+  pub crossed_left : (runs_in crossed (λ v. None) block 0).registers 2 ≡ Some 1
+  pub crossed_right : (runs_in crossed (λ v. None) block 1).registers 3 ≡ Some 2
   -- and so they may from registers of which those of what the one defines don't hold what those of their images hold
   pub late_equal : equal late (ignoring false 0) block 0 1 ≡ true
   pub late_independent : independent late block 0 1 ≡ true
-  pub late_left : (runs_in late (λ v. some v) block 0).registers 1 ≡ some 3
-  pub late_right : (runs_in late (λ v. some v) block 1).registers 3 ≡ some 5
+  pub late_left : (runs_in late (λ v. Some v) block 0).registers 1 ≡ Some 3
+  pub late_right : (runs_in late (λ v. Some v) block 1).registers 3 ≡ Some 5
   -- equal runs of which one names what the other defines may do other work
   pub crossed_runs_equal : same_runs crossed_runs (ignoring false 0) 0 2 0 2 ≡ true
-  pub crossed_runs_left : (crossed_run (1 ∷ 2 ∷ [])).registers 1 ≡ some 1
-  pub crossed_runs_right : (crossed_run (3 ∷ 4 ∷ [])).registers 3 ≡ some 2
+  pub crossed_runs_left : (crossed_run (1 ∷ 2 ∷ [])).registers 1 ≡ Some 1
+  pub crossed_runs_right : (crossed_run (3 ∷ 4 ∷ [])).registers 3 ≡ Some 2
   -- early names: not equal, though isomorphic
   pub early_unequal : equal early (ignoring false 0) op 1 2 ≡ false
   pub early_independent : independent early op 1 2 ≡ true

@@ -2,7 +2,7 @@
 
 use core::fmt;
 
-use crate::ffi::{Sum, Verdict};
+use crate::ffi::{HashAnswer, Verdict};
 use crate::ids::{BlockId, Id, OpId, RegionId};
 use crate::mapping::Mapping;
 use crate::refused::Refused;
@@ -142,7 +142,7 @@ impl Verdict {
     }
 }
 
-impl Sum {
+impl HashAnswer {
     /// The hash.
     #[inline]
     pub(crate) fn result(self) -> Result<u64, Refused> {

@@ -1,4 +1,4 @@
-//! The C functions of `liblink.a`, as `crates/link` exports them and `include/warzhigo.h` declares them, and all unsafe code of this
+//! The C functions of `libwarzhigo_c.a`, as `crates/warzhigo_c` exports them and `include/warzhigo.h` declares them, and all unsafe code of this
 //! crate: [`lent`] has those that anything may be lent to, [`known`] those that ask for a sound store, an index of a list of types and an
 //! allowed mapping, whose words are in [`allowed`].
 //!
@@ -23,7 +23,7 @@ pub(crate) struct Verdict {
 /// What a hash answers. Code 0 is a hash, `word`; 1 is a refusal, and its cause is `cause`.
 #[repr(C)]
 #[derive(Clone, Copy)]
-pub(crate) struct Sum {
+pub(crate) struct HashAnswer {
     pub(crate) word: u64,
     pub(crate) code: u32,
     pub(crate) cause: u32,
@@ -148,12 +148,12 @@ unsafe extern "C" {
     fn wz_region_eq(store: *const u32, words: usize, types: *const u32, type_words: usize, mapping: *mut u32, entries: usize, lhs: u32, rhs: u32, locations: bool, bits: u64) -> Verdict;
     fn wz_known_region_eq(store: *const u32, words: usize, types: *const u32, type_words: usize, mapping: *mut u32, entries: usize, lhs: u32, rhs: u32, locations: bool, bits: u64) -> Verdict;
 
-    fn wz_operation_hash(store: *const u32, words: usize, types: *const u32, type_words: usize, n: u32, locations: bool, bits: u64) -> Sum;
-    fn wz_known_operation_hash(store: *const u32, words: usize, types: *const u32, type_words: usize, n: u32, locations: bool, bits: u64) -> Sum;
-    fn wz_basic_block_hash(store: *const u32, words: usize, types: *const u32, type_words: usize, n: u32, locations: bool, bits: u64) -> Sum;
-    fn wz_known_basic_block_hash(store: *const u32, words: usize, types: *const u32, type_words: usize, n: u32, locations: bool, bits: u64) -> Sum;
-    fn wz_region_hash(store: *const u32, words: usize, types: *const u32, type_words: usize, n: u32, locations: bool, bits: u64) -> Sum;
-    fn wz_known_region_hash(store: *const u32, words: usize, types: *const u32, type_words: usize, n: u32, locations: bool, bits: u64) -> Sum;
+    fn wz_operation_hash(store: *const u32, words: usize, types: *const u32, type_words: usize, n: u32, locations: bool, bits: u64) -> HashAnswer;
+    fn wz_known_operation_hash(store: *const u32, words: usize, types: *const u32, type_words: usize, n: u32, locations: bool, bits: u64) -> HashAnswer;
+    fn wz_basic_block_hash(store: *const u32, words: usize, types: *const u32, type_words: usize, n: u32, locations: bool, bits: u64) -> HashAnswer;
+    fn wz_known_basic_block_hash(store: *const u32, words: usize, types: *const u32, type_words: usize, n: u32, locations: bool, bits: u64) -> HashAnswer;
+    fn wz_region_hash(store: *const u32, words: usize, types: *const u32, type_words: usize, n: u32, locations: bool, bits: u64) -> HashAnswer;
+    fn wz_known_region_hash(store: *const u32, words: usize, types: *const u32, type_words: usize, n: u32, locations: bool, bits: u64) -> HashAnswer;
 
     fn wz_operation_key(store: *const u32, words: usize, types: *const u32, type_words: usize, key: *mut u8, room: usize, n: u32, locations: bool, bits: u64) -> KeyAnswer;
     fn wz_known_operation_key(store: *const u32, words: usize, types: *const u32, type_words: usize, key: *mut u8, room: usize, n: u32, locations: bool, bits: u64) -> KeyAnswer;

@@ -34,7 +34,7 @@
 //! - [`twins`] and [`sums`] answer the questions of a whole listing, and [`convert`] writes it in the other edition.
 //! - [`lent`] has every call on words of any origin.
 //!
-//! The calls are those of the static library `liblink.a`, whose functions are proved; this crate adds the types around them, and is tested.
+//! The calls are those of the static library `libwarzhigo_c.a`, whose functions are proved; this crate adds the types around them, and is tested.
 //! What a caller can mix up is an error: an id of another store, or of what has gone, names nothing (2); a mapping with entries of such isn't
 //! allowed (8).
 

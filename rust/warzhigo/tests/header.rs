@@ -7,7 +7,7 @@ use std::process::Command;
 fn a_c_program_links_and_runs() {
     let here = Path::new(env!("CARGO_MANIFEST_DIR"));
     let root = here.join("../..");
-    let library = std::env::var_os("WARZHIGO_LIB").map_or(root.join("crates/link/out"), PathBuf::from).join("liblink.a");
+    let library = std::env::var_os("WARZHIGO_LIB").map_or(root.join("crates/warzhigo_c/out"), PathBuf::from).join("libwarzhigo_c.a");
     let program = Path::new(env!("CARGO_TARGET_TMPDIR")).join("header");
     let compiled = Command::new("cc")
         .args(["-std=c99", "-Wall", "-Wextra", "-Werror", "-pedantic", "-I"])

@@ -1,4 +1,4 @@
-//! The crate `link`, the header and the Rust declarations have the same functions and structs: names, order and types.
+//! The crate `warzhigo_c`, the header and the Rust declarations have the same functions and structs: names, order and types.
 
 use std::collections::BTreeMap;
 
@@ -7,15 +7,15 @@ use warzhigo::Inherent;
 const HEADER: &str = include_str!("../../../include/warzhigo.h");
 const RUST: &str = include_str!("../src/ffi.rs");
 const RATTLE: [&str; 7] = [
-    include_str!("../../../crates/link/src/answers.rt"),
-    include_str!("../../../crates/link/src/groups.rt"),
-    include_str!("../../../crates/link/src/known.rt"),
-    include_str!("../../../crates/link/src/lengths.rt"),
-    include_str!("../../../crates/link/src/listings.rt"),
-    include_str!("../../../crates/link/src/offered.rt"),
-    include_str!("../../../crates/link/src/words.rt"),
+    include_str!("../../../crates/warzhigo_c/src/answers.rt"),
+    include_str!("../../../crates/warzhigo_c/src/groups.rt"),
+    include_str!("../../../crates/warzhigo_c/src/known.rt"),
+    include_str!("../../../crates/warzhigo_c/src/lengths.rt"),
+    include_str!("../../../crates/warzhigo_c/src/listings.rt"),
+    include_str!("../../../crates/warzhigo_c/src/offered.rt"),
+    include_str!("../../../crates/warzhigo_c/src/words.rt"),
 ];
-const RATTLE_ROOT: &str = include_str!("../../../crates/link/src/lib.rt");
+const RATTLE_ROOT: &str = include_str!("../../../crates/warzhigo_c/src/lib.rt");
 
 /// By name: a function's types, those of the parameters and last the result's; or a struct's fields, as `name: type`.
 type Declared = BTreeMap<String, Vec<String>>;
@@ -90,7 +90,7 @@ fn from_c(declaration: &str) -> (String, String) {
         "size_t" => "usize",
         "bool" => "bool",
         "wz_verdict" => "Verdict",
-        "wz_sum" => "Sum",
+        "wz_sum" => "HashAnswer",
         "wz_key_answer" => "KeyAnswer",
         "wz_extent_answer" => "ExtentAnswer",
         "wz_run_answer" => "RunAnswer",

@@ -9,14 +9,15 @@ use mathlib.Core.List.{List, [], ◌∷◌, ◌++◌, map, append-nil, Memᴰ}
 use mathlib.Core.Logic.{◌⊎◌, inl, inr}
 use mathlib.Core.Path.{◌≡◌, refl, ap, ◌∙◌}
 use lib.ListN.{length, get_or, set, replicate}
-use Rattle.rules.specs.Lists.{all, sum, numbers_from, numbers_where, update_at}
+use Rattle.std.specs.List.{list_all}
+use Rattle.rules.specs.Lists.{sum, numbers_from, numbers_where, update_at}
 use Rattle.rules.proofs.Basics.Tests.{and_left, and_right, and_both, all_at, all_of}
 
 cond_append : (b : Bool) (n : ℕ) (l x y : List ℕ) → l ≡ x ++ y → cond b (n ∷ l) l ≡ cond b (n ∷ x) x ++ y
 cond_append true n l x y e = cc
 cond_append false n l x y e = e
 
-module _ {ℓ} {A : Type ℓ} where
+module _ {A : Type 0} where
   -- ---- one after the other
 
   pub numbers_from_append : (n : ℕ) (p : A → Bool) (xs ys : List A) → numbers_from n p (xs ++ ys) ≡ numbers_from n p xs ++ numbers_from (n + length xs) p ys
@@ -45,7 +46,7 @@ module _ {ℓ} {A : Type ℓ} where
   unfolding numbers_where
   numbers_new p xs ys f h = rw (numbers_from_append 0 p xs ys, numbers_from_none 0 p xs f) (numbers_from_every (0 + length xs) p ys h)
 
-  pub all_append : (p : A → Bool) (xs ys : List A) → all p xs ≡ true → all p ys ≡ true → all p (xs ++ ys) ≡ true
+  pub all_append : (p : A → Bool) (xs ys : List A) → list_all p xs ≡ true → list_all p ys ≡ true → list_all p (xs ++ ys) ≡ true
   all_append p xs ys f h = all_of p (xs ++ ys) (λ x m. pick x (Memᴰ.append_cases xs m))
     where
       pick : (x : A) → Memᴰ x xs ⊎ Memᴰ x ys → p x ≡ true
@@ -53,7 +54,7 @@ module _ {ℓ} {A : Type ℓ} where
       pick x (inr m) = all_at p ys h m
 
   -- a test that passes wherever another does
-  pub all_imp : (p q : A → Bool) (xs : List A) → ((x : A) → p x ≡ true → q x ≡ true) → all p xs ≡ true → all q xs ≡ true
+  pub all_imp : (p q : A → Bool) (xs : List A) → ((x : A) → p x ≡ true → q x ≡ true) → list_all p xs ≡ true → list_all q xs ≡ true
   all_imp p q xs f h = all_of q xs (λ x m. f x (all_at p xs h m))
 
   pub mem_replicate : (n : ℕ) (a x : A) → Memᴰ x (replicate n a) → x ≡ a
@@ -99,8 +100,7 @@ module _ {ℓ} {A : Type ℓ} where
   sum_update f g zero (x ∷ xs) d l = omega arith
   sum_update f g (suc n) (x ∷ xs) d l = omega (arith, sum_update f g n xs d (le_of_suc-le-suc l))
 
-  pub all_set : (p : A → Bool) (xs : List A) (n : ℕ) (a : A) → all p xs ≡ true → p a ≡ true → all p (set xs n a) ≡ true
-  unfolding all
+  pub all_set : (p : A → Bool) (xs : List A) (n : ℕ) (a : A) → list_all p xs ≡ true → p a ≡ true → list_all p (set xs n a) ≡ true
   all_set p [] n a h e = refl
-  all_set p (x ∷ xs) zero a h e = and_both (p a) (all p xs) e (and_right (p x) (all p xs) h)
-  all_set p (x ∷ xs) (suc n) a h e = and_both (p x) (all p (set xs n a)) (and_left (p x) (all p xs) h) (all_set p xs n a (and_right (p x) (all p xs) h) e)
+  all_set p (x ∷ xs) zero a h e = and_both (p a) (list_all p xs) e (and_right (p x) (list_all p xs) h)
+  all_set p (x ∷ xs) (suc n) a h e = and_both (p x) (list_all p (set xs n a)) (and_left (p x) (list_all p xs) h) (all_set p xs n a (and_right (p x) (list_all p xs) h) e)

@@ -4,7 +4,7 @@ use mathlib.Core.List.Memᴰ
 use mathlib.Core.List.{List, [], ◌∷◌, ◌++◌, map, Memᴰ, append_assoc}
 use mathlib.Core.Logic.{◌⊎◌, inl, inr, ⊎_elim}
 use mathlib.Core.Path.{◌≡◌, refl, sym, ap, ap₂, ◌∙◌}
-use Rattle.rules.specs.Lists.{concat_map}
+use Rattle.std.specs.List.{flat_map}
 use Rattle.rules.specs.Fragments.{Disjoint}
 
 module _ {A : Type 0} where
@@ -24,12 +24,11 @@ module _ {A : Type 0} where
   distinct_left (x ∷ xs) ys d = (λ m. d.0 (Memᴰ.append_left ys m), distinct_left xs ys d.1)
 
 module _ {A B : Type 0} where
-  pub mem_concat_map : (f : A → List B) (xs : List A) {y : B} → Memᴰ y (concat_map f xs) → (x : A) × Memᴰ x xs × Memᴰ y (f x)
-  unfolding concat_map
+  pub mem_concat_map : (f : A → List B) (xs : List A) {y : B} → Memᴰ y (flat_map f xs) → (x : A) × Memᴰ x xs × Memᴰ y (f x)
   mem_concat_map f [] m = absurd (Memᴰ.not-nil m)
   mem_concat_map f (x ∷ xs) {y} m = go (λ k. mem_concat_map f xs k) (Memᴰ.append_cases (f x) m)
     where
-      go : (Memᴰ y (concat_map f xs) → (z : A) × Memᴰ z xs × Memᴰ y (f z)) → Memᴰ y (f x) ⊎ Memᴰ y (concat_map f xs)
+      go : (Memᴰ y (flat_map f xs) → (z : A) × Memᴰ z xs × Memᴰ y (f z)) → Memᴰ y (f x) ⊎ Memᴰ y (flat_map f xs)
           → (z : A) × Memᴰ z (x ∷ xs) × Memᴰ y (f z)
       go rest (inl k) = (x, Memᴰ.head refl, k)
       go rest (inr k) = let w = rest k in (w.0, Memᴰ.tail w.1, w.2)
@@ -37,18 +36,17 @@ module _ {A B : Type 0} where
   -- the parts are distinct, and what stands in two of them tells that they are the same
   pub distinct_concat_map : (f : A → List B) (xs : List A) → Distinct xs → ((x : A) → Memᴰ x xs → Distinct (f x))
       → ((x x' : A) → Memᴰ x xs → Memᴰ x' xs → (y : B) → Memᴰ y (f x) → Memᴰ y (f x') → x ≡ x')
-      → Distinct (concat_map f xs)
-  unfolding concat_map
+      → Distinct (flat_map f xs)
   distinct_concat_map f [] d parts same = tt
   distinct_concat_map f (x ∷ xs) d parts same =
-      distinct_append (f x) (concat_map f xs) (parts x (Memᴰ.head refl))
+      distinct_append (f x) (flat_map f xs) (parts x (Memᴰ.head refl))
       (distinct_concat_map f xs d.1 (λ z m. parts z (Memᴰ.tail m)) (λ z z' m m'. same z z' (Memᴰ.tail m) (Memᴰ.tail m')))
       (λ y k l. let w = mem_concat_map f xs l in
       d.0 (Memᴰ.cast (same x w.0 (Memᴰ.head refl) (Memᴰ.tail w.1) y k w.2) w.1))
 
   -- without a common entry, where what stands in two parts tells that they are the same
   pub apart_concat_map : (f : A → List B) (xs ys : List A) → ((x x' : A) (z : B) → Memᴰ z (f x) → Memᴰ z (f x') → x ≡ x')
-      → Disjoint xs ys → Disjoint (concat_map f xs) (concat_map f ys)
+      → Disjoint xs ys → Disjoint (flat_map f xs) (flat_map f ys)
   apart_concat_map f xs ys same apart z m k =
       let v = mem_concat_map f xs m in
       let w = mem_concat_map f ys k in
@@ -63,22 +61,19 @@ module _ {A B : Type 0} where
 -- ---- lists of lists
 
 module _ {A B : Type 0} where
-  pub concat_map_append : (f : A → List B) (xs ys : List A) → concat_map f (xs ++ ys) ≡ concat_map f xs ++ concat_map f ys
-  unfolding concat_map
+  pub concat_map_append : (f : A → List B) (xs ys : List A) → flat_map f (xs ++ ys) ≡ flat_map f xs ++ flat_map f ys
   concat_map_append f [] ys = refl
-  concat_map_append f (x ∷ xs) ys = ap (λ (l : List B). f x ++ l) (concat_map_append f xs ys) ∙ sym (append_assoc (f x) (concat_map f xs) (concat_map f ys))
+  concat_map_append f (x ∷ xs) ys = ap (λ (l : List B). f x ++ l) (concat_map_append f xs ys) ∙ sym (append_assoc (f x) (flat_map f xs) (flat_map f ys))
 
 pub concat_map_concat_map : {A B C : Type 0} (f : B → List C) (g : A → List B) (xs : List A)
-    → concat_map f (concat_map g xs) ≡ concat_map (λ (x : A). concat_map f (g x)) xs
-unfolding concat_map
+    → flat_map f (flat_map g xs) ≡ flat_map (λ (x : A). flat_map f (g x)) xs
 concat_map_concat_map f g [] = refl
-concat_map_concat_map {C = C} f g (x ∷ xs) = concat_map_append f (g x) (concat_map g xs) ∙ ap (λ (l : List C). concat_map f (g x) ++ l) (concat_map_concat_map f g xs)
+concat_map_concat_map {C = C} f g (x ∷ xs) = concat_map_append f (g x) (flat_map g xs) ∙ ap (λ (l : List C). flat_map f (g x) ++ l) (concat_map_concat_map f g xs)
 
 -- two functions that give the same for each entry
-pub concat_map_same : {A B : Type 0} (f g : A → List B) (xs : List A) → ((x : A) → Memᴰ x xs → f x ≡ g x) → concat_map f xs ≡ concat_map g xs
-unfolding concat_map
+pub concat_map_same : {A B : Type 0} (f g : A → List B) (xs : List A) → ((x : A) → Memᴰ x xs → f x ≡ g x) → flat_map f xs ≡ flat_map g xs
 concat_map_same f g [] same = refl
 concat_map_same f g (x ∷ xs) same = ap₂ ◌++◌ (same x (Memᴰ.head refl)) (concat_map_same f g xs (λ y m. same y (Memᴰ.tail m)))
 
-pub concat_map_cong : {B : Type 0} (f g : ℕ → List B) → ((n : ℕ) → f n ≡ g n) → (xs : List ℕ) → concat_map f xs ≡ concat_map g xs
+pub concat_map_cong : {B : Type 0} (f g : ℕ → List B) → ((n : ℕ) → f n ≡ g n) → (xs : List ℕ) → flat_map f xs ≡ flat_map g xs
 concat_map_cong f g same xs = concat_map_same f g xs (λ n m. same n)

@@ -9,7 +9,8 @@ use mathlib.Core.Logic.{◌↔◌, ◌⊎◌, inl, inr}
 use mathlib.Core.Path.{◌≡◌, refl, sym, subst, ◌∙◌}
 use borrow.Author.Tests.{eqb-true, eq-eqb}
 use lib.Dec.{eqb}
-use Rattle.rules.specs.Lists.{every, same_bool, all, all_below, same_list}
+use Rattle.rules.specs.Lists.{every, same_bool, all_below, same_list}
+use Rattle.std.specs.List.{list_all}
 
 pub and_left : (a b : Bool) → (a && b) ≡ true → a ≡ true
 and_left true b h = refl
@@ -108,16 +109,14 @@ unfolding all_below
 all_below_of zero p f = refl
 all_below_of (suc n) p f = and_both (p n) (all_below n p) (f n (omega arith)) (all_below_of n p (λ i l. f i (omega arith)))
 
-module _ {ℓ} {A : Type ℓ} where
-  pub all_at : (p : A → Bool) {x : A} (xs : List A) → all p xs ≡ true → Memᴰ x xs → p x ≡ true
-  unfolding all
-  all_at p xs h (Memᴰ.head {x = y} {xs = ys} e) = subst (λ (z : A). p z ≡ true) (sym e) (and_left (p y) (all p ys) h)
-  all_at p xs h (Memᴰ.tail {x = y} {xs = ys} m) = all_at p ys (and_right (p y) (all p ys) h) m
+module _ {A : Type 0} where
+  pub all_at : (p : A → Bool) {x : A} (xs : List A) → list_all p xs ≡ true → Memᴰ x xs → p x ≡ true
+  all_at p xs h (Memᴰ.head {x = y} {xs = ys} e) = subst (λ (z : A). p z ≡ true) (sym e) (and_left (p y) (list_all p ys) h)
+  all_at p xs h (Memᴰ.tail {x = y} {xs = ys} m) = all_at p ys (and_right (p y) (list_all p ys) h) m
 
-  pub all_of : (p : A → Bool) (xs : List A) → ((x : A) → Memᴰ x xs → p x ≡ true) → all p xs ≡ true
-  unfolding all
+  pub all_of : (p : A → Bool) (xs : List A) → ((x : A) → Memᴰ x xs → p x ≡ true) → list_all p xs ≡ true
   all_of p [] f = refl
-  all_of p (x ∷ xs) f = and_both (p x) (all p xs) (f x (Memᴰ.head refl)) (all_of p xs (λ y m. f y (Memᴰ.tail m)))
+  all_of p (x ∷ xs) f = and_both (p x) (list_all p xs) (f x (Memᴰ.head refl)) (all_of p xs (λ y m. f y (Memᴰ.tail m)))
 
   -- a test that tells equality does so of lists too
   module _ (p : A → A → Bool) (same : (a b : A) → (p a b ≡ true) ↔ (a ≡ b)) where

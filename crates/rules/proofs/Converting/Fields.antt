@@ -3,13 +3,16 @@
 use Prim.Native.Nat.{ℕ, ◌^◌, ◌≤◌}
 use native.Mathlib.Omega.{arith}
 use mathlib.Core.Bool.{Bool, true, false}
-use mathlib.Core.Option.{some, none-ne-some}
+use Rattle.std.specs.Prelude.{Some}
+use Rattle.std.proofs.lemmas.Option.{none-some}
 use mathlib.Core.List.{List, [], ◌∷◌, ◌++◌}
 use mathlib.Core.Path.{◌≡◌, refl}
 use lib.ListN.{length, take, drop}
-use Rattle.rules.specs.Lists.{all, same_list}
+use Rattle.std.specs.List.{list_all}
+use Rattle.rules.specs.Lists.{same_list}
 use Rattle.rules.specs.Bytes.{text, is_text, well_written, number_below}
-use Rattle.rules.specs.Lines.{Edition, edition_1, edition_2}
+use Rattle.rules.specs.declared.types.Edition.{Edition}
+use Rattle.rules.specs.declared.types.Edition.TheVariants.{First as edition_1, Second as edition_2}
 use Rattle.rules.specs.Converting.{other, begins, relabelled}
 use Rattle.rules.proofs.Basics.Tests.{and_left, and_right, and_both}
 use Rattle.rules.proofs.Listings.Cut.{each, weight}
@@ -41,9 +44,9 @@ relabelled_back edition_1 fs (labelled r x more n h) = refl
 relabelled_back edition_2 fs (bare r more) = refl
 
 -- a number has a digit
-number_long : (x : List ℕ) (n : ℕ) → number_below (2 ^ 32) x ≡ some n → 1 ≤ length x
+number_long : (x : List ℕ) (n : ℕ) → number_below (2 ^ 32) x ≡ Some n → 1 ≤ length x
 unfolding number_below well_written
-number_long [] n h = absurd (none-ne-some _ h)
+number_long [] n h = absurd (none-some _ h)
 number_long (d ∷ x) n h = omega arith
 
 pub restored_weight : (e : Edition) (fs : List (List ℕ)) → BlockFields e fs → weight (restored e fs) ≤ weight fs
@@ -54,11 +57,11 @@ restored_weight edition_2 fs (bare r more) = omega arith
 -- a test that passes at `0` and at each byte of the fields passes at each byte of those converted
 pub relabelled_each : (p : ℕ → Bool) (e : Edition) (fs : List (List ℕ)) → BlockFields e fs → p 48 ≡ true → each p fs ≡ true
     → each p (relabelled e fs) ≡ true
-unfolding relabelled all
+unfolding relabelled
 relabelled_each p edition_1 fs (labelled r x more n h) z a =
-    let t = and_right (all p (text "b")) _ a in
-    and_both _ _ (and_left (all p (text "b")) _ a) (and_both (all p r) _ (and_left (all p r) _ t) (and_right (all p x) _ (and_right (all p r) _ t)))
+    let t = and_right (list_all p (text "b")) _ a in
+    and_both _ _ (and_left (list_all p (text "b")) _ a) (and_both (list_all p r) _ (and_left (list_all p r) _ t) (and_right (list_all p x) _ (and_right (list_all p r) _ t)))
 relabelled_each p edition_2 fs (bare r more) z a =
-    let t = and_right (all p (text "b")) _ a in
-    and_both _ _ (and_left (all p (text "b")) _ a)
-    (and_both (all p r) _ (and_left (all p r) _ t) (and_both _ _ (and_both (p 48) true z refl) (and_right (all p r) _ t)))
+    let t = and_right (list_all p (text "b")) _ a in
+    and_both _ _ (and_left (list_all p (text "b")) _ a)
+    (and_both (list_all p r) _ (and_left (list_all p r) _ t) (and_both _ _ (and_both (p 48) true z refl) (and_right (list_all p r) _ t)))

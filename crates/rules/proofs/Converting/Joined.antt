@@ -8,7 +8,7 @@ use mathlib.Core.List.{List, [], ◌∷◌, ◌++◌, append_assoc}
 use mathlib.Core.Path.{◌≡◌, refl, sym, ap, ◌∙◌}
 use lib.Dec.{eqb}
 use lib.ListN.{length, length-append}
-use Rattle.rules.specs.Lists.{all}
+use Rattle.std.specs.List.{list_all}
 use Rattle.rules.specs.Bytes.{comma, line_feed, Pieces, new_piece, longer_by, cut_at}
 use Rattle.rules.specs.Lines.{fields_of}
 use Rattle.rules.specs.Listings.{printed}
@@ -20,20 +20,20 @@ use Rattle.rules.proofs.Listings.Written.{printed_length}
 
 -- ---- a byte of a piece is one of the bytes that were cut, and not the byte at which they were
 
-one_more_each : (p : ℕ → Bool) (x : ℕ) (t : Bool) (q : Pieces) → (t || p x) ≡ true → each p q.whole ≡ true → all p q.rest ≡ true
+one_more_each : (p : ℕ → Bool) (x : ℕ) (t : Bool) (q : Pieces) → (t || p x) ≡ true → each p q.whole ≡ true → list_all p q.rest ≡ true
     → (each p (cond t (new_piece q) (longer_by x q.whole q.rest)).whole ≡ true)
-    × (all p (cond t (new_piece q) (longer_by x q.whole q.rest)).rest ≡ true)
-unfolding all new_piece longer_by
+    × (list_all p (cond t (new_piece q) (longer_by x q.whole q.rest)).rest ≡ true)
+unfolding new_piece longer_by
 one_more_each p x true q h w r = (w, r)
 one_more_each p x false q h w r = go q.whole w
   where
-    go : (ps : List (List ℕ)) → each p ps ≡ true → (each p (longer_by x ps q.rest).whole ≡ true) × (all p (longer_by x ps q.rest).rest ≡ true)
+    go : (ps : List (List ℕ)) → each p ps ≡ true → (each p (longer_by x ps q.rest).whole ≡ true) × (list_all p (longer_by x ps q.rest).rest ≡ true)
     go [] e = (refl, and_both (p x) _ h r)
-    go (f ∷ fs) e = (and_both _ _ (and_both (p x) _ h (and_left (all p f) _ e)) (and_right (all p f) _ e), r)
+    go (f ∷ fs) e = (and_both _ _ (and_both (p x) _ h (and_left (list_all p f) _ e)) (and_right (list_all p f) _ e), r)
 
-cut_each : (c : ℕ) (p : ℕ → Bool) (xs : List ℕ) → all (λ (x : ℕ). eqb x c || p x) xs ≡ true
-    → (each p (cut_at c xs).whole ≡ true) × (all p (cut_at c xs).rest ≡ true)
-unfolding all cut_at
+cut_each : (c : ℕ) (p : ℕ → Bool) (xs : List ℕ) → list_all (λ (x : ℕ). eqb x c || p x) xs ≡ true
+    → (each p (cut_at c xs).whole ≡ true) × (list_all p (cut_at c xs).rest ≡ true)
+unfolding cut_at
 cut_each c p [] h = (refl, refl)
 cut_each c p (x ∷ xs) h =
     let more = cut_each c p xs (and_right (eqb x c || p x) _ h) in
@@ -43,7 +43,7 @@ either : (t : Bool) → (t || not t) ≡ true
 either true = refl
 either false = refl
 
-pub cut_without : (b : ℕ) (xs : List ℕ) → (each (other_than b) (cut_at b xs).whole ≡ true) × (all (other_than b) (cut_at b xs).rest ≡ true)
+pub cut_without : (b : ℕ) (xs : List ℕ) → (each (other_than b) (cut_at b xs).whole ≡ true) × (list_all (other_than b) (cut_at b xs).rest ≡ true)
 cut_without b xs = cut_each b (other_than b) xs (all_of _ xs (λ x m. either (eqb x b)))
 
 -- ---- fields: pieces of a line that are parted by commas
@@ -67,20 +67,19 @@ joined_length w (f ∷ fs) h =
     let e : length (printed (f ∷ fs)) ≡ length (joined (f ∷ fs) ++ line_feed ∷ []) = ap length (printed_joined (f ∷ fs)) in
     omega (arith, printed_length f fs, length-append (joined (f ∷ fs)) (line_feed ∷ []))
 
-pub joined_each : (p : ℕ → Bool) (fs : List (List ℕ)) → p comma ≡ true → each p fs ≡ true → all p (joined fs) ≡ true
-unfolding all
+pub joined_each : (p : ℕ → Bool) (fs : List (List ℕ)) → p comma ≡ true → each p fs ≡ true → list_all p (joined fs) ≡ true
 joined_each p [] c h = refl
-joined_each p (f ∷ []) c h = and_left (all p f) true h
+joined_each p (f ∷ []) c h = and_left (list_all p f) true h
 joined_each p (f ∷ g ∷ fs) c h =
-    all_append p f (comma ∷ joined (g ∷ fs)) (and_left (all p f) _ h) (and_both (p comma) _ c (joined_each p (g ∷ fs) c (and_right (all p f) _ h)))
+    all_append p f (comma ∷ joined (g ∷ fs)) (and_left (list_all p f) _ h) (and_both (p comma) _ c (joined_each p (g ∷ fs) c (and_right (list_all p f) _ h)))
 
 -- fields without commas are the fields of the line that they are joined to
 more_fields_joined : (f : List ℕ) (fs : List (List ℕ)) → each (other_than comma) (f ∷ fs) ≡ true → fields_of (joined (f ∷ fs)) ≡ f ∷ fs
-unfolding all fields_of
+unfolding fields_of
 more_fields_joined f [] h = rw (cut_none comma f (and_left _ true h))
 more_fields_joined f (g ∷ fs) h =
     ap (λ (p : Pieces). p.whole ++ (p.rest ∷ [])) (cut_first comma f (joined (g ∷ fs)) (and_left _ _ h))
-    ∙ ap (λ (l : List (List ℕ)). f ∷ l) (more_fields_joined g fs (and_right (all (other_than comma) f) _ h))
+    ∙ ap (λ (l : List (List ℕ)). f ∷ l) (more_fields_joined g fs (and_right (list_all (other_than comma) f) _ h))
 
 pub fields_joined : (w : String) (fs : List (List ℕ)) → begins w fs ≡ true → each (other_than comma) fs ≡ true → fields_of (joined fs) ≡ fs
 unfolding begins
@@ -103,9 +102,9 @@ pub joined_fields : (line : List ℕ) → joined (fields_of line) ≡ line
 unfolding fields_of
 joined_fields line = joined_ended (cut_at comma line).whole (cut_at comma line).rest ∙ ended_cut comma line
 
-fields_each : (p : ℕ → Bool) (line : List ℕ) → (each p (cut_at comma line).whole ≡ true) × (all p (cut_at comma line).rest ≡ true)
+fields_each : (p : ℕ → Bool) (line : List ℕ) → (each p (cut_at comma line).whole ≡ true) × (list_all p (cut_at comma line).rest ≡ true)
     → each p (fields_of line) ≡ true
-unfolding fields_of all
+unfolding fields_of
 fields_each p line h = all_append _ (cut_at comma line).whole ((cut_at comma line).rest ∷ []) h.0 (and_both _ true h.1 refl)
 
 pub fields_without : (b : ℕ) (line : List ℕ) → Without b line → each (other_than b) (fields_of line) ≡ true

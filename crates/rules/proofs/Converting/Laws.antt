@@ -3,13 +3,14 @@
 use Prim.Native.Nat.{ℕ, suc, ◌≤◌}
 use native.Mathlib.Omega.{arith}
 use mathlib.Core.Bool.{true}
-use mathlib.Core.Option.{none, some}
+use Rattle.std.specs.Prelude.{None, Some}
 use mathlib.Core.List.{List, [], ◌∷◌, ◌++◌, map}
 use mathlib.Core.Path.{◌≡◌, refl, sym, ap, ap₂, subst, fun_ext, ◌∙◌}
 use borrow.Author.Tests.{le-leb}
 use lib.ListN.{length}
 use Rattle.rules.specs.Bytes.{line_feed}
-use Rattle.rules.specs.Lines.{Edition, edition_1, edition_2}
+use Rattle.rules.specs.declared.types.Edition.{Edition}
+use Rattle.rules.specs.declared.types.Edition.TheVariants.{First as edition_1, Second as edition_2}
 use Rattle.rules.specs.Listings.{Progress, LineOutcome, Program, does, at_start, proceed, run, keeps, leaves, max_listing, listing_cause, edition, listed, store_after}
 use Rattle.rules.specs.Converting.{other, header, lines_behind, converted, Refusal, convert_refusal, unless_refused, convert}
 use Rattle.rules.specs.ConvertLaws.{Converts, ConvertedEdition, SameOutput, zeroed_line, labels_zeroed, ThereAndBack, BackAndThere, ConvertFits}
@@ -90,7 +91,7 @@ module _ (bytes : List ℕ) (h : Converts bytes) where
       ∙ sym (listing_leaves e lines w p)
       ∙ sym (ap (store_after p) is_listing)
 
-  written_edition : (listing_cause (convert bytes) ≡ none) × (edition (convert bytes) ≡ other e)
+  written_edition : (listing_cause (convert bytes) ≡ None) × (edition (convert bytes) ≡ other e)
   written_edition = (
     ap listing_cause written ∙ listing_accepted (other e) lines' w' r'.fits,
     ap edition written ∙ listing_edition (other e) lines' w',
@@ -143,5 +144,5 @@ unfolding ConvertFits convert unless_refused convert_refusal
 convert_fits bytes = go (convert_refusal bytes) refl
   where
     go : (o : Refusal) → convert_refusal bytes ≡ o → length (unless_refused o (converted bytes)) ≤ max_listing
-    go none e = whole_fits _ (first_none _ e).1.1.1.0
-    go (some f) e = omega (arith, refusal_short f.0 f.1)
+    go None e = whole_fits _ (first_none _ e).1.1.1.0
+    go (Some f) e = omega (arith, refusal_short f.0 f.1)

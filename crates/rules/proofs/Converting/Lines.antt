@@ -6,9 +6,12 @@ use mathlib.Core.Bool.{Bool, true, false, cond}
 use mathlib.Core.List.{List, [], ◌∷◌, ◌++◌, map, append_assoc}
 use mathlib.Core.Path.{◌≡◌, refl, ap, ap₂, ◌∙◌}
 use lib.ListN.{length}
-use Rattle.rules.specs.Lists.{is_some, concat_map}
+use Rattle.std.specs.Prelude.{is_some}
+use Rattle.std.specs.List.{flat_map}
 use Rattle.rules.specs.Bytes.{comma, line_feed}
-use Rattle.rules.specs.Lines.{Edition, edition_1, edition_2, fields_of, parse}
+use Rattle.rules.specs.Lines.{fields_of, parse}
+use Rattle.rules.specs.declared.types.Edition.{Edition}
+use Rattle.rules.specs.declared.types.Edition.TheVariants.{First as edition_1, Second as edition_2}
 use Rattle.rules.specs.Listings.{printed, max_line}
 use Rattle.rules.specs.Converting.{other, begins, relabelled, converted_line}
 use Rattle.rules.specs.ConvertLaws.{zeroed_line}
@@ -35,8 +38,7 @@ changed_ended g line = go (begins "b" (fields_of line))
 
 -- such lines, each with its line feed
 pub lines_ended : (f g : List ℕ → List ℕ) → ((line : List ℕ) → f line ≡ g line ++ line_feed ∷ []) → (lines : List (List ℕ))
-    → concat_map f lines ≡ ended line_feed (map g lines)
-unfolding concat_map
+    → flat_map f lines ≡ ended line_feed (map g lines)
 lines_ended f g same [] = refl
 lines_ended f g same (line ∷ lines) =
     ap₂ ◌++◌ (same line) (lines_ended f g same lines) ∙ append_assoc (g line) (line_feed ∷ []) (ended line_feed (map g lines))

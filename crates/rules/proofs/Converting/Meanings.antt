@@ -2,12 +2,14 @@
 -- field, whatever number that is. Assumes nothing.
 use Prim.Native.Nat.{ℕ, ◌^◌}
 use mathlib.Core.Bool.{true, false, false≢true}
-use mathlib.Core.Option.{Option, none, some, map}
+use Rattle.std.specs.Prelude.{Option, None, Some, option_map, is_some}
 use mathlib.Core.List.{List, [], ◌∷◌}
 use mathlib.Core.Path.{◌≡◌, refl, sym, ap, subst, ◌∙◌}
-use Rattle.rules.specs.Lists.{is_some, same_list}
+use Rattle.rules.specs.Lists.{same_list}
 use Rattle.rules.specs.Bytes.{text, is_text, is_digit, well_written, value_from, number_below}
-use Rattle.rules.specs.Lines.{Edition, edition_1, edition_2, Line, Reader, and_then, ◌>>=◌, giving, field, one_of, number, label, block_line, more_letters, letter, wholly}
+use Rattle.rules.specs.Lines.{Line, Reader, and_then, ◌>>=◌, giving, field, one_of, number, label, block_line, more_letters, letter, wholly}
+use Rattle.rules.specs.declared.types.Edition.{Edition}
+use Rattle.rules.specs.declared.types.Edition.TheVariants.{First as edition_1, Second as edition_2}
 use Rattle.rules.specs.Converting.{other, begins, relabelled}
 use Rattle.rules.proofs.Basics.Tests.{numbers_same}
 
@@ -34,44 +36,44 @@ block_meaning e fs = refl
 
 -- the fields of a `b` line that means something, in either edition
 pub data BlockFields : Edition → List (List ℕ) → Type 0 where
-  labelled : (r x : List ℕ) (fs : List (List ℕ)) (n : ℕ) → number_below (2 ^ 32) x ≡ some n → BlockFields edition_1 (text "b" ∷ r ∷ x ∷ fs)
+  labelled : (r x : List ℕ) (fs : List (List ℕ)) (n : ℕ) → number_below (2 ^ 32) x ≡ Some n → BlockFields edition_1 (text "b" ∷ r ∷ x ∷ fs)
   bare : (r : List ℕ) (fs : List (List ℕ)) → BlockFields edition_2 (text "b" ∷ r ∷ fs)
 
 -- a number as second field, or none in its place
-label_dropped : (r x : List ℕ) (fs : List (List ℕ)) (n : ℕ) → number_below (2 ^ 32) x ≡ some n
+label_dropped : (r x : List ℕ) (fs : List (List ℕ)) (n : ℕ) → number_below (2 ^ 32) x ≡ Some n
     → block_line edition_1 (r ∷ x ∷ fs) ≡ block_line edition_2 (r ∷ fs)
 unfolding block_line number field label
 label_dropped r x fs n h = go _ (number_below (2 ^ 32) r)
   where
     go : (k : ℕ → Reader Line) (o : Option ℕ)
-        → and_then (map (λ a. (a, x ∷ fs)) o) (λ around. label edition_1 >>= λ no_label. k around)
-        ≡ and_then (map (λ a. (a, fs)) o) (λ around. label edition_2 >>= λ no_label. k around)
-    go k none = refl
-    go k (some around) = rw h
+        → and_then (option_map (λ a. (a, x ∷ fs)) o) (λ around. label edition_1 >>= λ no_label. k around)
+        ≡ and_then (option_map (λ a. (a, fs)) o) (λ around. label edition_2 >>= λ no_label. k around)
+    go k None = refl
+    go k (Some around) = rw h
 
 -- what is read has these fields
 label_read : (r : List ℕ) (k : Reader Line) (fs : List (List ℕ)) → is_some (wholly ((label edition_1 >>= λ no_label. k) fs)) ≡ true
     → BlockFields edition_1 (text "b" ∷ r ∷ fs)
-unfolding label number field wholly is_some
+unfolding label number field wholly
 label_read r k [] h = absurd (false≢true h)
 label_read r k (x ∷ fs) h = go (number_below (2 ^ 32) x) refl h
   where
     go : (o : Option ℕ) → number_below (2 ^ 32) x ≡ o
-        → is_some (wholly (and_then (and_then (map (λ a. (a, fs)) o) (λ dropped. giving {A = Unit {0}} tt)) (λ no_label. k))) ≡ true
+        → is_some (wholly (and_then (and_then (option_map (λ a. (a, fs)) o) (λ dropped. giving {A = Unit {0}} tt)) (λ no_label. k))) ≡ true
         → BlockFields edition_1 (text "b" ∷ r ∷ x ∷ fs)
-    go none e h' = absurd (false≢true h')
-    go (some n) e h' = labelled r x fs n e
+    go None e h' = absurd (false≢true h')
+    go (Some n) e h' = labelled r x fs n e
 
 block_read : (e : Edition) (fs : List (List ℕ)) → is_some (wholly (block_line e fs)) ≡ true → BlockFields e (text "b" ∷ fs)
-unfolding block_line number field wholly is_some
+unfolding block_line number field wholly
 block_read edition_1 [] h = absurd (false≢true h)
 block_read edition_1 (r ∷ fs) h = go _ (number_below (2 ^ 32) r) h
   where
     go : (k : ℕ → Reader Line) (o : Option ℕ)
-        → is_some (wholly (and_then (map (λ a. (a, fs)) o) (λ around. label edition_1 >>= λ no_label. k around))) ≡ true
+        → is_some (wholly (and_then (option_map (λ a. (a, fs)) o) (λ around. label edition_1 >>= λ no_label. k around))) ≡ true
         → BlockFields edition_1 (text "b" ∷ r ∷ fs)
-    go k none h' = absurd (false≢true h')
-    go k (some around) h' = label_read r (k around) fs h'
+    go k None h' = absurd (false≢true h')
+    go k (Some around) h' = label_read r (k around) fs h'
 block_read edition_2 [] h = absurd (false≢true h)
 block_read edition_2 (r ∷ fs) h = bare r fs
 
@@ -83,7 +85,7 @@ block_fields e (f ∷ fs) b h =
     let m : meaning e (f ∷ fs) ≡ wholly (block_line e fs) = ap (λ (g : List ℕ). meaning e (g ∷ fs)) q ∙ block_meaning e fs in
     subst (λ (g : List ℕ). BlockFields e (g ∷ fs)) (sym q) (block_read e fs (ap is_some (sym m) ∙ h))
 
-pub number_0 : number_below (2 ^ 32) (text "0") ≡ some 0
+pub number_0 : number_below (2 ^ 32) (text "0") ≡ Some 0
 unfolding number_below well_written is_digit value_from
 number_0 = refl
 

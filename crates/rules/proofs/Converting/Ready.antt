@@ -1,17 +1,20 @@
 -- A listing of which the converter refuses nothing is its header and lines that are accepted, and is short enough, before and after; and then
 -- what is written is such a listing of the other edition. Assumes nothing.
+use Rattle.rules.specs.declared.types.Cause.{Cause}
+use Rattle.rules.specs.declared.types.Cause.TheVariants.{BadLength}
 use Prim.Native.Nat.{ℕ, ◌+◌, ◌≤◌}
 use native.Mathlib.Omega.{arith}
 use mathlib.Core.Bool.{Bool, true, false, cond}
-use mathlib.Core.Option.{Option, none, some, map as map_some, some-ne-none}
+use Rattle.std.specs.Prelude.{Option, None, Some, option_map}
+use Rattle.std.proofs.lemmas.Option.{none-some}
 use mathlib.Core.List.{List, [], ◌∷◌, ◌++◌, map, append-nil}
 use mathlib.Core.Path.{◌≡◌, refl, sym, ap, ap₂, subst, ◌∙◌}
 use borrow.Author.Tests.{leb-true, le-leb}
 use lib.Dec.{leb}
 use lib.ListN.{length, length-append}
-use Rattle.rules.specs.Lists.{all}
+use Rattle.std.specs.List.{list_all}
 use Rattle.rules.specs.Bytes.{line_feed}
-use Rattle.rules.specs.Lines.{Edition}
+use Rattle.rules.specs.declared.types.Edition.{Edition}
 use Rattle.rules.specs.Listings.{max_listing, edition}
 use Rattle.rules.specs.Converting.{other, header, lines_behind, converted, unended, whole_refused, convert_refusal, unless_refused, convert}
 use Rattle.rules.specs.ConvertLaws.{Converts}
@@ -30,26 +33,25 @@ pub record Ready (e : Edition) (lines : List (List ℕ)) : Type 0 where
   pub converted_fits : length (listing_of (other e) (map (recast e) lines)) ≤ max_listing
 
 pub lines_whole : (e : Edition) (lines : List (List ℕ)) → EachLine (Accepted e) lines → each (other_than line_feed) lines ≡ true
-unfolding all
 lines_whole e [] h = refl
 lines_whole e (line ∷ lines) h = and_both _ _ h.0.one_line (lines_whole e lines h.1)
 
 -- ---- what is refused
 
-pub rest_none : (n : ℕ) (rest : List ℕ) → unended n rest ≡ none → rest ≡ []
+pub rest_none : (n : ℕ) (rest : List ℕ) → unended n rest ≡ None → rest ≡ []
 unfolding unended
 rest_none n [] h = refl
-rest_none n (x ∷ rest) h = absurd (some-ne-none _ h)
+rest_none n (x ∷ rest) h = absurd (none-some _ (sym h))
 
-pub whole_fits : (out : List ℕ) → whole_refused out ≡ none → length out ≤ max_listing
+pub whole_fits : (out : List ℕ) → whole_refused out ≡ None → length out ≤ max_listing
 unfolding whole_refused
 whole_fits out h = go (leb (length out) max_listing) refl h
   where
-    go : (t : Bool) → leb (length out) max_listing ≡ t → ◌≡◌ {A = Option (ℕ × ℕ)} (cond t none (some (1, 11))) none → length out ≤ max_listing
+    go : (t : Bool) → leb (length out) max_listing ≡ t → ◌≡◌ {A = Option (ℕ × Cause)} (cond t None (Some (1, BadLength))) None → length out ≤ max_listing
     go true e k = leb-true _ _ e
-    go false e k = absurd (some-ne-none _ k)
+    go false e k = absurd (none-some _ (sym k))
 
-fits_whole : (out : List ℕ) → length out ≤ max_listing → whole_refused out ≡ none
+fits_whole : (out : List ℕ) → length out ≤ max_listing → whole_refused out ≡ None
 unfolding whole_refused
 fits_whole out h = rw (le-leb _ _ h)
 
@@ -59,7 +61,7 @@ ready_converts e lines r =
     let w = lines_whole e lines r.accepted in
     let n = none_of_lines e 2 lines r.accepted in
     none_first _ (
-      ap (map_some (λ cause. (1, cause))) (listing_accepted e lines w r.fits),
+      ap (option_map (λ cause. (1, cause))) (listing_accepted e lines w r.fits),
       (
         rw (listing_edition e lines w, listing_lines e lines w) n.0,
         (
@@ -77,7 +79,7 @@ ready_converts e lines r =
 
 pub ready_of : (bytes : List ℕ) → Converts bytes
     → (bytes ≡ listing_of (edition bytes) (lines_behind bytes)) × Ready (edition bytes) (lines_behind bytes)
-unfolding convert_refusal all
+unfolding convert_refusal
 ready_of bytes h =
     let a = first_none _ h in
     let t = not_refused bytes (map_none _ _ a.0) in
@@ -85,7 +87,7 @@ ready_of bytes h =
     let q : bytes ≡ listing_of (edition bytes) (lines_behind bytes)
     = sym (ended_cut line_feed bytes) ∙ ap₂ (λ (ls : List (List ℕ)) (rest : List ℕ). ended line_feed ls ++ rest) t.1 z ∙ append-nil _ in
     let w : each (other_than line_feed) (lines_behind bytes) ≡ true
-    = and_right (all (other_than line_feed) (header (edition bytes))) _
+    = and_right (list_all (other_than line_feed) (header (edition bytes))) _
     (ap (each (other_than line_feed)) (sym t.1) ∙ (cut_without line_feed bytes).0) in
     let c : converted bytes ≡ listing_of (other (edition bytes)) (map (recast (edition bytes)) (lines_behind bytes))
     = ap converted q ∙ converted_listing (edition bytes) (lines_behind bytes) w in (

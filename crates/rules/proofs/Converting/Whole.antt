@@ -3,15 +3,17 @@
 use Prim.Native.Nat.{ℕ, ◌≤◌}
 use native.Mathlib.Omega.{arith}
 use mathlib.Core.Bool.{Bool, true, false, cond, false≢true}
-use mathlib.Core.Option.{Option, none, some, some-ne-none}
+use Rattle.rules.specs.declared.types.Cause.TheVariants.{BadLength}
+use Rattle.std.specs.Prelude.{Option, None, Some, is_some}
+use Rattle.std.proofs.lemmas.Option.{none-some}
 use mathlib.Core.List.{List, [], ◌∷◌, ◌++◌, map}
-use mathlib.Core.Path.{◌≡◌, refl, ap, ◌∙◌}
+use mathlib.Core.Path.{◌≡◌, refl, ap, ◌∙◌, sym}
 use borrow.Author.Tests.{leb-true, le-leb}
 use lib.Dec.{leb}
 use lib.ListN.{length}
-use Rattle.rules.specs.Lists.{is_some, all}
 use Rattle.rules.specs.Bytes.{line_feed, cut_at}
-use Rattle.rules.specs.Lines.{Edition, edition_1, edition_2}
+use Rattle.rules.specs.declared.types.Edition.{Edition}
+use Rattle.rules.specs.declared.types.Edition.TheVariants.{First as edition_1, Second as edition_2}
 use Rattle.rules.specs.Listings.{Program, at_start, run, leaves, edition_of, header_tests, header_cause, listing_cause, behind_first, or_first, edition_in, edition, unless, max_listing, listed, store_after}
 use Rattle.rules.specs.Converting.{other, header, converted_line, lines_behind, converted}
 use Rattle.rules.proofs.Soundness.Accepted.{first_failed_none, all_passed}
@@ -26,7 +28,7 @@ listing_of e lines = header e ++ line_feed ∷ ended line_feed lines
 -- ---- what is read of them
 
 header_one_line : (e : Edition) → Without line_feed (header e)
-unfolding header all
+unfolding header
 header_one_line edition_1 = refl
 header_one_line edition_2 = refl
 
@@ -43,8 +45,8 @@ module _ (e : Edition) (lines : List (List ℕ)) (w : each (other_than line_feed
   unfolding lines_behind behind_first
   listing_lines = rw cut_listing
 
-  pub listing_accepted : length (listing_of e lines) ≤ max_listing → listing_cause (listing_of e lines) ≡ none
-  unfolding listing_cause header_cause header_tests is_some
+  pub listing_accepted : length (listing_of e lines) ≤ max_listing → listing_cause (listing_of e lines) ≡ None
+  unfolding listing_cause header_cause header_tests
   listing_accepted h =
       rw (le-leb _ _ h, cut_listing)
       (all_passed _ (le-leb _ _ (omega (arith, header_length e)), (ap is_some (header_edition e), tt)))
@@ -67,23 +69,23 @@ converted_listing e lines w =
 
 -- ---- what has a header
 
-header_first : (ls : List (List ℕ)) (rest : List ℕ) → header_cause ls rest ≡ none → ls ≡ header (edition_in ls) ∷ behind_first ls
-unfolding header_cause header_tests edition_in behind_first is_some or_first
-header_first [] [] h = absurd (some-ne-none _ h)
-header_first [] (x ∷ rest) h = absurd (some-ne-none _ h)
+header_first : (ls : List (List ℕ)) (rest : List ℕ) → header_cause ls rest ≡ None → ls ≡ header (edition_in ls) ∷ behind_first ls
+unfolding header_cause header_tests edition_in behind_first or_first
+header_first [] [] h = absurd (none-some _ (sym h))
+header_first [] (x ∷ rest) h = absurd (none-some _ (sym h))
 header_first (l ∷ ls) rest h = go (edition_of l) refl (first_failed_none _ h).1.0
   where
     go : (o : Option Edition) → edition_of l ≡ o → is_some o ≡ true → l ∷ ls ≡ header (or_first o) ∷ ls
-    go none e k = absurd (false≢true k)
-    go (some d) e k = ap (λ (x : List ℕ). x ∷ ls) (edition_header l d e)
+    go None e k = absurd (false≢true k)
+    go (Some d) e k = ap (λ (x : List ℕ). x ∷ ls) (edition_header l d e)
 
-pub not_refused : (bytes : List ℕ) → listing_cause bytes ≡ none
+pub not_refused : (bytes : List ℕ) → listing_cause bytes ≡ None
     → (length bytes ≤ max_listing) × ((cut_at line_feed bytes).whole ≡ header (edition bytes) ∷ lines_behind bytes)
 unfolding listing_cause edition lines_behind
 not_refused bytes h = go (leb (length bytes) max_listing) refl h
   where
     go : (t : Bool) → leb (length bytes) max_listing ≡ t
-        → cond t (header_cause (cut_at line_feed bytes).whole (cut_at line_feed bytes).rest) (some 11) ≡ none
+        → cond t (header_cause (cut_at line_feed bytes).whole (cut_at line_feed bytes).rest) (Some BadLength) ≡ None
         → (length bytes ≤ max_listing) × ((cut_at line_feed bytes).whole ≡ header (edition bytes) ∷ lines_behind bytes)
     go true e k = (leb-true _ _ e, header_first _ _ k)
-    go false e k = absurd (some-ne-none _ k)
+    go false e k = absurd (none-some _ (sym k))

@@ -4,9 +4,12 @@ use Prim.Native.Nat.{ℕ, zero, suc}
 use mathlib.Core.List.{List, [], ◌∷◌, ◌++◌, map, map-append, Memᴰ}
 use mathlib.Core.Path.{◌≡◌, refl, sym, ap₂, subst, ◌∙◌}
 use lib.ListN.{length}
-use Rattle.rules.specs.Lists.{concat_map}
-use Rattle.rules.specs.Store.{Store, Owner, of_op, of_block, ops_of, blocks_of, regions_of}
-use Rattle.rules.specs.Fragments.{op, levels, shell, names, counted, defines_blocks, fragment_ops}
+use Rattle.std.specs.List.{flat_map}
+use Rattle.rules.specs.Store.{Store, ops_of, blocks_of, regions_of}
+use Rattle.rules.specs.declared.types.Owner.{Owner}
+use Rattle.rules.specs.declared.types.Owner.TheVariants.{Op as of_op, Block as of_block}
+use Rattle.rules.specs.Fragments.{levels, shell, names, counted, defines_blocks, fragment_ops}
+use Rattle.rules.specs.declared.types.Sort.TheVariants.{Op as op}
 use Rattle.rules.specs.Form.{Event, step, more, done, list_events, one, shell_events, op_events, blocks_events, region_events, events}
 use Rattle.rules.specs.Copying.{copied_regions}
 use Rattle.rules.proofs.Copying.Renumbered.{in_concat_map}
@@ -24,10 +27,9 @@ along_imp f (pair {e = e} {e' = e'} p a) = pair (f e e' p) (along_imp f a)
 
 -- what the events list, renamed
 pub along_lists : {P : Event → Event → Type 0} {A B : Type 0} (c : A → B) (f : Event → List A) (g : Event → List B) → ((e e' : Event) → P e e' → g e' ≡ map c (f e))
-    → {es es' : List Event} → Along P es es' → concat_map g es' ≡ map c (concat_map f es)
-unfolding concat_map
+    → {es es' : List Event} → Along P es es' → flat_map g es' ≡ map c (flat_map f es)
 along_lists c f g same over = refl
-along_lists c f g same (pair {e = e} {e' = e'} {es = es} p a) = ap₂ ◌++◌ (same e e' p) (along_lists c f g same a) ∙ sym (map-append c (f e) (concat_map f es))
+along_lists c f g same (pair {e = e} {e' = e'} {es = es} p a) = ap₂ ◌++◌ (same e e' p) (along_lists c f g same a) ∙ sym (map-append c (f e) (flat_map f es))
 
 module _ (P : Event → Event → Type 0) (begun : (j k : ℕ) → P (step (counted j)) (step (counted k))) (more' : P more more) (done' : P done done) where
   along_append : {a a' b b' : List Event} → Along P a a' → Along P b b' → Along P (a ++ b) (a' ++ b')
@@ -90,8 +92,8 @@ module _ (P : Event → Event → Type 0) (begun : (j k : ℕ) → P (step (coun
         (along_blocks (op_events s (region_events s k)) (op_events t (region_events t k)) (blocks_of s r) (λ b mb. block_below w mb)
         (λ b m mb mm. let o = op_below (block_below w mb) mm in
         along_op (region_events s k) (region_events t k) m o (λ q mq. along_region k q (region_below o mq)
-        (λ x mx. sub x (mathlib.Core.List.Memᴰ.tail (in_concat_map (λ (y : ℕ). concat_map (λ (z : ℕ). concat_map (regions_in s k) (regions_of s z)) (ops_of s y)) (blocks_of s r) mb
-        (in_concat_map (λ (z : ℕ). concat_map (regions_in s k) (regions_of s z)) (ops_of s b) mm (in_concat_map (regions_in s k) (regions_of s m) mq mx))))))))
+        (λ x mx. sub x (mathlib.Core.List.Memᴰ.tail (in_concat_map (λ (y : ℕ). flat_map (λ (z : ℕ). flat_map (regions_in s k) (regions_of s z)) (ops_of s y)) (blocks_of s r) mb
+        (in_concat_map (λ (z : ℕ). flat_map (regions_in s k) (regions_of s z)) (ops_of s b) mm (in_concat_map (regions_in s k) (regions_of s m) mq mx))))))))
 
     pub along_events : Along P (events s op n) (events t op (oc n))
     unfolding events walked_regions

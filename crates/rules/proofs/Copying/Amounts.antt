@@ -4,12 +4,13 @@ use Prim.Native.Nat.{ℕ, ◌+◌, ◌<◌, ◌≤◌}
 use native.Mathlib.Omega.{arith}
 use mathlib.Core.Bool.{true}
 use mathlib.Core.List.{List, [], ◌∷◌, map, Memᴰ}
-use mathlib.Core.Option.{Option}
+use Rattle.std.specs.Prelude.{Option}
 use mathlib.Core.Path.{◌≡◌, refl, ap, ap₂, ◌∙◌}
 use lib.ListN.{length, length-map}
 use Rattle.rules.specs.Lists.{sum}
 use Rattle.rules.specs.Store.{Store, Op, Block, no_op, no_block, op_at, block_at, regions_of, op_exists, operand_total, successor_total, attribute_total}
-use Rattle.rules.specs.Fragments.{op, fragment_ops, defines_blocks, defines_values}
+use Rattle.rules.specs.Fragments.{fragment_ops, defines_blocks, defines_values}
+use Rattle.rules.specs.declared.types.Sort.TheVariants.{Op as op}
 use Rattle.rules.specs.Copying.{copied_regions, copied_op, copied_block, copied}
 use Rattle.rules.proofs.Basics.Appended.{sum_append}
 use Rattle.rules.proofs.Basics.Pigeons.{pigeons}

@@ -5,14 +5,17 @@ use native.Mathlib.Omega.{arith}
 use native.Mathlib.Decide.{ℕ_discrete}
 use mathlib.Core.Bool.{Bool, true, false, cond}
 use mathlib.Core.List.{List, ◌∷◌, map, Memᴰ}
-use mathlib.Core.Option.{Option, none, some}
+use Rattle.std.specs.Prelude.{Option, None, Some}
 use mathlib.Core.Path.{◌≡◌, refl, sym, ap, subst, ◌∙◌}
 use borrow.Author.Tests.{ltb-true, eq-eqb, ne_eqb, eqb-true}
 use lib.Dec.{eqb}
 use lib.ListN.{length, get_or}
-use Rattle.rules.specs.Lists.{concat_map, filter}
-use Rattle.rules.specs.Store.{Store, Op, Block, Value, Owner, of_op, of_block, no_op, no_block, op_at, block_at, value_at, parent_of, same_owner, is_parent, ops_of, blocks_of, regions_of, values_of, op_exists, block_exists, region_exists, owner_exists, parent_exists}
-use Rattle.rules.specs.Fragments.{op, exists, defines_owners, defines_blocks, defines_values, fragment_ops}
+use Rattle.std.specs.List.{flat_map, filter}
+use Rattle.rules.specs.Store.{Store, Op, Block, Value, no_op, no_block, op_at, block_at, value_at, parent_of, same_owner, is_parent, ops_of, blocks_of, regions_of, values_of, op_exists, block_exists, region_exists, owner_exists, parent_exists}
+use Rattle.rules.specs.declared.types.Owner.{Owner}
+use Rattle.rules.specs.declared.types.Owner.TheVariants.{Op as of_op, Block as of_block}
+use Rattle.rules.specs.Fragments.{exists, defines_owners, defines_blocks, defines_values, fragment_ops}
+use Rattle.rules.specs.declared.types.Sort.TheVariants.{Op as op}
 use Rattle.rules.specs.Copying.{copied_regions, op_copy, block_copy, region_copy, value_copy, owner_copy, inner, parent_copy, copied_op, copied_block, copied_value, copied}
 use Rattle.rules.proofs.Basics.Tests.{all_at, impossible, differ_back}
 use Rattle.rules.proofs.Basics.Distinct.{Distinct, mem_concat_map}
@@ -88,7 +91,7 @@ module _ (s : Store) (sd : Sound s) (n : ℕ) (ex : op_exists s n ≡ true) (pla
       (λ r i. eq-eqb _ _ (ap (op_copy s n) (regions_in_lem s m i).1))
       (λ r i e. listed r i (eqb-true _ _ e)))
     where
-      listed : (r : ℕ) → Memᴰ r (concat_map (regions_of s) the_ops) → op_copy s n (get_or s.regions r 0) ≡ op_copy s n m → Memᴰ r (regions_of s m)
+      listed : (r : ℕ) → Memᴰ r (flat_map (regions_of s) the_ops) → op_copy s n (get_or s.regions r 0) ≡ op_copy s n m → Memᴰ r (regions_of s m)
       listed r i e =
           let w = mem_concat_map (regions_of s) the_ops i in
           let f : get_or s.regions r 0 ≡ w.0 = (regions_in_lem s w.0 w.2).1 in
@@ -117,7 +120,7 @@ module _ (s : Store) (sd : Sound s) (n : ℕ) (ex : op_exists s n ≡ true) (pla
       test : ℕ → Bool
       test b = eqb (region_copy s n (block_at s b).region) (region_copy s n r)
 
-      listed : (b : ℕ) → Memᴰ b (concat_map (blocks_of s) (walked_regions s n)) → region_copy s n (block_at s b).region ≡ region_copy s n r → Memᴰ b (blocks_of s r)
+      listed : (b : ℕ) → Memᴰ b (flat_map (blocks_of s) (walked_regions s n)) → region_copy s n (block_at s b).region ≡ region_copy s n r → Memᴰ b (blocks_of s r)
       listed b i e =
           let j : Memᴰ b the_blocks = subst (Memᴰ b) (sym (blocks_by_region s n)) i in
           let q = mem_concat_map (blocks_of s) (walked_regions s n) i in
@@ -176,7 +179,7 @@ module _ (s : Store) (sd : Sound s) (n : ℕ) (ex : op_exists s n ≡ true) (pla
       test : ℕ → Bool
       test v = same_owner (owner_copy s n (value_at s v).owner) (owner_copy s n w)
 
-      listed : (v : ℕ) → Memᴰ v (concat_map (values_of s) the_owners) → owner_copy s n (value_at s v).owner ≡ owner_copy s n w → Memᴰ v (values_of s w)
+      listed : (v : ℕ) → Memᴰ v (flat_map (values_of s) the_owners) → owner_copy s n (value_at s v).owner ≡ owner_copy s n w → Memᴰ v (values_of s w)
       listed v i e =
           let q = mem_concat_map (values_of s) the_owners i in
           let f : (value_at s v).owner ≡ q.0 = (values_in_lem s q.0 q.2).1 in
@@ -194,7 +197,7 @@ module _ (s : Store) (sd : Sound s) (n : ℕ) (ex : op_exists s n ≡ true) (pla
   parent_inner m ne = rw (ne_eqb m n ne)
 
   -- the parent of what is inside
-  pub parent_copied : (m : ℕ) → Memᴰ m the_ops → (m ≡ n → ⊥) → (b : ℕ) × (parent_of s m ≡ some b) × Memᴰ b the_blocks × (parent_copy s n place m ≡ some (block_copy s n b))
+  pub parent_copied : (m : ℕ) → Memᴰ m the_ops → (m ≡ n → ⊥) → (b : ℕ) × (parent_of s m ≡ Some b) × Memᴰ b the_blocks × (parent_copy s n place m ≡ Some (block_copy s n b))
   unfolding inner
   parent_copied m k ne =
       let a = block_around s sd n ex m k ne in
@@ -202,15 +205,15 @@ module _ (s : Store) (sd : Sound s) (n : ℕ) (ex : op_exists s n ≡ true) (pla
 
   no_parent : (p : Option ℕ) (b : ℕ) → parent_exists s p ≡ true → length s.blocks ≤ b → is_parent b p ≡ false
   unfolding is_parent parent_exists block_exists
-  no_parent none b h l = refl
-  no_parent (some a) b h l = apart a b (length s.blocks) (ltb-true _ _ h) l
+  no_parent None b h l = refl
+  no_parent (Some a) b h l = apart a b (length s.blocks) (ltb-true _ _ h) l
 
-  elsewhere : (p : Option ℕ) (b : ℕ) → (p ≡ some b → ⊥) → is_parent b p ≡ false
+  elsewhere : (p : Option ℕ) (b : ℕ) → (p ≡ Some b → ⊥) → is_parent b p ≡ false
   unfolding is_parent
-  elsewhere none b ne = refl
-  elsewhere (some a) b ne = ne_eqb a b (λ e. ne (ap {B = Option ℕ} some e))
+  elsewhere None b ne = refl
+  elsewhere (Some a) b ne = ne_eqb a b (λ e. ne (ap {B = Option ℕ} Some e))
 
-  pub ops_old : (b : ℕ) → b < length s.blocks → (place ≡ some b → ⊥) → ops_of with b ≡ ops_of s b
+  pub ops_old : (b : ℕ) → b < length s.blocks → (place ≡ Some b → ⊥) → ops_of with b ≡ ops_of s b
   unfolding ops_of copied copied_op is_parent
   ops_old b l ne =
       numbers_old s.ops (copied_op s n place) the_ops (λ (o : Op). is_parent b o.parent) (λ m k. go m k (ℕ_discrete m n))
@@ -222,7 +225,7 @@ module _ (s : Store) (sd : Sound s) (n : ℕ) (ex : op_exists s n ≡ true) (pla
           ap (is_parent b) a.3 ∙ ne_eqb (block_copy s n a.0) b (λ e. let f : block_copy s n a.0 ≡ b = e in absurd (omega (arith, block_new s n place a.2)))
 
   pub ops_new : {b : ℕ} → Memᴰ b the_blocks → ops_of with (block_copy s n b) ≡ map (op_copy s n) (ops_of s b)
-  unfolding ops_of copied copied_op op_copy is_parent filter inner
+  unfolding ops_of copied copied_op op_copy is_parent inner
   ops_new {b} k =
       numbers_new s.ops (copied_op s n place) the_ops (ops_distinct s sd n ex) (λ (o : Op). is_parent (block_copy s n b) o.parent)
       (λ o i. no_parent o.parent (block_copy s n b) (parent_here s sd o i) (block_new s n place k))
@@ -237,7 +240,7 @@ module _ (s : Store) (sd : Sound s) (n : ℕ) (ex : op_exists s n ≡ true) (pla
       test m = is_parent (block_copy s n b) (parent_copy s n place m)
 
       rest : List ℕ
-      rest = concat_map (ops_of s) the_blocks
+      rest = flat_map (ops_of s) the_blocks
 
       once : Distinct (n ∷ rest)
       once = subst Distinct (ops_by_block s n) (ops_distinct s sd n ex)
@@ -256,6 +259,6 @@ module _ (s : Store) (sd : Sound s) (n : ℕ) (ex : op_exists s n ≡ true) (pla
       listed : (m : ℕ) → Memᴰ m rest → test m ≡ true → Memᴰ m (ops_of s b)
       listed m i e =
           let q = mem_concat_map (ops_of s) the_blocks i in
-          let f : parent_copy s n place m ≡ some (block_copy s n q.0) = parent_inner m (other m i) ∙ ap (inner (block_copy s n)) (ops_in_lem s q.0 q.2).1 in
+          let f : parent_copy s n place m ≡ Some (block_copy s n q.0) = parent_inner m (other m i) ∙ ap (inner (block_copy s n)) (ops_in_lem s q.0 q.2).1 in
           let g : block_copy s n q.0 ≡ block_copy s n b = eqb-true _ _ (sym (ap (is_parent (block_copy s n b)) f) ∙ e) in
           subst (λ (x : ℕ). Memᴰ m (ops_of s x)) (block_once s n place q.0 b (block_below s sd n ex q.1) (block_below s sd n ex k) g) q.2

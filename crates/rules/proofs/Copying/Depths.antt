@@ -5,14 +5,14 @@ use native.Mathlib.Decide.{ℕ_discrete}
 use native.Mathlib.Omega.{arith}
 use mathlib.Core.Bool.{true}
 use mathlib.Core.List.{Memᴰ}
-use mathlib.Core.Option.{Option, some}
+use Rattle.std.specs.Prelude.{Option, Some, is_some}
 use mathlib.Core.Path.{◌≡◌, sym, ap, ◌∙◌}
 use borrow.Author.Tests.{ltb-true, lt-leb}
 use lib.Dec.{leb, leb-suc-suc}
 use lib.ListN.{length}
-use Rattle.rules.specs.Lists.{is_some}
 use Rattle.rules.specs.Store.{Store, parent_of, op_around, op_after, op_exists, parent_exists, levels_left, max_nesting, nesting_holds}
-use Rattle.rules.specs.Fragments.{op, fragment_ops}
+use Rattle.rules.specs.Fragments.{fragment_ops}
+use Rattle.rules.specs.declared.types.Sort.TheVariants.{Op as op}
 use Rattle.rules.specs.Copying.{parent_copy, copied}
 use Rattle.rules.proofs.Soundness.Sound.{Sound}
 use Rattle.rules.proofs.Soundness.Grown.{levels_kept}
@@ -22,7 +22,7 @@ use Rattle.rules.proofs.Copying.Kept.{with_grown, parent_with, around_with}
 
 module _ (s : Store) (sd : Sound s) (n : ℕ) (ex : op_exists s n ≡ true) (place : Option ℕ) (pe : parent_exists s place ≡ true) where
   -- numbers of the operations, of which each is one more than that of the operation around
-  module _ (D : ℕ → ℕ) (deeper : (m b : ℕ) → m < length s.ops → parent_of s m ≡ some b → D m ≡ D (op_around s b) + 1) where
+  module _ (D : ℕ → ℕ) (deeper : (m b : ℕ) → m < length s.ops → parent_of s m ≡ Some b → D m ≡ D (op_around s b) + 1) where
     least : (k m : ℕ) → m < k → Memᴰ m (fragment_ops s op n) → D n ≤ D m
     unfolding op_after
     least zero m l i = absurd (omega arith)
@@ -58,7 +58,7 @@ module _ (s : Store) (sd : Sound s) (n : ℕ) (ex : op_exists s n ≡ true) (pla
           ∙ at_root k ∙ ap (λ (x : ℕ). leb x k) z
 
       inner_zero : (m : ℕ) → Memᴰ m (fragment_ops s op n) → (m ≡ n → ⊥) → Copies 0 m
-      unfolding Copies levels_left is_some
+      unfolding Copies levels_left
       inner_zero m i ne =
           let a = parent_copied s sd n ex place pe m i ne in
           let r : D n ≤ D (op_around s a.0) = depth_least (op_around s a.0) (op_around_lem s sd n ex a.0 a.2) in

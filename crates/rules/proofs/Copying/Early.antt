@@ -4,12 +4,14 @@ use native.Mathlib.Omega.{arith}
 use mathlib.Core.Bool.{true, not, ◌||◌}
 use mathlib.Core.List.{List, Memᴰ}
 use mathlib.Core.Logic.{◌↔◌}
-use mathlib.Core.Option.{Option, none, some}
+use Rattle.std.specs.Prelude.{Option, None, Some, is_some}
 use mathlib.Core.Path.{◌≡◌, refl}
 use lib.ListN.{length}
-use Rattle.rules.specs.Lists.{is_some, position}
-use Rattle.rules.specs.Store.{Store, Owner, op_at}
-use Rattle.rules.specs.Fragments.{op, shell, names, defines_blocks, defines_values}
+use Rattle.rules.specs.Lists.{position}
+use Rattle.rules.specs.Store.{Store, op_at}
+use Rattle.rules.specs.declared.types.Owner.{Owner}
+use Rattle.rules.specs.Fragments.{shell, names, defines_blocks, defines_values}
+use Rattle.rules.specs.declared.types.Sort.TheVariants.{Op as op}
 use Rattle.rules.specs.Hash.{Numbering, numbered}
 use Rattle.rules.specs.Form.{Event, step, numbered_by}
 use Rattle.rules.specs.Copying.{or_next, renumbered, value_copy, block_copy, has_place, numbered_names, step_in_time, in_time}
@@ -19,17 +21,17 @@ use Rattle.rules.proofs.Copying.Along.{Along, over, pair}
 use Rattle.rules.proofs.Copying.Named.{KeptNames, NamesPair, Carries, shelled, named, begun, mores, dones, EventKept, Kept}
 
 -- by the places of a name among those inside and those numbered so far
-kept_by : (v next : ℕ) (i p : Option ℕ) → (not (is_some i) || is_some p) ≡ true → p ≡ none → or_next i next v ≡ v
-unfolding is_some or_next
-kept_by v next none p h e = refl
-kept_by v next (some i) none h e = clash h refl
-kept_by v next (some i) (some j) h e = impossible cc
+kept_by : (v next : ℕ) (i p : Option ℕ) → (not (is_some i) || is_some p) ≡ true → p ≡ None → or_next i next v ≡ v
+unfolding or_next
+kept_by v next None p h e = refl
+kept_by v next (Some i) None h e = clash h refl
+kept_by v next (Some i) (Some j) h e = impossible cc
 
-by_kept : (v next : ℕ) (i p : Option ℕ) → v < next → (p ≡ none → or_next i next v ≡ v) → (not (is_some i) || is_some p) ≡ true
-unfolding is_some or_next
-by_kept v next none p l h = refl
-by_kept v next (some i) none l h = let e : next + i ≡ v = h refl in absurd (omega arith)
-by_kept v next (some i) (some j) l h = refl
+by_kept : (v next : ℕ) (i p : Option ℕ) → v < next → (p ≡ None → or_next i next v ≡ v) → (not (is_some i) || is_some p) ≡ true
+unfolding or_next
+by_kept v next None p l h = refl
+by_kept v next (Some i) None l h = let e : next + i ≡ v = h refl in absurd (omega arith)
+by_kept v next (Some i) (Some j) l h = refl
 
 names_in_time : (inside sofar ns : List ℕ) (next : ℕ) → ((v : ℕ) → Memᴰ v ns → v < next) → (numbered_names inside sofar ns ≡ true) ↔ KeptNames (renumbered inside next) sofar ns
 unfolding numbered_names KeptNames has_place renumbered

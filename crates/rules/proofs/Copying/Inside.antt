@@ -5,14 +5,18 @@ use native.Mathlib.Omega.{arith}
 use mathlib.Core.Bool.{Bool, true, false, cond}
 use mathlib.Core.List.{List, [], ◌∷◌, Memᴰ}
 use mathlib.Core.Logic.{⊎_elim}
-use mathlib.Core.Option.{Option, none, some, map, some-injective, none-ne-some}
+use Rattle.std.specs.Prelude.{Option, None, Some, option_map}
+use Rattle.std.proofs.lemmas.Option.{same_Some, none-some}
 use mathlib.Core.Path.{◌≡◌, refl, sym, subst, ◌∙◌}
 use borrow.Author.Tests.{ltb-true, eq-eqb}
 use lib.Dec.{eqb}
 use lib.ListN.{length, get_or}
 use Rattle.rules.specs.Lists.{numbers_from, numbers_where}
-use Rattle.rules.specs.Store.{Store, Owner, of_op, of_block, op_exists, region_exists, parent_of, op_around, block_at, value_at, regions_of}
-use Rattle.rules.specs.Fragments.{op, exists, op_owner, block_owner, defines_owners, defines_blocks, defines_values, fragment_ops}
+use Rattle.rules.specs.Store.{Store, op_exists, region_exists, parent_of, op_around, block_at, value_at, regions_of}
+use Rattle.rules.specs.declared.types.Owner.{Owner}
+use Rattle.rules.specs.declared.types.Owner.TheVariants.{Op as of_op, Block as of_block}
+use Rattle.rules.specs.Fragments.{exists, op_owner, block_owner, defines_owners, defines_blocks, defines_values, fragment_ops}
+use Rattle.rules.specs.declared.types.Sort.TheVariants.{Op as op}
 use Rattle.rules.specs.Copying.{copied_regions, op_copy, block_copy}
 use Rattle.rules.proofs.Soundness.Sound.{Sound}
 use Rattle.rules.proofs.Soundness.Children.{regions_in_lem, regions_distinct}
@@ -89,24 +93,24 @@ module _ (s : Store) (sd : Sound s) (n : ℕ) (ex : op_exists s n ≡ true) wher
   -- ---- what is around it
 
   -- the block around an operation inside
-  block_first : (m : ℕ) → Memᴰ m (fragment_ops s op n) → (m ≡ n → ⊥) → (b : ℕ) × (parent_of s m ≡ some b) × Before (of_block b) (of_op m) (defines_owners s op n)
+  block_first : (m : ℕ) → Memᴰ m (fragment_ops s op n) → (m ≡ n → ⊥) → (b : ℕ) × (parent_of s m ≡ Some b) × Before (of_block b) (of_op m) (defines_owners s op n)
   unfolding up
   block_first m k ne = ⊎_elim (λ e. absurd (ne cc)) (λ h. go (parent_of s m) refl h.0 h.1 h.2) (around_before s n (of_op m) (op_owned k))
     where
-      go : (q : Option ℕ) → parent_of s m ≡ q → (p : Owner) → map of_block q ≡ some p → Before p (of_op m) (defines_owners s op n)
-          → (b : ℕ) × (parent_of s m ≡ some b) × Before (of_block b) (of_op m) (defines_owners s op n)
-      go none e p f h = absurd (none-ne-some p f)
-      go (some b) e p f h = (b, e, subst (λ (x : Owner). Before x (of_op m) (defines_owners s op n)) (sym (some-injective (of_block b) p f)) h)
+      go : (q : Option ℕ) → parent_of s m ≡ q → (p : Owner) → option_map of_block q ≡ Some p → Before p (of_op m) (defines_owners s op n)
+          → (b : ℕ) × (parent_of s m ≡ Some b) × Before (of_block b) (of_op m) (defines_owners s op n)
+      go None e p f h = absurd (none-some p f)
+      go (Some b) e p f h = (b, e, subst (λ (x : Owner). Before x (of_op m) (defines_owners s op n)) (sym (same_Some (of_block b) p f)) h)
 
   -- the operation around a block inside
   op_first : (b : ℕ) → Memᴰ b (defines_blocks s op n) → Before (of_op (op_around s b)) (of_block b) (defines_owners s op n)
   unfolding up
   op_first b k =
       ⊎_elim (λ e. impossible cc)
-      (λ h. subst (λ (x : Owner). Before x (of_block b) (defines_owners s op n)) (sym (some-injective (of_op (op_around s b)) h.0 h.1)) h.2)
+      (λ h. subst (λ (x : Owner). Before x (of_block b) (defines_owners s op n)) (sym (same_Some (of_op (op_around s b)) h.0 h.1)) h.2)
       (around_before s n (of_block b) (block_owned k))
 
-  pub block_around : (m : ℕ) → Memᴰ m (fragment_ops s op n) → (m ≡ n → ⊥) → (b : ℕ) × (parent_of s m ≡ some b) × Memᴰ b (defines_blocks s op n)
+  pub block_around : (m : ℕ) → Memᴰ m (fragment_ops s op n) → (m ≡ n → ⊥) → (b : ℕ) × (parent_of s m ≡ Some b) × Memᴰ b (defines_blocks s op n)
   block_around m k ne = let h = block_first m k ne in (h.0, h.1, owned_block (first_in h.2))
 
   pub op_around_lem : (b : ℕ) → Memᴰ b (defines_blocks s op n) → Memᴰ (op_around s b) (fragment_ops s op n)
@@ -119,21 +123,21 @@ module _ (s : Store) (sd : Sound s) (n : ℕ) (ex : op_exists s n ≡ true) wher
 
   -- ---- the numbers rise
 
-  pub op_rises : (m b : ℕ) → Memᴰ m (fragment_ops s op n) → (m ≡ n → ⊥) → parent_of s m ≡ some b → op_copy s n (op_around s b) < op_copy s n m
+  pub op_rises : (m b : ℕ) → Memᴰ m (fragment_ops s op n) → (m ≡ n → ⊥) → parent_of s m ≡ Some b → op_copy s n (op_around s b) < op_copy s n m
   unfolding op_copy fragment_ops op_owner
   op_rises m b k ne e =
       let h = block_first m k ne in
-      let f : h.0 ≡ b = some-injective h.0 b (sym h.1 ∙ e) in
+      let f : h.0 ≡ b = same_Some h.0 b (sym h.1 ∙ e) in
       let g : Before (of_block b) (of_op m) (defines_owners s op n) = subst (λ (c : ℕ). Before (of_block c) (of_op m) (defines_owners s op n)) f h.2 in
       let i = op_first b (owned_block (first_in g)) in
       before_less (before_between op_owner (before_trans (owners_once s sd op n existing) i g) (Memᴰ.head refl) (Memᴰ.head refl)) ops_distinct (length s.ops)
 
-  pub block_rises : (b c : ℕ) → Memᴰ b (defines_blocks s op n) → (op_around s b ≡ n → ⊥) → parent_of s (op_around s b) ≡ some c
+  pub block_rises : (b c : ℕ) → Memᴰ b (defines_blocks s op n) → (op_around s b ≡ n → ⊥) → parent_of s (op_around s b) ≡ Some c
       → Memᴰ c (defines_blocks s op n) × (block_copy s n c < block_copy s n b)
   unfolding block_copy defines_blocks block_owner
   block_rises b c k ne e =
       let h = block_first (op_around s b) (op_around_lem b k) ne in
-      let f : h.0 ≡ c = some-injective h.0 c (sym h.1 ∙ e) in
+      let f : h.0 ≡ c = same_Some h.0 c (sym h.1 ∙ e) in
       let g : Before (of_block c) (of_op (op_around s b)) (defines_owners s op n) = subst (λ (x : ℕ). Before (of_block x) (of_op (op_around s b)) (defines_owners s op n)) f h.2 in (
         owned_block (first_in g),
         before_less (before_between block_owner (before_trans (owners_once s sd op n existing) g (op_first b k)) (Memᴰ.head refl) (Memᴰ.head refl)) blocks_distinct (length s.blocks),

@@ -7,14 +7,17 @@ use mathlib.Core.Bool.{Bool, true}
 use mathlib.Core.List.Memᴰ
 use mathlib.Core.List.{List, map, Memᴰ}
 use mathlib.Core.Logic.{◌↔◌}
-use mathlib.Core.Option.{Option, none, some}
+use Rattle.std.specs.Prelude.{Option, None, Some}
 use mathlib.Core.Path.{◌≡◌, refl, sym, ap, subst, ◌∙◌}
 use borrow.Author.Tests.{ltb-true, lt-ltb}
 use lib.Dec.{ltb}
 use lib.ListN.{length, get_or, length-map}
-use Rattle.rules.specs.Lists.{all}
-use Rattle.rules.specs.Store.{Store, Op, Block, Value, Owner, of_op, of_block, op_at, block_at, value_at, parent_of, op_around, op_after, block_after, results_of, arguments_of, op_exists, block_exists, region_exists, value_exists, owner_exists, parent_exists, nesting_holds, totals_hold, sound}
-use Rattle.rules.specs.Fragments.{op, defines_blocks, defines_values, fragment_ops}
+use Rattle.std.specs.List.{list_all}
+use Rattle.rules.specs.Store.{Store, Op, Block, Value, op_at, block_at, value_at, parent_of, op_around, op_after, block_after, results_of, arguments_of, op_exists, block_exists, region_exists, value_exists, owner_exists, parent_exists, nesting_holds, totals_hold, sound}
+use Rattle.rules.specs.declared.types.Owner.{Owner}
+use Rattle.rules.specs.declared.types.Owner.TheVariants.{Op as of_op, Block as of_block}
+use Rattle.rules.specs.Fragments.{defines_blocks, defines_values, fragment_ops}
+use Rattle.rules.specs.declared.types.Sort.TheVariants.{Op as op}
 use Rattle.rules.specs.Copying.{copied_regions, op_copy, block_copy, region_copy, value_copy, owner_copy, parent_copy, copied_op, copied_block, copied_value, copied, copy_nests, copy_tests, renumbered}
 use Rattle.rules.specs.CopyLaws.{CopySound, CopyAcceptedExactly}
 use Rattle.rules.proofs.Basics.Tests.{and_left, and_right, all_at, all_of}
@@ -27,7 +30,7 @@ use Rattle.rules.proofs.Copying.Inside.{ops_distinct, blocks_distinct, op_below,
 use Rattle.rules.proofs.Copying.Tables.{old_op, new_op, old_block, new_block_lem, new_region, op_new, block_new, ops_length, blocks_length, regions_length, values_length}
 use Rattle.rules.proofs.Copying.Children.{region_parent, owner_here, regions_old, regions_new, values_old, values_new, parent_root, parent_copied}
 
-all_map : {A B : Type 0} (p : B → Bool) (q : A → Bool) (f : A → B) (xs : List A) → ((x : A) → q x ≡ true → p (f x) ≡ true) → all q xs ≡ true → all p (map f xs) ≡ true
+all_map : {A B : Type 0} (p : B → Bool) (q : A → Bool) (f : A → B) (xs : List A) → ((x : A) → q x ≡ true → p (f x) ≡ true) → list_all q xs ≡ true → list_all p (map f xs) ≡ true
 all_map p q f xs h k = all_of p (map f xs) (λ y m. let w = Memᴰ.of_map f xs m in subst (λ (z : _). p z ≡ true) w.2 (h w.0 (all_at q xs k w.1)))
 
 module _ (s : Store) (sd : Sound s) (n : ℕ) (ex : op_exists s n ≡ true) (place : Option ℕ) (pe : parent_exists s place ≡ true) where
@@ -83,8 +86,8 @@ module _ (s : Store) (sd : Sound s) (n : ℕ) (ex : op_exists s n ≡ true) (pla
 
   place_after : (p : Option ℕ) → parent_exists s p ≡ true → (m : ℕ) → length s.ops ≤ m → op_after s m p ≡ true
   unfolding op_after parent_exists block_exists
-  place_after none h m l = refl
-  place_after (some b) h m l = lt-ltb (op_around s b) m (omega (arith, around_in s sd b (ltb-true _ _ h)))
+  place_after None h m l = refl
+  place_after (Some b) h m l = lt-ltb (op_around s b) m (omega (arith, around_in s sd b (ltb-true _ _ h)))
 
   op_after_lem : (m : ℕ) → Memᴰ m (fragment_ops s op n) → Dec (m ≡ n) → op_after with (op_copy s n m) (parent_copy s n place m) ≡ true
   unfolding op_after
@@ -100,8 +103,8 @@ module _ (s : Store) (sd : Sound s) (n : ℕ) (ex : op_exists s n ≡ true) (pla
 
   place_before : (p : Option ℕ) → parent_exists s p ≡ true → (b : ℕ) → length s.blocks ≤ b → block_after b p ≡ true
   unfolding block_after parent_exists block_exists
-  place_before none h b l = refl
-  place_before (some a) h b l = lt-ltb a b (omega (arith, ltb-true a (length s.blocks) h))
+  place_before None h b l = refl
+  place_before (Some a) h b l = lt-ltb a b (omega (arith, ltb-true a (length s.blocks) h))
 
   block_after_lem : (b : ℕ) → Memᴰ b (defines_blocks s op n) → Dec (op_around s b ≡ n) → block_after (block_copy s n b) (parent_copy s n place (op_around s b)) ≡ true
   unfolding block_after

@@ -4,37 +4,37 @@ use Prim.Native.Nat.{ℕ}
 use mathlib.Core.Bool.{true, false, ◌&&◌}
 use mathlib.Core.List.{List, map}
 use mathlib.Core.Logic.{◌⊎◌, inl, inr}
-use mathlib.Core.Option.{Option}
+use Rattle.std.specs.Prelude.{Option}
 use mathlib.Core.Path.{◌≡◌, sym, ap, subst, ◌∙◌}
 use borrow.Author.Tests.{ltb-true, lt-ltb}
 use native.Mathlib.Omega.{arith}
 use lib.ListN.{length}
-use Rattle.rules.specs.Lists.{concat_map}
+use Rattle.std.specs.List.{flat_map}
 use Rattle.rules.specs.Store.{Store, regions_of, values_of, op_exists, parent_exists, sound, totals_hold}
-use Rattle.rules.specs.Fragments.{op, exists, steps, op_owner, block_owner, defines_owners, defines_blocks, defines_values, fragment_ops}
-use Rattle.rules.specs.Shells.{Ignore}
+use Rattle.rules.specs.Fragments.{exists, steps, op_owner, block_owner, defines_owners, defines_blocks, defines_values, fragment_ops}
+use Rattle.rules.specs.declared.types.Sort.TheVariants.{Op as op}
+use Rattle.rules.specs.declared.types.Ignore.{Ignore}
 use Rattle.rules.specs.Types.{renamed}
 use Rattle.rules.specs.Hash.{no_numbers, hash}
 use Rattle.rules.specs.Keys.{key}
 use Rattle.rules.specs.Mapping.{empty_mapping, enter_all}
 use Rattle.rules.specs.Laws.{equal, Equal, In}
 use Rattle.rules.specs.MappingLaws.{filed, values, blocks, ops, table_of, defines_of, SideBySide}
-use Rattle.rules.specs.Statements.{RenamedSound}
+use Rattle.rules.specs.TypeLaws.{RenamedSound}
 use Rattle.rules.specs.Entering.{Entered, entered, rights, EnteredInOrder}
 use Rattle.rules.specs.Copying.{copied_regions, op_copy, block_copy, region_copy, value_copy, copied, copy_mapping, placed_outside, in_time, copy_nests, copy_tests}
 use Rattle.rules.specs.CopyLaws.{CopyEqual, CopyAlike, CopyFiled, NumberedInOrder, CopyOrder, CopyPremise, EarlyUnequal}
 use Rattle.rules.proofs.Basics.Tests.{and_left, and_right, clash, decided}
 use Rattle.rules.proofs.Soundness.Sound.{Sound, facts}
 use Rattle.rules.proofs.Soundness.Accepted.{first_failed_none}
-use Rattle.rules.proofs.Types.Renamed.{exists_renamed}
-use Rattle.rules.proofs.Types.Under as under
+use Rattle.rules.proofs.RenamedTypes.Renamed.{exists_renamed}
+use Rattle.rules.proofs.RenamedTypes.Under as under
 use Rattle.rules.proofs.Form.Canonical.{canonical→equal, equal→canonical, canonical→hash}
 use Rattle.rules.proofs.Form.SideBySide.{side_by_side}
 use Rattle.rules.proofs.Keys.Writing.{canonical→key}
 use Rattle.rules.proofs.Basics.Distinct.{concat_map_same}
 use Rattle.rules.proofs.Entering.{entered_in_order}
 use Rattle.rules.proofs.Copying.Inside.{ops_distinct, blocks_distinct, values_distinct, copied_distinct}
-use Rattle.rules.proofs.Copying.Moved.{Moved}
 use Rattle.rules.proofs.Copying.Renumbered.{consecutive}
 use Rattle.rules.proofs.Copying.Walked.{concat_map_map, map_concat_map}
 use Rattle.rules.proofs.Copying.Tables.{ops_length}
@@ -111,8 +111,8 @@ module _ (s : Store) (h : sound s ≡ true) (n : ℕ) (place : Option ℕ) (e : 
         in_ops : (filed under_types ig op n copy).ops ≡ enter_all (fragment_ops s op n) (map (op_copy s n) (fragment_ops s op n)) empty_mapping.ops
         in_ops =
             (side_by_side under_types renamed_sound ig op n copy original_under copy_under eq ops).0
-            ∙ λ i. enter_all ((ap (concat_map op_owner) (under.owners types with op n) ∙ ops_stay s sd n ex place pe out) i)
-            ((ap (concat_map op_owner) (under.owners types with op copy) ∙ ops_copied s sd n ex place pe out) i) empty_mapping.ops
+            ∙ λ i. enter_all ((ap (flat_map op_owner) (under.owners types with op n) ∙ ops_stay s sd n ex place pe out) i)
+            ((ap (flat_map op_owner) (under.owners types with op copy) ∙ ops_copied s sd n ex place pe out) i) empty_mapping.ops
 
   -- ---- the order of the numbers
 
@@ -124,11 +124,11 @@ module _ (s : Store) (h : sound s ≡ true) (n : ℕ) (place : Option ℕ) (e : 
     unfolding pairs EnteredInOrder equal
     on_right = (entered_in_order (renamed types with) ig op n copy empty_mapping eq).1 ∙ under.owners types with op copy
 
-    ops_on_right : concat_map op_owner (rights pairs) ≡ map (op_copy s n) (fragment_ops s op n)
+    ops_on_right : flat_map op_owner (rights pairs) ≡ map (op_copy s n) (fragment_ops s op n)
     unfolding fragment_ops
-    ops_on_right = ap (concat_map op_owner) on_right ∙ ops_copied s sd n ex place pe out
+    ops_on_right = ap (flat_map op_owner) on_right ∙ ops_copied s sd n ex place pe out
 
-    regions_of_copies : concat_map (regions_of with) (map (op_copy s n) (fragment_ops s op n)) ≡ map (region_copy s n) (copied_regions s n)
+    regions_of_copies : flat_map (regions_of with) (map (op_copy s n) (fragment_ops s op n)) ≡ map (region_copy s n) (copied_regions s n)
     unfolding copied_regions
     regions_of_copies =
         concat_map_map (regions_of with) (op_copy s n) (fragment_ops s op n)
@@ -144,10 +144,10 @@ module _ (s : Store) (h : sound s ≡ true) (n : ℕ) (place : Option ℕ) (e : 
               rw (ops_on_right, regions_of_copies)
               (consecutive (copied_regions s n) (length s.regions) (copied_distinct s sd n ex));
           blocks =
-              rw (ap (concat_map block_owner) on_right ∙ blocks_copied s sd n ex place pe out)
+              rw (ap (flat_map block_owner) on_right ∙ blocks_copied s sd n ex place pe out)
               (consecutive (defines_blocks s op n) (length s.blocks) (blocks_distinct s sd n ex));
           values =
-              rw (ap (concat_map (values_of with)) on_right ∙ values_copied s sd n ex place pe out)
+              rw (ap (flat_map (values_of with)) on_right ∙ values_copied s sd n ex place pe out)
               (consecutive (defines_values s op n) (length s.values) (values_distinct s sd n ex));
         }
 

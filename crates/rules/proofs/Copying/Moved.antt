@@ -6,14 +6,18 @@ use mathlib.Core.Bool.{true}
 use mathlib.Core.List.Memᴰ
 use mathlib.Core.List.{List, [], ◌∷◌, ◌++◌, map, map-append, Memᴰ}
 use mathlib.Core.Logic.{⊎_elim}
-use mathlib.Core.Option.{Option}
+use Rattle.std.specs.Prelude.{Option}
 use mathlib.Core.Path.{◌≡◌, refl, sym, ap, ap₂, subst, ◌∙◌}
 use borrow.Author.Tests.{ltb-true}
 use lib.ListN.{length, length-map}
-use Rattle.rules.specs.Lists.{concat_map}
-use Rattle.rules.specs.Store.{Store, Op, Owner, of_op, of_block, op_at, block_at, type_of, ops_of, blocks_of, regions_of, values_of, op_exists, block_exists, value_exists}
-use Rattle.rules.specs.Fragments.{op, op_owner, block_owner, step_defines, step_operands, step_successors, defines_owners, defines_blocks, defines_values, fragment_ops, names_values, names_blocks}
-use Rattle.rules.specs.Shells.{Ignore, shell_of, counts_of, unignored, unignored_location}
+use Rattle.std.specs.List.{flat_map}
+use Rattle.rules.specs.Store.{Store, Op, op_at, block_at, type_of, ops_of, blocks_of, regions_of, values_of, op_exists, block_exists, value_exists}
+use Rattle.rules.specs.declared.types.Owner.{Owner}
+use Rattle.rules.specs.declared.types.Owner.TheVariants.{Op as of_op, Block as of_block}
+use Rattle.rules.specs.Fragments.{op_owner, block_owner, step_defines, step_operands, step_successors, defines_owners, defines_blocks, defines_values, fragment_ops, names_values, names_blocks}
+use Rattle.rules.specs.declared.types.Sort.TheVariants.{Op as op}
+use Rattle.rules.specs.Shells.{shell_of, counts_of, unignored, unignored_location}
+use Rattle.rules.specs.declared.types.Ignore.{Ignore}
 use Rattle.rules.specs.Hash.{no_numbers}
 use Rattle.rules.specs.Types.{renamed}
 use Rattle.rules.specs.Form.{Event, events, tokens, canonical}
@@ -33,11 +37,10 @@ use Rattle.rules.proofs.Copying.UnderTypes.{events_renamed, carries_under, renam
 
 -- what lists of owners list, renamed
 concat_renamed : {A B C D : Type 0} (f : A → B) (c : C → D) (g : A → List C) (h : B → List D) (xs : List A) → ((x : A) → Memᴰ x xs → h (f x) ≡ map c (g x))
-    → concat_map h (map f xs) ≡ map c (concat_map g xs)
-unfolding concat_map
+    → flat_map h (map f xs) ≡ map c (flat_map g xs)
 concat_renamed f c g h [] same = refl
 concat_renamed f c g h (x ∷ xs) same =
-    ap₂ ◌++◌ (same x (Memᴰ.head refl)) (concat_renamed f c g h xs (λ y m. same y (Memᴰ.tail m))) ∙ sym (map-append c (g x) (concat_map g xs))
+    ap₂ ◌++◌ (same x (Memᴰ.head refl)) (concat_renamed f c g h xs (λ y m. same y (Memᴰ.tail m))) ∙ sym (map-append c (g x) (flat_map g xs))
 
 module _ (s t : Store) (n : ℕ) (oc bc rc vc : ℕ → ℕ) where
   -- an owner, renamed
@@ -170,15 +173,15 @@ module _ (s t : Store) (n : ℕ) (oc bc rc vc : ℕ → ℕ) where
 
     pub ops_moved : fragment_ops t op (oc n) ≡ map oc (fragment_ops s op n)
     unfolding fragment_ops
-    ops_moved = ap (concat_map op_owner) owners_moved ∙ concat_renamed renamed_owner oc op_owner op_owner (defines_owners s op n) (λ w m. op_renamed w)
+    ops_moved = ap (flat_map op_owner) owners_moved ∙ concat_renamed renamed_owner oc op_owner op_owner (defines_owners s op n) (λ w m. op_renamed w)
 
     pub blocks_moved : defines_blocks t op (oc n) ≡ map bc (defines_blocks s op n)
     unfolding defines_blocks
-    blocks_moved = ap (concat_map block_owner) owners_moved ∙ concat_renamed renamed_owner bc block_owner block_owner (defines_owners s op n) (λ w m. block_renamed w)
+    blocks_moved = ap (flat_map block_owner) owners_moved ∙ concat_renamed renamed_owner bc block_owner block_owner (defines_owners s op n) (λ w m. block_renamed w)
 
     pub values_moved : defines_values t op (oc n) ≡ map vc (defines_values s op n)
     unfolding defines_values
-    values_moved = ap (concat_map (values_of t)) owners_moved ∙ concat_renamed renamed_owner vc (values_of s) (values_of t) (defines_owners s op n) mv.values
+    values_moved = ap (flat_map (values_of t)) owners_moved ∙ concat_renamed renamed_owner vc (values_of s) (values_of t) (defines_owners s op n) mv.values
 
     pub named_values_moved : names_values t op (oc n) ≡ map vc (names_values s op n)
     named_values_moved =
@@ -191,8 +194,8 @@ module _ (s t : Store) (n : ℕ) (oc bc rc vc : ℕ → ℕ) where
     -- what is named exists
 
     named_in : {es es' : List Event} → Along P es es'
-        → ((v : ℕ) → Memᴰ v (concat_map (event_operands s) es) → v < length s.values) × ((b : ℕ) → Memᴰ b (concat_map (event_successors s) es) → b < length s.blocks)
-    unfolding concat_map event_operands event_successors step_operands step_successors
+        → ((v : ℕ) → Memᴰ v (flat_map (event_operands s) es) → v < length s.values) × ((b : ℕ) → Memᴰ b (flat_map (event_successors s) es) → b < length s.blocks)
+    unfolding event_operands event_successors step_operands step_successors
     named_in over = (λ v m. absurd (Memᴰ.not-nil m), λ b m. absurd (Memᴰ.not-nil m))
     named_in (pair (shelled p) a) = named_in a
     named_in (pair (named {m = m} p) a) =

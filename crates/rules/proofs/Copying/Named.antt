@@ -5,15 +5,18 @@ use mathlib.Core.Bool.{true, false, cond}
 use mathlib.Core.List.Memᴰ
 use mathlib.Core.List.{List, [], ◌∷◌, ◌++◌, map, map-append, Memᴰ, head-eq_of_cons-eq, tail-eq_of_cons-eq}
 use mathlib.Core.Logic.{◌⊎◌, inl, inr, ⊎_elim}
-use mathlib.Core.Option.{Option, none, some}
+use Rattle.std.specs.Prelude.{Option, None, Some}
 use mathlib.Core.Path.{◌≡◌, refl, sym, ap, ap₂, ◌∙◌}
 use borrow.Author.Tests.{eqb-true, eq-eqb, ne_eqb, eqb-false}
 use lib.Dec.{eqb}
 use lib.ListN.{length}
 use Rattle.rules.specs.Lists.{later, position}
-use Rattle.rules.specs.Store.{Store, Owner, of_op, op_at, type_of, values_of}
+use Rattle.rules.specs.Store.{Store, op_at, type_of, values_of}
+use Rattle.rules.specs.declared.types.Owner.{Owner}
+use Rattle.rules.specs.declared.types.Owner.TheVariants.{Op as of_op}
 use Rattle.rules.specs.Fragments.{shell, names, counted, block_owner}
-use Rattle.rules.specs.Shells.{Ignore, shell_of, counts_of}
+use Rattle.rules.specs.Shells.{shell_of, counts_of}
+use Rattle.rules.specs.declared.types.Ignore.{Ignore}
 use Rattle.rules.specs.Hash.{Numbering, numbered, name_at, name_of}
 use Rattle.rules.specs.Form.{Event, step, more, done, shell_token, names_token, numbered_by, token, tokens}
 use Rattle.rules.proofs.Basics.Cut.{map_through}
@@ -30,7 +33,7 @@ position_renamed c v [] once = refl
 position_renamed c v (x ∷ xs) once = go (decided (eqb v x)) (position_renamed c v xs (λ y m. once y (Memᴰ.tail m)))
   where
     go : (eqb v x ≡ true) ⊎ (eqb v x ≡ false) → position (c v) (map c xs) ≡ position v xs
-        → cond (eqb (c v) (c x)) (some 0) (later (position (c v) (map c xs))) ≡ cond (eqb v x) (some 0) (later (position v xs))
+        → cond (eqb (c v) (c x)) (Some 0) (later (position (c v) (map c xs))) ≡ cond (eqb v x) (Some 0) (later (position v xs))
     go (inl e) r = rw (e, eq-eqb (c v) (c x) (ap c (eqb-true v x e)))
     go (inr e) r = rw (r, e, ne_eqb (c v) (c x) (λ f. eqb-false v x e (once x (Memᴰ.head refl) f)))
 
@@ -38,21 +41,21 @@ position_renamed c v (x ∷ xs) once = go (decided (eqb v x)) (position_renamed 
 
 -- those that have no number yet keep their own
 unfoldable pub KeptNames : (ℕ → ℕ) → List ℕ → List ℕ → Type 0
-KeptNames c sofar ns = (v : ℕ) → Memᴰ v ns → position v sofar ≡ none → c v ≡ v
+KeptNames c sofar ns = (v : ℕ) → Memᴰ v ns → position v sofar ≡ None → c v ≡ v
 
 module _ (c : ℕ → ℕ) (v : ℕ) (xs : List ℕ) (once : (x : ℕ) → Memᴰ x xs → c v ≡ c x → v ≡ x) where
-  name_same : (position v xs ≡ none → c v ≡ v) → name_of xs v ≡ name_of (map c xs) (c v)
+  name_same : (position v xs ≡ None → c v ≡ v) → name_of xs v ≡ name_of (map c xs) (c v)
   unfolding name_of name_at
   name_same keeps = rw (position_renamed c v xs once) (go (position v xs) refl)
     where
       go : (o : Option ℕ) → position v xs ≡ o → name_at (position v xs) v ≡ name_at (position v xs) (c v)
-      go none e = rw (e, keeps e)
-      go (some i) e = rw e
+      go None e = rw (e, keeps e)
+      go (Some i) e = rw e
 
-  name_keeps : name_of xs v ≡ name_of (map c xs) (c v) → position v xs ≡ none → c v ≡ v
+  name_keeps : name_of xs v ≡ name_of (map c xs) (c v) → position v xs ≡ None → c v ≡ v
   unfolding name_of name_at
   name_keeps e p =
-      let f : name_at none v ≡ name_at none (c v) = ap (λ (o : Option ℕ). name_at o v) (sym p) ∙ e ∙ ap (λ (o : Option ℕ). name_at o (c v)) (position_renamed c v xs once ∙ p) in
+      let f : name_at None v ≡ name_at None (c v) = ap (λ (o : Option ℕ). name_at o v) (sym p) ∙ e ∙ ap (λ (o : Option ℕ). name_at o (c v)) (position_renamed c v xs once ∙ p) in
       cc
 
 map_each : {A B C : Type 0} (f : A → C) (h : B → C) (g : A → B) (xs : List A) → map f xs ≡ map h (map g xs) → (x : A) → Memᴰ x xs → f x ≡ h (g x)

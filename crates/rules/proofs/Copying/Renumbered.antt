@@ -7,12 +7,13 @@ use mathlib.Core.Bool.{Bool, true, false, cond}
 use mathlib.Core.List.Memᴰ
 use mathlib.Core.List.{List, [], ◌∷◌, ◌++◌, map, append-nil, Memᴰ}
 use mathlib.Core.Logic.{◌⊎◌, inl, inr, ⊎_elim}
-use mathlib.Core.Option.{Option, none, some}
+use Rattle.std.specs.Prelude.{Option, None, Some}
 use mathlib.Core.Path.{◌≡◌, refl, sym, ap, ap₂, subst, ◌∙◌}
 use borrow.Author.Tests.{eq-eqb, ne_eqb}
 use lib.ListN.{length, get_or, length-append, length-map, get_or-append}
 use lib.Seq.{get_or-append-add}
-use Rattle.rules.specs.Lists.{filter, numbers_from, numbers_where, concat_map, later, position}
+use Rattle.std.specs.List.{filter, flat_map}
+use Rattle.rules.specs.Lists.{numbers_from, numbers_where, later, position}
 use Rattle.rules.specs.Copying.{or_next, renumbered}
 use Rattle.rules.proofs.Basics.Tests.{all_of}
 use Rattle.rules.proofs.Basics.Distinct.{Distinct}
@@ -32,7 +33,6 @@ map_same f g [] h = refl
 map_same f g (x ∷ xs) h = ap₂ ◌∷◌ (h x (Memᴰ.head refl)) (map_same f g xs (λ y m. h y (Memᴰ.tail m)))
 
 pub mem_filter : {A : Type 0} (q : A → Bool) (xs : List A) {x : A} → Memᴰ x (filter q xs) → Memᴰ x xs × (q x ≡ true)
-unfolding filter
 mem_filter q [] m = absurd (Memᴰ.not-nil m)
 mem_filter {A} q (y ∷ xs) {x} m = go (q y) refl (λ k. mem_filter q xs k) m
   where
@@ -51,37 +51,35 @@ pub distinct_right : {A : Type 0} (xs ys : List A) → Distinct (xs ++ ys) → D
 distinct_right [] ys d = d
 distinct_right (x ∷ xs) ys d = distinct_right xs ys d.1
 
-pub in_concat_map : {A B : Type 0} (f : A → List B) {x : A} {y : B} (xs : List A) → Memᴰ x xs → Memᴰ y (f x) → Memᴰ y (concat_map f xs)
-unfolding concat_map
-in_concat_map f {x = x} {y = y} xs (Memᴰ.head {x = z} {xs = zs} e) k = Memᴰ.append_left (concat_map f zs) (subst (λ (u : _). Memᴰ y (f u)) e k)
+pub in_concat_map : {A B : Type 0} (f : A → List B) {x : A} {y : B} (xs : List A) → Memᴰ x xs → Memᴰ y (f x) → Memᴰ y (flat_map f xs)
+in_concat_map f {x = x} {y = y} xs (Memᴰ.head {x = z} {xs = zs} e) k = Memᴰ.append_left (flat_map f zs) (subst (λ (u : _). Memᴰ y (f u)) e k)
 in_concat_map f xs (Memᴰ.tail {x = z} {xs = zs} m) k = Memᴰ.append_right (f z) (in_concat_map f zs m k)
 
 -- of distinct children of some parents, those of one of the parents: they stand together, and in their own order
-pub of_one_parent : {W : Type 0} (kids : W → List ℕ) (q : ℕ → Bool) (w : W) (ps : List W) → Distinct (concat_map kids ps) → Memᴰ w ps
-    → ((c : ℕ) → Memᴰ c (kids w) → q c ≡ true) → ((c : ℕ) → Memᴰ c (concat_map kids ps) → q c ≡ true → Memᴰ c (kids w))
-    → filter q (concat_map kids ps) ≡ kids w
-unfolding concat_map
+pub of_one_parent : {W : Type 0} (kids : W → List ℕ) (q : ℕ → Bool) (w : W) (ps : List W) → Distinct (flat_map kids ps) → Memᴰ w ps
+    → ((c : ℕ) → Memᴰ c (kids w) → q c ≡ true) → ((c : ℕ) → Memᴰ c (flat_map kids ps) → q c ≡ true → Memᴰ c (kids w))
+    → filter q (flat_map kids ps) ≡ kids w
 of_one_parent kids q w [] d m his their = absurd (Memᴰ.not-nil m)
 of_one_parent kids q w (p ∷ ps) d m his their =
-    filter_append q (kids p) (concat_map kids ps)
+    filter_append q (kids p) (flat_map kids ps)
     ∙ ⊎_elim first
-    (λ m'. rest m' (of_one_parent kids q w ps (distinct_right (kids p) (concat_map kids ps) d) m' his (λ c k. their c (Memᴰ.append_right (kids p) k))))
+    (λ m'. rest m' (of_one_parent kids q w ps (distinct_right (kids p) (flat_map kids ps) d) m' his (λ c k. their c (Memᴰ.append_right (kids p) k))))
     (Memᴰ.cases_cons m)
   where
-    first : w ≡ p → filter q (kids p) ++ filter q (concat_map kids ps) ≡ kids w
+    first : w ≡ p → filter q (kids p) ++ filter q (flat_map kids ps) ≡ kids w
     first e =
         let f : kids p ≡ kids w = ap kids (sym e) in
         let whole : filter q (kids p) ≡ kids p = filter_whole q (kids p) (all_of q (kids p) (λ c k. his c (subst (Memᴰ c) f k))) in
-        let none : filter q (concat_map kids ps) ≡ [] =
-        empty_of (filter q (concat_map kids ps)) (λ c k. let r = mem_filter q (concat_map kids ps) k in
-        distinct_apart (kids p) (concat_map kids ps) d c (subst (Memᴰ c) (sym f) (their c (Memᴰ.append_right (kids p) r.0) r.1)) r.0) in
+        let none : filter q (flat_map kids ps) ≡ [] =
+        empty_of (filter q (flat_map kids ps)) (λ c k. let r = mem_filter q (flat_map kids ps) k in
+        distinct_apart (kids p) (flat_map kids ps) d c (subst (Memᴰ c) (sym f) (their c (Memᴰ.append_right (kids p) r.0) r.1)) r.0) in
         ap₂ ◌++◌ whole none ∙ append-nil (kids p) ∙ f
 
-    rest : Memᴰ w ps → filter q (concat_map kids ps) ≡ kids w → filter q (kids p) ++ filter q (concat_map kids ps) ≡ kids w
+    rest : Memᴰ w ps → filter q (flat_map kids ps) ≡ kids w → filter q (kids p) ++ filter q (flat_map kids ps) ≡ kids w
     rest m' others =
         let none : filter q (kids p) ≡ [] =
         empty_of (filter q (kids p)) (λ c k. let r = mem_filter q (kids p) k in
-        distinct_apart (kids p) (concat_map kids ps) d c r.0 (in_concat_map kids ps m' (their c (Memᴰ.append_left (concat_map kids ps) r.0) r.1))) in
+        distinct_apart (kids p) (flat_map kids ps) d c r.0 (in_concat_map kids ps m' (their c (Memᴰ.append_left (flat_map kids ps) r.0) r.1))) in
         ap₂ ◌++◌ none others
 
 -- ---- one before another
@@ -122,13 +120,11 @@ module _ {A : Type 0} where
   before_trans d (there h) (there k) = there (before_trans d.1 h k)
 
 -- in a list put together from lists: within one of them, or in two of which one stands before the other
-pub before_within : {A B : Type 0} (f : A → List B) {x : A} {xs : List A} {a c : B} → Memᴰ x xs → Before a c (f x) → Before a c (concat_map f xs)
-unfolding concat_map
-before_within f {a = a} {c = c} (Memᴰ.head {x = y} {xs = ys} e) h = before_left (concat_map f ys) (subst (λ (z : _). Before a c (f z)) e h)
+pub before_within : {A B : Type 0} (f : A → List B) {x : A} {xs : List A} {a c : B} → Memᴰ x xs → Before a c (f x) → Before a c (flat_map f xs)
+before_within f {a = a} {c = c} (Memᴰ.head {x = y} {xs = ys} e) h = before_left (flat_map f ys) (subst (λ (z : _). Before a c (f z)) e h)
 before_within f (Memᴰ.tail {x = y} {xs = ys} m) h = before_right (f y) (before_within f m h)
 
-pub before_between : {A B : Type 0} (f : A → List B) {x y : A} {xs : List A} {a c : B} → Before x y xs → Memᴰ a (f x) → Memᴰ c (f y) → Before a c (concat_map f xs)
-unfolding concat_map
+pub before_between : {A B : Type 0} (f : A → List B) {x y : A} {xs : List A} {a c : B} → Before x y xs → Memᴰ a (f x) → Memᴰ c (f y) → Before a c (flat_map f xs)
 before_between f {x = x} (here {xs = xs} m) ka kc = before_across ka (in_concat_map f xs m kc)
 before_between f (there {x = x} h) ka kc = before_right (f x) (before_between f h ka kc)
 
@@ -136,14 +132,14 @@ before_between f (there {x = x} h) ka kc = before_right (f x) (before_between f 
 
 module _ (C : List ℕ) (next : ℕ) where
   -- the place of one that stands in the list
-  pub place_in : {c : ℕ} → Memᴰ c C → (i : ℕ) × (position c C ≡ some i) × (i < length C) × (get_or C i 0 ≡ c)
+  pub place_in : {c : ℕ} → Memᴰ c C → (i : ℕ) × (position c C ≡ Some i) × (i < length C) × (get_or C i 0 ≡ c)
   place_in {c} m = go (position c C) refl
     where
-      go : (o : Option ℕ) → position c C ≡ o → (i : ℕ) × (position c C ≡ some i) × (i < length C) × (get_or C i 0 ≡ c)
-      go none e = absurd (position_none c C e m)
-      go (some i) e = let p = position_some c C i e in (i, e, p.0, p.1)
+      go : (o : Option ℕ) → position c C ≡ o → (i : ℕ) × (position c C ≡ Some i) × (i < length C) × (get_or C i 0 ≡ c)
+      go None e = absurd (position_none c C e m)
+      go (Some i) e = let p = position_some c C i e in (i, e, p.0, p.1)
 
-  pub number_at : (c i : ℕ) → position c C ≡ some i → renumbered C next c ≡ next + i
+  pub number_at : (c i : ℕ) → position c C ≡ Some i → renumbered C next c ≡ next + i
   unfolding renumbered or_next
   number_at c i e = rw e
 
@@ -162,8 +158,8 @@ module _ (C : List ℕ) (next : ℕ) where
   number_cases c = go (position c C) refl
     where
       go : (o : Option ℕ) → position c C ≡ o → Memᴰ c C ⊎ ((Memᴰ c C → ⊥) × (renumbered C next c ≡ c))
-      go none e = inr (position_none c C e, number_out c (position_none c C e))
-      go (some i) e = let p = position_some c C i e in inl (subst (λ (x : ℕ). Memᴰ x C) p.1 (mem_get_d C i 0 p.0))
+      go None e = inr (position_none c C e, number_out c (position_none c C e))
+      go (Some i) e = let p = position_some c C i e in inl (subst (λ (x : ℕ). Memᴰ x C) p.1 (mem_get_d C i 0 p.0))
 
   -- a number of the table, renamed
   pub number_named : (c : ℕ) → c < next → renumbered C next c < next + length C
@@ -195,7 +191,7 @@ pub first_number : (c : ℕ) (C : List ℕ) (next : ℕ) → renumbered (c ∷ C
 unfolding renumbered or_next position
 first_number c C next = rw (eq-eqb c c refl) (add-zero next)
 
-later_place : (c : ℕ) (C : List ℕ) (x i : ℕ) → (x ≡ c → ⊥) → position x C ≡ some i → position x (c ∷ C) ≡ some (suc i)
+later_place : (c : ℕ) (C : List ℕ) (x i : ℕ) → (x ≡ c → ⊥) → position x C ≡ Some i → position x (c ∷ C) ≡ Some (suc i)
 unfolding position later
 later_place c C x i ne e = rw (ne_eqb x c ne, e)
 
@@ -226,7 +222,7 @@ get_d_map g (c ∷ C) (suc i) d l = get_d_map g C i d (omega arith)
 -- places of those that pass are the numbers of those whose entries pass
 numbers_copied : {A : Type 0} (p : A → Bool) (g : ℕ → A) (C : List ℕ) (next : ℕ) → Distinct C
     → numbers_from next p (map g C) ≡ map (renumbered C next) (filter (λ (c : ℕ). p (g c)) C)
-unfolding numbers_from filter
+unfolding numbers_from
 numbers_copied p g [] next d = refl
 numbers_copied p g (c ∷ C) next d = go (p (g c)) (numbers_copied p g C (suc next) d.1 ∙ map_same _ _ _ shifted)
   where

@@ -5,9 +5,13 @@ use mathlib.Core.List.Memᴰ
 use mathlib.Core.List.{List, [], ◌∷◌, ◌++◌, Memᴰ}
 use mathlib.Core.Logic.{◌⊎◌, inl, inr, ⊎_elim}
 use mathlib.Core.Path.{◌≡◌, refl, sym, ap, subst}
-use Rattle.rules.specs.Lists.{concat_map}
-use Rattle.rules.specs.Store.{Store, Owner, of_op, of_block, ops_of, blocks_of, regions_of}
-use Rattle.rules.specs.Fragments.{Sort, Step, shell, names, counted, op, block, region, full_op, shells, list_steps, region_steps, levels, steps, step_defines, defines_owners}
+use Rattle.std.specs.List.{flat_map}
+use Rattle.rules.specs.Store.{Store, ops_of, blocks_of, regions_of}
+use Rattle.rules.specs.declared.types.Owner.{Owner}
+use Rattle.rules.specs.declared.types.Owner.TheVariants.{Op as of_op, Block as of_block}
+use Rattle.rules.specs.Fragments.{Step, shell, names, counted, full_op, shells, list_steps, region_steps, levels, steps, step_defines, defines_owners}
+use Rattle.rules.specs.declared.types.Sort.{Sort}
+use Rattle.rules.specs.declared.types.Sort.TheVariants.{Op as op, Block as block, Region as region}
 use Rattle.rules.proofs.Basics.Distinct.{mem_concat_map}
 use Rattle.rules.proofs.Copying.Renumbered.{in_concat_map}
 
@@ -36,10 +40,10 @@ unnamed w xs m k =
 module _ (s : Store) (full : ℕ → List Step) (bs : List ℕ) where
   -- its three parts
   abbrev op_part : List Step
-  op_part = concat_map (λ (b : ℕ). shells of_op (ops_of s b)) bs
+  op_part = flat_map (λ (b : ℕ). shells of_op (ops_of s b)) bs
 
   abbrev full_part : List Step
-  full_part = concat_map (λ (b : ℕ). concat_map full (ops_of s b)) bs
+  full_part = flat_map (λ (b : ℕ). flat_map full (ops_of s b)) bs
 
   pub block_listed : {b : ℕ} → Memᴰ b bs → Memᴰ (shell (of_block b)) (list_steps s full bs)
   unfolding list_steps
@@ -55,7 +59,7 @@ module _ (s : Store) (full : ℕ → List Step) (bs : List ℕ) where
   unfolding list_steps
   full_listed {b} i j k =
       Memᴰ.append_right (shells of_block bs ++ op_part)
-      (in_concat_map (λ (b : ℕ). concat_map full (ops_of s b)) bs i (in_concat_map full (ops_of s b) j k))
+      (in_concat_map (λ (b : ℕ). flat_map full (ops_of s b)) bs i (in_concat_map full (ops_of s b) j k))
 
   -- an operation of one of its blocks, and what is listed in full of it
   abbrev pub Below : Step → Type 0
@@ -63,7 +67,7 @@ module _ (s : Store) (full : ℕ → List Step) (bs : List ℕ) where
 
   full_part_lem : {x : Step} → Memᴰ x full_part → Below x
   full_part_lem i =
-      let b = mem_concat_map (λ (b : ℕ). concat_map full (ops_of s b)) bs i in
+      let b = mem_concat_map (λ (b : ℕ). flat_map full (ops_of s b)) bs i in
       let o = mem_concat_map full (ops_of s b.0) b.2 in (b.0, o.0, b.1, o.1, o.2)
 
   op_part_lem : {m : ℕ} → Memᴰ (shell (of_op m)) op_part → (b : ℕ) × Memᴰ b bs × Memᴰ m (ops_of s b)

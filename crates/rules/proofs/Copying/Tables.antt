@@ -1,11 +1,12 @@
 -- The store with a copy in it, table by table: what was there is as before, and behind it stand the copies, each at its new number. Assumes nothing.
 use Prim.Native.Nat.{ℕ, ◌+◌, ◌<◌, ◌≤◌}
 use mathlib.Core.List.{List, Memᴰ}
-use mathlib.Core.Option.{Option}
+use Rattle.std.specs.Prelude.{Option}
 use mathlib.Core.Path.{◌≡◌}
 use lib.ListN.{length, get_or}
 use Rattle.rules.specs.Store.{Store, no_op, no_block, no_value, op_at, block_at, value_at}
-use Rattle.rules.specs.Fragments.{op, defines_blocks, defines_values, fragment_ops}
+use Rattle.rules.specs.Fragments.{defines_blocks, defines_values, fragment_ops}
+use Rattle.rules.specs.declared.types.Sort.TheVariants.{Op as op}
 use Rattle.rules.specs.Copying.{copied_regions, op_copy, block_copy, region_copy, value_copy, copied_op, copied_block, copied_value, copied}
 use Rattle.rules.proofs.Copying.Renumbered.{number_new, number_once, old_entry, new_entry, table_length_lem}
 

@@ -6,22 +6,26 @@ use mathlib.Core.Bool.{true, false, not, true≢false}
 use mathlib.Core.List.Memᴰ
 use mathlib.Core.List.{List, [], ◌∷◌, map, map-id, Memᴰ}
 use mathlib.Core.Logic.{inr, ⊎_elim, ◌↔◌}
-use mathlib.Core.Option.{Option, none, some, some-injective, none-ne-some}
+use Rattle.std.specs.Prelude.{Option, None, Some, is_some}
+use Rattle.std.proofs.lemmas.Option.{same_Some, none-some}
 use mathlib.Core.Path.{◌≡◌, refl, sym, ap, ap₂, subst, ◌∙◌}
 use borrow.Author.Tests.{ltb-true}
 use lib.ListN.{length}
-use Rattle.rules.specs.Lists.{is_some, position}
-use Rattle.rules.specs.Store.{Store, Op, Value, Owner, of_op, of_block, op_at, block_at, value_at, type_of, values_of, same_owner, op_exists, parent_exists, value_exists}
-use Rattle.rules.specs.Fragments.{op, Step, shell, names, counted, steps, defines_owners, defines_blocks, defines_values, fragment_ops, names_values, names_blocks, Disjoint, NamesNothingOf, Premise}
-use Rattle.rules.specs.Shells.{Ignore}
+use Rattle.rules.specs.Lists.{position}
+use Rattle.rules.specs.Store.{Store, Op, Value, op_at, block_at, value_at, type_of, values_of, same_owner, op_exists, parent_exists, value_exists}
+use Rattle.rules.specs.declared.types.Owner.{Owner}
+use Rattle.rules.specs.declared.types.Owner.TheVariants.{Op as of_op, Block as of_block}
+use Rattle.rules.specs.Fragments.{Step, shell, names, counted, steps, defines_owners, defines_blocks, defines_values, fragment_ops, names_values, names_blocks, Disjoint, NamesNothingOf, Premise}
+use Rattle.rules.specs.declared.types.Sort.TheVariants.{Op as op}
+use Rattle.rules.specs.declared.types.Ignore.{Ignore}
 use Rattle.rules.specs.Types.{renamed}
 use Rattle.rules.specs.Hash.{Numbering, no_numbers}
 use Rattle.rules.specs.Form.{Event, step, more, done, events, numbered_by, canonical}
 use Rattle.rules.specs.Copying.{renumbered, op_copy, block_copy, region_copy, value_copy, owner_copy, parent_copy, copied_op, copied_block, copied_value, copied, has_place, placed_outside, in_time}
-use Rattle.rules.specs.Statements.{RenamedNone}
+use Rattle.rules.specs.TypeLaws.{RenamedNone}
 use Rattle.rules.proofs.Basics.Tests.{clash}
 use Rattle.rules.proofs.Soundness.Sound.{Sound}
-use Rattle.rules.proofs.Types.Under as under
+use Rattle.rules.proofs.RenamedTypes.Under as under
 use Rattle.rules.proofs.Form.Events.{bare_events}
 use Rattle.rules.proofs.Form.Images.{position_none}
 use Rattle.rules.proofs.Copying.Renumbered.{number_new, number_cases, number_once, first_number}
@@ -52,14 +56,14 @@ module _ (C : List ℕ) (next : ℕ) (ns : List ℕ) (below : (v : ℕ) → Mem�
       ⊎_elim (λ i. omega (arith, small v k, number_new C next i)) (λ h. h.0 (subst (λ (x : ℕ). Memᴰ x C) (sym e ∙ h.1) k)) (number_cases C next w.0)
 
 -- a block outside is none of those inside
-outside : (s : Store) (n : ℕ) (place : Option ℕ) → placed_outside s n place ≡ true → (b : ℕ) → Memᴰ b (defines_blocks s op n) → place ≡ some b → ⊥
-unfolding placed_outside has_place is_some
-outside s n none h b k e = none-ne-some b e
-outside s n (some c) h b k e = go (position c (defines_blocks s op n)) refl h
+outside : (s : Store) (n : ℕ) (place : Option ℕ) → placed_outside s n place ≡ true → (b : ℕ) → Memᴰ b (defines_blocks s op n) → place ≡ Some b → ⊥
+unfolding placed_outside has_place
+outside s n None h b k e = none-some b e
+outside s n (Some c) h b k e = go (position c (defines_blocks s op n)) refl h
   where
     go : (o : Option ℕ) → position c (defines_blocks s op n) ≡ o → not (is_some o) ≡ true → ⊥
-    go none f i = position_none c (defines_blocks s op n) f (subst (λ (x : ℕ). Memᴰ x (defines_blocks s op n)) (sym (some-injective c b e)) k)
-    go (some j) f i = true≢false (sym i)
+    go None f i = position_none c (defines_blocks s op n) f (subst (λ (x : ℕ). Memᴰ x (defines_blocks s op n)) (sym (same_Some c b e)) k)
+    go (Some j) f i = true≢false (sym i)
 
 none_renamed_lem : (s : Store) → renamed [] s ≡ s
 unfolding RenamedNone

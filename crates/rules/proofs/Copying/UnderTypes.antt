@@ -3,13 +3,16 @@ use Prim.Native.Nat.{ℕ, zero, suc, ◌<◌}
 use mathlib.Core.List.{List, [], ◌∷◌, map}
 use mathlib.Core.Path.{◌≡◌, refl, sym, ap, subst, ◌∙◌}
 use lib.ListN.{length}
-use Rattle.rules.specs.Store.{Store, Owner, of_op, of_block, op_at, ops_of, blocks_of, regions_of}
-use Rattle.rules.specs.Fragments.{op, levels, shell, names, counted}
+use Rattle.rules.specs.Store.{Store, op_at, ops_of, blocks_of, regions_of}
+use Rattle.rules.specs.declared.types.Owner.{Owner}
+use Rattle.rules.specs.declared.types.Owner.TheVariants.{Op as of_op, Block as of_block}
+use Rattle.rules.specs.Fragments.{levels, shell, names, counted}
+use Rattle.rules.specs.declared.types.Sort.TheVariants.{Op as op}
 use Rattle.rules.specs.Shells.{counts_of}
 use Rattle.rules.specs.Hash.{Numbering}
 use Rattle.rules.specs.Types.{present, renamed}
 use Rattle.rules.specs.Form.{Event, step, more, done, op_events, blocks_events, region_events, events, numbered_by}
-use Rattle.rules.proofs.Types.Renamed.{values_length, values_renamed, numbered_renamed, type_renamed, shell_renamed, shell_renamed_lem}
+use Rattle.rules.proofs.RenamedTypes.Renamed.{values_length, values_renamed, numbered_renamed, type_renamed, shell_renamed, shell_renamed_lem}
 use Rattle.rules.proofs.Copying.Named.{OwnerPair, NamesPair, Carries, shelled, named, begun, mores, dones, Renaming, EventKept, Kept}
 
 module _ (types : List ℕ) (s : Store) where

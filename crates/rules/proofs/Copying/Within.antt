@@ -5,13 +5,18 @@ use mathlib.Core.Bool.{true}
 use mathlib.Core.List.Memᴰ
 use mathlib.Core.List.{List, [], ◌∷◌, Memᴰ}
 use mathlib.Core.Logic.{⊎_elim}
-use mathlib.Core.Option.{Option, none, some, map, some-injective, none-ne-some}
+use Rattle.std.specs.Prelude.{Option, None, Some, option_map}
+use Rattle.std.proofs.lemmas.Option.{same_Some, none-some}
 use mathlib.Core.Path.{◌≡◌, refl, sym, ap, subst, ◌∙◌}
 use borrow.Author.Tests.{ltb-true, eq-eqb}
 use lib.Dec.{eqb}
 use lib.ListN.{length, get_or}
-use Rattle.rules.specs.Store.{Store, Op, Block, Owner, of_op, of_block, no_op, no_block, op_at, block_at, parent_of, op_around, op_exists, block_exists, region_exists, owner_exists, is_parent, ops_of, blocks_of, regions_of, sound}
-use Rattle.rules.specs.Fragments.{Sort, op, block, region, Step, shell, levels, full_op, list_steps, region_steps, steps, defines_owners, defines_blocks}
+use Rattle.rules.specs.Store.{Store, Op, Block, no_op, no_block, op_at, block_at, parent_of, op_around, op_exists, block_exists, region_exists, owner_exists, is_parent, ops_of, blocks_of, regions_of, sound}
+use Rattle.rules.specs.declared.types.Owner.{Owner}
+use Rattle.rules.specs.declared.types.Owner.TheVariants.{Op as of_op, Block as of_block}
+use Rattle.rules.specs.Fragments.{Step, shell, levels, full_op, list_steps, region_steps, steps, defines_owners, defines_blocks}
+use Rattle.rules.specs.declared.types.Sort.{Sort}
+use Rattle.rules.specs.declared.types.Sort.TheVariants.{Op as op, Block as block, Region as region}
 use Rattle.rules.proofs.Basics.Distinct.{mem_concat_map}
 use Rattle.rules.proofs.Soundness.Sound.{facts}
 use Rattle.rules.proofs.Walking.EnoughSteps.{region_steps_lem}
@@ -25,7 +30,7 @@ use Rattle.rules.proofs.Copying.Inside.{number_in, region_listed}
 
 -- ---- a thing is among the children of what it names as around it
 
-op_child : (s : Store) (m b : ℕ) → m < length s.ops → parent_of s m ≡ some b → Memᴰ m (ops_of s b)
+op_child : (s : Store) (m b : ℕ) → m < length s.ops → parent_of s m ≡ Some b → Memᴰ m (ops_of s b)
 unfolding ops_of parent_of op_at is_parent
 op_child s m b l e = number_in (λ (o : Op). is_parent b o.parent) no_op s.ops m l (ap (is_parent b) e ∙ eq-eqb b b refl)
 
@@ -90,20 +95,20 @@ module _ (s : Store) (h : sound s ≡ true) where
         let i : r < length s.regions = ltb-true _ _ ((facts s h).block b l).region_in in
         shell_defined s f n (of_block b) (down_whole f n (get_or s.regions r 0) r (shell (of_block b)) (owner_shell s f n _ m) (region_listed s r i) (region_block b l))
 
-    pub op_inside : (m b : ℕ) → m < length s.ops → parent_of s m ≡ some b → Memᴰ (of_block b) (defines_owners s f n) → Memᴰ (of_op m) (defines_owners s f n)
+    pub op_inside : (m b : ℕ) → m < length s.ops → parent_of s m ≡ Some b → Memᴰ (of_block b) (defines_owners s f n) → Memᴰ (of_op m) (defines_owners s f n)
     op_inside m b l e i =
         op_owned s f n (ops_of_blocks s f n (in_concat_map (ops_of s) (defines_blocks s f n) (owned_block s f n i) (op_child s m b l e)))
 
     -- ---- whatever is inside
 
-    next_inside : (x p : Owner) → owner_exists s x ≡ true → up s x ≡ some p → Memᴰ p (defines_owners s f n) → Memᴰ x (defines_owners s f n)
+    next_inside : (x p : Owner) → owner_exists s x ≡ true → up s x ≡ Some p → Memᴰ p (defines_owners s f n) → Memᴰ x (defines_owners s f n)
     unfolding up owner_exists op_exists block_exists
     next_inside (of_op m) p e u i = go (parent_of s m) refl u
       where
-        go : (q : Option ℕ) → parent_of s m ≡ q → map of_block q ≡ some p → Memᴰ (of_op m) (defines_owners s f n)
-        go none g v = absurd (none-ne-some p v)
-        go (some b) g v = op_inside m b (ltb-true _ _ e) g (Memᴰ.cast (some-injective (of_block b) p v) i)
-    next_inside (of_block b) p e u i = block_inside b (ltb-true _ _ e) (Memᴰ.cast (some-injective (of_op (op_around s b)) p u) i)
+        go : (q : Option ℕ) → parent_of s m ≡ q → option_map of_block q ≡ Some p → Memᴰ (of_op m) (defines_owners s f n)
+        go None g v = absurd (none-some p v)
+        go (Some b) g v = op_inside m b (ltb-true _ _ e) g (Memᴰ.cast (same_Some (of_block b) p v) i)
+    next_inside (of_block b) p e u i = block_inside b (ltb-true _ _ e) (Memᴰ.cast (same_Some (of_op (op_around s b)) p u) i)
 
     pub all_inside : {r x : Owner} → owner_exists s x ≡ true → Memᴰ r (defines_owners s f n) → Around s r x → Memᴰ x (defines_owners s f n)
     all_inside {r} {x} e i (next u) = next_inside x r e u i

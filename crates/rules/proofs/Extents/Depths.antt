@@ -6,11 +6,12 @@ use native.Mathlib.Omega.{arith}
 use mathlib.Core.Bool.{true}
 use mathlib.Core.List.{Memᴰ}
 use mathlib.Core.Logic.{◌⊎◌, inl, inr, ⊎_elim}
-use mathlib.Core.Option.{some}
+use Rattle.std.specs.Prelude.{Some}
 use mathlib.Core.Path.{◌≡◌, sym, ap, ◌∙◌}
 use lib.ListN.{length}
 use Rattle.rules.specs.Store.{Store, parent_of, op_around, max_nesting, ops_of, blocks_of, regions_of, sound}
-use Rattle.rules.specs.Fragments.{Sort, fragment_ops, ops_in_blocks, ops_inside, outermost}
+use Rattle.rules.specs.Fragments.{fragment_ops, ops_in_blocks, ops_inside, outermost}
+use Rattle.rules.specs.declared.types.Sort.{Sort}
 use Rattle.rules.specs.Extents.{deepest, op_nesting, deepest_nesting}
 use Rattle.rules.proofs.Basics.Distinct.{mem_concat_map}
 use Rattle.rules.proofs.Soundness.Children.{ops_in_lem}
@@ -19,7 +20,7 @@ use Rattle.rules.proofs.Extents.Deepest.{deepest_most, deepest_attained, deepest
 use Rattle.rules.proofs.Extents.Inside.{At, at_self, at_inside, at_under, height, height_enough, fragment_at, at_fragment}
 
 module _ (s : Store) (sd : sound s ≡ true) where
-  module _ (D : ℕ → ℕ) (deeper : (m b : ℕ) → m < length s.ops → parent_of s m ≡ some b → D m ≡ D (op_around s b) + 1) where
+  module _ (D : ℕ → ℕ) (deeper : (m b : ℕ) → m < length s.ops → parent_of s m ≡ Some b → D m ≡ D (op_around s b) + 1) where
     pub inside_deeper : (n : ℕ) {m : ℕ} → Memᴰ m (ops_inside s n) → D m ≡ D n + 1
     unfolding ops_inside ops_in_blocks
     inside_deeper n {m} i =

@@ -6,9 +6,12 @@ use mathlib.Core.List.Memᴰ
 use mathlib.Core.List.{List, [], ◌∷◌, ◌++◌, append-nil, Memᴰ}
 use mathlib.Core.Logic.{◌⊎◌, inl, inr, ⊎_elim}
 use mathlib.Core.Path.{◌≡◌, refl, sym, subst}
-use Rattle.rules.specs.Lists.{concat_map}
-use Rattle.rules.specs.Store.{Store, of_op, of_block, ops_of, blocks_of, regions_of, max_nesting}
-use Rattle.rules.specs.Fragments.{Sort, op, block, region, Step, shell, names, counted, levels, full_op, shells, list_steps, region_steps, steps, step_defines, op_owner, fragment_ops, defines_owners, ops_in_blocks, ops_inside, outermost}
+use Rattle.std.specs.List.{flat_map}
+use Rattle.rules.specs.Store.{Store, ops_of, blocks_of, regions_of, max_nesting}
+use Rattle.rules.specs.declared.types.Owner.TheVariants.{Op as of_op, Block as of_block}
+use Rattle.rules.specs.Fragments.{Step, shell, names, counted, levels, full_op, shells, list_steps, region_steps, steps, step_defines, op_owner, fragment_ops, defines_owners, ops_in_blocks, ops_inside, outermost}
+use Rattle.rules.specs.declared.types.Sort.{Sort}
+use Rattle.rules.specs.declared.types.Sort.TheVariants.{Op as op, Block as block, Region as region}
 use Rattle.rules.proofs.Basics.Tests.{impossible}
 use Rattle.rules.proofs.Basics.Distinct.{mem_concat_map}
 use Rattle.rules.proofs.Form.Once.{op_owner_lem}
@@ -68,16 +71,16 @@ module _ (s : Store) where
         (Memᴰ.append_cases _ i)
       where
         Found : Type 0
-        Found = (n : ℕ) × Memᴰ n (concat_map (ops_of s) bs) × Whole full n m
+        Found = (n : ℕ) × Memᴰ n (flat_map (ops_of s) bs) × Whole full n m
 
-        as_shell : Comes (concat_map (λ (b : ℕ). shells of_op (ops_of s b)) bs) m → Found
+        as_shell : Comes (flat_map (λ (b : ℕ). shells of_op (ops_of s b)) bs) m → Found
         as_shell j =
             let b = mem_concat_map (λ (c : ℕ). shells of_op (ops_of s c)) bs j in
             (m, in_concat_map (ops_of s) bs b.1 (of_ops (ops_of s b.0) m b.2), Memᴰ.head refl)
 
-        in_full : Comes (concat_map (λ (b : ℕ). concat_map full (ops_of s b)) bs) m → Found
+        in_full : Comes (flat_map (λ (b : ℕ). flat_map full (ops_of s b)) bs) m → Found
         in_full j =
-            let b = mem_concat_map (λ (c : ℕ). concat_map full (ops_of s c)) bs j in
+            let b = mem_concat_map (λ (c : ℕ). flat_map full (ops_of s c)) bs j in
             let n = mem_concat_map full (ops_of s b.0) b.2 in
             (n.0, in_concat_map (ops_of s) bs b.1 n.1, Memᴰ.tail n.2)
 
@@ -89,8 +92,8 @@ module _ (s : Store) where
         (λ e. let f : m ≡ n = cc in
         let k : Comes (shells of_op (ops_of s b.0)) m = Memᴰ.tail (Memᴰ.map (λ (x : ℕ). shell (of_op x)) (Memᴰ.cast f b.2)) in
         Memᴰ.append_left _ (Memᴰ.append_right (shells of_block bs) (in_concat_map (λ (c : ℕ). shells of_op (ops_of s c)) bs b.1 k)))
-        (λ k. Memᴰ.append_right (shells of_block bs ++ concat_map (λ (c : ℕ). shells of_op (ops_of s c)) bs)
-        (in_concat_map (λ (c : ℕ). concat_map full (ops_of s c)) bs b.1 (in_concat_map full (ops_of s b.0) b.2 k)))
+        (λ k. Memᴰ.append_right (shells of_block bs ++ flat_map (λ (c : ℕ). shells of_op (ops_of s c)) bs)
+        (in_concat_map (λ (c : ℕ). flat_map full (ops_of s c)) bs b.1 (in_concat_map full (ops_of s b.0) b.2 k)))
         (Memᴰ.cases_cons j)
 
   -- ---- an operation, with k regions to enter, one in another
@@ -122,7 +125,7 @@ module _ (s : Store) where
       itself zero e = e
       itself (suc j) e = inl e
 
-      inner : (j : ℕ) → Comes (concat_map (region_steps j s) (regions_of s n)) m → Under j n m
+      inner : (j : ℕ) → Comes (flat_map (region_steps j s) (regions_of s n)) m → Under j n m
       inner zero h = let r = mem_concat_map (region_steps zero s) (regions_of s n) h in absurd (Memᴰ.not-nil r.2)
       inner (suc j) h =
           let r = mem_concat_map (region_steps (suc j) s) (regions_of s n) h in
@@ -140,18 +143,18 @@ module _ (s : Store) where
   from_steps : (f : Sort) (a m : ℕ) → Memᴰ m (fragment_ops s f a) → Comes (steps s f a) m
   unfolding fragment_ops defines_owners
   from_steps f a m i =
-      let w = mem_concat_map op_owner (concat_map step_defines (steps s f a)) i in
+      let w = mem_concat_map op_owner (flat_map step_defines (steps s f a)) i in
       let x = mem_concat_map step_defines (steps s f a) w.1 in
       Memᴰ.cast (sym (defined_by x.0 m (Memᴰ.cast (sym (op_owner_lem w.0 m w.2)) x.2))) x.1
 
   of_steps : (f : Sort) (a m : ℕ) → Comes (steps s f a) m → Memᴰ m (fragment_ops s f a)
   unfolding fragment_ops defines_owners step_defines op_owner
   of_steps f a m i =
-      let w : Memᴰ (of_op m) (concat_map step_defines (steps s f a)) = in_concat_map step_defines (steps s f a) i (Memᴰ.head refl) in
-      in_concat_map op_owner (concat_map step_defines (steps s f a)) w (Memᴰ.head refl)
+      let w : Memᴰ (of_op m) (flat_map step_defines (steps s f a)) = in_concat_map step_defines (steps s f a) i (Memᴰ.head refl) in
+      in_concat_map op_owner (flat_map step_defines (steps s f a)) w (Memᴰ.head refl)
 
   one_block : (a : ℕ) → ops_in_blocks s (a ∷ []) ≡ ops_of s a
-  unfolding ops_in_blocks concat_map
+  unfolding ops_in_blocks
   one_block a = append-nil (ops_of s a)
 
   pub fragment_at : (f : Sort) (a m : ℕ) → Memᴰ m (fragment_ops s f a) → (p : ℕ) × Memᴰ p (outermost s f a) × At (height f) p m

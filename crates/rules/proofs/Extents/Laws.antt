@@ -3,24 +3,26 @@
 use Prim.Native.Nat.{ℕ, zero, suc}
 use mathlib.Core.Bool.{true}
 use mathlib.Core.List.{List, append-nil}
-use mathlib.Core.Option.{none}
+use Rattle.std.specs.Prelude.{None}
 use mathlib.Core.Path.{◌≡◌, refl, sym, ◌∙◌}
 use native.Mathlib.Nat.{le_of_eq}
 use lib.ListN.{length}
 use lib.Seq.{drop-length}
 use Rattle.rules.specs.Store.{Store, max_nesting, ops_of, blocks_of, regions_of}
-use Rattle.rules.specs.Fragments.{Sort, op, block, region, ops_in_blocks, ops_inside, outermost}
+use Rattle.rules.specs.Fragments.{ops_in_blocks, ops_inside, outermost}
+use Rattle.rules.specs.declared.types.Sort.{Sort}
+use Rattle.rules.specs.declared.types.Sort.TheVariants.{Op as op, Block as block, Region as region}
 use Rattle.rules.specs.Building.{first_failed}
 use Rattle.rules.specs.Types.{renamed}
 use Rattle.rules.specs.Keys.{key, key_length, written}
-use Rattle.rules.specs.Statements.{KeyedIs, KeyLongest}
+use Rattle.rules.specs.KeyLaws.{KeyedIs, KeyLongest}
 use Rattle.rules.specs.Extents.{deepest, op_nesting, deepest_nesting, extent, extent_tests, sized_by, sized}
 use Rattle.rules.specs.ExtentLaws.{ExtentFills, ExtentRenamed, ExtentMost, SizedIs}
 use Rattle.rules.proofs.Soundness.Accepted.{all_passed}
 use Rattle.rules.proofs.Form.Counted.{size_most, values_most, blocks_most}
 use Rattle.rules.proofs.Keys.Longest.{key_longest}
 use Rattle.rules.proofs.Keys.Given.{keyed_is}
-use Rattle.rules.proofs.Types.Under as under
+use Rattle.rules.proofs.RenamedTypes.Under as under
 use Rattle.rules.proofs.Extents.Nesting.{nesting_most}
 use Rattle.rules.proofs.Extents.Lengths.{key_length_renamed}
 
@@ -79,5 +81,5 @@ extent_most s sd ig f n h =
 pub sized_is : SizedIs
 unfolding SizedIs sized sized_by extent_tests
 sized_is s sd ig f n h =
-    let t : first_failed (extent_tests true s f n) ≡ none = all_passed _ (refl, (h, tt)) in
+    let t : first_failed (extent_tests true s f n) ≡ None = all_passed _ (refl, (h, tt)) in
     rw t

@@ -5,13 +5,17 @@ use native.Mathlib.Omega.{arith}
 use mathlib.Core.List.{List, [], ◌∷◌}
 use mathlib.Core.Path.{◌≡◌, refl, ap, ◌∙◌}
 use lib.ListN.{length, length-append, length-map}
-use Rattle.rules.specs.Store.{Store, Owner, of_op, of_block, op_at, regions_of}
-use Rattle.rules.specs.Fragments.{Sort, Step, shell, names, counted, steps}
-use Rattle.rules.specs.Shells.{Ignore, Shell, shell_of}
+use Rattle.rules.specs.Store.{Store, op_at, regions_of}
+use Rattle.rules.specs.declared.types.Owner.{Owner}
+use Rattle.rules.specs.declared.types.Owner.TheVariants.{Op as of_op, Block as of_block}
+use Rattle.rules.specs.Fragments.{Step, shell, names, counted, steps}
+use Rattle.rules.specs.declared.types.Sort.{Sort}
+use Rattle.rules.specs.Shells.{Shell, shell_of}
+use Rattle.rules.specs.declared.types.Ignore.{Ignore}
 use Rattle.rules.specs.Hash.{count, shell_bytes, head_bytes, Numbering, no_numbers, numbered, feeds, all_bytes}
 use Rattle.rules.specs.Types.{present, renamed}
 use Rattle.rules.specs.Keys.{key}
-use Rattle.rules.proofs.Types.Renamed.{shell_renamed, shell_renamed_lem, steps_renamed, numbered_renamed}
+use Rattle.rules.proofs.RenamedTypes.Renamed.{shell_renamed, shell_renamed_lem, steps_renamed, numbered_renamed}
 use Rattle.rules.proofs.Keys.Longest.{shell_length}
 
 module _ (types : List ℕ) where

@@ -6,11 +6,13 @@ use mathlib.Core.Bool.{true}
 use mathlib.Core.List.Memᴰ
 use mathlib.Core.List.{[], Memᴰ}
 use mathlib.Core.Logic.{◌⊎◌, inl, inr, ⊎_elim}
-use mathlib.Core.Option.{Option, none, some}
+use Rattle.std.specs.Prelude.{Option, None, Some}
 use mathlib.Core.Path.{◌≡◌, sym, ap, subst, ◌∙◌}
 use lib.ListN.{length, get_or}
 use Rattle.rules.specs.Store.{Store, parent_of, op_around, levels_left, max_nesting, ops_of, blocks_of, sound}
-use Rattle.rules.specs.Fragments.{Sort, op, block, region, fragment_ops, ops_in_blocks, ops_inside, outermost}
+use Rattle.rules.specs.Fragments.{fragment_ops, ops_in_blocks, ops_inside, outermost}
+use Rattle.rules.specs.declared.types.Sort.{Sort}
+use Rattle.rules.specs.declared.types.Sort.TheVariants.{Op as op, Block as block, Region as region}
 use Rattle.rules.specs.Extents.{deepest, op_nesting, deepest_nesting}
 use Rattle.rules.specs.ExtentLaws.{Between, ExtentNesting}
 use Rattle.rules.proofs.Basics.Distinct.{mem_concat_map}
@@ -35,8 +37,8 @@ module _ (s : Store) where
   -- ---- depths
 
   depth_by : Option ℕ → ℕ
-  depth_by none = 0
-  depth_by (some j) = max_nesting - j
+  depth_by None = 0
+  depth_by (Some j) = max_nesting - j
 
   depth : ℕ → ℕ
   depth n = depth_by (levels_left max_nesting s (parent_of s n))
@@ -52,11 +54,11 @@ module _ (s : Store) (sd : sound s ≡ true) where
   unfolding depth depth_by
   depth_is n j h = ap (depth_by s) h
 
-  depth_deeper : (m b : ℕ) → m < length s.ops → parent_of s m ≡ some b → depth s m ≡ depth s (op_around s b) + 1
+  depth_deeper : (m b : ℕ) → m < length s.ops → parent_of s m ≡ Some b → depth s m ≡ depth s (op_around s b) + 1
   depth_deeper m b l e =
       let i = op_leaves s sd m in
       let j = op_leaves s sd (op_around s b) in
-      let inside : Leaves s max_nesting (some b) i.0 = rw e at i.1 in
+      let inside : Leaves s max_nesting (Some b) i.0 = rw e at i.1 in
       let d : j.0 ≡ suc i.0 = leaves_inside s 31 b i.0 j.0 j.1 inside in
       let most : j.0 ≤ max_nesting = leaves_most s max_nesting (parent_of s (op_around s b)) j.0 j.1 in
       omega (arith, depth_is m i.0 i.1, depth_is (op_around s b) j.0 j.1)

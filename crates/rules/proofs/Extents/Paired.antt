@@ -5,9 +5,10 @@ use native.Mathlib.Omega.{arith}
 use mathlib.Core.List.{List}
 use mathlib.Core.Path.{◌≡◌, refl, ap}
 use lib.ListN.{length}
-use Rattle.rules.specs.Store.{Store, Owner}
+use Rattle.rules.specs.Store.{Store}
+use Rattle.rules.specs.declared.types.Owner.{Owner}
 use Rattle.rules.specs.Fragments.{defines_owners, defines_blocks, fragment_ops}
-use Rattle.rules.specs.Shells.{Ignore}
+use Rattle.rules.specs.declared.types.Ignore.{Ignore}
 use Rattle.rules.specs.Mapping.{Mapping}
 use Rattle.rules.specs.Comparison.{State, Walk, unequal, one_longer, on, ended, start, compare}
 use Rattle.rules.specs.Types.{renamed}
@@ -18,7 +19,7 @@ use Rattle.rules.proofs.Basics.Tests.{impossible}
 use Rattle.rules.proofs.Form.Counted.{owners_split}
 use Rattle.rules.proofs.Form.Events.{enter_owners}
 use Rattle.rules.proofs.Form.Passed.{Passed, over, pair, walked_passed}
-use Rattle.rules.proofs.Types.Under.{owners}
+use Rattle.rules.proofs.RenamedTypes.Under.{owners}
 use Rattle.rules.proofs.Walking.Answered.{comparison_is}
 
 -- how many are entered

@@ -4,23 +4,26 @@ use Prim.Native.Nat.{ℕ, ◌+◌, ◌*◌, ◌<◌}
 use native.Mathlib.Omega.{arith}
 use mathlib.Core.Bool.{true}
 use mathlib.Core.Logic.{◌⊎◌, inl, inr}
-use mathlib.Core.Option.{Option, none, some, some-injective, none-ne-some, map}
+use Rattle.std.specs.Prelude.{Option, None, Some, option_map}
+use Rattle.std.proofs.lemmas.Option.{same_Some, none-some}
 use mathlib.Core.Path.{◌≡◌, refl, sym, subst, ◌∙◌}
 use borrow.Author.Tests.{ltb-true}
 use lib.ListN.{length}
-use Rattle.rules.specs.Store.{Store, Owner, of_op, of_block, parent_of, op_around, op_after, parent_exists, owner_exists, op_exists, block_exists}
+use Rattle.rules.specs.Store.{Store, parent_of, op_around, op_after, parent_exists, owner_exists, op_exists, block_exists}
+use Rattle.rules.specs.declared.types.Owner.{Owner}
+use Rattle.rules.specs.declared.types.Owner.TheVariants.{Op as of_op, Block as of_block}
 use Rattle.rules.proofs.Soundness.Sound.{Sound}
 use Rattle.rules.proofs.Soundness.Grown.{owner_op, parent_in_lem, around_in}
 
 -- the block around an operation, or none; the operation around a block
 unfoldable pub up : Store → Owner → Option Owner
-up s (of_op n) = map of_block (parent_of s n)
-up s (of_block b) = some (of_op (op_around s b))
+up s (of_op n) = option_map of_block (parent_of s n)
+up s (of_block b) = Some (of_op (op_around s b))
 
 -- a is around the thing, at some distance
 pub data Around (s : Store) (a : Owner) : Owner → Type 0 where
-  next : {x : Owner} → up s x ≡ some a → Around s a x
-  beyond : {x p : Owner} → up s x ≡ some p → Around s a p → Around s a x
+  next : {x : Owner} → up s x ≡ Some a → Around s a x
+  beyond : {x p : Owner} → up s x ≡ Some p → Around s a p → Around s a x
 
 -- a is the thing itself or around it
 abbrev pub From : Store → Owner → Owner → Type 0
@@ -41,10 +44,10 @@ around_sibling e (beyond k r) = beyond (sym e ∙ k) r
 
 -- of two that are around one thing, one is around the other, or they are the same
 around_both : {s : Store} {a b x : Owner} → Around s a x → Around s b x → From s a b ⊎ From s b a
-around_both {s} {a} {b} (next k) (next k') = inl (inl (some-injective b a (sym k' ∙ k)))
-around_both {s} {a} {b} (next k) (beyond {p = p} k' r) = inr (inr (subst (Around s b) (some-injective p a (sym k' ∙ k)) r))
-around_both {s} {a} {b} (beyond {p = p} k r) (next k') = inl (inr (subst (Around s a) (some-injective p b (sym k ∙ k')) r))
-around_both {s} {a} {b} (beyond {p = p} k r) (beyond {p = p'} k' r') = around_both r (subst (Around s b) (some-injective p' p (sym k' ∙ k)) r')
+around_both {s} {a} {b} (next k) (next k') = inl (inl (same_Some b a (sym k' ∙ k)))
+around_both {s} {a} {b} (next k) (beyond {p = p} k' r) = inr (inr (subst (Around s b) (same_Some p a (sym k' ∙ k)) r))
+around_both {s} {a} {b} (beyond {p = p} k r) (next k') = inl (inr (subst (Around s a) (same_Some p b (sym k ∙ k')) r))
+around_both {s} {a} {b} (beyond {p = p} k r) (beyond {p = p'} k' r') = around_both r (subst (Around s b) (same_Some p' p (sym k' ∙ k)) r')
 
 pub one_from_other : {s : Store} {a b x : Owner} → From s a x → From s b x → From s a b ⊎ From s b a
 one_from_other {s} {a} {b} (inl e) q = inr (subst (From s b) e q)
@@ -57,25 +60,25 @@ rank s (of_block b) = 2 * op_around s b + 1
 
 module _ (s : Store) (sd : Sound s) where
   -- what is next around a thing of the store is in the store, and of smaller rank
-  up_smaller : (x p : Owner) → owner_exists s x ≡ true → up s x ≡ some p → (owner_exists s p ≡ true) × (rank s p < rank s x)
+  up_smaller : (x p : Owner) → owner_exists s x ≡ true → up s x ≡ Some p → (owner_exists s p ≡ true) × (rank s p < rank s x)
   unfolding up rank owner_exists op_exists block_exists parent_exists op_after
   up_smaller (of_op n) p h e = go (parent_of s n) refl e
     where
-      go : (q : Option ℕ) → parent_of s n ≡ q → map of_block q ≡ some p → (owner_exists s p ≡ true) × (rank s p < 2 * n)
-      go none f k = absurd (none-ne-some p k)
-      go (some b) f k =
-          let q : of_block b ≡ p = some-injective (of_block b) p k in
+      go : (q : Option ℕ) → parent_of s n ≡ q → option_map of_block q ≡ Some p → (owner_exists s p ≡ true) × (rank s p < 2 * n)
+      go None f k = absurd (none-some p k)
+      go (Some b) f k =
+          let q : of_block b ≡ p = same_Some (of_block b) p k in
           let l : n < length s.ops = ltb-true _ _ h in
           let i : block_exists s b ≡ true = subst (λ (o : Option ℕ). parent_exists s o ≡ true) f (parent_in_lem s sd n l) in
-          let a : op_after s n (some b) ≡ true = subst (λ (o : Option ℕ). op_after s n o ≡ true) f (sd.op n l).later in
+          let a : op_after s n (Some b) ≡ true = subst (λ (o : Option ℕ). op_after s n o ≡ true) f (sd.op n l).later in
           let m : op_around s b < n = ltb-true _ _ a in
           subst (λ (w : Owner). (owner_exists s w ≡ true) × (rank s w < 2 * n)) q (i, omega arith)
   up_smaller (of_block b) p h e =
-      let f : of_op (op_around s b) ≡ p = some-injective (of_op (op_around s b)) p e in
+      let f : of_op (op_around s b) ≡ p = same_Some (of_op (op_around s b)) p e in
       subst (λ (w : Owner). (owner_exists s w ≡ true) × (rank s w < 2 * op_around s b + 1)) f
       (owner_op s sd (op_around s b) (around_in s sd b (ltb-true _ _ h)), omega arith)
 
-  pub up_in_store : (x p : Owner) → owner_exists s x ≡ true → up s x ≡ some p → owner_exists s p ≡ true
+  pub up_in_store : (x p : Owner) → owner_exists s x ≡ true → up s x ≡ Some p → owner_exists s p ≡ true
   up_in_store x p h e = (up_smaller x p h e).0
 
   around_in_store : {a x : Owner} → owner_exists s x ≡ true → Around s a x → owner_exists s a ≡ true
@@ -101,15 +104,15 @@ module _ (s : Store) (sd : Sound s) where
       let z = around_smaller v.0 r in omega arith
 
   pub same_branch : {a b x : Owner} → up s a ≡ up s b → owner_exists s x ≡ true → Around s a x → Around s b x → a ≡ b
-  same_branch {a} {b} {x} e h (next k) (next k') = some-injective a b (sym k ∙ k')
+  same_branch {a} {b} {x} e h (next k) (next k') = same_Some a b (sym k ∙ k')
   same_branch {a} {b} {x} e h (next k) (beyond {p = p} k' r) =
-      let q : p ≡ a = some-injective p a (sym k' ∙ k) in
+      let q : p ≡ a = same_Some p a (sym k' ∙ k) in
       absurd (siblings e (up_smaller x a h k).0 (subst (Around s b) q r))
   same_branch {a} {b} {x} e h (beyond {p = p} k r) (next k') =
-      let q : p ≡ b = some-injective p b (sym k ∙ k') in
+      let q : p ≡ b = same_Some p b (sym k ∙ k') in
       absurd (siblings (sym e) (up_smaller x b h k').0 (subst (Around s a) q r))
   same_branch {a} {b} {x} e h (beyond {p = p} k r) (beyond {p = p'} k' r') =
-      same_branch e (up_smaller x p h k).0 r (subst (Around s b) (some-injective p' p (sym k' ∙ k)) r')
+      same_branch e (up_smaller x p h k).0 r (subst (Around s b) (same_Some p' p (sym k' ∙ k)) r')
 
   pub same_from : {a b x : Owner} → up s a ≡ up s b → owner_exists s x ≡ true → From s a x → From s b x → a ≡ b
   same_from {a} {b} {x} e h (inl p) (inl q) = sym p ∙ q

@@ -4,7 +4,8 @@ use Prim.Native.Nat.{ℕ, ◌<◌, ◌≤◌}
 use native.Mathlib.Omega.{arith}
 use mathlib.Core.List.{List, Memᴰ}
 use mathlib.Core.Logic.{◌↔◌}
-use mathlib.Core.Option.{Option, none, some, some-injective}
+use Rattle.std.specs.Prelude.{Option, None, Some}
+use Rattle.std.proofs.lemmas.Option.{same_Some}
 use mathlib.Core.Path.{◌≡◌, refl, sym, ap, subst, ◌∙◌}
 use lib.ListN.{length, get_or}
 use Rattle.rules.specs.Lists.{position}
@@ -28,12 +29,12 @@ at_place : (xs : List ℕ) (v : ℕ) → Memᴰ v xs → (i : ℕ) × (i < lengt
 at_place xs v m = go (position v xs) refl
   where
     go : (o : Option ℕ) → position v xs ≡ o → (i : ℕ) × (i < length xs) × (get_or xs i 0 ≡ v)
-    go none p = absurd (position_none v xs p m)
-    go (some i) p = let at = position_some v xs i p in (i, at.0, at.1)
+    go None p = absurd (position_none v xs p m)
+    go (Some i) p = let at = position_some v xs i p in (i, at.0, at.1)
 
 same_place : (xs : List ℕ) (i j : ℕ) → Distinct xs → i < length xs → j < length xs → get_or xs i 0 ≡ get_or xs j 0 → i ≡ j
 same_place xs i j d li lj e =
-    some-injective i j (sym (position_at xs d i li) ∙ ap (λ (v : ℕ). position v xs) e ∙ position_at xs d j lj)
+    same_Some i j (sym (position_at xs d i li) ∙ ap (λ (v : ℕ). position v xs) e ∙ position_at xs d j lj)
 
 turned : (xs ys : List ℕ) (l r : ℕ) → length xs ≡ length ys → Beside xs ys l r → Beside ys xs r l
 turned xs ys l r len h = record { place = h.place; inside = omega arith; left = h.right; right = h.left }
@@ -46,15 +47,15 @@ module _ (E : List ℕ) (empty : (v : ℕ) → get_or E v no_image ≡ no_image)
     entry→beside l r e = go (position l xs) refl
       where
         go : (o : Option ℕ) → position l xs ≡ o → Beside xs ys l r
-        go none p = absurd (e.1 (sym e.0 ∙ enter_other xs ys E l (position_none l xs p) ∙ empty l))
-        go (some i) p =
+        go None p = absurd (e.1 (sym e.0 ∙ enter_other xs ys E l (position_none l xs p) ∙ empty l))
+        go (Some i) p =
             let at = position_some l xs i p in
             record { place = i; inside = at.0; left = at.1; right = sym (enter_at xs ys E l i X.once len X.inside p) ∙ e.0 }
 
     beside→entry : (l r : ℕ) → Beside xs ys l r → Entry (enter_all xs ys E) l r
     beside→entry l r h =
         let i = h.place in
-        let p : position l xs ≡ some i = subst (λ (v : ℕ). position v xs ≡ some i) h.left (position_at xs X.once i h.inside) in
+        let p : position l xs ≡ Some i = subst (λ (v : ℕ). position v xs ≡ Some i) h.left (position_at xs X.once i h.inside) in
         let j : i < length ys = omega arith in
         let k : r < length E = Y.inside r (subst (λ (v : ℕ). Memᴰ v ys) h.right (mem_get_d ys i 0 j)) in
         (enter_at xs ys E l i X.once len X.inside p ∙ h.right, λ e. omega arith)

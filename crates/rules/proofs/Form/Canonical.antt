@@ -5,14 +5,16 @@ use native.Mathlib.Nat.{le_trans}
 use mathlib.Core.Bool.{true}
 use mathlib.Core.List.{List, [], ◌∷◌, ◌++◌, append-nil, Memᴰ}
 use mathlib.Core.Logic.{◌⊎◌, inl, inr}
-use mathlib.Core.Option.{some, none-ne-some}
+use Rattle.std.specs.Prelude.{Some}
+use Rattle.std.proofs.lemmas.Option.{none-some}
 use mathlib.Core.Path.{◌≡◌, refl, sym, ap, ap₂, subst, ◌∙◌}
 use lib.Dec.{lit≤}
 use lib.ListN.{length, replicate, length-replicate}
-use Rattle.rules.specs.Lists.{concat_map}
+use Rattle.std.specs.List.{flat_map}
 use Rattle.rules.specs.Store.{Store, values_of, sound, max_values, max_blocks}
-use Rattle.rules.specs.Fragments.{Sort, Step, shell, names, counted, steps, step_defines, step_operands, step_successors, block_owner, defines_owners, defines_values, defines_blocks, names_values, names_blocks, NamesNothingOf}
-use Rattle.rules.specs.Shells.{Ignore}
+use Rattle.rules.specs.Fragments.{Step, shell, names, counted, steps, step_defines, step_operands, step_successors, block_owner, defines_owners, defines_values, defines_blocks, names_values, names_blocks, NamesNothingOf}
+use Rattle.rules.specs.declared.types.Sort.{Sort}
+use Rattle.rules.specs.declared.types.Ignore.{Ignore}
 use Rattle.rules.specs.Mapping.{Mapping, no_image, or_self, empty_mapping, image, enter_all}
 use Rattle.rules.specs.Comparison.{State, Walk, on, ended, start, compare}
 use Rattle.rules.specs.Hash.{Numbering, no_numbers, fnv, hash, uncounted, all_bytes}
@@ -47,15 +49,15 @@ within size total D fits once here =
 -- ---- what the events define and name is what the fragment does
 
 module _ {A : Type 0} (f : Event → List A) (g : Step → List A) (at_step : (x : Step) → f (step x) ≡ g x) (at_more : f more ≡ []) (at_done : f done ≡ []) where
-  by_steps : (es : List Event) → concat_map f es ≡ concat_map g (bare_steps es)
-  unfolding concat_map bare_steps
+  by_steps : (es : List Event) → flat_map f es ≡ flat_map g (bare_steps es)
+  unfolding bare_steps
   by_steps [] = refl
   by_steps (step x ∷ es) = ap₂ ◌++◌ (at_step x) (by_steps es)
-  by_steps (more ∷ es) = ap (λ (l : List A). l ++ concat_map f es) at_more ∙ by_steps es
-  by_steps (done ∷ es) = ap (λ (l : List A). l ++ concat_map f es) at_done ∙ by_steps es
+  by_steps (more ∷ es) = ap (λ (l : List A). l ++ flat_map f es) at_more ∙ by_steps es
+  by_steps (done ∷ es) = ap (λ (l : List A). l ++ flat_map f es) at_done ∙ by_steps es
 
-  pub in_fragment : (s : Store) (k : Sort) (n : ℕ) → concat_map f (events s k n) ≡ concat_map g (steps s k n)
-  in_fragment s k n = by_steps (events s k n) ∙ ap (concat_map g) (bare_events s k n)
+  pub in_fragment : (s : Store) (k : Sort) (n : ℕ) → flat_map f (events s k n) ≡ flat_map g (steps s k n)
+  in_fragment s k n = by_steps (events s k n) ∙ ap (flat_map g) (bare_events s k n)
 
 module _ (s : Store) (f : Sort) (n : ℕ) where
   -- all that a fragment defines
@@ -63,32 +65,32 @@ module _ (s : Store) (f : Sort) (n : ℕ) where
   all_defined = record { values = defines_values s f n; blocks = defines_blocks s f n }
 
   pub events_rest : Rest s no_numbers (events s f n) all_defined
-  unfolding all_defined no_numbers defines_values defines_blocks defines_owners event_values event_blocks step_defines concat_map
+  unfolding all_defined no_numbers defines_values defines_blocks defines_owners event_values event_blocks step_defines
   events_rest =
       record {
         values =
-            in_fragment (event_values s) (λ (x : Step). concat_map (values_of s) (step_defines x)) (values_at) refl refl s f n
+            in_fragment (event_values s) (λ (x : Step). flat_map (values_of s) (step_defines x)) values_at refl refl s f n
             ∙ sym (concat_map_concat_map (values_of s) step_defines (steps s f n));
         blocks =
-            in_fragment (event_blocks s) (λ (x : Step). concat_map block_owner (step_defines x)) (blocks_at) refl refl s f n
+            in_fragment (event_blocks s) (λ (x : Step). flat_map block_owner (step_defines x)) blocks_at refl refl s f n
             ∙ sym (concat_map_concat_map block_owner step_defines (steps s f n));
       }
     where
-      values_at : (x : Step) → event_values s (step x) ≡ concat_map (values_of s) (step_defines x)
+      values_at : (x : Step) → event_values s (step x) ≡ flat_map (values_of s) (step_defines x)
       values_at (shell w) = sym (append-nil (values_of s w))
       values_at (names m) = refl
       values_at (counted k) = refl
 
-      blocks_at : (x : Step) → event_blocks s (step x) ≡ concat_map block_owner (step_defines x)
+      blocks_at : (x : Step) → event_blocks s (step x) ≡ flat_map block_owner (step_defines x)
       blocks_at (shell w) = sym (append-nil (block_owner w))
       blocks_at (names m) = refl
       blocks_at (counted k) = refl
 
-  pub events_name_values : concat_map (event_operands s) (events s f n) ≡ names_values s f n
+  pub events_name_values : flat_map (event_operands s) (events s f n) ≡ names_values s f n
   unfolding names_values event_operands
   events_name_values = in_fragment (event_operands s) (step_operands s) (λ x. refl) refl refl s f n
 
-  pub events_name_blocks : concat_map (event_successors s) (events s f n) ≡ names_blocks s f n
+  pub events_name_blocks : flat_map (event_successors s) (events s f n) ≡ names_blocks s f n
   unfolding names_blocks event_successors
   events_name_blocks = in_fragment (event_successors s) (step_successors s) (λ x. refl) refl refl s f n
 
@@ -142,9 +144,9 @@ module _ (s : Store) (sd : sound s ≡ true) where
         (events s f a) (events s f b) no_numbers no_numbers (start empty_mapping) (events_rest s f a) (events_rest s f b) (begun a b ha hb) e in
         go (compare s ig f a b empty_mapping) (pass s ig f empty_mapping a b ∙ w.1)
       where
-        go : {st : State} (w : Walk) → going w ≡ some st → succeeds w ≡ true
+        go : {st : State} (w : Walk) → going w ≡ Some st → succeeds w ≡ true
         go (on st) k = refl
-        go {st} (ended why st') k = absurd (none-ne-some st k)
+        go {st} (ended why st') k = absurd (none-some st k)
 
     apart : (a b : ℕ) (wa : In s f a) (wb : In s f b) → NamesNothingOf s f a b
         → Apart s ig EV EB empty_values empty_blocks (all_defined s f a) (all_defined s f b) (whole f a wa) (whole f b wb) (events s f a)
@@ -168,7 +170,7 @@ module _ (s : Store) (sd : sound s ≡ true) where
 
 pub canonical→hash : (s : Store) (ig : Ignore) (f : Sort) (a b : ℕ) → canonical s ig f a ≡ canonical s ig f b → hash s ig f a ≡ hash s ig f b
 unfolding canonical hash
-canonical→hash s ig f a b e = ap fnv (bytes a ∙ ap (concat_map token_bytes) e ∙ sym (bytes b))
+canonical→hash s ig f a b e = ap fnv (bytes a ∙ ap (flat_map token_bytes) e ∙ sym (bytes b))
   where
-    bytes : (n : ℕ) → all_bytes uncounted s ig (steps s f n) no_numbers ≡ concat_map token_bytes (tokens s ig (events s f n) no_numbers)
+    bytes : (n : ℕ) → all_bytes uncounted s ig (steps s f n) no_numbers ≡ flat_map token_bytes (tokens s ig (events s f n) no_numbers)
     bytes n = sym (tokens_bytes s ig (events s f n) no_numbers ∙ ap (λ (xs : List Step). all_bytes uncounted s ig xs no_numbers) (bare_events s f n))

@@ -8,9 +8,12 @@ use mathlib.Core.List.{List, [], ◌∷◌, Memᴰ}
 use mathlib.Core.Path.{◌≡◌, refl, sym, ap, subst, ◌∙◌}
 use borrow.Author.Tests.{ltb-true}
 use lib.ListN.{length}
-use Rattle.rules.specs.Lists.{concat_map}
-use Rattle.rules.specs.Store.{Store, Owner, of_op, of_block, owner_exists, op_exists, max_ops, max_blocks, max_values, sound}
-use Rattle.rules.specs.Fragments.{Sort, exists, block_owner, defines_owners, defines_values, defines_blocks, op_owner, fragment_ops}
+use Rattle.std.specs.List.{flat_map}
+use Rattle.rules.specs.Store.{Store, owner_exists, op_exists, max_ops, max_blocks, max_values, sound}
+use Rattle.rules.specs.declared.types.Owner.{Owner}
+use Rattle.rules.specs.declared.types.Owner.TheVariants.{Op as of_op, Block as of_block}
+use Rattle.rules.specs.Fragments.{exists, block_owner, defines_owners, defines_values, defines_blocks, op_owner, fragment_ops}
+use Rattle.rules.specs.declared.types.Sort.{Sort}
 use Rattle.rules.proofs.Soundness.Sound.{facts}
 use Rattle.rules.proofs.Basics.Distinct.{Distinct, distinct_concat_map, mem_concat_map}
 use Rattle.rules.proofs.Basics.Pigeons.{pigeons}
@@ -27,25 +30,25 @@ op_alone (of_op n) = (λ m. Memᴰ.not-nil m, tt)
 op_alone (of_block b) = tt
 
 -- each is an operation or a block
-pub owners_split : (ws : List Owner) → length ws ≡ length (concat_map op_owner ws) + length (concat_map block_owner ws)
-unfolding concat_map op_owner block_owner
+pub owners_split : (ws : List Owner) → length ws ≡ length (flat_map op_owner ws) + length (flat_map block_owner ws)
+unfolding op_owner block_owner
 owners_split [] = refl
 owners_split (of_op n ∷ ws) = omega (arith, owners_split ws)
 owners_split (of_block b ∷ ws) = omega (arith, owners_split ws)
 
-pub ops_once : (ws : List Owner) → Distinct ws → Distinct (concat_map op_owner ws)
+pub ops_once : (ws : List Owner) → Distinct ws → Distinct (flat_map op_owner ws)
 ops_once ws once = distinct_concat_map op_owner ws once (λ w m. op_alone w) (λ w x mw mx n k l. op_owner_lem w k ∙ sym (op_owner_lem x l))
 
 module _ (s : Store) (sd : sound s ≡ true) where
-  pub ops_here : (ws : List Owner) → ((w : Owner) → Memᴰ w ws → owner_exists s w ≡ true) → (n : ℕ) → Memᴰ n (concat_map op_owner ws) → n < length s.ops
+  pub ops_here : (ws : List Owner) → ((w : Owner) → Memᴰ w ws → owner_exists s w ≡ true) → (n : ℕ) → Memᴰ n (flat_map op_owner ws) → n < length s.ops
   unfolding owner_exists op_exists
   ops_here ws here n m =
       let w = mem_concat_map op_owner ws m in
       ltb-true _ _ (subst (λ (x : Owner). owner_exists s x ≡ true) (op_owner_lem w.0 w.2) (here w.0 w.1))
 
-  pub ops_most : (ws : List Owner) → Distinct ws → ((w : Owner) → Memᴰ w ws → owner_exists s w ≡ true) → length (concat_map op_owner ws) ≤ max_ops
+  pub ops_most : (ws : List Owner) → Distinct ws → ((w : Owner) → Memᴰ w ws → owner_exists s w ≡ true) → length (flat_map op_owner ws) ≤ max_ops
   ops_most ws once here =
-      let l : length (concat_map op_owner ws) ≤ length s.ops = pigeons (length s.ops) (concat_map op_owner ws) (ops_once ws once) (ops_here ws here) in
+      let l : length (flat_map op_owner ws) ≤ length s.ops = pigeons (length s.ops) (flat_map op_owner ws) (ops_once ws once) (ops_here ws here) in
       let t : length s.ops ≤ max_ops = (facts s sd).totals.ops in
       omega arith
 
@@ -70,6 +73,6 @@ module _ (s : Store) (sd : sound s ≡ true) where
   pub owners_most : (f : Sort) (n : ℕ) → exists s f n ≡ true → length (defines_owners s f n) ≤ max_ops + max_blocks
   unfolding defines_blocks fragment_ops
   owners_most f n e =
-      let o : length (concat_map op_owner (defines_owners s f n)) ≤ max_ops = size_most f n e in
-      let b : length (concat_map block_owner (defines_owners s f n)) ≤ max_blocks = blocks_most f n e in
+      let o : length (flat_map op_owner (defines_owners s f n)) ≤ max_ops = size_most f n e in
+      let b : length (flat_map block_owner (defines_owners s f n)) ≤ max_blocks = blocks_most f n e in
       omega (arith, owners_split (defines_owners s f n))

@@ -3,13 +3,18 @@
 use Prim.Native.Nat.{ℕ, zero, suc, ◌+◌}
 use mathlib.Core.Bool.{cond}
 use mathlib.Core.List.{List, [], ◌∷◌, ◌++◌, map}
-use mathlib.Core.Option.{Option, none, some}
+use Rattle.std.specs.Prelude.{Option, None, Some}
 use mathlib.Core.Path.{◌≡◌, refl, ap, ap₂, ◌∙◌}
 use lib.ListN.{length}
-use Rattle.rules.specs.Lists.{concat_map}
-use Rattle.rules.specs.Store.{Store, Owner, of_op, of_block, ops_of, blocks_of, regions_of, values_of}
-use Rattle.rules.specs.Fragments.{Sort, op, block, region, levels, Step, shell, names, counted, full_op, shells, list_steps, region_steps, steps, block_owner, op_owner}
-use Rattle.rules.specs.Shells.{Ignore, same_shells}
+use Rattle.std.specs.List.{flat_map}
+use Rattle.rules.specs.Store.{Store, ops_of, blocks_of, regions_of, values_of}
+use Rattle.rules.specs.declared.types.Owner.{Owner}
+use Rattle.rules.specs.declared.types.Owner.TheVariants.{Op as of_op, Block as of_block}
+use Rattle.rules.specs.Fragments.{levels, Step, shell, names, counted, full_op, shells, list_steps, region_steps, steps, block_owner, op_owner}
+use Rattle.rules.specs.declared.types.Sort.{Sort}
+use Rattle.rules.specs.declared.types.Sort.TheVariants.{Op as op, Block as block, Region as region}
+use Rattle.rules.specs.Shells.{same_shells}
+use Rattle.rules.specs.declared.types.Ignore.{Ignore}
 use Rattle.rules.specs.Mapping.{enter_all}
 use Rattle.rules.specs.Comparison.{State}
 use Rattle.rules.specs.Form.{Event, step, more, done, list_events, one, shell_events, op_events, blocks_events, region_events, events}
@@ -30,8 +35,8 @@ bare_steps_append (step x ∷ a) b = ap (λ (l : List Step). x ∷ l) (bare_step
 bare_steps_append (more ∷ a) b = bare_steps_append a b
 bare_steps_append (done ∷ a) b = bare_steps_append a b
 
-bare_steps_list : (f : ℕ → List Event) (g : ℕ → List Step) → ((n : ℕ) → bare_steps (f n) ≡ g n) → (xs : List ℕ) → bare_steps (list_events f xs) ≡ concat_map g xs
-unfolding bare_steps list_events concat_map
+bare_steps_list : (f : ℕ → List Event) (g : ℕ → List Step) → ((n : ℕ) → bare_steps (f n) ≡ g n) → (xs : List ℕ) → bare_steps (list_events f xs) ≡ flat_map g xs
+unfolding bare_steps list_events
 bare_steps_list f g same [] = refl
 bare_steps_list f g same (x ∷ xs) = bare_steps_append (f x) (list_events f xs) ∙ ap₂ ◌++◌ (same x) (bare_steps_list f g same xs)
 
@@ -57,7 +62,7 @@ module _ (s : Store) where
       ∙ ap₂ ◌++◌
       (bare_steps_append (shell_events of_block bs) (list_events ops bs)
       ∙ ap₂ ◌++◌ (bare_steps_shells of_block bs) (bare_steps_list ops (λ (b : ℕ). shells of_op (ops_of s b)) (λ b. bare_steps_shells of_op (ops_of s b)) bs))
-      (bare_steps_list fulls (λ (b : ℕ). concat_map g (ops_of s b)) (λ b. bare_steps_list f g same (ops_of s b)) bs)
+      (bare_steps_list fulls (λ (b : ℕ). flat_map g (ops_of s b)) (λ b. bare_steps_list f g same (ops_of s b)) bs)
     where
       ops : ℕ → List Event
       ops b = shell_events of_op (ops_of s b)
@@ -83,8 +88,8 @@ module _ (s : Store) where
 -- ---- the lock-step pass
 
 abbrev pub and_then : Option State → (State → Option State) → Option State
-and_then none f = none
-and_then (some st) f = f st
+and_then None f = None
+and_then (Some st) f = f st
 
 module _ (s : Store) where
   unfoldable pub enter_owners : Owner → Owner → State → State
@@ -101,26 +106,26 @@ module _ (s : Store) where
 
   module _ (ig : Ignore) where
     unfoldable pub meet : Event → Event → State → Option State
-    meet (step (shell l)) (step (shell r)) st = cond (same_shells s ig l r) (some (enter_owners l r st)) none
-    meet (step (shell l)) (step (names r)) st = none
-    meet (step (names l)) (step (shell r)) st = none
-    meet (step (shell l)) (step (counted k)) st = none
-    meet (step (names l)) (step (names r)) st = cond (names_agree s l r st) (some st) none
-    meet (step (names l)) (step (counted k)) st = none
-    meet (step (counted j)) (step (shell r)) st = none
-    meet (step (counted j)) (step (names r)) st = none
-    meet (step (counted j)) (step (counted k)) st = some st
-    meet (step x) more st = none
-    meet (step x) done st = none
-    meet more (step y) st = none
-    meet more more st = some st
-    meet more done st = none
-    meet done (step y) st = none
-    meet done more st = none
-    meet done done st = some st
+    meet (step (shell l)) (step (shell r)) st = cond (same_shells s ig l r) (Some (enter_owners l r st)) None
+    meet (step (shell l)) (step (names r)) st = None
+    meet (step (names l)) (step (shell r)) st = None
+    meet (step (shell l)) (step (counted k)) st = None
+    meet (step (names l)) (step (names r)) st = cond (names_agree s l r st) (Some st) None
+    meet (step (names l)) (step (counted k)) st = None
+    meet (step (counted j)) (step (shell r)) st = None
+    meet (step (counted j)) (step (names r)) st = None
+    meet (step (counted j)) (step (counted k)) st = Some st
+    meet (step x) more st = None
+    meet (step x) done st = None
+    meet more (step y) st = None
+    meet more more st = Some st
+    meet more done st = None
+    meet done (step y) st = None
+    meet done more st = None
+    meet done done st = Some st
 
     unfoldable pub lock : List Event → List Event → State → Option State
-    lock [] [] st = some st
-    lock [] (e ∷ es) st = none
-    lock (e ∷ es) [] st = none
+    lock [] [] st = Some st
+    lock [] (e ∷ es) st = None
+    lock (e ∷ es) [] st = None
     lock (e ∷ es) (e' ∷ es') st = and_then (meet e e' st) (lock es es')

@@ -7,7 +7,8 @@ use mathlib.Core.Bool.{Bool, true, false, cond}
 use mathlib.Core.List.Memᴰ
 use mathlib.Core.List.{List, [], ◌∷◌, ◌++◌, Memᴰ}
 use mathlib.Core.Logic.{⊎_elim, ◌≢◌}
-use mathlib.Core.Option.{Option, none, some, some-injective, none-ne-some, some-ne-none}
+use Rattle.std.specs.Prelude.{Option, None, Some}
+use Rattle.std.proofs.lemmas.Option.{same_Some, none-some}
 use mathlib.Core.Path.{◌≡◌, refl, sym, ap, ap₂, subst, ◌∙◌}
 use borrow.Author.Tests.{eqb-true, eqb-false, eq-eqb, ne_eqb}
 use lib.Dec.{eqb}
@@ -21,39 +22,39 @@ use Rattle.rules.proofs.Basics.Entries.{enter_other, enter_at, enter_append}
 
 -- ---- places
 
-pub position_some : (v : ℕ) (xs : List ℕ) (i : ℕ) → position v xs ≡ some i → (i < length xs) × (get_or xs i 0 ≡ v)
+pub position_some : (v : ℕ) (xs : List ℕ) (i : ℕ) → position v xs ≡ Some i → (i < length xs) × (get_or xs i 0 ≡ v)
 unfolding position later
-position_some v [] i h = absurd (none-ne-some i h)
+position_some v [] i h = absurd (none-some i h)
 position_some v (x ∷ xs) i h = go (eqb v x) refl (position v xs) refl (λ j. position_some v xs j) h
   where
-    go : (b : Bool) → eqb v x ≡ b → (o : Option ℕ) → position v xs ≡ o → ((j : ℕ) → position v xs ≡ some j → (j < length xs) × (get_or xs j 0 ≡ v))
-        → cond b (some 0) (later o) ≡ some i → (i < length (x ∷ xs)) × (get_or (x ∷ xs) i 0 ≡ v)
+    go : (b : Bool) → eqb v x ≡ b → (o : Option ℕ) → position v xs ≡ o → ((j : ℕ) → position v xs ≡ Some j → (j < length xs) × (get_or xs j 0 ≡ v))
+        → cond b (Some 0) (later o) ≡ Some i → (i < length (x ∷ xs)) × (get_or (x ∷ xs) i 0 ≡ v)
     go true e o p rest k =
-        let z : i ≡ 0 = sym (some-injective 0 i k) in
+        let z : i ≡ 0 = sym (same_Some 0 i k) in
         (omega arith, ap (λ (n : ℕ). get_or (x ∷ xs) n 0) z ∙ sym (eqb-true v x e))
-    go false e none p rest k = absurd (none-ne-some i k)
-    go false e (some j) p rest k =
-        let z : i ≡ suc j = sym (some-injective (suc j) i k) in
+    go false e None p rest k = absurd (none-some i k)
+    go false e (Some j) p rest k =
+        let z : i ≡ suc j = sym (same_Some (suc j) i k) in
         let r = rest j p in
         (omega (arith, r.0), ap (λ (n : ℕ). get_or (x ∷ xs) n 0) z ∙ r.1)
 
-pub position_none : (v : ℕ) (xs : List ℕ) → position v xs ≡ none → Memᴰ v xs → ⊥
+pub position_none : (v : ℕ) (xs : List ℕ) → position v xs ≡ None → Memᴰ v xs → ⊥
 unfolding position later
 position_none v [] h m = Memᴰ.not-nil m
 position_none v (x ∷ xs) h m = go (eqb v x) refl (position v xs) refl (λ p k. position_none v xs p k) h
   where
-    go : (b : Bool) → eqb v x ≡ b → (o : Option ℕ) → position v xs ≡ o → (position v xs ≡ none → Memᴰ v xs → ⊥)
-        → cond b (some 0) (later o) ≡ none → ⊥
-    go true e o p rest k = some-ne-none 0 k
-    go false e none p rest k = ⊎_elim (eqb-false v x e) (rest p) (Memᴰ.cases_cons m)
-    go false e (some j) p rest k = some-ne-none (suc j) k
+    go : (b : Bool) → eqb v x ≡ b → (o : Option ℕ) → position v xs ≡ o → (position v xs ≡ None → Memᴰ v xs → ⊥)
+        → cond b (Some 0) (later o) ≡ None → ⊥
+    go true e o p rest k = none-some 0 (sym k)
+    go false e None p rest k = ⊎_elim (eqb-false v x e) (rest p) (Memᴰ.cases_cons m)
+    go false e (Some j) p rest k = none-some (suc j) (sym k)
 
-pub position_out : (v : ℕ) (xs : List ℕ) → (Memᴰ v xs → ⊥) → position v xs ≡ none
+pub position_out : (v : ℕ) (xs : List ℕ) → (Memᴰ v xs → ⊥) → position v xs ≡ None
 unfolding position later
 position_out v [] out = refl
 position_out v (x ∷ xs) out = rw (ne_eqb v x (λ e. out (Memᴰ.head e)), position_out v xs (λ m. out (Memᴰ.tail m)))
 
-pub position_at : (xs : List ℕ) → Distinct xs → (i : ℕ) → i < length xs → position (get_or xs i 0) xs ≡ some i
+pub position_at : (xs : List ℕ) → Distinct xs → (i : ℕ) → i < length xs → position (get_or xs i 0) xs ≡ Some i
 unfolding position later
 position_at [] d i l = absurd (not-suc-le-zero l)
 position_at (x ∷ xs) d zero l = rw (eq-eqb x x refl)
@@ -63,27 +64,27 @@ position_at (x ∷ xs) d (suc i) l =
 
 -- ---- places in a list that grows at its end: a place that there is stays, and a number that has none gets the next
 
-pub position_kept : (v : ℕ) (xs ys : List ℕ) (i : ℕ) → position v xs ≡ some i → position v (xs ++ ys) ≡ some i
+pub position_kept : (v : ℕ) (xs ys : List ℕ) (i : ℕ) → position v xs ≡ Some i → position v (xs ++ ys) ≡ Some i
 unfolding position later
-position_kept v [] ys i h = absurd (none-ne-some i h)
+position_kept v [] ys i h = absurd (none-some i h)
 position_kept v (x ∷ xs) ys i h = go (eqb v x) (position v xs) refl (λ j. position_kept v xs ys j) h
   where
-    go : (b : Bool) (o : Option ℕ) → position v xs ≡ o → ((j : ℕ) → position v xs ≡ some j → position v (xs ++ ys) ≡ some j)
-        → cond b (some 0) (later o) ≡ some i → cond b (some 0) (later (position v (xs ++ ys))) ≡ some i
+    go : (b : Bool) (o : Option ℕ) → position v xs ≡ o → ((j : ℕ) → position v xs ≡ Some j → position v (xs ++ ys) ≡ Some j)
+        → cond b (Some 0) (later o) ≡ Some i → cond b (Some 0) (later (position v (xs ++ ys))) ≡ Some i
     go true o p rest k = k
-    go false none p rest k = absurd (none-ne-some i k)
-    go false (some j) p rest k = rw (rest j p) k
+    go false None p rest k = absurd (none-some i k)
+    go false (Some j) p rest k = rw (rest j p) k
 
-pub position_next : (v : ℕ) (xs ys : List ℕ) → position v xs ≡ none → position v (xs ++ v ∷ ys) ≡ some (length xs)
+pub position_next : (v : ℕ) (xs ys : List ℕ) → position v xs ≡ None → position v (xs ++ v ∷ ys) ≡ Some (length xs)
 unfolding position later
 position_next v [] ys h = rw (eq-eqb v v refl)
 position_next v (x ∷ xs) ys h = go (eqb v x) (position v xs) refl (position_next v xs ys) h
   where
-    go : (b : Bool) (o : Option ℕ) → position v xs ≡ o → (position v xs ≡ none → position v (xs ++ v ∷ ys) ≡ some (length xs))
-        → cond b (some 0) (later o) ≡ none → cond b (some 0) (later (position v (xs ++ v ∷ ys))) ≡ some (suc (length xs))
-    go true o p rest k = absurd (some-ne-none 0 k)
-    go false none p rest k = rw (rest p)
-    go false (some j) p rest k = absurd (some-ne-none (suc j) k)
+    go : (b : Bool) (o : Option ℕ) → position v xs ≡ o → (position v xs ≡ None → position v (xs ++ v ∷ ys) ≡ Some (length xs))
+        → cond b (Some 0) (later o) ≡ None → cond b (Some 0) (later (position v (xs ++ v ∷ ys))) ≡ Some (suc (length xs))
+    go true o p rest k = absurd (none-some 0 (sym k))
+    go false None p rest k = rw (rest p)
+    go false (Some j) p rest k = absurd (none-some (suc j) (sym k))
 
 pub position_other : (v x : ℕ) (xs : List ℕ) → v ≢ x → position v (xs ++ x ∷ []) ≡ position v xs
 unfolding position later
@@ -105,7 +106,7 @@ pub record Fits (size : ℕ) (xs ys : List ℕ) : Type 0 where
   pub inside : (x : ℕ) → Memᴰ x xs → x < size
   pub images : (y : ℕ) → Memᴰ y ys → y ≢ no_image
 
-image_inside : (xs ys es : List ℕ) (v i : ℕ) → Distinct xs → length xs ≡ length ys → Fits (length es) xs ys → position v xs ≡ some i
+image_inside : (xs ys es : List ℕ) (v i : ℕ) → Distinct xs → length xs ≡ length ys → Fits (length es) xs ys → position v xs ≡ Some i
     → image (enter_all xs ys es) v ≡ get_or ys i 0
 unfolding image
 image_inside xs ys es v i d len fit p =
@@ -122,14 +123,14 @@ module _ (es xs ys : List ℕ) (empty : (v : ℕ) → image es v ≡ v) (dx : Di
   names_forth a b out h = go (position a xs) refl
     where
       go : (o : Option ℕ) → position a xs ≡ o → name_at (position a xs) a ≡ name_at (position b ys) b
-      go none p =
+      go None p =
           let e : b ≡ a = sym h ∙ image_outside xs ys es a (position_none a xs p) ∙ empty a in
-          let q : position b ys ≡ none = position_out b ys (λ m. out (subst (λ (n : ℕ). Memᴰ n ys) e m)) in
+          let q : position b ys ≡ None = position_out b ys (λ m. out (subst (λ (n : ℕ). Memᴰ n ys) e m)) in
           rw (p, q, e)
-      go (some i) p =
+      go (Some i) p =
           let e : get_or ys i 0 ≡ b = sym (image_inside xs ys es a i dx len fit p) ∙ h in
           let l : i < length ys = omega (arith, (position_some a xs i p).0) in
-          let q : position b ys ≡ some i = subst (λ (n : ℕ). position n ys ≡ some i) e (position_at ys dy i l) in
+          let q : position b ys ≡ Some i = subst (λ (n : ℕ). position n ys ≡ Some i) e (position_at ys dy i l) in
           rw (p, q)
 
   -- and always if they are
@@ -138,10 +139,10 @@ module _ (es xs ys : List ℕ) (empty : (v : ℕ) → image es v ≡ v) (dx : Di
   names_back a b h = go (position a xs) refl (position b ys) refl h
     where
       go : (o : Option ℕ) → position a xs ≡ o → (q : Option ℕ) → position b ys ≡ q → name_at o a ≡ name_at q b → image (enter_all xs ys es) a ≡ b
-      go none p none q e = image_outside xs ys es a (position_none a xs p) ∙ empty a ∙ cc
-      go none p (some j) q e = cc
-      go (some i) p none q e = cc
-      go (some i) p (some j) q e =
+      go None p None q e = image_outside xs ys es a (position_none a xs p) ∙ empty a ∙ cc
+      go None p (Some j) q e = cc
+      go (Some i) p None q e = cc
+      go (Some i) p (Some j) q e =
           let z : i ≡ j = cc in
           image_inside xs ys es a i dx len fit p ∙ ap (λ (n : ℕ). get_or ys n 0) z ∙ (position_some b ys j q).1
 

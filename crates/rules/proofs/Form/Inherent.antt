@@ -5,14 +5,19 @@ use mathlib.Core.Bool.{Bool, true, false, not, ◌&&◌}
 use mathlib.Core.List.{List, ◌∷◌, map}
 use mathlib.Core.Path.{◌≡◌, refl, sym, ap, ap₂, ◌∙◌}
 use lib.Dec.{eqb}
-use Rattle.rules.specs.Lists.{filter}
-use Rattle.rules.specs.Store.{Store, Attribute, Owner, of_op, of_block, op_at, block_at, sound}
-use Rattle.rules.specs.Fragments.{Sort, defines_owners}
+use Rattle.std.specs.List.{filter}
+use Rattle.rules.specs.Store.{Store, op_at, block_at, sound}
+use Rattle.rules.specs.declared.types.Attribute.{Attribute}
+use Rattle.rules.specs.declared.types.Owner.{Owner}
+use Rattle.rules.specs.declared.types.Owner.TheVariants.{Op as of_op, Block as of_block}
+use Rattle.rules.specs.Fragments.{defines_owners}
+use Rattle.rules.specs.declared.types.Sort.{Sort}
 use Rattle.rules.specs.Building.{attributes_of}
-use Rattle.rules.specs.Shells.{Ignore, ignored, unignored, Shell, shell_of}
+use Rattle.rules.specs.Shells.{ignored, unignored, Shell, shell_of}
+use Rattle.rules.specs.declared.types.Ignore.{Ignore}
 use Rattle.rules.specs.Comparison.{State}
 use Rattle.rules.specs.Laws.{Equal, In}
-use Rattle.rules.specs.Statements.{inherent_of}
+use Rattle.rules.specs.EqualityLaws.{inherent_of}
 use Rattle.rules.proofs.Basics.Filtered.{filter_twice}
 use Rattle.rules.proofs.Form.SameShells.{shells→≡}
 use Rattle.rules.proofs.Form.Passed.{Passed, over, pair, equal_passed}

@@ -3,12 +3,17 @@
 use Prim.Native.Nat.{ℕ, zero, suc}
 use mathlib.Core.Bool.{Bool, true, false, cond}
 use mathlib.Core.List.{List, [], ◌∷◌, ◌++◌, append_assoc, append-nil}
-use mathlib.Core.Option.{Option, none, some}
+use Rattle.std.specs.Prelude.{Option, None, Some}
 use mathlib.Core.Path.{◌≡◌, refl, ap, subst₂, ◌∙◌}
 use lib.ListN.{length}
-use Rattle.rules.specs.Store.{Store, Owner, of_op, of_block, ops_of, blocks_of, regions_of}
-use Rattle.rules.specs.Fragments.{Sort, op, block, region, levels, shell, names, counted, block_owner, op_owner}
-use Rattle.rules.specs.Shells.{Ignore, same_shells}
+use Rattle.rules.specs.Store.{Store, ops_of, blocks_of, regions_of}
+use Rattle.rules.specs.declared.types.Owner.{Owner}
+use Rattle.rules.specs.declared.types.Owner.TheVariants.{Op as of_op, Block as of_block}
+use Rattle.rules.specs.Fragments.{levels, shell, names, counted, block_owner, op_owner}
+use Rattle.rules.specs.declared.types.Sort.{Sort}
+use Rattle.rules.specs.declared.types.Sort.TheVariants.{Op as op, Block as block, Region as region}
+use Rattle.rules.specs.Shells.{same_shells}
+use Rattle.rules.specs.declared.types.Ignore.{Ignore}
 use Rattle.rules.specs.Mapping.{enter_all}
 use Rattle.rules.specs.Comparison.{State, Pair, Walk, on, ended, ◌>>=◌, pairwise, pair_of, expect, pair_ops, enter_ops, pair_blocks, enter_blocks, pass1, compare_by}
 use Rattle.rules.specs.Form.{Event, step, list_events, one, shell_events, op_events, blocks_events, region_events, events}
@@ -16,8 +21,8 @@ use Rattle.rules.proofs.Form.Tested.{names_agree, tested_names, tested_ops, test
 use Rattle.rules.proofs.Form.Events.{and_then, enter_owners, meet, lock}
 
 abbrev pub going : Walk → Option State
-going (on st) = some st
-going (ended why st) = none
+going (on st) = Some st
+going (ended why st) = None
 
 -- a walk goes on exactly as the pass does
 abbrev pub Alike : Walk → Option State → Type 0
@@ -46,7 +51,7 @@ module _ (s : Store) (ig : Ignore) where
 
   -- a test, and where it passes a new state
   tested : (b : Bool) (p : Pair) (st st' : State) (K : State → Walk) (o : State → Option State) → Alike (K st') (o st')
-      → Alike (expect b p st st' >>= K) (and_then (cond b (some st') none) o)
+      → Alike (expect b p st st' >>= K) (and_then (cond b (Some st') None) o)
   unfolding expect
   tested true p st st' K o k = k
   tested false p st st' K o k = refl

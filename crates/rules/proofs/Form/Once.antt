@@ -5,13 +5,17 @@ use mathlib.Core.Bool.{true}
 use mathlib.Core.List.Memᴰ
 use mathlib.Core.List.{List, [], ◌∷◌, Memᴰ}
 use mathlib.Core.Logic.{inl, inr, ⊎_elim}
-use mathlib.Core.Option.{some}
+use Rattle.std.specs.Prelude.{Some}
 use mathlib.Core.Path.{◌≡◌, refl, sym, ap, subst, ◌∙◌}
 use borrow.Author.Tests.{ltb-true}
 use lib.ListN.{length, get_or}
-use Rattle.rules.specs.Lists.{concat_map}
-use Rattle.rules.specs.Store.{Store, Owner, of_op, of_block, blocks_of, regions_of, values_of, block_at, op_around, owner_exists, op_exists, block_exists}
-use Rattle.rules.specs.Fragments.{Sort, op, block, region, exists, levels, Step, full_op, region_steps, steps, step_defines, op_owner, block_owner, defines_owners, fragment_ops, defines_values, defines_blocks}
+use Rattle.std.specs.List.{flat_map}
+use Rattle.rules.specs.Store.{Store, blocks_of, regions_of, values_of, block_at, op_around, owner_exists, op_exists, block_exists}
+use Rattle.rules.specs.declared.types.Owner.{Owner}
+use Rattle.rules.specs.declared.types.Owner.TheVariants.{Op as of_op, Block as of_block}
+use Rattle.rules.specs.Fragments.{exists, levels, Step, full_op, region_steps, steps, step_defines, op_owner, block_owner, defines_owners, fragment_ops, defines_values, defines_blocks}
+use Rattle.rules.specs.declared.types.Sort.{Sort}
+use Rattle.rules.specs.declared.types.Sort.TheVariants.{Op as op, Block as block, Region as region}
 use Rattle.rules.proofs.Soundness.Sound.{Sound}
 use Rattle.rules.proofs.Soundness.Grown.{owner_op}
 use Rattle.rules.proofs.Basics.Distinct.{Distinct, distinct_concat_map, mem_concat_map, concat_map_concat_map}
@@ -54,17 +58,17 @@ module _ (s : Store) (sd : Sound s) where
       record {
         here = λ b m. (blocks_in_lem s r m).0;
         once = blocks_distinct s r;
-        around = λ b c mb mc. ap (λ (q : ℕ). some (of_op (get_or s.regions q 0))) ((blocks_in_lem s r mb).1 ∙ sym (blocks_in_lem s r mc).1);
+        around = λ b c mb mc. ap (λ (q : ℕ). Some (of_op (get_or s.regions q 0))) ((blocks_in_lem s r mb).1 ∙ sym (blocks_in_lem s r mc).1);
       }
 
   -- the operation around a block of its region
-  region_up : (n r b : ℕ) → Memᴰ r (regions_of s n) → Memᴰ b (blocks_of s r) → up s (of_block b) ≡ some (of_op n)
+  region_up : (n r b : ℕ) → Memᴰ r (regions_of s n) → Memᴰ b (blocks_of s r) → up s (of_block b) ≡ Some (of_op n)
   unfolding up op_around
   region_up n r b mr mb =
-      ap (λ (q : ℕ). some (of_op (get_or s.regions q 0))) (blocks_in_lem s r mb).1 ∙ ap (λ (m : ℕ). some (of_op m)) (regions_in_lem s n mr).1
+      ap (λ (q : ℕ). Some (of_op (get_or s.regions q 0))) (blocks_in_lem s r mb).1 ∙ ap (λ (m : ℕ). Some (of_op m)) (regions_in_lem s n mr).1
 
   op_part_lem : (in_region : ℕ → List Step) → ((r : ℕ) → BlocksPart s (in_region r) (blocks_of s r)) → (n : ℕ) → OpPart s (full_op s in_region) n
-  unfolding full_op defined concat_map step_defines
+  unfolding full_op defined step_defines
   op_part_lem in_region parts n =
       record {
         inside = λ y m.
@@ -84,13 +88,13 @@ module _ (s : Store) (sd : Sound s) where
       part : ℕ → List Owner
       part r = defined (in_region r)
 
-      flat : concat_map step_defines (concat_map in_region (regions_of s n)) ≡ concat_map part (regions_of s n)
+      flat : flat_map step_defines (flat_map in_region (regions_of s n)) ≡ flat_map part (regions_of s n)
       flat = concat_map_concat_map step_defines in_region (regions_of s n)
 
   -- ---- a region, whatever the number of regions that may be entered
 
   region_part : (k r : ℕ) → BlocksPart s (region_steps k s r) (blocks_of s r)
-  unfolding region_steps defined concat_map
+  unfolding region_steps defined
   region_part zero r = record { inside = λ y m. absurd (Memᴰ.not-nil m); once = tt }
   region_part (suc k) r = list_part s sd (full_op s (region_steps k s)) (λ n l. op_part_lem (region_steps k s) (region_part k) n) (blocks_of s r) (region_blocks r)
 
@@ -122,7 +126,7 @@ module _ (s : Store) (sd : Sound s) where
   -- ---- a fragment
 
   pub owners_once : (f : Sort) (n : ℕ) → exists s f n ≡ true → Distinct (defines_owners s f n)
-  unfolding defines_owners steps exists block_exists concat_map step_defines defined
+  unfolding defines_owners steps exists block_exists step_defines defined
   owners_once op n h = op_once levels n h
   owners_once block n h = (list_part s sd (full_op s (region_steps levels s)) (λ m l. full_part_lem levels m) (n ∷ []) (one_block_alone n (ltb-true _ _ h))).once
   owners_once region n h = (region_part levels n).once
@@ -130,7 +134,7 @@ module _ (s : Store) (sd : Sound s) where
   -- each exists, and is what the fragment begins with or inside that
   pub owners_from : (f : Sort) (n : ℕ) → exists s f n ≡ true → (w : Owner) → Memᴰ w (defines_owners s f n)
       → (owner_exists s w ≡ true) × ((r : Owner) × Root s f n r × From s r w)
-  unfolding defines_owners steps exists block_exists concat_map step_defines defined Root
+  unfolding defines_owners steps exists block_exists step_defines defined Root
   owners_from op n h w m = let i = op_here levels n h w m in (i.0, (of_op n, refl, i.1))
   owners_from block n h w m =
       let i = (list_part s sd (full_op s (region_steps levels s)) (λ m l. full_part_lem levels m) (n ∷ []) (one_block_alone n (ltb-true _ _ h))).inside w m in
@@ -153,11 +157,11 @@ module _ (s : Store) (sd : Sound s) where
   -- ---- the operations alone, and the blocks: by a function that lists of an owner nothing, or its number
 
   module _ (number : Owner → List ℕ) (of : ℕ → Owner) (owner : (w : Owner) (n : ℕ) → Memᴰ n (number w) → w ≡ of n) (alone : (w : Owner) → Distinct (number w)) where
-    numbers_once : (f : Sort) (n : ℕ) → exists s f n ≡ true → Distinct (concat_map number (defines_owners s f n))
+    numbers_once : (f : Sort) (n : ℕ) → exists s f n ≡ true → Distinct (flat_map number (defines_owners s f n))
     numbers_once f n h =
         distinct_concat_map number (defines_owners s f n) (owners_once f n h) (λ w m. alone w) (λ w x mw mx b k l. owner w b k ∙ sym (owner x b l))
 
-    numbers_here : (f : Sort) (n : ℕ) → exists s f n ≡ true → (m : ℕ) → Memᴰ m (concat_map number (defines_owners s f n)) → owner_exists s (of m) ≡ true
+    numbers_here : (f : Sort) (n : ℕ) → exists s f n ≡ true → (m : ℕ) → Memᴰ m (flat_map number (defines_owners s f n)) → owner_exists s (of m) ≡ true
     numbers_here f n h m k =
         let w = mem_concat_map number (defines_owners s f n) k in
         subst (λ (x : Owner). owner_exists s x ≡ true) (owner w.0 m w.2) (owners_here f n h w.0 w.1)

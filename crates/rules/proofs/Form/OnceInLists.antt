@@ -1,16 +1,17 @@
 -- A walk over a list of sibling blocks of a sound store comes to each operation and block once: what it comes to lies below one of the
 -- blocks only, and below one operation of it. Assumes nothing.
+use Rattle.std.specs.Prelude.{option_map, Some}
 use Prim.Native.Nat.{ℕ, ◌<◌}
 use mathlib.Core.Bool.{true}
 use mathlib.Core.List.Memᴰ
 use mathlib.Core.List.{List, [], ◌∷◌, ◌++◌, map, Memᴰ}
 use mathlib.Core.Logic.{◌⊎◌, inl, inr, ⊎_elim}
-use mathlib.Core.Option
-use mathlib.Core.Option.{some}
 use mathlib.Core.Path.{◌≡◌, refl, sym, ap, ap₂, subst, ◌∙◌}
 use lib.ListN.{length}
-use Rattle.rules.specs.Lists.{concat_map}
-use Rattle.rules.specs.Store.{Store, Owner, of_op, of_block, ops_of, owner_exists}
+use Rattle.std.specs.List.{flat_map}
+use Rattle.rules.specs.Store.{Store, ops_of, owner_exists}
+use Rattle.rules.specs.declared.types.Owner.{Owner}
+use Rattle.rules.specs.declared.types.Owner.TheVariants.{Op as of_op, Block as of_block}
 use Rattle.rules.specs.Fragments.{Step, shell, shells, list_steps, step_defines, Disjoint}
 use Rattle.rules.proofs.Soundness.Sound.{Sound}
 use Rattle.rules.proofs.Soundness.Grown.{owner_op, owner_block}
@@ -21,15 +22,15 @@ use Rattle.rules.proofs.Form.Ancestors.{up, Around, next, From, around_trans, si
 
 -- the operations and blocks that steps define
 unfoldable pub defined : List Step → List Owner
-defined xs = concat_map step_defines xs
+defined xs = flat_map step_defines xs
 
 defined_each : (w : ℕ → Owner) (xs : List ℕ) → defined (map (λ (n : ℕ). shell (w n)) xs) ≡ map w xs
-unfolding defined concat_map step_defines
+unfolding defined step_defines
 defined_each w [] = refl
 defined_each w (x ∷ xs) = ap (λ (l : List Owner). w x ∷ l) (defined_each w xs)
 
 defined_shells : (w : ℕ → Owner) (xs : List ℕ) → defined (shells w xs) ≡ map w xs
-unfolding defined concat_map step_defines shells
+unfolding defined step_defines shells
 defined_shells w xs = defined_each w xs
 
 module _ (s : Store) where
@@ -50,9 +51,9 @@ module _ (s : Store) where
     pub around : (b c : ℕ) → Memᴰ b bs → Memᴰ c bs → up s (of_block b) ≡ up s (of_block c)
 
 module _ (s : Store) (sd : Sound s) where
-  op_up : (b : ℕ) {n : ℕ} → Memᴰ n (ops_of s b) → up s (of_op n) ≡ some (of_block b)
+  op_up : (b : ℕ) {n : ℕ} → Memᴰ n (ops_of s b) → up s (of_op n) ≡ Some (of_block b)
   unfolding up
-  op_up b m = ap (Option.map of_block) (ops_in_lem s b m).1
+  op_up b m = ap (option_map of_block) (ops_in_lem s b m).1
 
   op_here : (b : ℕ) {n : ℕ} → Memᴰ n (ops_of s b) → owner_exists s (of_op n) ≡ true
   op_here b {n} m = owner_op s sd n (ops_in_lem s b m).0
@@ -64,16 +65,16 @@ module _ (s : Store) (sd : Sound s) where
     shells_of b = map of_op (ops_of s b)
 
     fulls_of : ℕ → List Owner
-    fulls_of b = concat_map (λ (n : ℕ). defined (full n)) (ops_of s b)
+    fulls_of b = flat_map (λ (n : ℕ). defined (full n)) (ops_of s b)
 
     block_shells : List Owner
     block_shells = map of_block bs
 
     op_shells : List Owner
-    op_shells = concat_map shells_of bs
+    op_shells = flat_map shells_of bs
 
     op_fulls : List Owner
-    op_fulls = concat_map fulls_of bs
+    op_fulls = flat_map fulls_of bs
 
     -- ---- what the three passes come to
 
@@ -152,7 +153,7 @@ module _ (s : Store) (sd : Sound s) where
             let e : y ≡ of_block v.0 = v.2 in
             siblings s sd (ok.around v.0 w.0 v.1 w.1) (subst (λ (x : Owner). owner_exists s x ≡ true) e h.0) (subst (Around s (of_block w.0)) e h.1)
 
-        as_op : Memᴰ y (concat_map shells_of bs) → ⊥
+        as_op : Memᴰ y (flat_map shells_of bs) → ⊥
         as_op m =
             let v = mem_concat_map shells_of bs m in
             let w = mem_concat_map fulls_of bs q in
@@ -166,14 +167,14 @@ module _ (s : Store) (sd : Sound s) where
     list_defined : defined (list_steps s full bs) ≡ block_shells ++ op_shells ++ op_fulls
     unfolding list_steps defined block_shells op_shells op_fulls shells_of fulls_of
     list_defined =
-        concat_map_append step_defines (shells of_block bs ++ concat_map (λ (b : ℕ). shells of_op (ops_of s b)) bs) (concat_map (λ (b : ℕ). concat_map full (ops_of s b)) bs)
+        concat_map_append step_defines (shells of_block bs ++ flat_map (λ (b : ℕ). shells of_op (ops_of s b)) bs) (flat_map (λ (b : ℕ). flat_map full (ops_of s b)) bs)
         ∙ ap₂ ◌++◌
-        (concat_map_append step_defines (shells of_block bs) (concat_map (λ (b : ℕ). shells of_op (ops_of s b)) bs)
+        (concat_map_append step_defines (shells of_block bs) (flat_map (λ (b : ℕ). shells of_op (ops_of s b)) bs)
         ∙ ap₂ ◌++◌ (defined_shells of_block bs)
         (concat_map_concat_map step_defines (λ (b : ℕ). shells of_op (ops_of s b)) bs
         ∙ concat_map_cong (λ (b : ℕ). defined (shells of_op (ops_of s b))) shells_of (λ b. defined_shells of_op (ops_of s b)) bs))
-        (concat_map_concat_map step_defines (λ (b : ℕ). concat_map full (ops_of s b)) bs
-        ∙ concat_map_cong (λ (b : ℕ). defined (concat_map full (ops_of s b))) fulls_of (λ b. concat_map_concat_map step_defines full (ops_of s b)) bs)
+        (concat_map_concat_map step_defines (λ (b : ℕ). flat_map full (ops_of s b)) bs
+        ∙ concat_map_cong (λ (b : ℕ). defined (flat_map full (ops_of s b))) fulls_of (λ b. concat_map_concat_map step_defines full (ops_of s b)) bs)
 
     pub list_part : BlocksPart s (list_steps s full bs) bs
     unfolding op_shells op_fulls

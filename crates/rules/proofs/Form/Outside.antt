@@ -4,13 +4,16 @@ use Prim.Native.Nat.{ℕ}
 use mathlib.Core.List.Memᴰ
 use mathlib.Core.List.{List, [], ◌∷◌, map, Memᴰ, head-eq_of_cons-eq, tail-eq_of_cons-eq, nil≢cons}
 use mathlib.Core.Logic.{◌⊎◌, inl, ⊎_elim}
-use mathlib.Core.Option.{Option, none, some}
+use Rattle.std.specs.Prelude.{Option, None, Some}
 use mathlib.Core.Path.{◌≡◌, sym, subst}
-use Rattle.rules.specs.Lists.{position, concat_map}
+use Rattle.rules.specs.Lists.{position}
+use Rattle.std.specs.List.{flat_map}
 use Rattle.rules.specs.Store.{Store, op_at, type_of}
-use Rattle.rules.specs.Fragments.{Sort, shell, names, counted, step_operands, step_successors, defines_values, defines_blocks, names_values, names_blocks}
-use Rattle.rules.specs.Shells.{Ignore}
-use Rattle.rules.specs.Hash.{Numbering, no_numbers, numbered, Name, name_at, name_of}
+use Rattle.rules.specs.Fragments.{shell, names, counted, step_operands, step_successors, defines_values, defines_blocks, names_values, names_blocks}
+use Rattle.rules.specs.declared.types.Sort.{Sort}
+use Rattle.rules.specs.declared.types.Ignore.{Ignore}
+use Rattle.rules.specs.Hash.{Numbering, no_numbers, numbered, name_at, name_of}
+use Rattle.rules.specs.declared.types.Name.{Name}
 use Rattle.rules.specs.Form.{Event, step, more, done, events, numbered_by, token, tokens, canonical}
 use Rattle.rules.proofs.Basics.Tests.{impossible}
 use Rattle.rules.proofs.Form.Images.{position_out}
@@ -23,10 +26,10 @@ same_name : (L R : List ℕ) (u v : ℕ) → (Memᴰ v R → ⊥) → name_of L 
 unfolding name_of name_at
 same_name L R u v out e = go (position u L) (position v R) (position_out v R out) e
   where
-    go : (o q : Option ℕ) → q ≡ none → name_at o u ≡ name_at q v → u ≡ v
-    go none none p g = cc
-    go (some i) none p g = impossible cc
-    go o (some j) p g = impossible cc
+    go : (o q : Option ℕ) → q ≡ None → name_at o u ≡ name_at q v → u ≡ v
+    go None None p g = cc
+    go (Some i) None p g = impossible cc
+    go o (Some j) p g = impossible cc
 
 -- a name with its type
 abbrev pub typed : Store → List ℕ → ℕ → Name × ℕ
@@ -42,16 +45,16 @@ module _ (s : Store) (ig : Ignore) where
       (e e' : Event) (L R : Numbering) → token s ig e L ≡ token s ig e' R → (v : ℕ) → (Memᴰ v (numbers R) → ⊥)
       → Memᴰ v (uses e') → Memᴰ v (uses e)) where
     along : (es es' : List Event) (L R : Numbering) → tokens s ig es L ≡ tokens s ig es' R → (v : ℕ) → (Memᴰ v (numbers R) → ⊥)
-        → (Memᴰ v (concat_map defines es') → ⊥) → Memᴰ v (concat_map uses es') → Memᴰ v (concat_map uses es)
-    unfolding tokens concat_map
+        → (Memᴰ v (flat_map defines es') → ⊥) → Memᴰ v (flat_map uses es') → Memᴰ v (flat_map uses es)
+    unfolding tokens
     along es [] L R h v out undefined m = absurd (Memᴰ.not-nil m)
     along [] (e' ∷ es') L R h v out undefined m = absurd (nil≢cons h)
     along (e ∷ es) (e' ∷ es') L R h v out undefined m =
         ⊎_elim
-        (λ k. Memᴰ.append_left (concat_map uses es) (same e e' L R (head-eq_of_cons-eq h) v out k))
+        (λ k. Memᴰ.append_left (flat_map uses es) (same e e' L R (head-eq_of_cons-eq h) v out k))
         (λ k. Memᴰ.append_right (uses e)
         (along es es' (numbered_by s e L) (numbered_by s e' R) (tail-eq_of_cons-eq h) v
-        (λ i. ⊎_elim out (λ d. undefined (Memᴰ.append_left (concat_map defines es') d)) (next e' R v i))
+        (λ i. ⊎_elim out (λ d. undefined (Memᴰ.append_left (flat_map defines es') d)) (next e' R v i))
         (λ d. undefined (Memᴰ.append_right (defines e') d))
         k))
         (Memᴰ.append_cases (uses e') m)

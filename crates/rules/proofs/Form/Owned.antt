@@ -4,8 +4,11 @@ use Prim.Native.Nat.{ℕ, ◌<◌}
 use mathlib.Core.List.{Memᴰ}
 use mathlib.Core.Path.{refl, sym, subst}
 use lib.ListN.{length}
-use Rattle.rules.specs.Store.{Store, Owner, of_op, of_block, value_at, values_of}
-use Rattle.rules.specs.Fragments.{Sort, op_owner, block_owner, defines_owners, defines_blocks, defines_values, fragment_ops}
+use Rattle.rules.specs.Store.{Store, value_at, values_of}
+use Rattle.rules.specs.declared.types.Owner.{Owner}
+use Rattle.rules.specs.declared.types.Owner.TheVariants.{Op as of_op, Block as of_block}
+use Rattle.rules.specs.Fragments.{op_owner, block_owner, defines_owners, defines_blocks, defines_values, fragment_ops}
+use Rattle.rules.specs.declared.types.Sort.{Sort}
 use Rattle.rules.proofs.Basics.Distinct.{mem_concat_map}
 use Rattle.rules.proofs.Soundness.Children.{values_in_lem}
 use Rattle.rules.proofs.Form.Once.{op_owner_lem, block_owner_lem}

@@ -2,11 +2,14 @@
 -- two fragments of one sort begin with the same. Assumes nothing.
 use Prim.Native.Nat.{ℕ}
 use mathlib.Core.List.{Memᴰ}
-use mathlib.Core.Option.{some}
+use Rattle.std.specs.Prelude.{Some}
 use mathlib.Core.Path.{◌≡◌, sym, ap, ◌∙◌}
 use lib.ListN.{get_or}
-use Rattle.rules.specs.Store.{Store, Owner, of_op, of_block, op_around, block_at, blocks_of}
-use Rattle.rules.specs.Fragments.{Sort, op, block, region}
+use Rattle.rules.specs.Store.{Store, op_around, block_at, blocks_of}
+use Rattle.rules.specs.declared.types.Owner.{Owner}
+use Rattle.rules.specs.declared.types.Owner.TheVariants.{Op as of_op, Block as of_block}
+use Rattle.rules.specs.declared.types.Sort.{Sort}
+use Rattle.rules.specs.declared.types.Sort.TheVariants.{Op as op, Block as block, Region as region}
 use Rattle.rules.proofs.Soundness.Children.{blocks_in_lem}
 use Rattle.rules.proofs.Form.Ancestors.{up}
 
@@ -22,7 +25,7 @@ module _ (s : Store) where
   root_siblings block n v w e g = ap (up s) (e ∙ sym g)
   root_siblings region n v w e g =
       ap (up s) e.2
-      ∙ ap (λ (r : ℕ). some (of_op (get_or s.regions r 0))) ((blocks_in_lem s n e.1).1 ∙ sym (blocks_in_lem s n g.1).1)
+      ∙ ap (λ (r : ℕ). Some (of_op (get_or s.regions r 0))) ((blocks_in_lem s n e.1).1 ∙ sym (blocks_in_lem s n g.1).1)
       ∙ sym (ap (up s) g.2)
 
   pub same_root : (f : Sort) (a c : ℕ) (w : Owner) → Root f a w → Root f c w → a ≡ c

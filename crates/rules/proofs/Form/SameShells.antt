@@ -5,24 +5,29 @@ use native.Mathlib.Omega.{arith}
 use mathlib.Core.Bool.{Bool, true}
 use mathlib.Core.List.{List, [], ◌∷◌, map, Memᴰ, head-eq_of_cons-eq, tail-eq_of_cons-eq}
 use mathlib.Core.Logic.{◌↔◌}
-use mathlib.Core.Option.{Option, none, some, some-injective}
+use Rattle.std.specs.Prelude.{Option, None, Some}
+use Rattle.std.proofs.lemmas.Option.{same_Some}
 use mathlib.Core.Path.{◌≡◌, refl, sym, ap, ap₂, ◌∙◌}
 use borrow.Author.Tests.{eqb-true, eq-eqb}
 use lib.ListN.{length, length-map}
 use Rattle.rules.specs.Lists.{all_pairs, same_list}
-use Rattle.rules.specs.Store.{Store, Attribute, Owner, of_op, of_block, type_of, values_of}
+use Rattle.rules.specs.Store.{Store, type_of, values_of}
+use Rattle.rules.specs.declared.types.Attribute.{Attribute}
+use Rattle.rules.specs.declared.types.Owner.{Owner}
+use Rattle.rules.specs.declared.types.Owner.TheVariants.{Op as of_op, Block as of_block}
 use Rattle.rules.specs.Fragments.{block_owner, op_owner}
-use Rattle.rules.specs.Shells.{Ignore, Shell, shell_of, counts_of, same_attribute, same_location, same_shells}
+use Rattle.rules.specs.Shells.{Shell, shell_of, counts_of, same_attribute, same_location, same_shells}
+use Rattle.rules.specs.declared.types.Ignore.{Ignore}
 use Rattle.rules.proofs.Basics.Tests.{bools_same, and_left, and_right, and_both, passed, every_of, clash, list_same, numbers_same}
 
 -- ---- equal shells
 
 location_same : (a b : Option ℕ) → (same_location a b ≡ true) ↔ (a ≡ b)
 unfolding same_location
-location_same none none = (λ h. refl, λ e. refl)
-location_same none (some b) = (λ h. clash h refl, λ e. cc)
-location_same (some a) none = (λ h. clash h refl, λ e. cc)
-location_same (some a) (some b) = (λ h. ap {B = Option ℕ} some (eqb-true a b h), λ e. eq-eqb a b (some-injective a b e))
+location_same None None = (λ h. refl, λ e. refl)
+location_same None (Some b) = (λ h. clash h refl, λ e. cc)
+location_same (Some a) None = (λ h. clash h refl, λ e. cc)
+location_same (Some a) (Some b) = (λ h. ap {B = Option ℕ} Some (eqb-true a b h), λ e. eq-eqb a b (same_Some a b e))
 
 pub attribute_same : (a b : Attribute) → (same_attribute a b ≡ true) ↔ (a ≡ b)
 unfolding same_attribute

@@ -5,10 +5,13 @@ use mathlib.Core.Bool.{true}
 use mathlib.Core.List.{List}
 use mathlib.Core.Path.{◌≡◌, refl, sym, ap, ap₂, ◌∙◌}
 use lib.ListN.{length-append}
-use Rattle.rules.specs.Lists.{concat_map}
-use Rattle.rules.specs.Store.{Store, Owner, values_of}
-use Rattle.rules.specs.Fragments.{Sort, op_owner, block_owner, defines_owners, defines_values, defines_blocks, fragment_ops}
-use Rattle.rules.specs.Shells.{Ignore, same_shells}
+use Rattle.std.specs.List.{flat_map}
+use Rattle.rules.specs.Store.{Store, values_of}
+use Rattle.rules.specs.declared.types.Owner.{Owner}
+use Rattle.rules.specs.Fragments.{op_owner, block_owner, defines_owners, defines_values, defines_blocks, fragment_ops}
+use Rattle.rules.specs.declared.types.Sort.{Sort}
+use Rattle.rules.specs.Shells.{same_shells}
+use Rattle.rules.specs.declared.types.Ignore.{Ignore}
 use Rattle.rules.specs.Mapping.{enter_all}
 use Rattle.rules.specs.Comparison.{State, start}
 use Rattle.rules.specs.MappingLaws.{filed, Table, values, blocks, ops, table_of, defines_of, SideBySide}
@@ -24,7 +27,7 @@ owner_defines s values w = values_of s w
 owner_defines s blocks w = block_owner w
 owner_defines s ops w = op_owner w
 
-by_owners : (s : Store) (f : Sort) (n : ℕ) (t : Table) → concat_map (owner_defines s t) (defines_owners s f n) ≡ defines_of s f n t
+by_owners : (s : Store) (f : Sort) (n : ℕ) (t : Table) → flat_map (owner_defines s t) (defines_owners s f n) ≡ defines_of s f n t
 unfolding owner_defines defines_of defines_values defines_blocks fragment_ops
 by_owners s f n values = refl
 by_owners s f n blocks = refl
@@ -40,11 +43,11 @@ module _ (s : Store) (ig : Ignore) where
 
   module _ (t : Table) where
     defined : List Owner → List ℕ
-    defined = concat_map (owner_defines s t)
+    defined = flat_map (owner_defines s t)
 
     along : {ls rs : List Owner} {st st' : State} → Passed s ig ls rs st st'
         → Entered (table_of st.mapping t) (table_of st'.mapping t) (defined ls) (defined rs)
-    unfolding concat_map enter_all defined
+    unfolding enter_all defined
     along over = record { made = refl; lengths = refl }
     along (pair {l} {r} {ls} {rs} {st} e p) =
         let first = entered t l r st e in

@@ -8,9 +8,13 @@ use mathlib.Core.Path.{◌≡◌, refl, ap, ◌∙◌}
 use lib.Dec.{eqb}
 use lib.ListN.{length, get_or}
 use Rattle.rules.specs.Lists.{same_list}
-use Rattle.rules.specs.Store.{Store, of_op, ops_of, blocks_of, regions_of}
-use Rattle.rules.specs.Fragments.{Sort, op, block, region, levels}
-use Rattle.rules.specs.Shells.{Ignore, counts_of, same_shells}
+use Rattle.rules.specs.Store.{Store, ops_of, blocks_of, regions_of}
+use Rattle.rules.specs.declared.types.Owner.TheVariants.{Op as of_op}
+use Rattle.rules.specs.Fragments.{levels}
+use Rattle.rules.specs.declared.types.Sort.{Sort}
+use Rattle.rules.specs.declared.types.Sort.TheVariants.{Op as op, Block as block, Region as region}
+use Rattle.rules.specs.Shells.{counts_of, same_shells}
+use Rattle.rules.specs.declared.types.Ignore.{Ignore}
 use Rattle.rules.specs.Comparison.{State, Pair, Walk, on, ended, unequal, ◌>>=◌, pairwise, each_pair, pair_of, expect, pair_ops, enter_ops, pair_blocks, operands_agree, successors_agree, check_names, check_ops, pass1, pass2, pass3, compare_lists, compare_regions, compare_by}
 use Rattle.rules.proofs.Basics.Tests.{impossible, passed, numbers_same}
 

@@ -5,18 +5,24 @@ use Prim.Native.Nat.{ℕ}
 use mathlib.Core.Bool.{Bool, true, false, cond, ◌&&◌}
 use mathlib.Core.List.Memᴰ
 use mathlib.Core.List.{List, [], ◌∷◌, ◌++◌, append_assoc, Memᴰ, head-eq_of_cons-eq, tail-eq_of_cons-eq, nil≢cons, cons≢nil}
-use mathlib.Core.Option.{Option, none, some, some-injective, none-ne-some}
+use Rattle.std.specs.Prelude.{Option, None, Some}
+use Rattle.std.proofs.lemmas.Option.{same_Some, none-some}
 use mathlib.Core.Path.{◌≡◌, refl, ap, ap₂, subst, ◌∙◌}
 use borrow.Author.Tests.{eqb-true, eq-eqb}
 use lib.Dec.{eqb}
 use lib.ListN.{length, get_or}
-use Rattle.rules.specs.Lists.{concat_map, same_list}
-use Rattle.rules.specs.Store.{Store, Owner, of_op, op_at, type_of, values_of}
+use Rattle.std.specs.List.{flat_map}
+use Rattle.rules.specs.Lists.{same_list}
+use Rattle.rules.specs.Store.{Store, op_at, type_of, values_of}
+use Rattle.rules.specs.declared.types.Owner.{Owner}
+use Rattle.rules.specs.declared.types.Owner.TheVariants.{Op as of_op}
 use Rattle.rules.specs.Fragments.{shell, names, counted, block_owner, step_operands, step_successors, Disjoint}
-use Rattle.rules.specs.Shells.{Ignore, shell_of, counts_of, same_shells}
+use Rattle.rules.specs.Shells.{shell_of, counts_of, same_shells}
+use Rattle.rules.specs.declared.types.Ignore.{Ignore}
 use Rattle.rules.specs.Mapping.{image}
 use Rattle.rules.specs.Comparison.{State, operands_agree, successors_agree}
-use Rattle.rules.specs.Hash.{Numbering, numbered, Name, name_of}
+use Rattle.rules.specs.Hash.{Numbering, numbered, name_of}
+use Rattle.rules.specs.declared.types.Name.{Name}
 use Rattle.rules.specs.Form.{Event, step, more, done, shell_token, names_token, numbered_by, token, tokens}
 use Rattle.rules.proofs.Basics.Tests.{and_left, and_right, and_both, impossible, numbers_same}
 use Rattle.rules.proofs.Form.Images.{Empty, Once, Entered, entered_more, name_forth, name_back}
@@ -52,15 +58,15 @@ module _ (s : Store) where
 
   -- what is numbered, and what the events still define, is all that the fragment defines
   pub record Rest (N : Numbering) (es : List Event) (D : Numbering) : Type 0 where
-    pub values : N.values ++ concat_map event_values es ≡ D.values
-    pub blocks : N.blocks ++ concat_map event_blocks es ≡ D.blocks
+    pub values : N.values ++ flat_map event_values es ≡ D.values
+    pub blocks : N.blocks ++ flat_map event_blocks es ≡ D.blocks
 
   rest_next : (N D : Numbering) (e : Event) (es : List Event) → Rest N (e ∷ es) D → Rest (numbered_by s e N) es D
-  unfolding numbered_by numbered concat_map event_values event_blocks
+  unfolding numbered_by numbered event_values event_blocks
   rest_next N D (step (shell w)) es r =
       record {
-        values = append_assoc N.values (values_of s w) (concat_map event_values es) ∙ r.values;
-        blocks = append_assoc N.blocks (block_owner w) (concat_map event_blocks es) ∙ r.blocks;
+        values = append_assoc N.values (values_of s w) (flat_map event_values es) ∙ r.values;
+        blocks = append_assoc N.blocks (block_owner w) (flat_map event_blocks es) ∙ r.blocks;
       }
   rest_next N D (step (names n)) es r = record { values = r.values; blocks = r.blocks }
   rest_next N D (step (counted k)) es r = record { values = r.values; blocks = r.blocks }
@@ -80,11 +86,10 @@ module _ (s : Store) (ig : Ignore) (EV EB : List ℕ) (empty_v : Empty EV) (empt
 
   -- the left events name nothing that the right defines
   pub record Apart (es : List Event) : Type 0 where
-    pub values : Disjoint (concat_map (event_operands s) es) DR.values
-    pub blocks : Disjoint (concat_map (event_successors s) es) DR.blocks
+    pub values : Disjoint (flat_map (event_operands s) es) DR.values
+    pub blocks : Disjoint (flat_map (event_successors s) es) DR.blocks
 
   apart_next : (e : Event) (es : List Event) → Apart (e ∷ es) → Apart es
-  unfolding concat_map
   apart_next e es a =
       record {
         values = λ v m. a.values v (Memᴰ.append_right (event_operands s e) m);
@@ -104,22 +109,22 @@ module _ (s : Store) (ig : Ignore) (EV EB : List ℕ) (empty_v : Empty EV) (empt
   module _ (L R : Numbering) (es es' : List Event) (rest_l : Rest s L es DL) (rest_r : Rest s R es' DR) (st : State) (rel : Related st L R) where
     value_forth : (a b : ℕ) → (Memᴰ a DR.values → ⊥) → image st.mapping.values a ≡ b → name_of L.values a ≡ name_of R.values b
     value_forth =
-        name_forth EV DL.values DR.values empty_v WL.values WR.values L.values (concat_map (event_values s) es) R.values (concat_map (event_values s) es')
+        name_forth EV DL.values DR.values empty_v WL.values WR.values L.values (flat_map (event_values s) es) R.values (flat_map (event_values s) es')
         st.mapping.values rest_l.values rest_r.values rel.values
 
     value_back : (a b : ℕ) → name_of L.values a ≡ name_of R.values b → image st.mapping.values a ≡ b
     value_back =
-        name_back EV DL.values DR.values empty_v WL.values WR.values L.values (concat_map (event_values s) es) R.values (concat_map (event_values s) es')
+        name_back EV DL.values DR.values empty_v WL.values WR.values L.values (flat_map (event_values s) es) R.values (flat_map (event_values s) es')
         st.mapping.values rest_l.values rest_r.values rel.values
 
     block_forth : (a b : ℕ) → (Memᴰ a DR.blocks → ⊥) → image st.mapping.blocks a ≡ b → name_of L.blocks a ≡ name_of R.blocks b
     block_forth =
-        name_forth EB DL.blocks DR.blocks empty_b WL.blocks WR.blocks L.blocks (concat_map (event_blocks s) es) R.blocks (concat_map (event_blocks s) es')
+        name_forth EB DL.blocks DR.blocks empty_b WL.blocks WR.blocks L.blocks (flat_map (event_blocks s) es) R.blocks (flat_map (event_blocks s) es')
         st.mapping.blocks rest_l.blocks rest_r.blocks rel.blocks
 
     block_back : (a b : ℕ) → name_of L.blocks a ≡ name_of R.blocks b → image st.mapping.blocks a ≡ b
     block_back =
-        name_back EB DL.blocks DR.blocks empty_b WL.blocks WR.blocks L.blocks (concat_map (event_blocks s) es) R.blocks (concat_map (event_blocks s) es')
+        name_back EB DL.blocks DR.blocks empty_b WL.blocks WR.blocks L.blocks (flat_map (event_blocks s) es) R.blocks (flat_map (event_blocks s) es')
         st.mapping.blocks rest_l.blocks rest_r.blocks rel.blocks
 
     -- two operations' names agree exactly when their tokens are equal
@@ -159,53 +164,53 @@ module _ (s : Store) (ig : Ignore) (EV EB : List ℕ) (empty_v : Empty EV) (empt
 
     -- ---- one step of the pass
 
-    same_state : (st' : State) → some st ≡ some st' → Related st' L R
-    same_state st' h = subst (λ (x : State). Related x L R) (some-injective st st' h) rel
+    same_state : (st' : State) → Some st ≡ Some st' → Related st' L R
+    same_state st' h = subst (λ (x : State). Related x L R) (same_Some st st' h) rel
 
-    step_forth : (e e' : Event) (st' : State) (tail : List Event) → Apart (e ∷ tail) → meet s ig e e' st ≡ some st'
+    step_forth : (e e' : Event) (st' : State) (tail : List Event) → Apart (e ∷ tail) → meet s ig e e' st ≡ Some st'
         → (token s ig e L ≡ token s ig e' R) × Related st' (numbered_by s e L) (numbered_by s e' R)
-    unfolding meet token numbered_by numbered concat_map event_operands event_successors step_operands step_successors
+    unfolding meet token numbered_by numbered event_operands event_successors step_operands step_successors
     step_forth (step (shell l)) (step (shell r)) st' tail a h = go (same_shells s ig l r) refl h
       where
-        go : (b : Bool) → same_shells s ig l r ≡ b → cond b (some (enter_owners s l r st)) none ≡ some st'
+        go : (b : Bool) → same_shells s ig l r ≡ b → cond b (Some (enter_owners s l r st)) None ≡ Some st'
             → (token s ig (step (shell l)) L ≡ token s ig (step (shell r)) R) × Related st' (numbered_by s (step (shell l)) L) (numbered_by s (step (shell r)) R)
         go true e k =
             let p = shells→≡ s ig l r e in (
               λ i. shell_token (p.0 i) (p.1 i),
-              subst (λ (x : State). Related x (numbered_by s (step (shell l)) L) (numbered_by s (step (shell r)) R)) (some-injective (enter_owners s l r st) st' k) (entered l r L R st p.0 p.1 rel),
+              subst (λ (x : State). Related x (numbered_by s (step (shell l)) L) (numbered_by s (step (shell r)) R)) (same_Some (enter_owners s l r st) st' k) (entered l r L R st p.0 p.1 rel),
             )
-        go false e k = absurd (none-ne-some st' k)
-    step_forth (step (shell l)) (step (names r)) st' tail a h = absurd (none-ne-some st' h)
-    step_forth (step (names l)) (step (shell r)) st' tail a h = absurd (none-ne-some st' h)
+        go false e k = absurd (none-some st' k)
+    step_forth (step (shell l)) (step (names r)) st' tail a h = absurd (none-some st' h)
+    step_forth (step (names l)) (step (shell r)) st' tail a h = absurd (none-some st' h)
     step_forth (step (names l)) (step (names r)) st' tail a h = go (names_agree s l r st) refl h
       where
-        go : (b : Bool) → names_agree s l r st ≡ b → cond b (some st) none ≡ some st'
+        go : (b : Bool) → names_agree s l r st ≡ b → cond b (Some st) None ≡ Some st'
             → (token s ig (step (names l)) L ≡ token s ig (step (names r)) R) × Related st' L R
         go true e k =
-            (names_tokens l r (λ v m. a.values v (Memᴰ.append_left (concat_map (event_operands s) tail) m)) (λ b m. a.blocks b (Memᴰ.append_left (concat_map (event_successors s) tail) m)) e, same_state st' k)
-        go false e k = absurd (none-ne-some st' k)
-    step_forth (step (shell l)) (step (counted k)) st' tail a h = absurd (none-ne-some st' h)
-    step_forth (step (names l)) (step (counted k)) st' tail a h = absurd (none-ne-some st' h)
-    step_forth (step (counted j)) (step (shell r)) st' tail a h = absurd (none-ne-some st' h)
-    step_forth (step (counted j)) (step (names r)) st' tail a h = absurd (none-ne-some st' h)
+            (names_tokens l r (λ v m. a.values v (Memᴰ.append_left (flat_map (event_operands s) tail) m)) (λ b m. a.blocks b (Memᴰ.append_left (flat_map (event_successors s) tail) m)) e, same_state st' k)
+        go false e k = absurd (none-some st' k)
+    step_forth (step (shell l)) (step (counted k)) st' tail a h = absurd (none-some st' h)
+    step_forth (step (names l)) (step (counted k)) st' tail a h = absurd (none-some st' h)
+    step_forth (step (counted j)) (step (shell r)) st' tail a h = absurd (none-some st' h)
+    step_forth (step (counted j)) (step (names r)) st' tail a h = absurd (none-some st' h)
     step_forth (step (counted j)) (step (counted k)) st' tail a h = (refl, same_state st' h)
-    step_forth (step (counted j)) more st' tail a h = absurd (none-ne-some st' h)
-    step_forth (step (counted j)) done st' tail a h = absurd (none-ne-some st' h)
-    step_forth (step (shell l)) more st' tail a h = absurd (none-ne-some st' h)
-    step_forth (step (names l)) more st' tail a h = absurd (none-ne-some st' h)
-    step_forth (step (shell l)) done st' tail a h = absurd (none-ne-some st' h)
-    step_forth (step (names l)) done st' tail a h = absurd (none-ne-some st' h)
-    step_forth more (step y) st' tail a h = absurd (none-ne-some st' h)
+    step_forth (step (counted j)) more st' tail a h = absurd (none-some st' h)
+    step_forth (step (counted j)) done st' tail a h = absurd (none-some st' h)
+    step_forth (step (shell l)) more st' tail a h = absurd (none-some st' h)
+    step_forth (step (names l)) more st' tail a h = absurd (none-some st' h)
+    step_forth (step (shell l)) done st' tail a h = absurd (none-some st' h)
+    step_forth (step (names l)) done st' tail a h = absurd (none-some st' h)
+    step_forth more (step y) st' tail a h = absurd (none-some st' h)
     step_forth more more st' tail a h = (refl, same_state st' h)
-    step_forth more done st' tail a h = absurd (none-ne-some st' h)
-    step_forth done (step y) st' tail a h = absurd (none-ne-some st' h)
-    step_forth done more st' tail a h = absurd (none-ne-some st' h)
+    step_forth more done st' tail a h = absurd (none-some st' h)
+    step_forth done (step y) st' tail a h = absurd (none-some st' h)
+    step_forth done more st' tail a h = absurd (none-some st' h)
     step_forth done done st' tail a h = (refl, same_state st' h)
 
     -- what the step came to, where the tokens are equal
     record Met (e e' : Event) : Type 0 where
       state : State
-      met : meet s ig e e' st ≡ some state
+      met : meet s ig e e' st ≡ Some state
       related : Related state (numbered_by s e L) (numbered_by s e' R)
 
     step_back : (e e' : Event) → token s ig e L ≡ token s ig e' R → Met e e'
@@ -242,25 +247,25 @@ module _ (s : Store) (ig : Ignore) (EV EB : List ℕ) (empty_v : Empty EV) (empt
   -- ---- the whole pass
 
   pub tokens_equal : (es es' : List Event) (L R : Numbering) (st st' : State) → Rest s L es DL → Rest s R es' DR → Related st L R → Apart es
-      → lock s ig es es' st ≡ some st' → tokens s ig es L ≡ tokens s ig es' R
+      → lock s ig es es' st ≡ Some st' → tokens s ig es L ≡ tokens s ig es' R
   unfolding lock tokens
   tokens_equal [] [] L R st st' rest_l rest_r rel a h = refl
-  tokens_equal [] (e' ∷ es') L R st st' rest_l rest_r rel a h = absurd (none-ne-some st' h)
-  tokens_equal (e ∷ es) [] L R st st' rest_l rest_r rel a h = absurd (none-ne-some st' h)
+  tokens_equal [] (e' ∷ es') L R st st' rest_l rest_r rel a h = absurd (none-some st' h)
+  tokens_equal (e ∷ es) [] L R st st' rest_l rest_r rel a h = absurd (none-some st' h)
   tokens_equal (e ∷ es) (e' ∷ es') L R st st' rest_l rest_r rel a h =
       go (meet s ig e e' st) refl (λ st₁ rel₁ k. tokens_equal es es' (numbered_by s e L) (numbered_by s e' R) st₁ st' (rest_next s L DL e es rest_l) (rest_next s R DR e' es' rest_r) rel₁ (apart_next e es a) k) h
     where
       go : (o : Option State) → meet s ig e e' st ≡ o
-          → ((st₁ : State) → Related st₁ (numbered_by s e L) (numbered_by s e' R) → lock s ig es es' st₁ ≡ some st' → tokens s ig es (numbered_by s e L) ≡ tokens s ig es' (numbered_by s e' R))
-          → and_then o (lock s ig es es') ≡ some st'
+          → ((st₁ : State) → Related st₁ (numbered_by s e L) (numbered_by s e' R) → lock s ig es es' st₁ ≡ Some st' → tokens s ig es (numbered_by s e L) ≡ tokens s ig es' (numbered_by s e' R))
+          → and_then o (lock s ig es es') ≡ Some st'
           → token s ig e L ∷ tokens s ig es (numbered_by s e L) ≡ token s ig e' R ∷ tokens s ig es' (numbered_by s e' R)
-      go none m rest k = absurd (none-ne-some st' k)
-      go (some st₁) m rest k =
+      go None m rest k = absurd (none-some st' k)
+      go (Some st₁) m rest k =
           let q = step_forth L R (e ∷ es) (e' ∷ es') rest_l rest_r st rel e e' st₁ es a m in
           ap₂ ◌∷◌ q.0 (rest st₁ q.1 k)
 
   pub lock_goes_on : (es es' : List Event) (L R : Numbering) (st : State) → Rest s L es DL → Rest s R es' DR → Related st L R
-      → tokens s ig es L ≡ tokens s ig es' R → (st' : State) × (lock s ig es es' st ≡ some st')
+      → tokens s ig es L ≡ tokens s ig es' R → (st' : State) × (lock s ig es es' st ≡ Some st')
   unfolding lock tokens
   lock_goes_on [] [] L R st rest_l rest_r rel h = (st, refl)
   lock_goes_on [] (e' ∷ es') L R st rest_l rest_r rel h = absurd (nil≢cons h)

@@ -7,8 +7,9 @@ use mathlib.Core.Logic.{inl, inr}
 use mathlib.Core.Path.{◌≡◌, sym, subst, ◌∙◌}
 use lib.ListN.{length}
 use Rattle.rules.specs.Store.{Store, values_of}
-use Rattle.rules.specs.Fragments.{Sort, block_owner, defines_owners, defines_values, defines_blocks, Disjoint, NamesNothingOf, Premise}
-use Rattle.rules.specs.Shells.{Ignore}
+use Rattle.rules.specs.Fragments.{block_owner, defines_owners, defines_values, defines_blocks, Disjoint, NamesNothingOf, Premise}
+use Rattle.rules.specs.declared.types.Sort.{Sort}
+use Rattle.rules.specs.declared.types.Ignore.{Ignore}
 use Rattle.rules.specs.Laws.{Equal}
 use Rattle.rules.specs.Form.{canonical}
 use Rattle.rules.specs.GroupingLaws.{IndependentAlong}

@@ -5,11 +5,11 @@ use native.Mathlib.Omega.{arith}
 use native.Mathlib.Decide.{ℕ_discrete}
 use mathlib.Core.Bool.{true}
 use mathlib.Core.Logic.{◌⊎◌, inl, inr}
-use mathlib.Core.Option.{Option, none, some}
+use Rattle.std.specs.Prelude.{Option, None, Some}
 use mathlib.Core.Path.{◌≡◌, refl, sym, ap}
 use Rattle.rules.specs.Store.{Store, sound}
-use Rattle.rules.specs.Fragments.{op}
-use Rattle.rules.specs.Shells.{Ignore}
+use Rattle.rules.specs.declared.types.Sort.TheVariants.{Op as op}
+use Rattle.rules.specs.declared.types.Ignore.{Ignore}
 use Rattle.rules.specs.Laws.{In, LawsOfSound}
 use Rattle.rules.specs.Grouping.{twin_of}
 use Rattle.rules.specs.GroupingLaws.{IndependentAlong, Twins, TwinFound, TwinNone, TwinStays, TwinsTogether, first_or, TwinsShare}
@@ -31,27 +31,27 @@ module _ (s : Store) (h : sound s ≡ true) (ig : Ignore) where
   )
 
   -- the first twin before it is what is found
-  twin_is : (n m : ℕ) → m < n → Twins s ig m n → ((k : ℕ) → k < m → Twins s ig k n → ⊥) → twin_of s ig n ≡ some m
+  twin_is : (n m : ℕ) → m < n → Twins s ig m n → ((k : ℕ) → k < m → Twins s ig k n → ⊥) → twin_of s ig n ≡ Some m
   unfolding TwinFound TwinNone
   twin_is n m l t first = go (twin_of s ig n) refl
     where
-      same : (j : ℕ) → twin_of s ig n ≡ some j → (j < m) ⊎ (m ≤ j) → Dec (m ≡ j) → m ≡ j
+      same : (j : ℕ) → twin_of s ig n ≡ Some j → (j < m) ⊎ (m ≤ j) → Dec (m ≡ j) → m ≡ j
       same j e (inl x) d = absurd (first j x (twin_found s ig n j e).1)
       same j e (inr x) (yes d) = d
       same j e (inr x) (no d) = absurd ((twin_found s ig n j e).2 m (omega arith) t)
 
-      go : (o : Option ℕ) → twin_of s ig n ≡ o → o ≡ some m
-      go none e = absurd ((twin_none s ig n).0 e m l t)
-      go (some j) e = ap {B = Option ℕ} some (sym (same j e (below_or j m) (ℕ_discrete m j)))
+      go : (o : Option ℕ) → twin_of s ig n ≡ o → o ≡ Some m
+      go None e = absurd ((twin_none s ig n).0 e m l t)
+      go (Some j) e = ap {B = Option ℕ} Some (sym (same j e (below_or j m) (ℕ_discrete m j)))
 
-  stays : (n m : ℕ) → In s op n → twin_of s ig n ≡ some m → twin_of s ig m ≡ none
+  stays : (n m : ℕ) → In s op n → twin_of s ig n ≡ Some m → twin_of s ig m ≡ None
   unfolding TwinFound TwinNone
   stays n m i e =
       let t = twin_found s ig n m e in
       let im = earlier_in s n m i t.0 in
       (twin_none s ig m).1 (λ k l u. t.2 k l (twins_along k m n (earlier_in s m k im l) im i u t.1))
 
-  together : (n k m : ℕ) → In s op n → In s op k → twin_of s ig n ≡ some m → twin_of s ig k ≡ some m → Twins s ig n k
+  together : (n k m : ℕ) → In s op n → In s op k → twin_of s ig n ≡ Some m → twin_of s ig k ≡ Some m → Twins s ig n k
   unfolding TwinFound
   together n k m i ik e g =
       let t = twin_found s ig n m e in
@@ -67,8 +67,8 @@ module _ (s : Store) (h : sound s ≡ true) (ig : Ignore) where
       of_n j ij u = twins_along j k n ij ik i u (twins_back n k i ik t)
 
       go : (o : Option ℕ) → twin_of s ig n ≡ o → twin_of s ig k ≡ first_or n o
-      go none e = twin_is k n l t (λ j x u. (twin_none s ig n).0 e j x (of_n j (earlier_in s n j i x) u))
-      go (some m) e =
+      go None e = twin_is k n l t (λ j x u. (twin_none s ig n).0 e j x (of_n j (earlier_in s n j i x) u))
+      go (Some m) e =
           let f = twin_found s ig n m e in
           let im = earlier_in s n m i f.0 in
           let low : m < n = f.0 in

@@ -8,9 +8,11 @@ use mathlib.Core.Logic.{◌↔◌, inl, inr, ⊎_elim}
 use mathlib.Core.Path.{◌≡◌, refl, ap}
 use borrow.Author.Tests.{eqb-true, eq-eqb, not-true}
 use lib.Dec.{eqb}
-use Rattle.rules.specs.Lists.{any}
-use Rattle.rules.specs.Store.{Store, Owner, same_owner}
-use Rattle.rules.specs.Fragments.{Sort, defines_owners, defines_values, defines_blocks, names_values, names_blocks, Disjoint, NamesNothingOf, Premise}
+use Rattle.std.specs.List.{list_any}
+use Rattle.rules.specs.Store.{Store, same_owner}
+use Rattle.rules.specs.declared.types.Owner.{Owner}
+use Rattle.rules.specs.Fragments.{defines_owners, defines_values, defines_blocks, names_values, names_blocks, Disjoint, NamesNothingOf, Premise}
+use Rattle.rules.specs.declared.types.Sort.{Sort}
 use Rattle.rules.specs.Independence.{disjoint, names_nothing_of, independent}
 use Rattle.rules.specs.GroupingLaws.{IndependentIs}
 use Rattle.rules.proofs.Basics.Tests.{and_left, and_right, and_both, or_cases, or_left, or_right, all_at, all_of, decided, passed, every_of, clash}
@@ -24,11 +26,11 @@ module _ {A : Type 0} (same : A → A → Bool) (tells : (a b : A) → (same a b
   disjoint_is : (disjoint same xs ys ≡ true) ↔ Disjoint xs ys
   unfolding disjoint
   disjoint_is = (
-    λ h x m k. clash (any_at (same x) k ((tells x x).1 refl)) (not-true _ (all_at (λ (z : A). not (any (same z) ys)) xs h m)),
-    λ apart. all_of (λ (z : A). not (any (same z) ys)) xs (λ x m. ⊎_elim
+    λ h x m k. clash (any_at (same x) k ((tells x x).1 refl)) (not-true _ (all_at (λ (z : A). not (list_any (same z) ys)) xs h m)),
+    λ apart. all_of (λ (z : A). not (list_any (same z) ys)) xs (λ x m. ⊎_elim
         (λ e. let w = any_where (same x) ys e in absurd (apart x m (Memᴰ.cast ((tells x w.0).0 w.2) w.1)))
         (λ e. ap not e)
-        (decided (any (same x) ys))),
+        (decided (list_any (same x) ys))),
   )
 
 owners_told : (a b : Owner) → (same_owner a b ≡ true) ↔ (a ≡ b)

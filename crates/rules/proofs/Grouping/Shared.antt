@@ -8,8 +8,10 @@ use mathlib.Core.List.{◌∷◌, Memᴰ}
 use mathlib.Core.Logic.{inl, inr, ⊎_elim}
 use mathlib.Core.Path.{◌≡◌, sym, subst}
 use lib.ListN.{length}
-use Rattle.rules.specs.Store.{Store, Owner, sound}
-use Rattle.rules.specs.Fragments.{Sort, defines_owners, Disjoint}
+use Rattle.rules.specs.Store.{Store, sound}
+use Rattle.rules.specs.declared.types.Owner.{Owner}
+use Rattle.rules.specs.Fragments.{defines_owners, Disjoint}
+use Rattle.rules.specs.declared.types.Sort.{Sort}
 use Rattle.rules.specs.Laws.{In}
 use Rattle.rules.proofs.Soundness.Sound.{Sound, facts}
 use Rattle.rules.proofs.Basics.Pigeons.{distinct_most}

@@ -4,15 +4,16 @@ use Prim.Native.Nat.{ℕ, ◌+◌, ◌<◌}
 use native.Mathlib.Omega.{arith}
 use mathlib.Core.Bool.{true, false}
 use mathlib.Core.Logic.{◌↔◌}
-use mathlib.Core.Option.{Option, none, some}
+use Rattle.std.specs.Prelude.{Option, None, Some}
 use mathlib.Core.Path.{◌≡◌, refl}
 use borrow.Author.Tests.{ltb-true, lt-ltb}
 use lib.ListN.{length}
 use Rattle.rules.specs.Store.{Store, op_exists}
-use Rattle.rules.specs.Fragments.{op, exists}
-use Rattle.rules.specs.Shells.{Ignore}
+use Rattle.rules.specs.Fragments.{exists}
+use Rattle.rules.specs.declared.types.Sort.TheVariants.{Op as op}
+use Rattle.rules.specs.declared.types.Ignore.{Ignore}
 use Rattle.rules.specs.Laws.{In, LawsOfSound}
-use Rattle.rules.specs.Statements.{EqualKey}
+use Rattle.rules.specs.KeyLaws.{EqualKey}
 use Rattle.rules.specs.Independence.{independent}
 use Rattle.rules.specs.Grouping.{is_twin, twin_of}
 use Rattle.rules.specs.GroupingLaws.{IndependentIs, Twins, TwinFound, TwinNone, TwinAlike}
@@ -41,7 +42,7 @@ twin_found s ig n m e =
       λ k l t. clash ((twins_are s ig n k).1 t) (found.fails k (omega arith) l),
     )
 
-none_before : (s : Store) (ig : Ignore) (n : ℕ) → twin_of s ig n ≡ none → (m : ℕ) → m < n → is_twin s ig n m ≡ false
+none_before : (s : Store) (ig : Ignore) (n : ℕ) → twin_of s ig n ≡ None → (m : ℕ) → m < n → is_twin s ig n m ≡ false
 unfolding twin_of
 none_before s ig n e m l = first_none n 0 (is_twin s ig n) e m (omega arith) (omega arith)
 
@@ -49,9 +50,9 @@ pub twin_none : TwinNone
 unfolding TwinNone TwinFound
 twin_none s ig n = (λ e m l t. clash ((twins_are s ig n m).1 t) (none_before s ig n e m l), λ out. go (twin_of s ig n) refl out)
   where
-    go : (o : Option ℕ) → twin_of s ig n ≡ o → ((m : ℕ) → m < n → Twins s ig m n → ⊥) → o ≡ none
-    go none e out = refl
-    go (some m) e out = let t = twin_found s ig n m e in absurd (out m t.0 t.1)
+    go : (o : Option ℕ) → twin_of s ig n ≡ o → ((m : ℕ) → m < n → Twins s ig m n → ⊥) → o ≡ None
+    go None e out = refl
+    go (Some m) e out = let t = twin_found s ig n m e in absurd (out m t.0 t.1)
 
 -- an operation before one that exists
 pub earlier_in : (s : Store) (n m : ℕ) → In s op n → m < n → In s op m

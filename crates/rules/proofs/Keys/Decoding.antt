@@ -4,15 +4,17 @@ use Prim.Native.Nat.{ℕ, zero, suc, ◌*◌, ◌/◌, ◌%◌, ◌^◌, ◌<◌
 use native.Mathlib.Omega.{arith}
 use mathlib.Core.Bool.{Bool, true, false}
 use mathlib.Core.List.{List, [], ◌∷◌, ◌++◌, append_assoc, head-eq_of_cons-eq, tail-eq_of_cons-eq}
-use mathlib.Core.Option.{Option, none, some}
+use Rattle.std.specs.Prelude.{Option, None, Some}
 use mathlib.Core.Path.{◌≡◌, refl, sym, ap, ap₂, ◌∙◌}
 use borrow.Author.Tests.{ltb-true, leb-true}
 use lib.Dec.{leb}
 use lib.ListN.{length}
-use Rattle.rules.specs.Lists.{all, concat_map}
-use Rattle.rules.specs.Store.{Attribute}
+use Rattle.std.specs.List.{list_all, flat_map}
+use Rattle.rules.specs.declared.types.Attribute.{Attribute}
 use Rattle.rules.specs.Shells.{Shell}
-use Rattle.rules.specs.Hash.{bytes, leaf, count, tag, list_bytes, location_bytes, flag, attribute_bytes, shell_bytes, Name, walk_number, store_number, name_bytes}
+use Rattle.rules.specs.Hash.{bytes, leaf, count, tag, list_bytes, location_bytes, flag, attribute_bytes, shell_bytes, name_bytes}
+use Rattle.rules.specs.declared.types.Name.{Name}
+use Rattle.rules.specs.declared.types.Name.TheVariants.{WalkNumber as walk_number, StoreNumber as store_number}
 use Rattle.rules.specs.Keys.{fits, attribute_fits}
 use Rattle.rules.proofs.Basics.Tests.{and_left, and_right, passed, impossible}
 
@@ -44,24 +46,23 @@ count_read a b l m e = bytes_read 8 a b (omega arith) (omega arith) e
 -- ---- lists
 
 module _ {A : Type 0} (f : A → List ℕ) (ok : A → Bool) (read : (a b : A) (X Y : List ℕ) → ok a ≡ true → ok b ≡ true → f a ++ X ≡ f b ++ Y → (a ≡ b) × (X ≡ Y)) where
-  pub each_read : (xs ys : List A) {X Y : List ℕ} → length xs ≡ length ys → all ok xs ≡ true → all ok ys ≡ true
-      → concat_map f xs ++ X ≡ concat_map f ys ++ Y → (xs ≡ ys) × (X ≡ Y)
-  unfolding concat_map all
+  pub each_read : (xs ys : List A) {X Y : List ℕ} → length xs ≡ length ys → list_all ok xs ≡ true → list_all ok ys ≡ true
+      → flat_map f xs ++ X ≡ flat_map f ys ++ Y → (xs ≡ ys) × (X ≡ Y)
   each_read [] [] n h k e = (refl, e)
   each_read [] (y ∷ ys) n h k e = absurd (omega arith)
   each_read (x ∷ xs) [] n h k e = absurd (omega arith)
   each_read (x ∷ xs) (y ∷ ys) {X} {Y} n h k e =
-      let first = read x y (concat_map f xs ++ X) (concat_map f ys ++ Y) (and_left (ok x) (all ok xs) h) (and_left (ok y) (all ok ys) k)
-      (sym (append_assoc (f x) (concat_map f xs) X) ∙ e ∙ append_assoc (f y) (concat_map f ys) Y) in
-      let others = each_read xs ys (omega arith) (and_right (ok x) (all ok xs) h) (and_right (ok y) (all ok ys) k) first.1 in
+      let first = read x y (flat_map f xs ++ X) (flat_map f ys ++ Y) (and_left (ok x) (list_all ok xs) h) (and_left (ok y) (list_all ok ys) k)
+      (sym (append_assoc (f x) (flat_map f xs) X) ∙ e ∙ append_assoc (f y) (flat_map f ys) Y) in
+      let others = each_read xs ys (omega arith) (and_right (ok x) (list_all ok xs) h) (and_right (ok y) (list_all ok ys) k) first.1 in
       (ap₂ ◌∷◌ first.0 others.0, others.1)
 
-  pub list_read : (xs ys : List A) {X Y : List ℕ} → length xs ≤ 4096 → length ys ≤ 4096 → all ok xs ≡ true → all ok ys ≡ true
+  pub list_read : (xs ys : List A) {X Y : List ℕ} → length xs ≤ 4096 → length ys ≤ 4096 → list_all ok xs ≡ true → list_all ok ys ≡ true
       → list_bytes count f xs ++ X ≡ list_bytes count f ys ++ Y → (xs ≡ ys) × (X ≡ Y)
   unfolding list_bytes
   list_read xs ys {X} {Y} l m h k e =
       let n = count_read (length xs) (length ys) l m
-      (sym (append_assoc (count (length xs)) (concat_map f xs) X) ∙ e ∙ append_assoc (count (length ys)) (concat_map f ys) Y) in
+      (sym (append_assoc (count (length xs)) (flat_map f xs) X) ∙ e ∙ append_assoc (count (length ys)) (flat_map f ys) Y) in
       each_read xs ys n.0 h k n.1
 
 -- ---- an attribute, and a name
@@ -124,24 +125,24 @@ name_read (store_number m) (store_number n) {X} {Y} f g e =
 
 -- its numbers are told by their bytes, and its lists' lengths
 pub record ShellFits (sh : Shell) : Type 0 where
-  pub location : (l : ℕ) → sh.location ≡ some l → fits l ≡ true
-  pub attributes : all attribute_fits sh.attributes ≡ true
-  pub types : all fits sh.types ≡ true
+  pub location : (l : ℕ) → sh.location ≡ Some l → fits l ≡ true
+  pub attributes : list_all attribute_fits sh.attributes ≡ true
+  pub types : list_all fits sh.types ≡ true
   pub few_attributes : length sh.attributes ≤ 4096
   pub few_types : length sh.types ≤ 4096
 
 -- both have a location, or neither has
 pub record BothLocated (a b : Option ℕ) : Type 0 where
-  pub left : a ≡ none → b ≡ none
-  pub right : b ≡ none → a ≡ none
+  pub left : a ≡ None → b ≡ None
+  pub right : b ≡ None → a ≡ None
 
-location_read_lem : (a b : Option ℕ) {X Y : List ℕ} → BothLocated a b → ((l : ℕ) → a ≡ some l → fits l ≡ true) → ((l : ℕ) → b ≡ some l → fits l ≡ true)
+location_read_lem : (a b : Option ℕ) {X Y : List ℕ} → BothLocated a b → ((l : ℕ) → a ≡ Some l → fits l ≡ true) → ((l : ℕ) → b ≡ Some l → fits l ≡ true)
     → location_bytes a ++ X ≡ location_bytes b ++ Y → (a ≡ b) × (X ≡ Y)
 unfolding location_bytes
-location_read_lem none none both f g e = (refl, e)
-location_read_lem none (some l) both f g e = impossible (let h : some l ≡ none = both.left refl in cc)
-location_read_lem (some l) none both f g e = impossible (let h : some l ≡ none = both.right refl in cc)
-location_read_lem (some l) (some m) both f g e = let r = leaf_read l m (f l refl) (g m refl) e in (ap some r.0, r.1)
+location_read_lem None None both f g e = (refl, e)
+location_read_lem None (Some l) both f g e = impossible (let h : Some l ≡ None = both.left refl in cc)
+location_read_lem (Some l) None both f g e = impossible (let h : Some l ≡ None = both.right refl in cc)
+location_read_lem (Some l) (Some m) both f g e = let r = leaf_read l m (f l refl) (g m refl) e in (ap Some r.0, r.1)
 
 -- part by part: location, attributes behind their number, types behind theirs
 shell_parts : (sh : Shell) (Z : List ℕ)
@@ -150,7 +151,7 @@ unfolding shell_bytes list_bytes
 shell_parts sh Z =
     let L = location_bytes sh.location in
     let C = count (length sh.attributes) in
-    let A = concat_map attribute_bytes sh.attributes in
+    let A = flat_map attribute_bytes sh.attributes in
     let T = list_bytes count leaf sh.types in
     append_assoc ((L ++ C) ++ A) T Z ∙ three L C A (T ++ Z) ∙ ap (λ (l : List ℕ). L ++ l) (sym (append_assoc C A (T ++ Z)))
 

@@ -7,15 +7,16 @@ use mathlib.Core.List.{List, [], append-nil}
 use mathlib.Core.Path.{◌≡◌, refl, sym, ap, ◌∙◌}
 use lib.IntN.{pos}
 use lib.ListN.{length}
-use Rattle.rules.specs.Lists.{concat_map}
+use Rattle.std.specs.List.{flat_map}
 use Rattle.rules.specs.Store.{Store, sound}
-use Rattle.rules.specs.Fragments.{Sort, Step, exists, defines_values, defines_blocks}
-use Rattle.rules.specs.Shells.{Ignore}
+use Rattle.rules.specs.Fragments.{Step, exists, defines_values, defines_blocks}
+use Rattle.rules.specs.declared.types.Sort.{Sort}
+use Rattle.rules.specs.declared.types.Ignore.{Ignore}
 use Rattle.rules.specs.Hash.{no_numbers, count, all_bytes}
 use Rattle.rules.specs.Keys.{key, Ordering, less, same, greater, compare_bytes, ordering_number, fields_fit}
 use Rattle.rules.specs.Laws.{In}
 use Rattle.rules.specs.Form.{events, canonical}
-use Rattle.rules.specs.Statements.{KeyEqual, EqualKey, FiledAsEqual, FilersLaw}
+use Rattle.rules.specs.KeyLaws.{KeyEqual, EqualKey, FiledAsEqual, FilersLaw}
 use Rattle.rules.proofs.Basics.Tests.{impossible}
 use Rattle.rules.proofs.Form.Counted.{values_most, blocks_most}
 use Rattle.rules.proofs.Form.Events.{bare_events}
@@ -32,8 +33,8 @@ room : (s : Store) → sound s ≡ true → (f : Sort) (n : ℕ) → exists s f 
 unfolding no_numbers all_defined
 room s sd f n h =
     let r = events_rest s f n in
-    let v : length (concat_map (event_values s) (events s f n)) ≡ length (defines_values s f n) = ap length r.values in
-    let b : length (concat_map (event_blocks s) (events s f n)) ≡ length (defines_blocks s f n) = ap length r.blocks in
+    let v : length (flat_map (event_values s) (events s f n)) ≡ length (defines_values s f n) = ap length r.values in
+    let b : length (flat_map (event_blocks s) (events s f n)) ≡ length (defines_blocks s f n) = ap length r.blocks in
     record { values = omega (arith, v, values_most s sd f n h); blocks = omega (arith, b, blocks_most s sd f n h) }
 
 bytes_of : (s : Store) (ig : Ignore) (f : Sort) (n : ℕ) → events_bytes s ig (events s f n) no_numbers ≡ key s ig f n

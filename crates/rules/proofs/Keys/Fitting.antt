@@ -6,14 +6,20 @@ use native.Mathlib.Decide.{dec_lt}
 use native.Mathlib.Omega.{arith}
 use mathlib.Core.Bool.{Bool, true, false, cond}
 use mathlib.Core.List.{List, [], ◌∷◌, map}
-use mathlib.Core.Option.{Option, none, some, some-injective, none-ne-some}
+use Rattle.std.specs.Prelude.{Option, None, Some}
+use Rattle.std.proofs.lemmas.Option.{same_Some, none-some}
 use mathlib.Core.Path.{◌≡◌, refl, sym, subst}
 use borrow.Author.Tests.{lt-ltb, leb-true, le-leb}
 use lib.Dec.{lit≤}
 use lib.ListN.{length, get_or, length-map, get_or-eq_default}
-use Rattle.rules.specs.Lists.{every, all, filter, position}
-use Rattle.rules.specs.Store.{Store, Op, Block, Attribute, Owner, of_op, of_block, no_op, no_block, no_value, op_at, block_at, value_at, type_of, ops_of, blocks_of, regions_of, values_of, value_exists, block_exists, attributes_hold, sound}
-use Rattle.rules.specs.Shells.{Ignore, unignored, unignored_location, shell_of}
+use Rattle.rules.specs.Lists.{every, position}
+use Rattle.std.specs.List.{list_all, filter}
+use Rattle.rules.specs.Store.{Store, Op, Block, no_op, no_block, no_value, op_at, block_at, value_at, type_of, ops_of, blocks_of, regions_of, values_of, value_exists, block_exists, attributes_hold, sound}
+use Rattle.rules.specs.declared.types.Attribute.{Attribute}
+use Rattle.rules.specs.declared.types.Owner.{Owner}
+use Rattle.rules.specs.declared.types.Owner.TheVariants.{Op as of_op, Block as of_block}
+use Rattle.rules.specs.Shells.{unignored, unignored_location, shell_of}
+use Rattle.rules.specs.declared.types.Ignore.{Ignore}
 use Rattle.rules.specs.Hash.{name_at, name_of}
 use Rattle.rules.specs.Keys.{fits, attribute_fits, op_fits, block_fits, value_fits, fields_fit}
 use Rattle.rules.proofs.Basics.Tests.{and_left, and_right, and_both, passed, all_at}
@@ -29,7 +35,7 @@ use Rattle.rules.proofs.Keys.Decoding.{name_fits, ShellFits, BothLocated}
 
 module _ {A : Type 0} where
   -- a test that all entries pass, and what a place past the end is read as
-  pub all_get_d : (p : A → Bool) (xs : List A) (n : ℕ) (d : A) → all p xs ≡ true → p d ≡ true → p (get_or xs n d) ≡ true
+  pub all_get_d : (p : A → Bool) (xs : List A) (n : ℕ) (d : A) → list_all p xs ≡ true → p d ≡ true → p (get_or xs n d) ≡ true
   all_get_d p xs n d h k = go (dec_lt n (length xs))
     where
       go : Dec (n < length xs) → p (get_or xs n d) ≡ true
@@ -37,7 +43,6 @@ module _ {A : Type 0} where
       go (no l) = subst (λ (x : A). p x ≡ true) (sym (get_or-eq_default xs d (omega arith))) k
 
   pub filter_most : (q : A → Bool) (xs : List A) → length (filter q xs) ≤ length xs
-  unfolding filter
   filter_most q [] = omega arith
   filter_most q (x ∷ xs) = go (q x) (filter_most q xs)
     where
@@ -45,16 +50,14 @@ module _ {A : Type 0} where
       go true l = omega arith
       go false l = omega arith
 
-all_map : {A B : Type 0} (p : B → Bool) (f : A → B) → ((a : A) → p (f a) ≡ true) → (xs : List A) → all p (map f xs) ≡ true
-unfolding all
+all_map : {A B : Type 0} (p : B → Bool) (f : A → B) → ((a : A) → p (f a) ≡ true) → (xs : List A) → list_all p (map f xs) ≡ true
 all_map p f h [] = refl
-all_map p f h (x ∷ xs) = and_both (p (f x)) (all p (map f xs)) (h x) (all_map p f h xs)
+all_map p f h (x ∷ xs) = and_both (p (f x)) (list_all p (map f xs)) (h x) (all_map p f h xs)
 
 -- the same of the entries that are there
-pub all_named : {B : Type 0} (p : B → Bool) (f : ℕ → B) (ok : ℕ → Bool) → ((n : ℕ) → ok n ≡ true → p (f n) ≡ true) → (ns : List ℕ) → all ok ns ≡ true → all p (map f ns) ≡ true
-unfolding all
+pub all_named : {B : Type 0} (p : B → Bool) (f : ℕ → B) (ok : ℕ → Bool) → ((n : ℕ) → ok n ≡ true → p (f n) ≡ true) → (ns : List ℕ) → list_all ok ns ≡ true → list_all p (map f ns) ≡ true
 all_named p f ok h [] k = refl
-all_named p f ok h (n ∷ ns) k = and_both (p (f n)) (all p (map f ns)) (h n (and_left (ok n) (all ok ns) k)) (all_named p f ok h ns (and_right (ok n) (all ok ns) k))
+all_named p f ok h (n ∷ ns) k = and_both (p (f n)) (list_all p (map f ns)) (h n (and_left (ok n) (list_all ok ns) k)) (all_named p f ok h ns (and_right (ok n) (list_all ok ns) k))
 
 -- ---- names
 
@@ -64,15 +67,15 @@ unfolding name_of name_at name_fits
 name_fits_lem defined n m few l most = go (position n defined) refl
   where
     go : (o : Option ℕ) → position n defined ≡ o → name_fits (name_at o n) ≡ true
-    go none e = lt-ltb n (2 ^ 32) (omega arith)
-    go (some i) e = let h = (position_some n defined i e).0 in le-leb i 4096 (omega (arith, h))
+    go None e = lt-ltb n (2 ^ 32) (omega arith)
+    go (Some i) e = let h = (position_some n defined i e).0 in le-leb i 4096 (omega (arith, h))
 
 no_op_fits : op_fits no_op ≡ true
-unfolding op_fits no_op every all
+unfolding op_fits no_op every
 no_op_fits = refl
 
 no_block_fits : block_fits no_block ≡ true
-unfolding block_fits no_block every all
+unfolding block_fits no_block every
 no_block_fits = refl
 
 module _ (s : Store) (sd : sound s ≡ true) where
@@ -112,13 +115,13 @@ module _ (s : Store) (sd : sound s ≡ true) where
       go (yes l) = f n l
       go (no l) = subst P (sym (get_or-eq_default s.blocks no_block (omega arith))) z
 
-  pub operands_here : (n : ℕ) → all (value_exists s) (op_at s n).operands ≡ true
-  unfolding no_op all
-  operands_here = each_op (λ (o : Op). all (value_exists s) o.operands ≡ true) refl (λ n l. (so.op n l).operands_in)
+  pub operands_here : (n : ℕ) → list_all (value_exists s) (op_at s n).operands ≡ true
+  unfolding no_op
+  operands_here = each_op (λ (o : Op). list_all (value_exists s) o.operands ≡ true) refl (λ n l. (so.op n l).operands_in)
 
-  pub successors_here : (n : ℕ) → all (block_exists s) (op_at s n).successors ≡ true
-  unfolding no_op all
-  successors_here = each_op (λ (o : Op). all (block_exists s) o.successors ≡ true) refl (λ n l. (so.op n l).successors_in)
+  pub successors_here : (n : ℕ) → list_all (block_exists s) (op_at s n).successors ≡ true
+  unfolding no_op
+  successors_here = each_op (λ (o : Op). list_all (block_exists s) o.successors ≡ true) refl (λ n l. (so.op n l).successors_in)
 
   pub operands_few : (n : ℕ) → length (op_at s n).operands ≤ 4096
   unfolding no_op
@@ -160,21 +163,21 @@ module _ (s : Store) (sd : sound s ≡ true) where
     kind_fits n = (passed _ (op_fits_lem n)).0
 
     module _ (ig : Ignore) where
-      located : (l m : ℕ) → fits l ≡ true → unignored_location ig l ≡ some m → fits m ≡ true
+      located : (l m : ℕ) → fits l ≡ true → unignored_location ig l ≡ Some m → fits m ≡ true
       unfolding unignored_location
       located l m f e = go ig.locations e
         where
-          go : (b : Bool) → cond b none (some l) ≡ some m → fits m ≡ true
-          go true k = absurd (none-ne-some m k)
-          go false k = subst (λ (n : ℕ). fits n ≡ true) (some-injective l m k) f
+          go : (b : Bool) → cond b None (Some l) ≡ Some m → fits m ≡ true
+          go true k = absurd (none-some m k)
+          go false k = subst (λ (n : ℕ). fits n ≡ true) (same_Some l m k) f
 
       pub both_located : (l m : ℕ) → BothLocated (unignored_location ig l) (unignored_location ig m)
       unfolding unignored_location
       both_located l m = go ig.locations
         where
-          go : (b : Bool) → BothLocated (cond b none (some l)) (cond b none (some m))
+          go : (b : Bool) → BothLocated (cond b None (Some l)) (cond b None (Some m))
           go true = record { left = λ e. refl; right = λ e. refl }
-          go false = record { left = λ e. absurd (none-ne-some l (sym e)); right = λ e. absurd (none-ne-some m (sym e)) }
+          go false = record { left = λ e. absurd (none-some l (sym e)); right = λ e. absurd (none-some m (sym e)) }
 
       pub shell_fits : (w : Owner) → ShellFits (shell_of s ig w)
       unfolding shell_of unignored op_fits block_fits

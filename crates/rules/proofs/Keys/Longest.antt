@@ -6,17 +6,26 @@ use native.Mathlib.Omega.{arith}
 use mathlib.Core.Bool.{true, not}
 use mathlib.Core.List.Memᴰ
 use mathlib.Core.List.{List, [], ◌∷◌, ◌++◌, map, Memᴰ}
-use mathlib.Core.Option.{Option, none, some}
+use Rattle.std.specs.Prelude.{Option, None, Some}
 use mathlib.Core.Path.{◌≡◌, refl, sym, ap, subst, ◌∙◌}
 use lib.ListN.{length, length-append, length-map, get_or, set, get_or-map}
 use lib.Seq.{get_or-set_other}
-use Rattle.rules.specs.Lists.{sum, concat_map}
-use Rattle.rules.specs.Store.{Store, Op, Block, Attribute, Owner, of_op, of_block, no_op, no_block, op_at, block_at, type_of, ops_of, blocks_of, regions_of, values_of, operand_total, successor_total, attribute_total, sound}
-use Rattle.rules.specs.Fragments.{Sort, op, block, region, exists, levels, Step, shell, names, counted, full_op, shells, list_steps, region_steps, steps, step_defines, block_owner, defines_owners, defines_values, defines_blocks, op_owner}
-use Rattle.rules.specs.Shells.{Ignore, Shell, ignored, unignored, shell_of}
-use Rattle.rules.specs.Hash.{bytes, leaf, count, tag, list_bytes, location_bytes, flag, attribute_bytes, shell_bytes, head_bytes, Numbering, no_numbers, numbered, Name, walk_number, store_number, name_of, name_bytes, feeds, all_bytes}
+use Rattle.rules.specs.Lists.{sum}
+use Rattle.std.specs.List.{flat_map}
+use Rattle.rules.specs.Store.{Store, Op, Block, no_op, no_block, op_at, block_at, type_of, ops_of, blocks_of, regions_of, values_of, operand_total, successor_total, attribute_total, sound}
+use Rattle.rules.specs.declared.types.Attribute.{Attribute}
+use Rattle.rules.specs.declared.types.Owner.{Owner}
+use Rattle.rules.specs.declared.types.Owner.TheVariants.{Op as of_op, Block as of_block}
+use Rattle.rules.specs.Fragments.{exists, levels, Step, shell, names, counted, full_op, shells, list_steps, region_steps, steps, step_defines, block_owner, defines_owners, defines_values, defines_blocks, op_owner}
+use Rattle.rules.specs.declared.types.Sort.{Sort}
+use Rattle.rules.specs.declared.types.Sort.TheVariants.{Op as op, Block as block, Region as region}
+use Rattle.rules.specs.Shells.{Shell, ignored, unignored, shell_of}
+use Rattle.rules.specs.declared.types.Ignore.{Ignore}
+use Rattle.rules.specs.Hash.{bytes, leaf, count, tag, list_bytes, location_bytes, flag, attribute_bytes, shell_bytes, head_bytes, Numbering, no_numbers, numbered, name_of, name_bytes, feeds, all_bytes}
+use Rattle.rules.specs.declared.types.Name.{Name}
+use Rattle.rules.specs.declared.types.Name.TheVariants.{WalkNumber as walk_number, StoreNumber as store_number}
 use Rattle.rules.specs.Keys.{key}
-use Rattle.rules.specs.Statements.{KeyLongest}
+use Rattle.rules.specs.KeyLaws.{KeyLongest}
 use Rattle.rules.proofs.Basics.Distinct.{Distinct, distinct_concat_map, mem_concat_map, concat_map_append}
 use Rattle.rules.proofs.Basics.Appended.{sum_append}
 use Rattle.rules.proofs.Basics.Pigeons.{pigeons}
@@ -47,10 +56,10 @@ over_cons : {A : Type 0} (f : A → ℕ) (x : A) (xs : List A) → over f (x ∷
 unfolding over sum
 over_cons f x xs = refl
 
-over_concat : {A B : Type 0} (f : B → ℕ) (g : A → List B) (xs : List A) → over f (concat_map g xs) ≡ over (λ (x : A). over f (g x)) xs
-unfolding over sum concat_map
+over_concat : {A B : Type 0} (f : B → ℕ) (g : A → List B) (xs : List A) → over f (flat_map g xs) ≡ over (λ (x : A). over f (g x)) xs
+unfolding over sum
 over_concat f g [] = refl
-over_concat f g (x ∷ xs) = omega (arith, over_append f (g x) (concat_map g xs), over_concat f g xs)
+over_concat f g (x ∷ xs) = omega (arith, over_append f (g x) (flat_map g xs), over_concat f g xs)
 
 -- ---- distinct places of a list
 
@@ -125,41 +134,38 @@ attribute_length a =
       leaf_length a.content,
     )
 
-attributes_length : (xs : List Attribute) → length (concat_map attribute_bytes xs) ≡ 13 * length xs
-unfolding concat_map
+attributes_length : (xs : List Attribute) → length (flat_map attribute_bytes xs) ≡ 13 * length xs
 attributes_length [] = refl
-attributes_length (x ∷ xs) = omega (arith, length-append (attribute_bytes x) (concat_map attribute_bytes xs), attribute_length x, attributes_length xs)
+attributes_length (x ∷ xs) = omega (arith, length-append (attribute_bytes x) (flat_map attribute_bytes xs), attribute_length x, attributes_length xs)
 
-leaves_length : (xs : List ℕ) → length (concat_map leaf xs) ≡ 4 * length xs
-unfolding concat_map
+leaves_length : (xs : List ℕ) → length (flat_map leaf xs) ≡ 4 * length xs
 leaves_length [] = refl
-leaves_length (x ∷ xs) = omega (arith, length-append (leaf x) (concat_map leaf xs), leaf_length x, leaves_length xs)
+leaves_length (x ∷ xs) = omega (arith, length-append (leaf x) (flat_map leaf xs), leaf_length x, leaves_length xs)
 
-names_most : (g : ℕ → Name) (ns : List ℕ) → length (concat_map (λ (n : ℕ). name_bytes (g n)) ns) ≤ 9 * length ns
-unfolding concat_map
+names_most : (g : ℕ → Name) (ns : List ℕ) → length (flat_map (λ (n : ℕ). name_bytes (g n)) ns) ≤ 9 * length ns
 names_most g [] = le_refl 0
-names_most g (n ∷ ns) = omega (arith, length-append (name_bytes (g n)) (concat_map (λ (m : ℕ). name_bytes (g m)) ns), name_most (g n), names_most g ns)
+names_most g (n ∷ ns) = omega (arith, length-append (name_bytes (g n)) (flat_map (λ (m : ℕ). name_bytes (g m)) ns), name_most (g n), names_most g ns)
 
 uses_length : (g : ℕ → Name) (ns : List ℕ)
-    → length (list_bytes count (λ (n : ℕ). name_bytes (g n)) ns) ≡ 8 + length (concat_map (λ (n : ℕ). name_bytes (g n)) ns)
+    → length (list_bytes count (λ (n : ℕ). name_bytes (g n)) ns) ≡ 8 + length (flat_map (λ (n : ℕ). name_bytes (g n)) ns)
 unfolding list_bytes
-uses_length g ns = omega (arith, length-append (count (length ns)) (concat_map (λ (n : ℕ). name_bytes (g n)) ns), count_length (length ns))
+uses_length g ns = omega (arith, length-append (count (length ns)) (flat_map (λ (n : ℕ). name_bytes (g n)) ns), count_length (length ns))
 
 uses_most : (g : ℕ → Name) (ns : List ℕ) → length (list_bytes count (λ (n : ℕ). name_bytes (g n)) ns) ≤ 8 + 9 * length ns
 uses_most g ns = omega (arith, uses_length g ns, names_most g ns)
 
 location_most : (o : Option ℕ) → length (location_bytes o) ≤ 4
 unfolding location_bytes
-location_most none = omega arith
-location_most (some l) = omega (arith, leaf_length l)
+location_most None = omega arith
+location_most (Some l) = omega (arith, leaf_length l)
 
 pub shell_length : (sh : Shell) → length (shell_bytes count sh) ≡ length (location_bytes sh.location) + 16 + 13 * length sh.attributes + 4 * length sh.types
 unfolding shell_bytes list_bytes
 shell_length sh =
     let L = location_bytes sh.location in
     let C = count (length sh.attributes) in
-    let A = concat_map attribute_bytes sh.attributes in
-    let T = concat_map leaf sh.types in
+    let A = flat_map attribute_bytes sh.attributes in
+    let T = flat_map leaf sh.types in
     omega (
       arith,
       length-append ((L ++ C) ++ A) (count (length sh.types) ++ T),
@@ -243,12 +249,12 @@ module _ (s : Store) where
 
   charged_append : (xs ys : List Step) → charged (xs ++ ys) ≡ charged xs + charged ys
   unfolding defined
-  charged_append xs ys = ap (over charge) (concat_map_append step_defines xs ys) ∙ over_append charge (concat_map step_defines xs) (concat_map step_defines ys)
+  charged_append xs ys = ap (over charge) (concat_map_append step_defines xs ys) ∙ over_append charge (flat_map step_defines xs) (flat_map step_defines ys)
 
-  charged_concat : (f : ℕ → List Step) (ns : List ℕ) → charged (concat_map f ns) ≡ over (λ (n : ℕ). charged (f n)) ns
-  unfolding concat_map over sum defined
+  charged_concat : (f : ℕ → List Step) (ns : List ℕ) → charged (flat_map f ns) ≡ over (λ (n : ℕ). charged (f n)) ns
+  unfolding over sum defined
   charged_concat f [] = refl
-  charged_concat f (n ∷ ns) = charged_append (f n) (concat_map f ns) ∙ ap (λ (k : ℕ). charged (f n) + k) (charged_concat f ns)
+  charged_concat f (n ∷ ns) = charged_append (f n) (flat_map f ns) ∙ ap (λ (k : ℕ). charged (f n) + k) (charged_concat f ns)
 
   written_shells : (w : ℕ → Owner) (ns : List ℕ) → written (shells w ns) ≡ 8 + over (λ (n : ℕ). shell_weight (w n)) ns
   unfolding shells over sum weight
@@ -259,10 +265,10 @@ module _ (s : Store) where
       go (m ∷ ms) = ap (λ (k : ℕ). shell_weight (w m) + k) (go ms)
 
   charged_shells : (w : ℕ → Owner) (ns : List ℕ) → charged (shells w ns) ≡ over (λ (n : ℕ). charge (w n)) ns
-  unfolding shells over sum defined concat_map step_defines
+  unfolding shells over sum defined step_defines
   charged_shells w ns = go ns
     where
-      go : (ms : List ℕ) → sum (map charge (concat_map step_defines (map (λ (n : ℕ). shell (w n)) ms))) ≡ sum (map (λ (n : ℕ). charge (w n)) ms)
+      go : (ms : List ℕ) → sum (map charge (flat_map step_defines (map (λ (n : ℕ). shell (w n)) ms))) ≡ sum (map (λ (n : ℕ). charge (w n)) ms)
       go [] = refl
       go (m ∷ ms) = ap (λ (k : ℕ). charge (w m) + k) (go ms)
 
@@ -275,10 +281,10 @@ module _ (s : Store) where
   -- a full operation and its shell
   full_most : (in_region : ℕ → List Step) → ((r : ℕ) → written (in_region r) ≤ 8 + charged (in_region r)) → (n : ℕ)
       → shell_weight (of_op n) + written (full_op s in_region n) ≤ charge (of_op n) + charged (full_op s in_region n)
-  unfolding full_op over sum weight shell_weight charge op_charge defined concat_map step_defines
+  unfolding full_op over sum weight shell_weight charge op_charge defined step_defines
   full_most in_region h n =
-      let w : sum (map weight (concat_map in_region (regions_of s n))) ≡ over (λ (r : ℕ). written (in_region r)) (regions_of s n) = over_concat weight in_region (regions_of s n) in
-      let c : sum (map charge (concat_map step_defines (concat_map in_region (regions_of s n)))) ≡ over (λ (r : ℕ). charged (in_region r)) (regions_of s n) = charged_concat in_region (regions_of s n) in
+      let w : sum (map weight (flat_map in_region (regions_of s n))) ≡ over (λ (r : ℕ). written (in_region r)) (regions_of s n) = over_concat weight in_region (regions_of s n) in
+      let c : sum (map charge (flat_map step_defines (flat_map in_region (regions_of s n)))) ≡ over (λ (r : ℕ). charged (in_region r)) (regions_of s n) = charged_concat in_region (regions_of s n) in
       omega (arith, w, c, regions_most in_region h (regions_of s n))
 
   block_weight : (b : ℕ) → shell_weight (of_block b) + 8 ≡ charge (of_block b)
@@ -286,7 +292,7 @@ module _ (s : Store) where
   block_weight b = omega arith
 
   none_most : over (λ (b : ℕ). shell_weight (of_block b)) [] + written [] + written [] ≤ over (λ (b : ℕ). charge (of_block b)) [] + charged [] + charged []
-  unfolding over sum defined concat_map
+  unfolding over sum defined
   none_most = le_refl 0
 
   -- the operations of a block: their count, their shells, and they in full
@@ -298,23 +304,22 @@ module _ (s : Store) where
 
   -- and those of each block of a list, with the blocks' own shells
   inside_most : (full : ℕ → List Step) → ((n : ℕ) → shell_weight (of_op n) + written (full n) ≤ charge (of_op n) + charged (full n)) → (bs : List ℕ)
-      → over (λ (b : ℕ). shell_weight (of_block b)) bs + written (concat_map (λ (b : ℕ). shells of_op (ops_of s b)) bs) + written (concat_map (λ (b : ℕ). concat_map full (ops_of s b)) bs)
-      ≤ over (λ (b : ℕ). charge (of_block b)) bs + charged (concat_map (λ (b : ℕ). shells of_op (ops_of s b)) bs) + charged (concat_map (λ (b : ℕ). concat_map full (ops_of s b)) bs)
-  unfolding concat_map
+      → over (λ (b : ℕ). shell_weight (of_block b)) bs + written (flat_map (λ (b : ℕ). shells of_op (ops_of s b)) bs) + written (flat_map (λ (b : ℕ). flat_map full (ops_of s b)) bs)
+      ≤ over (λ (b : ℕ). charge (of_block b)) bs + charged (flat_map (λ (b : ℕ). shells of_op (ops_of s b)) bs) + charged (flat_map (λ (b : ℕ). flat_map full (ops_of s b)) bs)
   inside_most full h [] = none_most
   inside_most full h (b ∷ bs) =
       let ns : List ℕ = ops_of s b in
-      let ops : List Step = concat_map (λ (c : ℕ). shells of_op (ops_of s c)) bs in
-      let fulls : List Step = concat_map (λ (c : ℕ). concat_map full (ops_of s c)) bs in
+      let ops : List Step = flat_map (λ (c : ℕ). shells of_op (ops_of s c)) bs in
+      let fulls : List Step = flat_map (λ (c : ℕ). flat_map full (ops_of s c)) bs in
       omega (
         arith,
         block_weight b,
         over_cons (λ (c : ℕ). shell_weight (of_block c)) b bs,
         over_cons (λ (c : ℕ). charge (of_block c)) b bs,
         over_append weight (shells of_op ns) ops,
-        over_append weight (concat_map full ns) fulls,
+        over_append weight (flat_map full ns) fulls,
         charged_append (shells of_op ns) ops,
-        charged_append (concat_map full ns) fulls,
+        charged_append (flat_map full ns) fulls,
         written_shells of_op ns,
         charged_shells of_op ns,
         over_concat weight full ns,
@@ -330,8 +335,8 @@ module _ (s : Store) where
   unfolding list_steps
   list_most full h bs =
       let blocks : List Step = shells of_block bs in
-      let ops : List Step = concat_map (λ (b : ℕ). shells of_op (ops_of s b)) bs in
-      let fulls : List Step = concat_map (λ (b : ℕ). concat_map full (ops_of s b)) bs in
+      let ops : List Step = flat_map (λ (b : ℕ). shells of_op (ops_of s b)) bs in
+      let fulls : List Step = flat_map (λ (b : ℕ). flat_map full (ops_of s b)) bs in
       omega (
         arith,
         over_append weight (blocks ++ ops) fulls,
@@ -349,7 +354,7 @@ module _ (s : Store) where
   region_most (suc k) r = list_most (full_op s (region_steps k s)) (full_most (region_steps k s) (region_most k)) (blocks_of s r)
 
   op_most : (n : ℕ) (xs : List Step) → shell_weight (of_op n) + written xs ≤ charge (of_op n) + charged xs → written (shell (of_op n) ∷ xs) ≤ 8 + charged (shell (of_op n) ∷ xs)
-  unfolding over sum weight defined concat_map step_defines
+  unfolding over sum weight defined step_defines
   op_most n xs l = omega arith
 
   fragment_most : (f : Sort) (n : ℕ) → written (steps s f n) ≤ 8 + charged (steps s f n)
@@ -374,15 +379,15 @@ blocks_charge (b ∷ bs) = omega (arith, blocks_charge bs)
 
 module _ (s : Store) where
   ops_among : List Owner → List ℕ
-  ops_among ws = concat_map op_owner ws
+  ops_among ws = flat_map op_owner ws
 
   owners_charge : (ws : List Owner)
-      → over (charge s) ws ≡ over (λ (n : ℕ). op_charge (op_at s n)) (ops_among ws) + over (λ (b : ℕ). block_charge (block_at s b)) (concat_map block_owner ws)
-      + 4 * length (concat_map (values_of s) ws) + 8 * length (concat_map (regions_of s) (ops_among ws))
-  unfolding over sum charge concat_map op_owner block_owner ops_among
+      → over (charge s) ws ≡ over (λ (n : ℕ). op_charge (op_at s n)) (ops_among ws) + over (λ (b : ℕ). block_charge (block_at s b)) (flat_map block_owner ws)
+      + 4 * length (flat_map (values_of s) ws) + 8 * length (flat_map (regions_of s) (ops_among ws))
+  unfolding over sum charge op_owner block_owner ops_among
   owners_charge [] = refl
-  owners_charge (of_op n ∷ ws) = omega (arith, owners_charge ws, length-append (values_of s (of_op n)) (concat_map (values_of s) ws), length-append (regions_of s n) (concat_map (regions_of s) (concat_map op_owner ws)))
-  owners_charge (of_block b ∷ ws) = omega (arith, owners_charge ws, length-append (values_of s (of_block b)) (concat_map (values_of s) ws))
+  owners_charge (of_op n ∷ ws) = omega (arith, owners_charge ws, length-append (values_of s (of_op n)) (flat_map (values_of s) ws), length-append (regions_of s n) (flat_map (regions_of s) (flat_map op_owner ws)))
+  owners_charge (of_block b ∷ ws) = omega (arith, owners_charge ws, length-append (values_of s (of_block b)) (flat_map (values_of s) ws))
 
   module _ (sd : sound s ≡ true) (f : Sort) (n : ℕ) (h : exists s f n ≡ true) where
     abbrev so : Sound s
@@ -395,10 +400,10 @@ module _ (s : Store) where
     unfolding ops_among
     ns_once = ops_once ws (owners_once s so f n h)
 
-    regions_few : length (concat_map (regions_of s) (ops_among ws)) ≤ 256
+    regions_few : length (flat_map (regions_of s) (ops_among ws)) ≤ 256
     regions_few =
         le_trans
-        (pigeons (length s.regions) (concat_map (regions_of s) (ops_among ws))
+        (pigeons (length s.regions) (flat_map (regions_of s) (ops_among ws))
         (distinct_concat_map (regions_of s) (ops_among ws) ns_once (λ m k. regions_distinct s m) (λ m k mm mk r a b. sym (regions_in_lem s m a).1 ∙ (regions_in_lem s k b).1))
         (λ r m. let w = mem_concat_map (regions_of s) (ops_among ws) m in (regions_in_lem s w.0 w.2).0))
         so.totals.regions
@@ -407,9 +412,9 @@ module _ (s : Store) where
     unfolding op_at ops_among
     ops_charged = places_most op_charge s.ops no_op (ops_among ws) ns_once (ops_here s sd ws (owners_here s so f n h))
 
-    blocks_charged : over (λ (m : ℕ). block_charge (block_at s m)) (concat_map block_owner ws) ≤ over block_charge s.blocks
+    blocks_charged : over (λ (m : ℕ). block_charge (block_at s m)) (flat_map block_owner ws) ≤ over block_charge s.blocks
     unfolding block_at defines_blocks
-    blocks_charged = places_most block_charge s.blocks no_block (concat_map block_owner ws) (blocks_once_lem s so f n h) (blocks_here s so f n h)
+    blocks_charged = places_most block_charge s.blocks no_block (flat_map block_owner ws) (blocks_once_lem s so f n h) (blocks_here s so f n h)
 
     all_charged : over (charge s) ws ≤ 78336
     unfolding operand_total successor_total attribute_total over defines_values

@@ -6,7 +6,7 @@ use mathlib.Core.List.{List, [], ◌∷◌}
 use mathlib.Core.Path.{◌≡◌, refl, sym, ap, ap₂, ◌∙◌}
 use borrow.Author.Tests.{lt-ltb, le-ltb}
 use Rattle.rules.specs.Keys.{less, same, greater, compare_bytes, reversed}
-use Rattle.rules.specs.Statements.{TotalOrder}
+use Rattle.rules.specs.KeyLaws.{TotalOrder}
 use Rattle.rules.proofs.Basics.Tests.{impossible}
 
 -- ---- the first bytes

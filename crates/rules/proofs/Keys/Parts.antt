@@ -6,10 +6,10 @@ use native.Mathlib.Omega.{arith}
 use mathlib.Core.List.{List, [], ◌∷◌, ◌++◌, map, append_assoc}
 use mathlib.Core.Path.{◌≡◌, refl, sym, ap, ◌∙◌}
 use lib.ListN.{length, length-append}
-use Rattle.rules.specs.Lists.{concat_map}
+use Rattle.std.specs.List.{flat_map}
 use Rattle.rules.specs.Store.{Store, type_of, values_of}
 use Rattle.rules.specs.Fragments.{shell, names, counted, block_owner}
-use Rattle.rules.specs.Shells.{Ignore}
+use Rattle.rules.specs.declared.types.Ignore.{Ignore}
 use Rattle.rules.specs.Hash.{Numbering, numbered, count, feeds, all_bytes}
 use Rattle.rules.specs.Form.{Event, step, more, done, list_events, numbered_by, Token, token, tokens}
 use Rattle.rules.proofs.Basics.Distinct.{concat_map_append}
@@ -30,8 +30,8 @@ module _ (s : Store) where
 
   -- so much may be numbered: all that these events number is within the store's totals
   pub record Room (es : List Event) (N : Numbering) : Type 0 where
-    pub values : length N.values + length (concat_map (event_values s) es) ≤ 4096
-    pub blocks : length N.blocks + length (concat_map (event_blocks s) es) ≤ 4096
+    pub values : length N.values + length (flat_map (event_values s) es) ≤ 4096
+    pub blocks : length N.blocks + length (flat_map (event_blocks s) es) ≤ 4096
 
   -- what one event numbers, and what all of them do
   event_values_lem : (e : Event) (N : Numbering) → length (numbered_by s e N).values ≡ length N.values + length (event_values s e)
@@ -50,18 +50,18 @@ module _ (s : Store) where
   event_blocks_lem more N = omega arith
   event_blocks_lem done N = omega arith
 
-  values_after : (es : List Event) (N : Numbering) → length (numbered_after es N).values ≡ length N.values + length (concat_map (event_values s) es)
-  unfolding numbered_after concat_map
+  values_after : (es : List Event) (N : Numbering) → length (numbered_after es N).values ≡ length N.values + length (flat_map (event_values s) es)
+  unfolding numbered_after
   values_after [] N = omega arith
-  values_after (e ∷ es) N = omega (arith, values_after es (numbered_by s e N), event_values_lem e N, length-append (event_values s e) (concat_map (event_values s) es))
+  values_after (e ∷ es) N = omega (arith, values_after es (numbered_by s e N), event_values_lem e N, length-append (event_values s e) (flat_map (event_values s) es))
 
-  blocks_after : (es : List Event) (N : Numbering) → length (numbered_after es N).blocks ≡ length N.blocks + length (concat_map (event_blocks s) es)
-  unfolding numbered_after concat_map
+  blocks_after : (es : List Event) (N : Numbering) → length (numbered_after es N).blocks ≡ length N.blocks + length (flat_map (event_blocks s) es)
+  unfolding numbered_after
   blocks_after [] N = omega arith
-  blocks_after (e ∷ es) N = omega (arith, blocks_after es (numbered_by s e N), event_blocks_lem e N, length-append (event_blocks s e) (concat_map (event_blocks s) es))
+  blocks_after (e ∷ es) N = omega (arith, blocks_after es (numbered_by s e N), event_blocks_lem e N, length-append (event_blocks s e) (flat_map (event_blocks s) es))
 
-  parted : (f : Event → List ℕ) (es fs : List Event) → length (concat_map f (es ++ fs)) ≡ length (concat_map f es) + length (concat_map f fs)
-  parted f es fs = ap length (concat_map_append f es fs) ∙ length-append (concat_map f es) (concat_map f fs)
+  parted : (f : Event → List ℕ) (es fs : List Event) → length (flat_map f (es ++ fs)) ≡ length (flat_map f es) + length (flat_map f fs)
+  parted f es fs = ap length (concat_map_append f es fs) ∙ length-append (flat_map f es) (flat_map f fs)
 
   pub room_first : (es fs : List Event) (N : Numbering) → Room (es ++ fs) N → Room es N
   room_first es fs N r =
@@ -155,7 +155,7 @@ module _ (s : Store) (ig : Ignore) where
   module _ (K : List Event → List Event → Numbering → Numbering → Type 0) (carried : Carried K) where
     signed : (es es' : List Event) (P : Numbering → Numbering → Type 0) → Reads es es' (λ N N'. K es es' N N' × P N N')
         → Reads (more ∷ es) (more ∷ es') (λ N N'. K (more ∷ es) (more ∷ es') N N' × P N N')
-    unfolding events_bytes event_bytes numbered_by numbered_after concat_map event_values event_blocks
+    unfolding events_bytes event_bytes numbered_by numbered_after event_values event_blocks
     signed es es' P r N N' X Y alike room room' e =
         let a = r N N' X Y alike (record { values = room.values; blocks = room.blocks }) (record { values = room'.values; blocks = room'.blocks }) e in
         record { alike = a.alike; rest = a.rest; told = (carried.behind es es' N N' a.told.0, a.told.1) }

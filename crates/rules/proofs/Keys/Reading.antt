@@ -6,16 +6,23 @@ use native.Mathlib.Nat.{le_trans}
 use native.Mathlib.Omega.{arith}
 use mathlib.Core.Bool.{true}
 use mathlib.Core.List.{List, [], ◌∷◌, ◌++◌, map, map-append, append_assoc, append-nil, head-eq_of_cons-eq, tail-eq_of_cons-eq}
-use mathlib.Core.Option.{Option, none, some}
+use Rattle.std.specs.Prelude.{Option, None, Some}
 use mathlib.Core.Path.{◌≡◌, refl, sym, ap, ap₂, subst, ◌∙◌}
 use borrow.Author.Tests.{ltb-true}
 use lib.Dec.{lit≤}
 use lib.ListN.{length, get_or, length-map, get_or-map}
-use Rattle.rules.specs.Lists.{all, position}
-use Rattle.rules.specs.Store.{Store, Owner, of_op, of_block, op_at, block_at, type_of, ops_of, blocks_of, regions_of, values_of, value_exists, block_exists, sound}
-use Rattle.rules.specs.Fragments.{Sort, op, block, region, levels, shell, names, counted}
-use Rattle.rules.specs.Shells.{Ignore, Shell, shell_of, counts_of}
-use Rattle.rules.specs.Hash.{leaf, count, list_bytes, shell_bytes, head_bytes, Numbering, numbered, Name, name_at, name_of, name_bytes, feeds}
+use Rattle.std.specs.List.{list_all}
+use Rattle.rules.specs.Lists.{position}
+use Rattle.rules.specs.Store.{Store, op_at, block_at, type_of, ops_of, blocks_of, regions_of, values_of, value_exists, block_exists, sound}
+use Rattle.rules.specs.declared.types.Owner.{Owner}
+use Rattle.rules.specs.declared.types.Owner.TheVariants.{Op as of_op, Block as of_block}
+use Rattle.rules.specs.Fragments.{levels, shell, names, counted}
+use Rattle.rules.specs.declared.types.Sort.{Sort}
+use Rattle.rules.specs.declared.types.Sort.TheVariants.{Op as op, Block as block, Region as region}
+use Rattle.rules.specs.Shells.{Shell, shell_of, counts_of}
+use Rattle.rules.specs.declared.types.Ignore.{Ignore}
+use Rattle.rules.specs.Hash.{leaf, count, list_bytes, shell_bytes, head_bytes, Numbering, numbered, name_at, name_of, name_bytes, feeds}
+use Rattle.rules.specs.declared.types.Name.{Name}
 use Rattle.rules.specs.Keys.{fields_fit}
 use Rattle.rules.specs.Form.{Event, step, more, done, list_events, one, shell_events, op_events, blocks_events, region_events, events, Token, shell_token, names_token, counted_token, more_token, numbered_by, token, tokens}
 use Rattle.rules.proofs.Basics.Tests.{impossible}
@@ -43,10 +50,10 @@ module _ (s : Store) (N N' : Numbering) (alike : map (type_of s) N.values ≡ ma
   one_type v w e = go (position v N.values) refl (position w N'.values) refl e
     where
       go : (o : Option ℕ) → position v N.values ≡ o → (q : Option ℕ) → position w N'.values ≡ q → name_at o v ≡ name_at q w → type_of s v ≡ type_of s w
-      go none a none b h = ap (type_of s) (let f : v ≡ w = cc in f)
-      go none a (some j) b h = impossible cc
-      go (some i) a none b h = impossible cc
-      go (some i) a (some j) b h =
+      go None a None b h = ap (type_of s) (let f : v ≡ w = cc in f)
+      go None a (Some j) b h = impossible cc
+      go (Some i) a None b h = impossible cc
+      go (Some i) a (Some j) b h =
           let same : i ≡ j = cc in
           let x : get_or N.values i 0 ≡ v = (position_some v N.values i a).1 in
           let y : get_or N'.values j 0 ≡ w = (position_some w N'.values j b).1 in
@@ -176,14 +183,14 @@ module _ (s : Store) (sd : sound s ≡ true) (fit : fields_fit s ≡ true) (ig :
   blocks_few : (M : Numbering) (k : ℕ) → length (blocks M k) ≤ 4096
   blocks_few M k = subst (λ (j : ℕ). j ≤ 4096) (sym (length-map (op_at s k).successors (name_of M.blocks))) (successors_few s sd k)
 
-  values_fit_lem : (M : Numbering) (k : ℕ) (es : List Event) → Room s es M → all name_fits (values M k) ≡ true
+  values_fit_lem : (M : Numbering) (k : ℕ) (es : List Event) → Room s es M → list_all name_fits (values M k) ≡ true
   unfolding value_exists
   values_fit_lem M k es r =
       all_named name_fits (name_of M.values) (value_exists s)
       (λ v x. name_fits_lem M.values v (length s.values) (omega (arith, r.values)) (ltb-true v (length s.values) x) (le_trans (facts s sd).totals.values (lit≤ tt)))
       (op_at s k).operands (operands_here s sd k)
 
-  blocks_fit : (M : Numbering) (k : ℕ) (es : List Event) → Room s es M → all name_fits (blocks M k) ≡ true
+  blocks_fit : (M : Numbering) (k : ℕ) (es : List Event) → Room s es M → list_all name_fits (blocks M k) ≡ true
   unfolding block_exists
   blocks_fit M k es r =
       all_named name_fits (name_of M.blocks) (block_exists s)

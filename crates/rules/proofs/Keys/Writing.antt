@@ -3,10 +3,16 @@ use Prim.Native.Nat.{ℕ, zero, suc}
 use mathlib.Core.List.{List, [], ◌∷◌, ◌++◌, map, append_assoc, append-nil}
 use mathlib.Core.Path.{◌≡◌, refl, sym, ap, ap₂, subst, ◌∙◌}
 use lib.ListN.{length, length-map}
-use Rattle.rules.specs.Store.{Store, Owner, of_op, of_block, op_at, type_of, ops_of, blocks_of, regions_of}
-use Rattle.rules.specs.Fragments.{Sort, op, block, region, levels, Step, shell, names, counted}
-use Rattle.rules.specs.Shells.{Ignore, shell_of}
-use Rattle.rules.specs.Hash.{count, list_bytes, shell_bytes, Numbering, no_numbers, numbered, Name, name_of, name_bytes, feeds, all_bytes}
+use Rattle.rules.specs.Store.{Store, op_at, type_of, ops_of, blocks_of, regions_of}
+use Rattle.rules.specs.declared.types.Owner.{Owner}
+use Rattle.rules.specs.declared.types.Owner.TheVariants.{Op as of_op, Block as of_block}
+use Rattle.rules.specs.Fragments.{levels, Step, shell, names, counted}
+use Rattle.rules.specs.declared.types.Sort.{Sort}
+use Rattle.rules.specs.declared.types.Sort.TheVariants.{Op as op, Block as block, Region as region}
+use Rattle.rules.specs.Shells.{shell_of}
+use Rattle.rules.specs.declared.types.Ignore.{Ignore}
+use Rattle.rules.specs.Hash.{count, list_bytes, shell_bytes, Numbering, no_numbers, numbered, name_of, name_bytes, feeds, all_bytes}
+use Rattle.rules.specs.declared.types.Name.{Name}
 use Rattle.rules.specs.Keys.{key}
 use Rattle.rules.specs.Form.{Event, step, more, done, list_events, one, shell_events, op_events, blocks_events, region_events, events, Token, shell_token, names_token, counted_token, more_token, done_token, numbered_by, token, tokens, canonical}
 use Rattle.rules.proofs.Form.Events.{bare_steps, bare_events}

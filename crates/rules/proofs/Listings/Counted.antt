@@ -1,20 +1,24 @@
 -- What is counted after some lines: each `q` puts the operations inside its right fragment into the sets, and no other line changes them; so an
 -- operation is in a set exactly when one of the fragments asked about put it there. Assumes nothing.
+use Rattle.rules.specs.declared.types.Cause.TheVariants.{BadLength}
 use Prim.Native.Nat.{ℕ, ◌≤◌}
 use mathlib.Core.Bool.{Bool, true, false, cond, ◌||◌, or_assoc, or-false}
-use mathlib.Core.Option.{Option, none, some}
+use Rattle.std.specs.Prelude.{Option, None, Some}
 use mathlib.Core.List.{List, [], ◌∷◌, ◌++◌}
 use mathlib.Core.Logic.{◌⊎◌, inl, inr}
 use mathlib.Core.Path.{◌≡◌, refl, sym, ap, ◌∙◌}
 use lib.Dec.{leb}
 use lib.ListN.{length}
-use Rattle.rules.specs.Lists.{any, count_below}
+use Rattle.std.specs.List.{list_any}
+use Rattle.rules.specs.Lists.{count_below}
 use Rattle.rules.specs.Store.{Store, max_ops}
-use Rattle.rules.specs.Fragments.{Sort, fragment_ops}
+use Rattle.rules.specs.Fragments.{fragment_ops}
+use Rattle.rules.specs.declared.types.Sort.{Sort}
 use Rattle.rules.specs.Building.{Built, made, accepted, refused, answer, built}
 use Rattle.rules.specs.Mapping.{empty_mapping}
 use Rattle.rules.specs.Answers.{Compared, eq, neq, refused as refused_compared, comparison}
-use Rattle.rules.specs.Lines.{Edition, Line, building, query, parse}
+use Rattle.rules.specs.Lines.{Line, building, query, parse}
+use Rattle.rules.specs.declared.types.Edition.{Edition}
 use Rattle.rules.specs.Listings.{Tally, no_tally, tallied, share, Progress, LineOutcome, prints, stops, at_start, building_does, line_does, does, max_line, keeps, leaves, twins_answer, twins_program}
 use Rattle.rules.specs.Asked.{Asked, answered_for, asked_by, asked_in, asked_then, asked, inside, inside_equal}
 use Rattle.rules.proofs.Basics.Tests.{and_right, or_cases, or_left, or_right}
@@ -33,19 +37,19 @@ tally_append t [] qs = refl
 tally_append t (p ∷ ps) qs = tally_append (tallied p.found (fragment_ops p.store p.sort p.right) t) ps qs
 
 module _ (m : ℕ) where
-  all_of_them : (t : Tally) (qs : List Asked) → (tally_all t qs).all m ≡ (t.all m || any (inside m) qs)
-  unfolding tally_all tallied any inside
+  all_of_them : (t : Tally) (qs : List Asked) → (tally_all t qs).all m ≡ (t.all m || list_any (inside m) qs)
+  unfolding tally_all tallied inside
   all_of_them t [] = sym (or-false (t.all m))
   all_of_them t (q ∷ qs) =
       all_of_them (tallied q.found (fragment_ops q.store q.sort q.right) t) qs
-      ∙ or_assoc (t.all m) (inside m q) (any (inside m) qs)
+      ∙ or_assoc (t.all m) (inside m q) (list_any (inside m) qs)
 
-  equal_of_them : (t : Tally) (qs : List Asked) → (tally_all t qs).equal m ≡ (t.equal m || any (inside_equal m) qs)
-  unfolding tally_all tallied any inside inside_equal
+  equal_of_them : (t : Tally) (qs : List Asked) → (tally_all t qs).equal m ≡ (t.equal m || list_any (inside_equal m) qs)
+  unfolding tally_all tallied inside inside_equal
   equal_of_them t [] = sym (or-false (t.equal m))
   equal_of_them t (q ∷ qs) =
       equal_of_them (tallied q.found (fragment_ops q.store q.sort q.right) t) qs
-      ∙ or_assoc (t.equal m) (inside_equal m q) (any (inside_equal m) qs)
+      ∙ or_assoc (t.equal m) (inside_equal m q) (list_any (inside_equal m) qs)
 
 -- ---- one line
 
@@ -68,15 +72,15 @@ query_counts (refused_compared cause) f r now = refl
 
 meaning_counts : (now : Progress) (o : Option Line) → Counts now (line_does twins_program now o) (asked_by now o)
 unfolding line_does asked_by twins_program
-meaning_counts now none = refl
-meaning_counts now (some (building c)) = building_counts (answer now.store c) (built now.store c) now
-meaning_counts now (some (query f l r ig)) = query_counts (comparison true now.store [] empty_mapping ig f l r).answer f r now
+meaning_counts now None = refl
+meaning_counts now (Some (building c)) = building_counts (answer now.store c) (built now.store c) now
+meaning_counts now (Some (query f l r ig)) = query_counts (comparison true now.store [] empty_mapping ig f l r).answer f r now
 
 line_counts : (e : Edition) (now : Progress) (line : List ℕ) → Counts now (does twins_program e now line) (asked_in e now line)
 unfolding does asked_in
 line_counts e now line = go (leb (length line) max_line)
   where
-    go : (b : Bool) → Counts now (cond b (line_does twins_program now (parse e line)) (stops 11)) (cond b (asked_by now (parse e line)) [])
+    go : (b : Bool) → Counts now (cond b (line_does twins_program now (parse e line)) (stops BadLength)) (cond b (asked_by now (parse e line)) [])
     go true = meaning_counts now (parse e line)
     go false = refl
 
@@ -96,23 +100,23 @@ lines_count e now (line ∷ lines) = go (does twins_program e now line) (line_co
     go (stops cause) h rest = ap (λ (qs : List Asked). tally_all now.tally (qs ++ [])) (sym h)
 
 module _ (e : Edition) (lines : List (List ℕ)) (m : ℕ) where
-  pub counted_all : (leaves twins_program e at_start lines).tally.all m ≡ any (inside m) (asked e at_start lines)
+  pub counted_all : (leaves twins_program e at_start lines).tally.all m ≡ list_any (inside m) (asked e at_start lines)
   unfolding at_start no_tally
   counted_all = ap (λ (t : Tally). t.all m) (lines_count e at_start lines) ∙ all_of_them m no_tally (asked e at_start lines)
 
-  pub counted_equal : (leaves twins_program e at_start lines).tally.equal m ≡ any (inside_equal m) (asked e at_start lines)
+  pub counted_equal : (leaves twins_program e at_start lines).tally.equal m ≡ list_any (inside_equal m) (asked e at_start lines)
   unfolding at_start no_tally
   counted_equal = ap (λ (t : Tally). t.equal m) (lines_count e at_start lines) ∙ equal_of_them m no_tally (asked e at_start lines)
 
 -- ---- equal ones are a part of all, and so the share is at most 100
 
-equal_part : (m : ℕ) (qs : List Asked) → any (inside_equal m) qs ≡ true → any (inside m) qs ≡ true
-unfolding any inside_equal
-equal_part m (q ∷ qs) h = go (or_cases (inside_equal m q) (any (inside_equal m) qs) h) (equal_part m qs)
+equal_part : (m : ℕ) (qs : List Asked) → list_any (inside_equal m) qs ≡ true → list_any (inside m) qs ≡ true
+unfolding inside_equal
+equal_part m (q ∷ qs) h = go (or_cases (inside_equal m q) (list_any (inside_equal m) qs) h) (equal_part m qs)
   where
-    go : (inside_equal m q ≡ true) ⊎ (any (inside_equal m) qs ≡ true) → (any (inside_equal m) qs ≡ true → any (inside m) qs ≡ true) → any (inside m) (q ∷ qs) ≡ true
-    go (inl e) rest = or_left (inside m q) (any (inside m) qs) (and_right q.found (inside m q) e)
-    go (inr e) rest = or_right (inside m q) (any (inside m) qs) (rest e)
+    go : (inside_equal m q ≡ true) ⊎ (list_any (inside_equal m) qs ≡ true) → (list_any (inside_equal m) qs ≡ true → list_any (inside m) qs ≡ true) → list_any (inside m) (q ∷ qs) ≡ true
+    go (inl e) rest = or_left (inside m q) (list_any (inside m) qs) (and_right q.found (inside m q) e)
+    go (inr e) rest = or_right (inside m q) (list_any (inside m) qs) (rest e)
 equal_part m [] h = h
 
 pub share_most : (e : Edition) (lines : List (List ℕ)) → share (leaves twins_program e at_start lines).tally ≤ 100

@@ -8,7 +8,7 @@ use mathlib.Core.Path.{◌≡◌, refl, sym, ap, ◌∙◌}
 use borrow.Author.Tests.{eq-eqb, eqb-true, not-true}
 use lib.Dec.{eqb}
 use lib.ListN.{length, length-append}
-use Rattle.rules.specs.Lists.{all}
+use Rattle.std.specs.List.{list_all}
 use Rattle.rules.specs.Bytes.{comma, Pieces, new_piece, longer_by, cut_at}
 use Rattle.rules.specs.Lines.{fields_of}
 use Rattle.rules.proofs.Basics.Tests.{and_left, and_right}
@@ -20,24 +20,24 @@ other_than b x = not (eqb x b)
 
 -- b is not among these bytes
 abbrev pub Without : ℕ → List ℕ → Type 0
-Without b xs = all (other_than b) xs ≡ true
+Without b xs = list_all (other_than b) xs ≡ true
 
 -- a piece in front of others
 abbrev pub in_front : List ℕ → Pieces → Pieces
 in_front xs p = record { whole = xs ∷ p.whole; rest = p.rest }
 
 pub cut_first : (b : ℕ) (xs rest : List ℕ) → Without b xs → cut_at b (xs ++ b ∷ rest) ≡ in_front xs (cut_at b rest)
-unfolding all cut_at new_piece longer_by
+unfolding cut_at new_piece longer_by
 cut_first b [] rest h = rw (eq-eqb b b refl)
 cut_first b (x ∷ xs) rest h =
-    let e : eqb x b ≡ false = not-true (eqb x b) (and_left _ (all (λ (y : ℕ). not (eqb y b)) xs) h) in
+    let e : eqb x b ≡ false = not-true (eqb x b) (and_left _ (list_all (λ (y : ℕ). not (eqb y b)) xs) h) in
     rw (e, cut_first b xs rest (and_right (not (eqb x b)) _ h))
 
 pub cut_none : (b : ℕ) (xs : List ℕ) → Without b xs → cut_at b xs ≡ record { whole = []; rest = xs }
-unfolding all cut_at new_piece longer_by
+unfolding cut_at new_piece longer_by
 cut_none b [] h = refl
 cut_none b (x ∷ xs) h =
-    let e : eqb x b ≡ false = not-true (eqb x b) (and_left _ (all (λ (y : ℕ). not (eqb y b)) xs) h) in
+    let e : eqb x b ≡ false = not-true (eqb x b) (and_left _ (list_all (λ (y : ℕ). not (eqb y b)) xs) h) in
     rw (e, cut_none b xs (and_right (not (eqb x b)) _ h))
 
 -- ---- nothing is lost
@@ -65,12 +65,12 @@ ended_cut b (x ∷ xs) = one_more_ended b x (eqb x b) refl (cut_at b xs) ∙ ap 
 
 -- the test passes at each byte of each piece
 abbrev pub each : (ℕ → Bool) → List (List ℕ) → Bool
-each p ps = all (λ (q : List ℕ). all p q) ps
+each p ps = list_all (λ (q : List ℕ). list_all p q) ps
 
 pub cut_ended : (b : ℕ) (ps : List (List ℕ)) → each (other_than b) ps ≡ true → cut_at b (ended b ps) ≡ record { whole = ps; rest = [] }
-unfolding all cut_at
+unfolding cut_at
 cut_ended b [] h = refl
-cut_ended b (p ∷ ps) h = cut_first b p (ended b ps) (and_left _ _ h) ∙ ap (in_front p) (cut_ended b ps (and_right (all (other_than b) p) _ h))
+cut_ended b (p ∷ ps) h = cut_first b p (ended b ps) (and_left _ _ h) ∙ ap (in_front p) (cut_ended b ps (and_right (list_all (other_than b) p) _ h))
 
 -- ---- how long they are
 

@@ -8,7 +8,7 @@ use mathlib.Core.Path.{◌≡◌, refl, sym, ap, subst, ◌∙◌}
 use borrow.Author.Tests.{ltb-true, ltb-false, eqb-true, eqb-false, ne_eqb}
 use lib.Dec.{eqb, ltb}
 use Rattle.rules.specs.Listings.{rounded_up, nearest, per_cent}
-use Rattle.rules.specs.Statements.{apart}
+use Rattle.rules.specs.ListingLaws.{apart}
 
 -- q is a nearest number of n over d, and even where another is as near
 abbrev Nearest : ℕ → ℕ → ℕ → Type 0

@@ -2,9 +2,9 @@
 -- refused. Assumes nothing.
 use Prim.Native.Nat.{ℕ, suc}
 use mathlib.Core.List.{List, [], ◌∷◌, ◌++◌, append_assoc}
-use mathlib.Core.Option.{Option, none, some}
+use Rattle.std.specs.Prelude.{Option}
 use mathlib.Core.Path.{◌≡◌, refl, sym, ap, ◌∙◌}
-use Rattle.rules.specs.Lines.{Edition}
+use Rattle.rules.specs.declared.types.Edition.{Edition}
 use Rattle.rules.specs.Listings.{Program, Progress, at_start, LineOutcome, prints, stops, does, proceed, at_end, run, edition, keeps, leaves, unless, listed, twins_program, twins}
 use Rattle.rules.specs.Printing.{outputs_then, outputs, Refusal, refused_then, refused_line, first_refusal, ending, left_by, lines_in, ListingPrints, SharePrinted}
 

@@ -7,7 +7,10 @@ use mathlib.Core.List.{List, [], ◌∷◌}
 use mathlib.Core.Path.{◌≡◌, refl}
 use lib.Dec.{ltb}
 use lib.ListN.{length, length-append}
-use Rattle.rules.specs.Fragments.{Sort, op, block, region}
+use Rattle.rules.specs.declared.types.Cause.{Cause}
+use Rattle.rules.specs.Causes.{number_of}
+use Rattle.rules.specs.declared.types.Sort.{Sort}
+use Rattle.rules.specs.declared.types.Sort.TheVariants.{Op as op, Block as block, Region as region}
 use Rattle.rules.specs.Comparison.{Pair}
 use Rattle.rules.specs.Bytes.{text, comma, line_feed, digit, last_digits, digit_count, max_digits, decimal, hexadecimal}
 use Rattle.rules.specs.Listings.{printed, refusal, equal_line, sort_text, unequal_line, hashes_line, share_line}
@@ -49,10 +52,10 @@ last_most = 30
 abbrev pub line_most : ℕ
 line_most = 40
 
-pub refusal_short : (line cause : ℕ) → length (refusal line cause) ≤ last_most
+pub refusal_short : (line : ℕ) (cause : Cause) → length (refusal line cause) ≤ last_most
 unfolding refusal
 refusal_short line cause =
-    omega (arith, printed_length (text "refused") (decimal line ∷ decimal cause ∷ []), decimal_short line, decimal_short cause)
+    omega (arith, printed_length (text "refused") (decimal line ∷ decimal (number_of cause) ∷ []), decimal_short line, decimal_short (number_of cause))
 
 pub share_short : (cent : ℕ) → length (share_line cent) ≤ last_most
 unfolding share_line

@@ -1,13 +1,15 @@
 -- What a call on a marked store does, by its tests; and that building calls do what they did while no mark is set. Assumes nothing.
+use Rattle.rules.specs.declared.types.Cause.TheVariants.{JournalFull}
+use Rattle.rules.specs.declared.types.Cause.{Cause}
 use Prim.Native.Nat.{ℕ}
 use mathlib.Core.Bool.{Bool, true, false, not}
-use mathlib.Core.Option.{Option, none, some}
+use Rattle.std.specs.Prelude.{Option, None, Some}
 use mathlib.Core.List.{List, [], ◌∷◌, ◌++◌, map}
 use mathlib.Core.Path.{◌≡◌, refl, ap, ◌∙◌}
 use Rattle.rules.specs.Store.{Store}
 use Rattle.rules.specs.Building.{Call, tests, first_failed, applied, store_by, built, after}
 use Rattle.rules.specs.Marks.{MarkedStore, unmarked, MarkedCall, build, set_mark, go_back, is_mark, is_set, replaces, remembered, can_remember, marked_tests, recounted, replaced_once, marked_applied, marked_by, marked, after_marked}
-use Rattle.rules.specs.Statements.{UnmarkedAfter}
+use Rattle.rules.specs.MarkLaws.{UnmarkedAfter}
 use Rattle.rules.proofs.Basics.Tests.{and_both, or_right}
 use Rattle.rules.proofs.Soundness.Accepted.{AllPassed, first_failed_none, all_passed}
 
@@ -16,9 +18,9 @@ pub marked_cases : (P : MarkedStore → Type 0) (t : MarkedStore) (c : MarkedCal
 unfolding marked marked_by
 marked_cases P t c refused accepted = go (first_failed (marked_tests t c)) refl
   where
-    go : (f : Option ℕ) → first_failed (marked_tests t c) ≡ f → P (marked_by f t c)
-    go none e = accepted (first_failed_none (marked_tests t c) e)
-    go (some cause) e = refused
+    go : (f : Option Cause) → first_failed (marked_tests t c) ≡ f → P (marked_by f t c)
+    go None e = accepted (first_failed_none (marked_tests t c) e)
+    go (Some cause) e = refused
 
 pub marked_accepted : (t : MarkedStore) (c : MarkedCall) → AllPassed (marked_tests t c) → marked t c ≡ marked_applied t c
 unfolding marked marked_by
@@ -39,7 +41,7 @@ back_accepted t k h g = marked_accepted t (go_back k) (and_both (is_mark k) (is_
 
 -- ---- a building call passes the tests that it had, and one more
 
-pub passed_both : (ts us : List (Bool × ℕ)) → AllPassed (ts ++ us) → AllPassed ts × AllPassed us
+pub passed_both : (ts us : List (Bool × Cause)) → AllPassed (ts ++ us) → AllPassed ts × AllPassed us
 passed_both [] us p = (tt, p)
 passed_both (t ∷ ts) us p = let q = passed_both ts us p.1 in ((p.0, q.0), q.1)
 
@@ -49,22 +51,22 @@ build_passed t c p = let q = passed_both (tests t.store c) _ p in (rw (all_passe
 
 -- ---- no mark is set
 
-last_passed : (cause : ℕ) (ts : List (Bool × ℕ)) → first_failed (ts ++ ((true, cause) ∷ [])) ≡ first_failed ts
+last_passed : (cause : Cause) (ts : List (Bool × Cause)) → first_failed (ts ++ ((true, cause) ∷ [])) ≡ first_failed ts
 unfolding first_failed
 last_passed cause [] = refl
 last_passed cause (t ∷ ts) = rw (last_passed cause ts)
 
 unmarked_tests : (s : Store) (c : Call) → first_failed (marked_tests (unmarked s) (build c)) ≡ first_failed (tests s c)
 unfolding marked_tests can_remember remembered unmarked
-unmarked_tests s c = rw (or_right (not (replaces s c)) true refl) (last_passed 17 (tests s c))
+unmarked_tests s c = rw (or_right (not (replaces s c)) true refl) (last_passed JournalFull (tests s c))
 
 unmarked_built : (s : Store) (c : Call) → marked (unmarked s) (build c) ≡ unmarked (built s c)
 unfolding marked built marked_by store_by marked_applied unmarked replaced_once recounted
 unmarked_built s c = rw (unmarked_tests s c) (go (first_failed (tests s c)))
   where
-    go : (f : Option ℕ) → marked_by f (unmarked s) (build c) ≡ unmarked (store_by f s c)
-    go none = refl
-    go (some cause) = refl
+    go : (f : Option Cause) → marked_by f (unmarked s) (build c) ≡ unmarked (store_by f s c)
+    go None = refl
+    go (Some cause) = refl
 
 pub unmarked_after : UnmarkedAfter
 unfolding UnmarkedAfter after after_marked

@@ -6,14 +6,15 @@ use mathlib.Core.List.{List, [], ◌∷◌, map, Memᴰ}
 use mathlib.Core.Path.{◌≡◌, refl, sym, ap, subst, ◌∙◌}
 use borrow.Author.Tests.{eqb-true, eq-eqb}
 use lib.Dec.{eqb}
-use Rattle.rules.specs.Lists.{all}
+use Rattle.std.specs.List.{list_all}
 use Rattle.rules.specs.Store.{Store, empty_store, sound}
 use Rattle.rules.specs.Building.{built}
 use Rattle.rules.specs.Keys.{fields_fit}
 use Rattle.rules.specs.Copying.{copied, copy_tests}
 use Rattle.rules.specs.CopyLaws.{Copies, CopySound, CopyFits}
 use Rattle.rules.specs.Marks.{Mark, MarkedStore, unmarked, MarkedCall, build, set_mark, go_back, copy, is_mark, has_number, is_set, max_remembered, marked_tests, with_since, replaced_once, without, up_to, mark_or, new_mark, gone_back, marked_applied, marked, after_marked, marks_hold, snapshots_sound, sound_marked, marked_call_fits}
-use Rattle.rules.specs.Statements.{FieldsFitKept, MarkedSound, AfterMarkedSound, SoundByGoingBack}
+use Rattle.rules.specs.KeyLaws.{FieldsFitKept}
+use Rattle.rules.specs.MarkLaws.{MarkedSound, AfterMarkedSound, SoundByGoingBack}
 use Rattle.rules.proofs.Basics.Tests.{and_left, and_right, and_both, passed, every_of, all_of, clash}
 use Rattle.rules.proofs.Basics.Appended.{all_append}
 use Rattle.rules.proofs.Basics.Filtered.{any_at, all_filter}
@@ -32,7 +33,7 @@ module _ (P : Store → Bool) where
 
   pub record Held (t : MarkedStore) : Type 0 where
     pub now : P t.store ≡ true
-    pub before : all of_snapshot t.marks ≡ true
+    pub before : list_all of_snapshot t.marks ≡ true
 
   same_snapshot : (n : ℕ) (m : Mark) → of_snapshot m ≡ true → of_snapshot (with_since n m) ≡ true
   unfolding with_since
@@ -46,7 +47,7 @@ module _ (P : Store → Bool) where
   Builds s (copy ok n place) = Copies s n place → P (copied s n place) ≡ true
 
   pub marked_held : (t : MarkedStore) (c : MarkedCall) → Builds t.store c → Held t → Held (marked t c)
-  unfolding marked_tests marked_applied replaced_once without new_mark gone_back all
+  unfolding marked_tests marked_applied replaced_once without new_mark gone_back
   marked_held t c b h = marked_cases Held t c h (applied_held c b)
     where
       applied_held : (d : MarkedCall) → Builds t.store d → AllPassed (marked_tests t d) → Held (marked_applied t d)
@@ -66,11 +67,11 @@ module _ (P : Store → Bool) where
 
   -- over a list of calls of which each keeps it
   pub after_held : (ok : MarkedCall → Bool) → ((s : Store) (c : MarkedCall) → ok c ≡ true → P s ≡ true → Builds s c)
-      → (t : MarkedStore) (cs : List MarkedCall) → all ok cs ≡ true → Held t → Held (after_marked t cs)
-  unfolding all after_marked
+      → (t : MarkedStore) (cs : List MarkedCall) → list_all ok cs ≡ true → Held t → Held (after_marked t cs)
+  unfolding after_marked
   after_held ok builds t [] a h = h
   after_held ok builds t (c ∷ cs) a h =
-      after_held ok builds (marked t c) cs (and_right (ok c) (all ok cs) a) (marked_held t c (builds t.store c (and_left (ok c) (all ok cs) a) h.now) h)
+      after_held ok builds (marked t c) cs (and_right (ok c) (list_all ok cs) a) (marked_held t c (builds t.store c (and_left (ok c) (list_all ok cs) a) h.now) h)
 
 -- ---- soundness
 
@@ -94,7 +95,7 @@ after_sound t [] h = h
 after_sound t (c ∷ cs) h = after_sound (marked t c) cs (marked_sound t c h)
 
 pub after_marked_sound : AfterMarkedSound
-unfolding AfterMarkedSound sound_marked snapshots_sound marks_hold unmarked all
+unfolding AfterMarkedSound sound_marked snapshots_sound marks_hold unmarked
 after_marked_sound calls = after_sound (unmarked empty_store) calls (every_of _ (empty_sound, (refl, (refl, tt))))
 
 pub now_sound : (t : MarkedStore) → sound_marked t ≡ true → sound t.store ≡ true
@@ -143,6 +144,6 @@ fitting_builds s (set_mark k) f h = tt
 fitting_builds s (go_back k) f h = tt
 fitting_builds s (copy ok n place) f h = λ c. copy_fits s n place h
 
-pub after_marked_fits : (calls : List MarkedCall) → all marked_call_fits calls ≡ true → fields_fit (after_marked (unmarked empty_store) calls).store ≡ true
-unfolding unmarked all
+pub after_marked_fits : (calls : List MarkedCall) → list_all marked_call_fits calls ≡ true → fields_fit (after_marked (unmarked empty_store) calls).store ≡ true
+unfolding unmarked
 after_marked_fits calls f = (after_held fields_fit marked_call_fits fitting_builds (unmarked empty_store) calls f (record { now = empty_fits; before = refl })).now

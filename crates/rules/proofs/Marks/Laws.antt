@@ -8,10 +8,12 @@ use Rattle.rules.specs.Types.{renamed}
 use Rattle.rules.specs.Laws.{LawsOfSound}
 use Rattle.rules.specs.MappingLaws.{MappingLawsOfSound, MappingLawsMarked}
 use Rattle.rules.specs.Marks.{MarkedCall, unmarked, after_marked}
-use Rattle.rules.specs.Statements.{RenamedSound, FilersLaw, AfterMarkedSound, Demand3Marked, LawsMarked, FilersLawMarked}
+use Rattle.rules.specs.TypeLaws.{RenamedSound}
+use Rattle.rules.specs.KeyLaws.{FilersLaw}
+use Rattle.rules.specs.MarkLaws.{AfterMarkedSound, Demand3Marked, LawsMarked, FilersLawMarked}
 use Rattle.rules.proofs.Laws.{laws_of_sound}
 use Rattle.rules.proofs.MappingLaws.{mapping_laws_of_sound}
-use Rattle.rules.proofs.Types.Under.{renamed_sound, renamed_fits}
+use Rattle.rules.proofs.RenamedTypes.Under.{renamed_sound, renamed_fits}
 use Rattle.rules.proofs.Keys.Filed.{filers_law}
 use Rattle.rules.proofs.Marks.Kept.{now_sound, after_marked_sound, after_marked_fits}
 

@@ -5,7 +5,7 @@ use mathlib.Core.List.{List, [], ◌∷◌, ◌++◌, map-append}
 use mathlib.Core.Path.{◌≡◌, refl, ap, ap₂, ◌∙◌}
 use borrow.Author.Tests.{eqb-true}
 use lib.Dec.{eqb}
-use Rattle.rules.specs.Lists.{all, any, filter}
+use Rattle.std.specs.List.{list_all}
 use Rattle.rules.specs.Marks.{Mark, has_number, is_set, with_since, recounted, without, up_to, mark_or}
 use Rattle.rules.proofs.Basics.Tests.{and_left, and_right, and_both, or_false_left, or_false_right, or_neither, clash}
 use Rattle.rules.proofs.Basics.Filtered.{any_append, none_kept, none_left}
@@ -18,7 +18,7 @@ cut P false ms p q = q
 -- ---- what is set
 
 pub set_recounted : (f : ℕ → ℕ) (k : ℕ) (ms : List Mark) → is_set k (recounted f ms) ≡ is_set k ms
-unfolding is_set any has_number recounted with_since
+unfolding is_set has_number recounted with_since
 set_recounted f k [] = refl
 set_recounted f k (m ∷ ms) = ap (λ (b : Bool). eqb m.number k || b) (set_recounted f k ms)
 
@@ -35,11 +35,11 @@ unfolding is_set
 set_past k xs ys h = any_append (has_number k) xs ys ∙ rw h
 
 pub unset_append : (k : ℕ) (ms : List Mark) (o : Mark) → is_set k ms ≡ false → has_number k o ≡ false → is_set k (ms ++ (o ∷ [])) ≡ false
-unfolding is_set any
+unfolding is_set
 unset_append k ms o h e = set_past k ms (o ∷ []) h ∙ or_neither (has_number k o) false e refl
 
 pub unset_up_to : (k j : ℕ) (ms : List Mark) → is_set k ms ≡ false → is_set k (up_to j ms) ≡ false
-unfolding is_set any up_to
+unfolding is_set up_to
 unset_up_to k j [] h = refl
 unset_up_to k j (m ∷ ms) h =
     or_neither (has_number k m) _ (or_false_left (has_number k m) (is_set k ms) h)
@@ -62,7 +62,7 @@ recounted_same f e [] = refl
 recounted_same f e (m ∷ ms) = ap₂ ◌∷◌ (ap (λ (n : ℕ). with_since n m) (e m.since)) (recounted_same f e ms)
 
 pub without_recounted : (f : ℕ → ℕ) (j : ℕ) (ms : List Mark) → without j (recounted f ms) ≡ recounted f (without j ms)
-unfolding without filter has_number recounted with_since
+unfolding without has_number recounted with_since
 without_recounted f j [] = refl
 without_recounted f j (m ∷ ms) = go (eqb m.number j) (without_recounted f j ms)
   where
@@ -72,20 +72,20 @@ without_recounted f j (m ∷ ms) = go (eqb m.number j) (without_recounted f j ms
     go false e = ap (λ (l : List Mark). with_since (f m.since) m ∷ l) e
 
 -- a test of each mark that does not mind the new number, or goes with it
-pub all_recounted : (p q : Mark → Bool) (f : ℕ → ℕ) → ((m : Mark) → p m ≡ true → q (with_since (f m.since) m) ≡ true) → (ms : List Mark) → all p ms ≡ true → all q (recounted f ms) ≡ true
-unfolding all recounted
+pub all_recounted : (p q : Mark → Bool) (f : ℕ → ℕ) → ((m : Mark) → p m ≡ true → q (with_since (f m.since) m) ≡ true) → (ms : List Mark) → list_all p ms ≡ true → list_all q (recounted f ms) ≡ true
+unfolding recounted
 all_recounted p q f keeps [] h = refl
-all_recounted p q f keeps (m ∷ ms) h = and_both _ _ (keeps m (and_left (p m) (all p ms) h)) (all_recounted p q f keeps ms (and_right (p m) (all p ms) h))
+all_recounted p q f keeps (m ∷ ms) h = and_both _ _ (keeps m (and_left (p m) (list_all p ms) h)) (all_recounted p q f keeps ms (and_right (p m) (list_all p ms) h))
 
 -- ---- the mark of a number, among marks before and behind
 
 pub up_to_past : (j : ℕ) (xs ys : List Mark) → is_set j xs ≡ false → up_to j (xs ++ ys) ≡ xs ++ up_to j ys
-unfolding is_set any up_to
+unfolding is_set up_to
 up_to_past j [] ys h = refl
 up_to_past j (x ∷ xs) ys h = rw (or_false_left (has_number j x) (is_set j xs) h) (ap (λ (l : List Mark). x ∷ l) (up_to_past j xs ys (or_false_right (has_number j x) (is_set j xs) h)))
 
 pub up_to_within : (j : ℕ) (xs ys : List Mark) → is_set j xs ≡ true → up_to j (xs ++ ys) ≡ up_to j xs
-unfolding is_set any up_to
+unfolding is_set up_to
 up_to_within j [] ys h = clash h refl
 up_to_within j (x ∷ xs) ys h = ap (λ (l : List Mark). x ∷ l) (go (has_number j x) h (λ k. up_to_within j xs ys k))
   where
@@ -94,7 +94,7 @@ up_to_within j (x ∷ xs) ys h = ap (λ (l : List Mark). x ∷ l) (go (has_numbe
     go false e r = r e
 
 pub mark_or_past : (other : Mark) (j : ℕ) (xs ys : List Mark) → is_set j xs ≡ false → mark_or other j (xs ++ ys) ≡ mark_or other j ys
-unfolding is_set any mark_or
+unfolding is_set mark_or
 mark_or_past other j [] ys h = refl
 mark_or_past other j (x ∷ xs) ys h = rw (or_false_left (has_number j x) (is_set j xs) h) (mark_or_past other j xs ys (or_false_right (has_number j x) (is_set j xs) h))
 
@@ -108,18 +108,18 @@ mark_or_number other j e (m ∷ ms) = go (eqb m.number j) refl (mark_or_number o
     go false f r = r
 
 -- what passes of each mark, of the one that is found too
-pub mark_or_all : (p : Mark → Bool) (other : Mark) (j : ℕ) (ms : List Mark) → is_set j ms ≡ true → all p ms ≡ true → p (mark_or other j ms) ≡ true
-unfolding is_set any all mark_or
+pub mark_or_all : (p : Mark → Bool) (other : Mark) (j : ℕ) (ms : List Mark) → is_set j ms ≡ true → list_all p ms ≡ true → p (mark_or other j ms) ≡ true
+unfolding is_set mark_or
 mark_or_all p other j [] h a = clash h refl
-mark_or_all p other j (m ∷ ms) h a = go (has_number j m) h (λ k. mark_or_all p other j ms k (and_right (p m) (all p ms) a))
+mark_or_all p other j (m ∷ ms) h a = go (has_number j m) h (λ k. mark_or_all p other j ms k (and_right (p m) (list_all p ms) a))
   where
     go : (b : Bool) → (b || is_set j ms) ≡ true → (is_set j ms ≡ true → p (mark_or other j ms) ≡ true) → p (cond b m (mark_or other j ms)) ≡ true
-    go true e r = and_left (p m) (all p ms) a
+    go true e r = and_left (p m) (list_all p ms) a
     go false e r = r e
 
-pub all_up_to : (p : Mark → Bool) (j : ℕ) (ms : List Mark) → all p ms ≡ true → all p (up_to j ms) ≡ true
-unfolding all up_to
+pub all_up_to : (p : Mark → Bool) (j : ℕ) (ms : List Mark) → list_all p ms ≡ true → list_all p (up_to j ms) ≡ true
+unfolding up_to
 all_up_to p j [] h = refl
 all_up_to p j (m ∷ ms) h =
-    and_both (p m) _ (and_left (p m) (all p ms) h)
-    (cut (λ (l : List Mark). all p l ≡ true) (has_number j m) (up_to j ms) refl (all_up_to p j ms (and_right (p m) (all p ms) h)))
+    and_both (p m) _ (and_left (p m) (list_all p ms) h)
+    (cut (λ (l : List Mark). list_all p l ≡ true) (has_number j m) (up_to j ms) refl (all_up_to p j ms (and_right (p m) (list_all p ms) h)))

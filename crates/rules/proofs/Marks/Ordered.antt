@@ -7,7 +7,6 @@ use mathlib.Core.List.{List, [], ◌∷◌, ◌++◌, Memᴰ}
 use mathlib.Core.Path.{◌≡◌, refl, sym, ap, subst, ◌∙◌}
 use borrow.Author.Tests.{leb-true, le-leb, ltb-true, not-true}
 use lib.Dec.{eqb, ltb}
-use Rattle.rules.specs.Lists.{any, filter}
 use Rattle.rules.specs.Store.{Store}
 use Rattle.rules.specs.Marks.{Mark, MarkedStore, MarkedCall, build, set_mark, go_back, copy, is_mark, has_number, is_set, replaces, max_remembered, remembered, can_remember, marked_tests, with_since, recounted, replaced_once, without, up_to, mark_or, new_mark, gone_back, marked_applied, marked, marks_hold}
 use Rattle.rules.proofs.Basics.Tests.{passed, every_of, or_false_left, or_false_right, differ_back}
@@ -56,7 +55,7 @@ recounted_ordered f rises most (m ∷ ms) p =
     (p.0, set_recounted f m.number ms ∙ p.1, rises m.since most p.2, recounted_ordered f rises m.since ms p.3)
 
 without_ordered : (k most : ℕ) (ms : List Mark) → Ordered most ms → Ordered most (without k ms)
-unfolding without filter
+unfolding without
 without_ordered k most [] p = tt
 without_ordered k most (m ∷ ms) p = go (has_number k m) (without_ordered k m.since ms p.3)
   where
@@ -65,7 +64,7 @@ without_ordered k most (m ∷ ms) p = go (has_number k m) (without_ordered k m.s
     go false r = (p.0, unset_without m.number k ms p.1, p.2, r)
 
 up_to_ordered : (k most : ℕ) (ms : List Mark) → Ordered most ms → Ordered most (up_to k ms)
-unfolding up_to is_set any
+unfolding up_to is_set
 up_to_ordered k most [] p = tt
 up_to_ordered k most (m ∷ ms) p =
     cut (λ (l : List Mark). Ordered most (m ∷ l)) (has_number k m) (up_to k ms) (p.0, refl, p.2, tt)
@@ -73,7 +72,7 @@ up_to_ordered k most (m ∷ ms) p =
 
 -- a mark that was not set, at the end
 new_ordered : (k : ℕ) (s : Store) → is_mark k ≡ true → (most : ℕ) (ms : List Mark) → is_set k ms ≡ false → Ordered most ms → Ordered most (ms ++ (new_mark k s ∷ []))
-unfolding new_mark is_set any has_number
+unfolding new_mark is_set has_number
 new_ordered k s h most [] u p = (h, refl, omega arith, tt)
 new_ordered k s h most (m ∷ ms) u p = (
   p.0,

@@ -1,22 +1,24 @@
 -- Going back to a mark. While it stands, the marks are the older ones that were not set again, each with the replacements since it was set more,
 -- the mark itself, and younger ones; going back undoes just those replacements. A call that goes back behind it leaves it unset for good.
 -- Assumes nothing.
+use Rattle.rules.specs.declared.types.Cause.TheVariants.{BadMapping, JournalFull}
 use Prim.Native.Nat.{ℕ, ◌+◌, ◌-◌, ◌≤◌}
 use native.Mathlib.Omega.{arith}
 use mathlib.Core.Bool.{Bool, true, false, cond, not}
 use mathlib.Core.List.Memᴰ
 use mathlib.Core.List.{List, [], ◌∷◌, ◌++◌, append_assoc}
 use mathlib.Core.Logic.{◌⊎◌, inl, inr}
-use mathlib.Core.Option.{Option}
+use Rattle.std.specs.Prelude.{Option}
 use mathlib.Core.Path.{◌≡◌, refl, sym, ap, ap₂, subst, ◌∙◌}
 use borrow.Author.Tests.{leb-true, le-leb, not-true, eqb-true, eq-eqb}
 use lib.Dec.{eqb, leb}
-use Rattle.rules.specs.Lists.{all, any, filter}
+use Rattle.std.specs.List.{list_all, list_any, filter}
 use Rattle.rules.specs.Store.{Store}
 use Rattle.rules.specs.Building.{Call}
 use Rattle.rules.specs.Copying.{copy_tests}
 use Rattle.rules.specs.Marks.{Mark, MarkedStore, MarkedCall, build, set_mark, go_back, copy, is_mark, has_number, is_set, replaces, max_remembered, marked_tests, with_since, recounted, replaced_once, without, up_to, mark_or, new_mark, gone_back, marked_applied, marked, after_marked, sets}
-use Rattle.rules.specs.Statements.{WentBack, WentBackWhole, CopyUncounted, CopyNever17, CopyTakenBack}
+use Rattle.rules.specs.MarkLaws.{WentBack, WentBackWhole}
+use Rattle.rules.specs.CopyLaws.{CopyUncounted, CopyNeverJournalFull, CopyTakenBack}
 use Rattle.rules.proofs.Basics.Tests.{and_right, and_both, or_left, or_false_left, or_false_right, not_or, decided, clash, differ_back, all_at, all_of}
 use Rattle.rules.proofs.Basics.Appended.{all_append, all_imp}
 use Rattle.rules.proofs.Basics.Filtered.{all_filter, filter_append, filter_whole, filter_twice}
@@ -30,9 +32,9 @@ abbrev left_by : MarkedCall → List Mark → List Mark
 left_by c ms = filter (λ (m : Mark). not (sets m.number c)) ms
 
 abbrev left_after : List MarkedCall → List Mark → List Mark
-left_after calls ms = filter (λ (m : Mark). not (any (sets m.number) calls)) ms
+left_after calls ms = filter (λ (m : Mark). not (list_any (sets m.number) calls)) ms
 
-no_test : (ms : List Mark) → all (λ (m : Mark). true) ms ≡ true
+no_test : (ms : List Mark) → list_all (λ (m : Mark). true) ms ≡ true
 no_test ms = all_of _ ms (λ m i. refl)
 
 -- a mark that is not set stays so where no call sets it
@@ -47,10 +49,10 @@ module _ (k : ℕ) where
       applied_unset (go_back j) e = set_recounted _ k (up_to _ t.marks) ∙ unset_up_to k _ t.marks u
       applied_unset (copy ok n place) e = u
 
-  after_unset : (t : MarkedStore) (calls : List MarkedCall) → any (sets k) calls ≡ false → is_set k t.marks ≡ false → is_set k (after_marked t calls).marks ≡ false
-  unfolding any after_marked
+  after_unset : (t : MarkedStore) (calls : List MarkedCall) → list_any (sets k) calls ≡ false → is_set k t.marks ≡ false → is_set k (after_marked t calls).marks ≡ false
+  unfolding after_marked
   after_unset t [] n u = u
-  after_unset t (c ∷ cs) n u = after_unset (marked t c) cs (or_false_right (sets k c) (any (sets k) cs) n) (marked_unset t c (or_false_left (sets k c) (any (sets k) cs) n) u)
+  after_unset t (c ∷ cs) n u = after_unset (marked t c) cs (or_false_right (sets k c) (list_any (sets k) cs) n) (marked_unset t c (or_false_left (sets k c) (list_any (sets k) cs) n) u)
 
 -- ---- the mark k, set at the store s, and r replacements since
 
@@ -63,9 +65,9 @@ module _ (k : ℕ) (s : Store) where
     younger : List Mark
     parts : marks ≡ recounted (λ (n : ℕ). n + r) older ++ (the_mark r ∷ younger)
     older_unset : is_set k older ≡ false
-    older_marks : all (λ (m : Mark). is_mark m.number) older ≡ true
+    older_marks : list_all (λ (m : Mark). is_mark m.number) older ≡ true
     younger_unset : is_set k younger ≡ false
-    younger_fewer : all (λ (m : Mark). leb m.since r) younger ≡ true
+    younger_fewer : list_all (λ (m : Mark). leb m.since r) younger ≡ true
 
   -- as many replacements more, or fewer, behind each mark
   stands_recounted : (f : ℕ → ℕ) (older : List Mark) (r : ℕ) (marks : List Mark) → ((n : ℕ) → f (n + r) ≡ n + f r) → ((n : ℕ) → n ≤ r → f n ≤ f r)
@@ -89,7 +91,7 @@ module _ (k : ℕ) (s : Store) where
 
   -- cut behind it or behind a younger one
   stands_up_to : (j : ℕ) (older : List Mark) (r : ℕ) (marks : List Mark) → is_set j older ≡ false → Stands older r marks → Stands older r (up_to j marks)
-  unfolding up_to is_set any all
+  unfolding up_to is_set
   stands_up_to j older r marks u h =
       record {
         younger = cond (has_number j (the_mark r)) [] (up_to j h.younger);
@@ -97,7 +99,7 @@ module _ (k : ℕ) (s : Store) where
         older_unset = h.older_unset;
         older_marks = h.older_marks;
         younger_unset = cut (λ (l : List Mark). is_set k l ≡ false) (has_number j (the_mark r)) (up_to j h.younger) refl (unset_up_to k j h.younger h.younger_unset);
-        younger_fewer = cut (λ (l : List Mark). all fewer l ≡ true) (has_number j (the_mark r)) (up_to j h.younger) refl (all_up_to fewer j h.younger h.younger_fewer);
+        younger_fewer = cut (λ (l : List Mark). list_all fewer l ≡ true) (has_number j (the_mark r)) (up_to j h.younger) refl (all_up_to fewer j h.younger h.younger_fewer);
       }
     where
       fewer : Mark → Bool
@@ -106,13 +108,13 @@ module _ (k : ℕ) (s : Store) where
   -- a mark that is gone back to, this one or a younger one, has no more replacements since
   since_most : (other : Mark) (j : ℕ) (older : List Mark) (r : ℕ) (marks : List Mark) → is_set j older ≡ false → is_set j marks ≡ true
       → Stands older r marks → (mark_or other j marks).since ≤ r
-  unfolding all with_since
+  unfolding with_since
   since_most other j older r marks u set h =
       let before = recounted (λ (n : ℕ). n + r) older in
       let rest = the_mark r ∷ h.younger in
       let fewer : Mark → Bool = λ m. leb m.since r in
       let behind : is_set j rest ≡ true = sym (set_past j before rest (older_unset_lem j older r u)) ∙ ap (is_set j) (sym h.parts) ∙ set in
-      let all_fewer : all fewer rest ≡ true = and_both (leb r r) _ (le-leb r r (omega arith)) h.younger_fewer in
+      let all_fewer : list_all fewer rest ≡ true = and_both (leb r r) _ (le-leb r r (omega arith)) h.younger_fewer in
       subst (λ (l : List Mark). (mark_or other j l).since ≤ r) (sym h.parts)
       (subst (λ (m : Mark). m.since ≤ r) (sym (mark_or_past other j before rest (older_unset_lem j older r u)))
       (leb-true _ r (mark_or_all fewer other j rest behind all_fewer)))
@@ -120,7 +122,7 @@ module _ (k : ℕ) (s : Store) where
   -- another mark set
   stands_set : (j : ℕ) (now : Store) (older : List Mark) (r : ℕ) (marks : List Mark) → eqb k j ≡ false
       → Stands older r marks → Stands (without j older) r (without j marks ++ (new_mark j now ∷ []))
-  unfolding without filter has_number with_since new_mark all
+  unfolding without has_number with_since new_mark
   stands_set j now older r marks other h =
       record {
         younger = without j h.younger ++ (new_mark j now ∷ []);
@@ -145,7 +147,7 @@ module _ (k : ℕ) (s : Store) where
   StandsAfter older c t = Standing (left_by c older) t.marks ⊎ (is_set k t.marks ≡ false)
 
   -- after a call that sets none of the older marks
-  stays : (c : MarkedCall) (older : List Mark) (t : MarkedStore) → all (λ (m : Mark). not (sets m.number c)) older ≡ true
+  stays : (c : MarkedCall) (older : List Mark) (t : MarkedStore) → list_all (λ (m : Mark). not (sets m.number c)) older ≡ true
       → Standing older t.marks → StandsAfter older c t
   stays c older t h st = inl (subst (λ (l : List Mark). Standing l t.marks) (sym (filter_whole _ older h)) st)
 
@@ -217,18 +219,17 @@ module _ (k : ℕ) (s : Store) where
   -- ---- a list of calls after which it is set
 
   left_twice : (c : MarkedCall) (cs : List MarkedCall) (older : List Mark) → left_after cs (left_by c older) ≡ left_after (c ∷ cs) older
-  unfolding any
-  left_twice c cs older = filter_twice _ _ _ (λ m. not_or (sets m.number c) (any (sets m.number) cs)) older
+  left_twice c cs older = filter_twice _ _ _ (λ m. not_or (sets m.number c) (list_any (sets m.number) cs)) older
 
-  after_stands : (calls : List MarkedCall) (older : List Mark) (r : ℕ) (t : MarkedStore) → any (sets k) calls ≡ false
+  after_stands : (calls : List MarkedCall) (older : List Mark) (r : ℕ) (t : MarkedStore) → list_any (sets k) calls ≡ false
       → is_set k (after_marked t calls).marks ≡ true → Stands older r t.marks → Standing (left_after calls older) (after_marked t calls).marks
-  unfolding any after_marked
-  after_stands [] older r t n set h = (r, subst (λ (l : List Mark). Stands l r t.marks) (sym (filter_whole _ older (no_test older))) h)
+  unfolding after_marked
+  after_stands [] older r t n set h = (r, subst (λ (l : List Mark). Stands l r t.marks) (sym (filter_whole (λ (m : Mark). true) older (no_test older))) h)
   after_stands (c ∷ cs) older r t n set h =
-      go (call_stands c older r t (or_false_left (sets k c) (any (sets k) cs) n) h) (λ o q. after_stands cs o q (marked t c) later set)
+      go (call_stands c older r t (or_false_left (sets k c) (list_any (sets k) cs) n) h) (λ o q. after_stands cs o q (marked t c) later set)
     where
-      later : any (sets k) cs ≡ false
-      later = or_false_right (sets k c) (any (sets k) cs) n
+      later : list_any (sets k) cs ≡ false
+      later = or_false_right (sets k c) (list_any (sets k) cs) n
 
       go : StandsAfter older c (marked t c) → ((o : List Mark) (q : ℕ) → Stands o q (marked t c).marks → Standing (left_after cs o) (after_marked (marked t c) cs).marks)
           → Standing (left_after (c ∷ cs) older) (after_marked (marked t c) cs).marks
@@ -273,7 +274,7 @@ module _ (t : MarkedStore) (order : Ordered max_remembered t.marks) (k : ℕ) (n
   older = without k t.marks
 
   just_set : Stands k t.store older 0 (older ++ (new_mark k t.store ∷ []))
-  unfolding with_since new_mark without is_set any all
+  unfolding with_since new_mark without is_set
   just_set =
       record {
         younger = [];
@@ -289,8 +290,8 @@ module _ (t : MarkedStore) (order : Ordered max_remembered t.marks) (k : ℕ) (n
       is_set k (after_marked u calls).marks ≡ true
       → marked (after_marked u calls) (go_back k) ≡ record { store = t.store; marks = left_after calls u.marks }
 
-  gives_back : (calls : List MarkedCall) → any (sets k) calls ≡ false → GivesBack calls (marked_applied t (set_mark k))
-  unfolding marked_applied filter new_mark
+  gives_back : (calls : List MarkedCall) → list_any (sets k) calls ≡ false → GivesBack calls (marked_applied t (set_mark k))
+  unfolding marked_applied new_mark
   gives_back calls n set =
       let st = after_stands k t.store calls older 0 (marked_applied t (set_mark k)) n set just_set in
       back_to k t.store (left_after calls older) st.0 (after_marked (marked_applied t (set_mark k)) calls) named set st.1
@@ -311,10 +312,10 @@ went_back_whole t h k e calls untouched set =
     went_back t h k e calls unset set ∙ (λ i. record { store = same_store i; marks = filter_whole _ (marked t (set_mark k)).marks untouched i })
   where
     left : Mark → Bool
-    left m = not (any (sets m.number) calls)
+    left m = not (list_any (sets m.number) calls)
 
-    unset : any (sets k) calls ≡ false
-    unset = not-true _ (all_at left _ (subst (λ (u : MarkedStore). all left u.marks ≡ true) (set_accepted t k e) untouched) (Memᴰ.append_right (without k t.marks) (Memᴰ.head refl)))
+    unset : list_any (sets k) calls ≡ false
+    unset = not-true _ (all_at left _ (subst (λ (u : MarkedStore). list_all left u.marks ≡ true) (set_accepted t k e) untouched) (Memᴰ.append_right (without k t.marks) (Memᴰ.head refl)))
 
     same_store : t.store ≡ (marked t (set_mark k)).store
     same_store = ap (λ (u : MarkedStore). u.store) (sym (set_accepted t k e))
@@ -325,12 +326,12 @@ pub copy_uncounted_lem : CopyUncounted
 unfolding CopyUncounted marked_applied
 copy_uncounted_lem t ok n place = marked_cases (λ (u : MarkedStore). u.marks ≡ t.marks) t (copy ok n place) refl (λ p. refl)
 
-pub copy_never_17 : CopyNever17
-unfolding CopyNever17 marked_tests copy_tests any
-copy_never_17 t ok n place e = clash (failed_cause 17 ((ok, 8) ∷ copy_tests t.store n place) e) refl
+pub copy_never_journal_full : CopyNeverJournalFull
+unfolding CopyNeverJournalFull marked_tests copy_tests
+copy_never_journal_full t ok n place e = clash (failed_cause JournalFull ((ok, BadMapping) ∷ copy_tests t.store n place) e) refl
 
 pub copy_taken_back : CopyTakenBack
-unfolding CopyTakenBack WentBackWhole CopyUncounted marked_applied after_marked new_mark is_set any sets has_number
+unfolding CopyTakenBack WentBackWhole CopyUncounted marked_applied after_marked new_mark is_set sets has_number
 copy_taken_back t h k e ok n place = went_back_whole t h k e (copy ok n place ∷ []) (no_test (marked t (set_mark k)).marks) set
   where
     just : is_set k (marked_applied t (set_mark k)).marks ≡ true

@@ -6,14 +6,14 @@ use mathlib.Core.Bool.{true}
 use mathlib.Core.List.Memᴰ
 use mathlib.Core.List.{◌∷◌, Memᴰ}
 use mathlib.Core.Logic.{⊎_elim}
-use mathlib.Core.Option.{Option, none, some}
+use Rattle.std.specs.Prelude.{Option, None, Some}
 use mathlib.Core.Path.{◌≡◌, refl, subst}
 use borrow.Author.Tests.{ltb-true, le-leb}
 use lib.ListN.{length}
 use Rattle.rules.specs.Store.{Store, ops_of, op_around, op_after, sound, max_ops}
 use Rattle.rules.specs.Building.{first_failed}
 use Rattle.rules.specs.Runs.{Run, max_run, repeated, run_tests, repeated_by, repeated_run}
-use Rattle.rules.specs.Statements.{Apart, RepeatedFound, LongestRun, RepeatedIs}
+use Rattle.rules.specs.RunLaws.{Apart, RepeatedFound, LongestRun, RepeatedIs}
 use Rattle.rules.proofs.Basics.Tests.{and_both}
 use Rattle.rules.proofs.Basics.Pigeons.{pigeons}
 use Rattle.rules.proofs.Soundness.Accepted.{all_passed}
@@ -34,7 +34,7 @@ few_ops s sd b =
         let o = ((facts s sd).op n i.0).later in
         after (subst (λ (p : Option ℕ). op_after s n p ≡ true) i.1 o)
       where
-        after : op_after s n (some b) ≡ true → op_around s b < n
+        after : op_after s n (Some b) ≡ true → op_around s b < n
         after h = ltb-true _ _ h
 
     no_zero : Memᴰ 0 (ops_of s b) → ⊥
@@ -47,9 +47,9 @@ pub longest_run : LongestRun
 unfolding LongestRun RepeatedFound Apart
 longest_run s sd ig b i = go (repeated s ig b max_run) refl
   where
-    go : (o : Option Run) → repeated s ig b max_run ≡ o → o ≡ none
-    go none e = refl
-    go (some r) e =
+    go : (o : Option Run) → repeated s ig b max_run ≡ o → o ≡ None
+    go None e = refl
+    go (Some r) e =
         let a = (repeated_found s ig b max_run r e).0 in
         let few = few_ops s sd b in
         absurd (omega (arith, a.0, a.1))
@@ -57,6 +57,6 @@ longest_run s sd ig b i = go (repeated s ig b max_run) refl
 pub repeated_is : RepeatedIs
 unfolding RepeatedIs repeated_run repeated_by run_tests
 repeated_is s sd types th ig b n i low high =
-    let t : first_failed (run_tests true s types b n) ≡ none =
+    let t : first_failed (run_tests true s types b n) ≡ None =
     all_passed _ (refl, (th, (i, (and_both _ _ (le-leb 1 n low) (le-leb n max_run high), tt)))) in
     rw t

@@ -12,10 +12,14 @@ use borrow.Author.Tests.{eqb-true}
 use lib.Dec.{eqb}
 use lib.ListN.{length, get_or, set}
 use lib.Seq.{get_or-set_other}
-use Rattle.rules.specs.Lists.{all_pairs, concat_map}
-use Rattle.rules.specs.Store.{Store, of_op, op_at, type_of, values_of, results_of, max_values}
-use Rattle.rules.specs.Fragments.{op, block, levels}
-use Rattle.rules.specs.Shells.{Ignore, counts_of, same_shells}
+use Rattle.rules.specs.Lists.{all_pairs}
+use Rattle.std.specs.List.{flat_map}
+use Rattle.rules.specs.Store.{Store, op_at, type_of, values_of, results_of, max_values}
+use Rattle.rules.specs.declared.types.Owner.TheVariants.{Op as of_op}
+use Rattle.rules.specs.Fragments.{levels}
+use Rattle.rules.specs.declared.types.Sort.TheVariants.{Op as op, Block as block}
+use Rattle.rules.specs.Shells.{counts_of, same_shells}
+use Rattle.rules.specs.declared.types.Ignore.{Ignore}
 use Rattle.rules.specs.Mapping.{no_image, empty_mapping, or_self, image, enter_all}
 use Rattle.rules.specs.Comparison.{State, Pair, unequal, Walk, on, ended, ◌>>=◌, pairwise, each_pair, pair_of, expect, enter_ops, pair_ops, operands_agree, successors_agree, check_names, check_ops, compare_regions, start}
 use Rattle.rules.specs.Laws.{succeeds}
@@ -61,10 +65,10 @@ module _ (v : ℕ) where
 
   module _ (s : Store) (ig : Ignore) (p : Pair) where
     abbrev Paired : List ℕ → State → Type 0
-    Paired ls st = Unmapped st.mapping.values ⊎ Memᴰ v (concat_map (results_of s) ls)
+    Paired ls st = Unmapped st.mapping.values ⊎ Memᴰ v (flat_map (results_of s) ls)
 
     paired : (ls rs : List ℕ) (st st' : State) → Unmapped st.mapping.values → pairwise (pair_ops s ig) p ls rs st ≡ on st' → Paired ls st'
-    unfolding pairwise pair_ops expect enter_ops concat_map results_of
+    unfolding pairwise pair_ops expect enter_ops results_of
     paired [] [] st st' h k = let e : st ≡ st' = cc in inl (subst (λ (t : State). Unmapped t.mapping.values) e h)
     paired [] (r ∷ rs) st st' h k = impossible cc
     paired (l ∷ []) [] st st' h k = impossible cc
@@ -81,7 +85,7 @@ module _ (v : ℕ) where
           where
             by : Unmapped (enter_ops s l r st).mapping.values ⊎ Memᴰ v (values_of s (of_op l)) → Paired (l ∷ ls) st'
             by (inl u) = later (rest (enter_ops s l r st) st' u e)
-            by (inr m) = inr (Memᴰ.append_left (concat_map (results_of s) ls) m)
+            by (inr m) = inr (Memᴰ.append_left (flat_map (results_of s) ls) m)
         go false e rest = impossible cc
 
 -- ---- pass 3: the first operands are looked up
@@ -117,24 +121,24 @@ module _ (s : Store) (ig : Ignore) (b l r : ℕ) (ls rs : List ℕ) where
         eqb-true _ _ (and_left (eqb (image st.mapping.values (get_or lefts i 0)) (get_or rights i 0)) (eqb (type_of s (get_or lefts i 0)) (type_of s (get_or rights i 0))) pair)
 
     same_or_own : succeeds (each_pair check (l ∷ ls) (r ∷ rs) st) ≡ true → (i : ℕ) → i < length lefts
-        → (get_or lefts i 0 ≡ get_or rights i 0) ⊎ Memᴰ (get_or lefts i 0) (concat_map (results_of s) (l ∷ ls))
+        → (get_or lefts i 0 ≡ get_or rights i 0) ⊎ Memᴰ (get_or lefts i 0) (flat_map (results_of s) (l ∷ ls))
     unfolding start empty_mapping
     same_or_own h i k = go (paired v s ig (pair_of block b b) (l ∷ ls) (r ∷ rs) (start empty_mapping) st (none_at max_values v) e)
       where
         v : ℕ
         v = get_or lefts i 0
 
-        go : Paired v s ig (pair_of block b b) (l ∷ ls) st → (v ≡ get_or rights i 0) ⊎ Memᴰ v (concat_map (results_of s) (l ∷ ls))
+        go : Paired v s ig (pair_of block b b) (l ∷ ls) st → (v ≡ get_or rights i 0) ⊎ Memᴰ v (flat_map (results_of s) (l ∷ ls))
         go (inl u) = inl (sym (own_image v st.mapping.values u) ∙ images h i k)
         go (inr m) = inr m
 
   pub first_uses : succeeds (compare_runs s ig b (l ∷ ls) (r ∷ rs)) ≡ true → (i : ℕ) → i < length lefts
-      → (get_or lefts i 0 ≡ get_or rights i 0) ⊎ Memᴰ (get_or lefts i 0) (concat_map (results_of s) (l ∷ ls))
+      → (get_or lefts i 0 ≡ get_or rights i 0) ⊎ Memᴰ (get_or lefts i 0) (flat_map (results_of s) (l ∷ ls))
   unfolding compare_runs succeeds
   first_uses h i k = go (pairwise (pair_ops s ig) (pair_of block b b) (l ∷ ls) (r ∷ rs) (start empty_mapping)) refl h
     where
       go : (w : Walk) → pairwise (pair_ops s ig) (pair_of block b b) (l ∷ ls) (r ∷ rs) (start empty_mapping) ≡ w
           → succeeds (w >>= each_pair check (l ∷ ls) (r ∷ rs)) ≡ true
-          → (get_or lefts i 0 ≡ get_or rights i 0) ⊎ Memᴰ (get_or lefts i 0) (concat_map (results_of s) (l ∷ ls))
+          → (get_or lefts i 0 ≡ get_or rights i 0) ⊎ Memᴰ (get_or lefts i 0) (flat_map (results_of s) (l ∷ ls))
       go (on st) e g = same_or_own st e g i k
       go (ended why st) e g = clash g refl

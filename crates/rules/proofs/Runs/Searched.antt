@@ -1,18 +1,18 @@
 -- What the search for repeated runs finds: the smallest right start, and of it the smallest left. Assumes nothing.
-use Prim.Native.Nat.{ℕ, zero, suc, ◌+◌, ◌-◌, ◌<◌, ◌≤◌}
+use Prim.Native.Nat.{ℕ, zero, suc, ◌+◌, ◌<◌, ◌≤◌}
 use native.Mathlib.Omega.{arith}
 use native.Mathlib.Decide.{ℕ_discrete}
 use mathlib.Core.Bool.{Bool, true, false}
 use mathlib.Core.Logic.{◌⊎◌, inl, inr}
-use mathlib.Core.Option.{Option, none, some}
+use Rattle.std.specs.Prelude.{Option, None, Some}
 use mathlib.Core.Path.{◌≡◌, refl, sym, ap, subst, ◌∙◌}
 use borrow.Author.Tests.{ltb-true, ltb-false}
 use lib.Dec.{ltb}
 use lib.ListN.{length}
 use Rattle.rules.specs.Store.{Store, ops_of}
-use Rattle.rules.specs.Shells.{Ignore}
+use Rattle.rules.specs.declared.types.Ignore.{Ignore}
 use Rattle.rules.specs.Runs.{Run, first_of, left_start, or_later, first_run, same_runs, repeated}
-use Rattle.rules.specs.Statements.{Apart, Same, Before, RepeatedFound, RepeatedNone}
+use Rattle.rules.specs.RunLaws.{Apart, Same, Before, RepeatedFound, RepeatedNone}
 use Rattle.rules.proofs.Basics.Tests.{decided, clash, impossible}
 
 pub below_or : (a b : ℕ) → (a < b) ⊎ (b ≤ a)
@@ -43,18 +43,18 @@ module _ (i : ℕ) (p : ℕ → Bool) (e : p i ≡ false) where
       go (yes x) = subst (λ (w : ℕ). p w ≡ false) x e
       go (no x) = h (omega arith)
 
-some_is : {i v : ℕ} → some i ≡ some v → i ≡ v
+some_is : {i v : ℕ} → Some i ≡ Some v → i ≡ v
 some_is e = cc
 
-run_is : {r q : Run} → some r ≡ some q → r ≡ q
+run_is : {r q : Run} → Some r ≡ Some q → r ≡ q
 run_is {r} {q} e = cc
 
-pub first_found : (k i : ℕ) (p : ℕ → Bool) (v : ℕ) → first_of k i p ≡ some v → First k i p v
+pub first_found : (k i : ℕ) (p : ℕ → Bool) (v : ℕ) → first_of k i p ≡ Some v → First k i p v
 unfolding first_of
 first_found zero i p v h = impossible cc
 first_found (suc k) i p v h = go (decided (p i)) (first_found k (suc i) p v)
   where
-    go : (p i ≡ true) ⊎ (p i ≡ false) → (first_of k (suc i) p ≡ some v → First k (suc i) p v) → First (suc k) i p v
+    go : (p i ≡ true) ⊎ (p i ≡ false) → (first_of k (suc i) p ≡ Some v → First k (suc i) p v) → First (suc k) i p v
     go (inl e) rest =
         let same : i ≡ v = some_is (rw e at h) in
         record { low = omega arith; high = omega arith; passes = subst (λ (w : ℕ). p w ≡ true) same e; fails = λ u l m. absurd (omega arith) }
@@ -64,13 +64,13 @@ first_found (suc k) i p v h = go (decided (p i)) (first_found k (suc i) p v)
         let high : v < suc i + k = f.high in
         record { low = omega arith; high = omega arith; passes = f.passes; fails = λ u l m. from_next i p e u l (λ n. f.fails u n m) }
 
-pub first_none : (k i : ℕ) (p : ℕ → Bool) → first_of k i p ≡ none → AllFail k i p
+pub first_none : (k i : ℕ) (p : ℕ → Bool) → first_of k i p ≡ None → AllFail k i p
 unfolding first_of
 first_none zero i p h = λ u l m. absurd (omega arith)
 first_none (suc k) i p h = go (decided (p i)) (first_none k (suc i) p)
   where
-    go : (p i ≡ true) ⊎ (p i ≡ false) → (first_of k (suc i) p ≡ none → AllFail k (suc i) p) → AllFail (suc k) i p
-    go (inl e) rest u l m = impossible (let c : some i ≡ none = rw e at h in cc)
+    go : (p i ≡ true) ⊎ (p i ≡ false) → (first_of k (suc i) p ≡ None → AllFail k (suc i) p) → AllFail (suc k) i p
+    go (inl e) rest u l m = impossible (let c : Some i ≡ None = rw e at h in cc)
     go (inr e) rest u l m = from_next i p e u l (λ n. rest (rw e at h) u n (omega arith))
 
 -- ---- the first right start that has a left one
@@ -78,51 +78,51 @@ first_none (suc k) i p h = go (decided (p i)) (first_none k (suc i) p)
 record FirstRun (k j : ℕ) (lefts : ℕ → Option ℕ) (r : Run) : Type 0 where
   low : j ≤ r.right
   high : r.right < j + k
-  has : lefts r.right ≡ some r.left
-  fails : (q : ℕ) → j ≤ q → q < r.right → lefts q ≡ none
+  has : lefts r.right ≡ Some r.left
+  fails : (q : ℕ) → j ≤ q → q < r.right → lefts q ≡ None
 
 abbrev NoneHas : ℕ → ℕ → (ℕ → Option ℕ) → Type 0
-NoneHas k j lefts = (q : ℕ) → j ≤ q → q < j + k → lefts q ≡ none
+NoneHas k j lefts = (q : ℕ) → j ≤ q → q < j + k → lefts q ≡ None
 
-module _ (j : ℕ) (lefts : ℕ → Option ℕ) (e : lefts j ≡ none) where
-  later_too : (q : ℕ) → j ≤ q → (suc j ≤ q → lefts q ≡ none) → lefts q ≡ none
+module _ (j : ℕ) (lefts : ℕ → Option ℕ) (e : lefts j ≡ None) where
+  later_too : (q : ℕ) → j ≤ q → (suc j ≤ q → lefts q ≡ None) → lefts q ≡ None
   later_too q l h = go (ℕ_discrete j q)
     where
-      go : Dec (j ≡ q) → lefts q ≡ none
-      go (yes x) = subst (λ (w : ℕ). lefts w ≡ none) x e
+      go : Dec (j ≡ q) → lefts q ≡ None
+      go (yes x) = subst (λ (w : ℕ). lefts w ≡ None) x e
       go (no x) = h (omega arith)
 
-run_found_lem : (k j : ℕ) (lefts : ℕ → Option ℕ) (r : Run) → first_run k j lefts ≡ some r → FirstRun k j lefts r
+run_found_lem : (k j : ℕ) (lefts : ℕ → Option ℕ) (r : Run) → first_run k j lefts ≡ Some r → FirstRun k j lefts r
 unfolding first_run or_later
 run_found_lem zero j lefts r h = impossible cc
 run_found_lem (suc k) j lefts r h = go (lefts j) refl (run_found_lem k (suc j) lefts r) h
   where
-    go : (o : Option ℕ) → lefts j ≡ o → (first_run k (suc j) lefts ≡ some r → FirstRun k (suc j) lefts r)
-        → or_later o j (first_run k (suc j) lefts) ≡ some r → FirstRun (suc k) j lefts r
-    go none e rest g =
+    go : (o : Option ℕ) → lefts j ≡ o → (first_run k (suc j) lefts ≡ Some r → FirstRun k (suc j) lefts r)
+        → or_later o j (first_run k (suc j) lefts) ≡ Some r → FirstRun (suc k) j lefts r
+    go None e rest g =
         let f = rest g in
         let low : suc j ≤ r.right = f.low in
         let high : r.right < suc j + k = f.high in
         record { low = omega arith; high = omega arith; has = f.has; fails = λ q l m. later_too j lefts e q l (λ n. f.fails q n m) }
-    go (some i) e rest g =
+    go (Some i) e rest g =
         let right : j ≡ r.right = ap (λ (x : Run). x.right) (run_is g) in
         let left : i ≡ r.left = ap (λ (x : Run). x.left) (run_is g) in
         record {
           low = omega arith;
           high = omega arith;
-          has = subst (λ (w : ℕ). lefts w ≡ some r.left) right (e ∙ ap {B = Option ℕ} some left);
+          has = subst (λ (w : ℕ). lefts w ≡ Some r.left) right (e ∙ ap {B = Option ℕ} Some left);
           fails = λ q l m. absurd (omega arith);
         }
 
-run_none : (k j : ℕ) (lefts : ℕ → Option ℕ) → first_run k j lefts ≡ none → NoneHas k j lefts
+run_none : (k j : ℕ) (lefts : ℕ → Option ℕ) → first_run k j lefts ≡ None → NoneHas k j lefts
 unfolding first_run or_later
 run_none zero j lefts h = λ q l m. absurd (omega arith)
 run_none (suc k) j lefts h = go (lefts j) refl (run_none k (suc j) lefts) h
   where
-    go : (o : Option ℕ) → lefts j ≡ o → (first_run k (suc j) lefts ≡ none → NoneHas k (suc j) lefts)
-        → or_later o j (first_run k (suc j) lefts) ≡ none → NoneHas (suc k) j lefts
-    go none e rest g q l m = later_too j lefts e q l (λ n. rest g q n (omega arith))
-    go (some i) e rest g q l m = impossible cc
+    go : (o : Option ℕ) → lefts j ≡ o → (first_run k (suc j) lefts ≡ None → NoneHas k (suc j) lefts)
+        → or_later o j (first_run k (suc j) lefts) ≡ None → NoneHas (suc k) j lefts
+    go None e rest g q l m = later_too j lefts e q l (λ n. rest g q n (omega arith))
+    go (Some i) e rest g q l m = impossible cc
 
 -- ---- the two together
 
@@ -131,11 +131,11 @@ module _ (s : Store) (ig : Ignore) (b n : ℕ) where
   many = length (ops_of s b)
 
   -- no left start for this right one: no run before it is the same
-  none_left : (j : ℕ) → left_start s ig b n j ≡ none → (i : ℕ) → i + n ≤ j → same_runs s ig b n i j ≡ false
+  none_left : (j : ℕ) → left_start s ig b n j ≡ None → (i : ℕ) → i + n ≤ j → same_runs s ig b n i j ≡ false
   unfolding left_start
   none_left j e i l = first_none _ 0 (λ (u : ℕ). same_runs s ig b n u j) e i (omega arith) (omega arith)
 
-  none_found : repeated s ig b n ≡ none → (r : Run) → Apart s b n r → Same s ig b n r → ⊥
+  none_found : repeated s ig b n ≡ None → (r : Run) → Apart s b n r → Same s ig b n r → ⊥
   unfolding repeated Apart Same
   none_found e r (l, m) h =
       let no = run_none _ 0 (left_start s ig b n) e r.right (omega arith) (omega arith) in
@@ -155,7 +155,7 @@ module _ (s : Store) (ig : Ignore) (b n : ℕ) where
     smallest_right (inr x) (yes e) = inr (sym e, smallest_left e (below_or q.left r.left))
     smallest_right (inr x) (no e) = inl (omega arith)
 
-  found : (r : Run) → repeated s ig b n ≡ some r → Apart s b n r × Same s ig b n r × ((q : Run) → Apart s b n q → Same s ig b n q → Before r q)
+  found : (r : Run) → repeated s ig b n ≡ Some r → Apart s b n r × Same s ig b n r × ((q : Run) → Apart s b n q → Same s ig b n q → Before r q)
   unfolding repeated left_start Apart Same
   found r e =
       let f = run_found_lem _ 0 (left_start s ig b n) r e in
@@ -170,6 +170,6 @@ pub repeated_none : RepeatedNone
 unfolding RepeatedNone
 repeated_none s ig b n = (none_found s ig b n, λ h. go (repeated s ig b n) refl h)
   where
-    go : (o : Option Run) → repeated s ig b n ≡ o → ((r : Run) → Apart s b n r → Same s ig b n r → ⊥) → o ≡ none
-    go none e h = refl
-    go (some r) e h = let f = found s ig b n r e in absurd (h r f.0 f.1)
+    go : (o : Option Run) → repeated s ig b n ≡ o → ((r : Run) → Apart s b n r → Same s ig b n r → ⊥) → o ≡ None
+    go None e h = refl
+    go (Some r) e h = let f = found s ig b n r e in absurd (h r f.0 f.1)

@@ -8,7 +8,7 @@ use mathlib.Core.Path.{◌≡◌, sym, ap, ◌∙◌}
 use lib.ListN.{length, length-append}
 use Rattle.rules.specs.Hash.{fnv_prime}
 use Rattle.rules.specs.Runs.{weighted, wrapping_sub, kept_sum}
-use Rattle.rules.specs.Statements.{KeptSum}
+use Rattle.rules.specs.RunLaws.{KeptSum}
 use Rattle.rules.proofs.Basics.Modulo.{step_mod}
 
 abbrev M : ℕ

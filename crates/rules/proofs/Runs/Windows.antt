@@ -4,14 +4,16 @@ use Prim.Native.Nat.{ℕ}
 use mathlib.Core.Bool.{Bool, true, false, cond}
 use mathlib.Core.List.{List, [], ◌∷◌, ◌++◌, map, head-eq_of_cons-eq, tail-eq_of_cons-eq}
 use mathlib.Core.Path.{◌≡◌, refl, ap, ap₂}
-use Rattle.rules.specs.Store.{Store, of_op}
-use Rattle.rules.specs.Shells.{Ignore, counts_of, same_shells}
-use Rattle.rules.specs.Fragments.{op}
+use Rattle.rules.specs.Store.{Store}
+use Rattle.rules.specs.declared.types.Owner.TheVariants.{Op as of_op}
+use Rattle.rules.specs.Shells.{counts_of, same_shells}
+use Rattle.rules.specs.declared.types.Ignore.{Ignore}
+use Rattle.rules.specs.declared.types.Sort.TheVariants.{Op as op}
 use Rattle.rules.specs.Comparison.{State, Pair, unequal, Walk, on, ended, pairwise, pair_of, expect, pair_ops, enter_ops, ◌>>=◌}
 use Rattle.rules.specs.Hash.{fnv, leaf, count, uncounted, head_bytes, shell_bytes, feeds}
 use Rattle.rules.specs.Laws.{succeeds}
 use Rattle.rules.specs.Runs.{compare_runs, shell_hash, weighted, window_sum}
-use Rattle.rules.specs.Statements.{SameWindow}
+use Rattle.rules.specs.RunLaws.{SameWindow}
 use Rattle.rules.proofs.Basics.Tests.{clash}
 use Rattle.rules.proofs.Form.SameShells.{shells→≡}
 

@@ -4,15 +4,17 @@
 use Prim.Native.Nat.{ℕ, zero, suc}
 use native.Mathlib.Omega.{arith}
 use mathlib.Core.Bool.{Bool, true, false, cond, ◌&&◌}
-use mathlib.Core.List.{List, [], ◌∷◌, map, Memᴰ}
+use mathlib.Core.List.{List, [], ◌∷◌, Memᴰ}
 use mathlib.Core.Logic.{◌⊎◌, inl, inr}
 use mathlib.Core.Path.{◌≡◌, refl, sym, ap, subst, ◌∙◌}
 use borrow.Author.Tests.{ltb-true, ltb-false}
 use lib.Dec.{ltb}
 use lib.ListN.{length, get_or, get_or-eq_default}
 use Rattle.rules.specs.Store.{Store, no_op, no_block, op_at, block_at, ops_of, blocks_of, regions_of, keys_rise}
-use Rattle.rules.specs.Fragments.{Sort, op, block, region, levels}
-use Rattle.rules.specs.Shells.{Ignore}
+use Rattle.rules.specs.Fragments.{levels}
+use Rattle.rules.specs.declared.types.Sort.{Sort}
+use Rattle.rules.specs.declared.types.Sort.TheVariants.{Op as op, Block as block, Region as region}
+use Rattle.rules.specs.declared.types.Ignore.{Ignore}
 use Rattle.rules.specs.Mapping.{Mapping}
 use Rattle.rules.specs.Comparison.{State, Pair, Stop, unequal, one_longer, Walk, on, ended, standing, ◌>>=◌, pairwise, each_pair, pair_of, pair_ops, pair_blocks, operands_agree, successors_agree, check_names, check_ops, pass1, pass2, pass3, compare_lists, compare_regions, compare_by, start, compare}
 use Rattle.rules.specs.Rust.{next, Zipped, zip, differ, count_from, up_to, EqResult, Eq, FirstNEQOps, FirstNEQRegions, FirstNEQBlocks, no_answer, Returned, answers, or_return, and_then, for_each, op_eq_map, block_eq_map, get_region, with_both, for_regions, op_eq_mapped, ops_of_blocks, full_ops_of_blocks, Err, ok, or_return_ok, or_else, resolved, blocks_eq, region_eq, basic_block_eq, operation_eq, rust_eq}

@@ -3,13 +3,19 @@
 use Prim.Native.Nat.{ℕ, zero, suc}
 use mathlib.Core.Bool.{Bool, true, false, cond}
 use mathlib.Core.List.{List, [], ◌∷◌, ◌++◌, map, append_assoc, append-nil}
-use mathlib.Core.Option.{Option, none, some}
+use Rattle.std.specs.Prelude.{Option, None, Some}
 use mathlib.Core.Path.{◌≡◌, refl, sym, ap, ap₂, subst, ◌∙◌}
 use lib.ListN.{length, get_or}
-use Rattle.rules.specs.Lists.{concat_map, position}
-use Rattle.rules.specs.Store.{Store, Attribute, of_op, of_block, op_at, block_at, type_of, ops_of, blocks_of, regions_of, results_of, arguments_of, values_of, keys_rise}
-use Rattle.rules.specs.Fragments.{Sort, op, block, region, levels, Step, shell, names, counted, full_op, shells, list_steps, region_steps, steps, step_defines, block_owner, defines_owners, defines_values, defines_blocks}
-use Rattle.rules.specs.Shells.{Ignore, unignored, unignored_location, shell_of}
+use Rattle.std.specs.List.{flat_map}
+use Rattle.rules.specs.Lists.{position}
+use Rattle.rules.specs.Store.{Store, op_at, block_at, type_of, ops_of, blocks_of, regions_of, results_of, arguments_of, values_of, keys_rise}
+use Rattle.rules.specs.declared.types.Attribute.{Attribute}
+use Rattle.rules.specs.declared.types.Owner.TheVariants.{Op as of_op, Block as of_block}
+use Rattle.rules.specs.Fragments.{levels, Step, shell, names, counted, full_op, shells, list_steps, region_steps, steps, step_defines, block_owner, defines_owners, defines_values, defines_blocks}
+use Rattle.rules.specs.declared.types.Sort.{Sort}
+use Rattle.rules.specs.declared.types.Sort.TheVariants.{Op as op, Block as block, Region as region}
+use Rattle.rules.specs.Shells.{unignored, unignored_location, shell_of}
+use Rattle.rules.specs.declared.types.Ignore.{Ignore}
 use Rattle.rules.specs.Hash.{fnv_from, fnv_start, fnv, leaf, count, location_bytes, flag, attribute_bytes, uncounted, list_bytes, shell_bytes, head_bytes, Numbering, no_numbers, numbered, name_at, name_of, feeds, all_bytes, hash}
 use Rattle.rules.specs.Hash as rules
 use Rattle.rules.specs.Rust.{count_from, up_to, is_relevant, HashNumbering, HashState, feed, use_bytes, hash_value, hash_block, for_in, lookup, hash_attribute, attributes_hash, hash_loc, hash_type, defining, hash_op_shell, hash_op_full, hash_block_shell, hash_blocks_full, new_hash_state, rust_hash}
@@ -42,10 +48,10 @@ module _ {A B : Type 0} where
   in_map f g [] h = refl
   in_map f g (x ∷ xs) h = in_map f g xs (f (g x) h)
 
-  in_concat : (f : B → HashState → HashState) (g : A → List B) (xs : List A) (h : HashState) → for_in f (concat_map g xs) h ≡ for_in (λ (x : A). for_in f (g x)) xs h
-  unfolding for_in concat_map
+  in_concat : (f : B → HashState → HashState) (g : A → List B) (xs : List A) (h : HashState) → for_in f (flat_map g xs) h ≡ for_in (λ (x : A). for_in f (g x)) xs h
+  unfolding for_in
   in_concat f g [] h = refl
-  in_concat f g (x ∷ xs) h = in_append f (g x) (concat_map g xs) h ∙ in_concat f g xs (for_in f (g x) h)
+  in_concat f g (x ∷ xs) h = in_append f (g x) (flat_map g xs) h ∙ in_concat f g xs (for_in f (g x) h)
 
 -- a list by its places
 places : {A : Type 0} (f : ℕ → A) (a n : ℕ) → map f (count_from (suc a) n) ≡ map (λ (i : ℕ). f (suc i)) (count_from a n)
@@ -66,14 +72,14 @@ feed_feed xs ys h = ap (λ (w : ℕ). record { numbering = h.numbering; state = 
 
 -- a loop that feeds for each what doesn't depend on what was fed before
 feed_each : {A : Type 0} (f : A → HashState → HashState) (g : HashNumbering → A → List ℕ) → ((x : A) (h : HashState) → f x h ≡ feed (g h.numbering x) h)
-    → (xs : List A) (h : HashState) → for_in f xs h ≡ feed (concat_map (g h.numbering) xs) h
-unfolding for_in concat_map feed fnv_from
+    → (xs : List A) (h : HashState) → for_in f xs h ≡ feed (flat_map (g h.numbering) xs) h
+unfolding for_in feed fnv_from
 feed_each f g e [] h = refl
 feed_each f g e (x ∷ xs) h =
-    ap (for_in f xs) (e x h) ∙ feed_each f g e xs (feed (g h.numbering x) h) ∙ feed_feed (g h.numbering x) (concat_map (g h.numbering) xs) h
+    ap (for_in f xs) (e x h) ∙ feed_each f g e xs (feed (g h.numbering x) h) ∙ feed_feed (g h.numbering x) (flat_map (g h.numbering) xs) h
 
 module _ (s : Store) (ig : Ignore) where
-  types_fed : (vs : List ℕ) (h : HashState) → for_in (hash_type s) vs h ≡ feed (concat_map leaf (map (type_of s) vs)) h
+  types_fed : (vs : List ℕ) (h : HashState) → for_in (hash_type s) vs h ≡ feed (flat_map leaf (map (type_of s) vs)) h
   unfolding hash_type
   types_fed vs h = sym (in_map _ (type_of s) vs h) ∙ feed_each (λ (t : ℕ). feed (leaf t)) (λ N. leaf) (λ t k. refl) (map (type_of s) vs) h
 
@@ -81,7 +87,7 @@ module _ (s : Store) (ig : Ignore) where
   unfolding hash_loc location_bytes unignored_location feed fnv_from
   loc_fed l h = go ig.locations
     where
-      go : (t : Bool) → cond t h (feed (leaf l) h) ≡ feed (location_bytes (cond t none (some l))) h
+      go : (t : Bool) → cond t h (feed (leaf l) h) ≡ feed (location_bytes (cond t None (Some l))) h
       go true = refl
       go false = refl
 
@@ -96,7 +102,7 @@ module _ (s : Store) (ig : Ignore) where
       (sym (append_assoc (leaf a.key) (kind ++ content) its) ∙ ap (λ (bs : List ℕ). bs ++ its) (sym (append_assoc (leaf a.key) kind content)))
 
   attributes_fed : (as' : List Attribute) → keys_rise as' ≡ true → (h : HashState)
-      → attributes_hash ig as' h ≡ feed (concat_map attribute_bytes (unignored ig as')) (feed (count (length (unignored ig as'))) h)
+      → attributes_hash ig as' h ≡ feed (flat_map attribute_bytes (unignored ig as')) (feed (count (length (unignored ig as'))) h)
   unfolding attributes_hash is_relevant unignored
   attributes_fed as' r h =
       let rel = unignored ig as' in
@@ -111,8 +117,8 @@ module _ (s : Store) (ig : Ignore) where
   shell_fed l as' r vs h =
       let L = location_bytes (unignored_location ig l) in
       let C = count (length (unignored ig as')) in
-      let A = concat_map attribute_bytes (unignored ig as') in
-      let T = concat_map leaf (map (type_of s) vs) in
+      let A = flat_map attribute_bytes (unignored ig as') in
+      let T = flat_map leaf (map (type_of s) vs) in
       types_fed vs _
       ∙ ap (feed T) (attributes_fed as' r _ ∙ ap (λ (k : HashState). feed A (feed C k)) (loc_fed l h))
       ∙ ap (λ (k : HashState). feed T (feed A k)) (feed_feed L C h)
@@ -130,8 +136,8 @@ unfolding name_of name_at use_bytes rules.name_bytes
 name_bytes_lem defined n = rw (lookup_place n defined) (go (position n defined))
   where
     go : (o : Option ℕ) → use_bytes o n ≡ rules.name_bytes (name_at o n)
-    go none = refl
-    go (some i) = refl
+    go None = refl
+    go (Some i) = refl
 
 value_fed : (v : ℕ) (h : HashState) → hash_value v h ≡ feed (use_bytes (lookup v h.numbering.values) v) h
 unfolding hash_value
@@ -172,8 +178,8 @@ module _ (s : Store) (sd : Sound s) (ig : Ignore) where
   names_fed n N w =
       let os = (op_at s n).operands in
       let ss = (op_at s n).successors in
-      let vs = concat_map (λ (v : ℕ). use_bytes (lookup v (indexed 0 N.values)) v) os in
-      let bs = concat_map (λ (b : ℕ). use_bytes (lookup b (indexed 0 N.blocks)) b) ss in
+      let vs = flat_map (λ (v : ℕ). use_bytes (lookup v (indexed 0 N.values)) v) os in
+      let bs = flat_map (λ (b : ℕ). use_bytes (lookup b (indexed 0 N.blocks)) b) ss in
       ap (for_in hash_block ss) (feed_each hash_value (λ M v. use_bytes (lookup v M.values) v) value_fed os (lent N w))
       ∙ feed_each hash_block (λ M b. use_bytes (lookup b M.blocks) b) block_fed ss (feed vs (lent N w))
       ∙ feed_feed vs bs (lent N w)
@@ -205,20 +211,20 @@ module _ (s : Store) (sd : Sound s) (ig : Ignore) where
 
   -- nothing is defined twice, in what is numbered and in what the steps define
   Once : List Step → Numbering → Type 0
-  Once xs N = Distinct (N.values ++ concat_map step_values xs) × Distinct (N.blocks ++ concat_map step_blocks xs)
+  Once xs N = Distinct (N.values ++ flat_map step_values xs) × Distinct (N.blocks ++ flat_map step_blocks xs)
 
   none_left : (ns ms : List ℕ) → Distinct (ns ++ ms) → Distinct (ns ++ [])
   none_left ns ms d = distinct_left (ns ++ []) ms (subst Distinct (sym (append_assoc ns [] ms)) d)
 
   once_step : (x : Step) (xs : List Step) (N : Numbering) → Once (x ∷ xs) N
       → Distinct (N.values ++ step_values x) × Distinct (N.blocks ++ step_blocks x) × Once xs (numbered s x N)
-  unfolding Once concat_map step_values step_blocks numbered
-  once_step (names n) xs N d = (none_left N.values (concat_map step_values xs) d.0, none_left N.blocks (concat_map step_blocks xs) d.1, d)
-  once_step (counted k) xs N d = (none_left N.values (concat_map step_values xs) d.0, none_left N.blocks (concat_map step_blocks xs) d.1, d)
+  unfolding Once step_values step_blocks numbered
+  once_step (names n) xs N d = (none_left N.values (flat_map step_values xs) d.0, none_left N.blocks (flat_map step_blocks xs) d.1, d)
+  once_step (counted k) xs N d = (none_left N.values (flat_map step_values xs) d.0, none_left N.blocks (flat_map step_blocks xs) d.1, d)
   once_step (shell w) xs N d =
-      let dv = subst Distinct (sym (append_assoc N.values (values_of s w) (concat_map step_values xs))) d.0 in
-      let db = subst Distinct (sym (append_assoc N.blocks (block_owner w) (concat_map step_blocks xs))) d.1 in
-      (distinct_left (N.values ++ values_of s w) (concat_map step_values xs) dv, distinct_left (N.blocks ++ block_owner w) (concat_map step_blocks xs) db, (dv, db))
+      let dv = subst Distinct (sym (append_assoc N.values (values_of s w) (flat_map step_values xs))) d.0 in
+      let db = subst Distinct (sym (append_assoc N.blocks (block_owner w) (flat_map step_blocks xs))) d.1 in
+      (distinct_left (N.values ++ values_of s w) (flat_map step_values xs) dv, distinct_left (N.blocks ++ block_owner w) (flat_map step_blocks xs) db, (dv, db))
 
   walked : (xs : List Step) (N : Numbering) (w : ℕ) → Once xs N → (for_in stepped xs (lent N w)).state ≡ fnv_from w (all_bytes uncounted s ig xs N)
   unfolding for_in all_bytes lent fnv_from
@@ -258,18 +264,20 @@ module _ (s : Store) (sd : Sound s) (ig : Ignore) where
       one = shells of_block bs
 
       two : List Step
-      two = concat_map (λ (b : ℕ). shells of_op (ops_of s b)) bs
+      two = flat_map (λ (b : ℕ). shells of_op (ops_of s b)) bs
 
       three : List Step
-      three = concat_map (λ (b : ℕ). concat_map full (ops_of s b)) bs
+      three = flat_map (λ (b : ℕ). flat_map full (ops_of s b)) bs
 
       second : (k : HashState) → for_in (λ (b : ℕ). for_in (hash_op_shell s ig) (ops_of s b)) bs k ≡ for_in stepped two k
       second k =
-          in_same _ _ (λ b g. sym (in_map stepped (λ (n : ℕ). shell (of_op n)) (ops_of s b) g)) bs k ∙ sym (in_concat stepped _ bs k)
+          in_same _ _ (λ b g. sym (in_map stepped (λ (n : ℕ). shell (of_op n)) (ops_of s b) g)) bs k
+          ∙ sym (in_concat stepped (λ (b : ℕ). shells of_op (ops_of s b)) bs k)
 
       third : (k : HashState) → for_in (λ (b : ℕ). for_in hash_full (ops_of s b)) bs k ≡ for_in stepped three k
       third k =
-          in_same _ _ (λ b g. in_same _ _ same (ops_of s b) g ∙ sym (in_concat stepped full (ops_of s b) g)) bs k ∙ sym (in_concat stepped _ bs k)
+          in_same _ _ (λ b g. in_same _ _ same (ops_of s b) g ∙ sym (in_concat stepped full (ops_of s b) g)) bs k
+          ∙ sym (in_concat stepped (λ (b : ℕ). flat_map full (ops_of s b)) bs k)
 
   -- with one region less to enter
   lists_steps : (k : ℕ) → ((r : ℕ) (h : HashState) → hash_blocks_full k s ig (blocks_of s r) h ≡ for_in stepped (region_steps k s r) h)
@@ -290,20 +298,20 @@ module _ (s : Store) (sd : Sound s) (ig : Ignore) where
 
   -- ---- a fragment defines nothing twice
 
-  defines_values_lem : (f : Sort) (n : ℕ) → defines_values s f n ≡ concat_map step_values (steps s f n)
-  unfolding defines_values defines_owners step_values step_defines concat_map
+  defines_values_lem : (f : Sort) (n : ℕ) → defines_values s f n ≡ flat_map step_values (steps s f n)
+  unfolding defines_values defines_owners step_values step_defines
   defines_values_lem f n = concat_map_concat_map (values_of s) step_defines (steps s f n) ∙ concat_map_same _ step_values (steps s f n) (λ x m. go x)
     where
-      go : (x : Step) → concat_map (values_of s) (step_defines x) ≡ step_values x
+      go : (x : Step) → flat_map (values_of s) (step_defines x) ≡ step_values x
       go (shell w) = append-nil (values_of s w)
       go (names k) = refl
       go (counted k) = refl
 
-  defines_blocks_lem : (f : Sort) (n : ℕ) → defines_blocks s f n ≡ concat_map step_blocks (steps s f n)
-  unfolding defines_blocks defines_owners step_blocks step_defines concat_map
+  defines_blocks_lem : (f : Sort) (n : ℕ) → defines_blocks s f n ≡ flat_map step_blocks (steps s f n)
+  unfolding defines_blocks defines_owners step_blocks step_defines
   defines_blocks_lem f n = concat_map_concat_map block_owner step_defines (steps s f n) ∙ concat_map_same _ step_blocks (steps s f n) (λ x m. go x)
     where
-      go : (x : Step) → concat_map block_owner (step_defines x) ≡ step_blocks x
+      go : (x : Step) → flat_map block_owner (step_defines x) ≡ step_blocks x
       go (shell w) = append-nil (block_owner w)
       go (names k) = refl
       go (counted k) = refl

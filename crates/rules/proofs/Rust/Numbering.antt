@@ -6,7 +6,7 @@ use native.Mathlib.Omega.{arith}
 use mathlib.Core.Bool.{Bool, true, false, cond}
 use mathlib.Core.List.Memᴰ
 use mathlib.Core.List.{List, [], ◌∷◌, ◌++◌, append_assoc, append-nil, Memᴰ}
-use mathlib.Core.Option.{Option, none, some}
+use Rattle.std.specs.Prelude.{Option, None, Some}
 use mathlib.Core.Path.{◌≡◌, refl, sym, ap, subst, ◌∙◌}
 use borrow.Author.Tests.{ne_eqb}
 use lib.Dec.{eqb}
@@ -28,13 +28,13 @@ indexed_length i (x ∷ xs) = ap suc (indexed_length (suc i) xs)
 -- ---- looked up
 
 further : ℕ → Option ℕ → Option ℕ
-further i none = none
-further i (some j) = some (i + j)
+further i None = None
+further i (Some j) = Some (i + j)
 
 further_later : (i : ℕ) (o : Option ℕ) → further (suc i) o ≡ further i (later o)
 unfolding further later
-further_later i none = refl
-further_later i (some j) = ap {B = Option ℕ} some (omega arith)
+further_later i None = refl
+further_later i (Some j) = ap {B = Option ℕ} Some (omega arith)
 
 lookup_from : (k i : ℕ) (xs : List ℕ) → lookup k (indexed i xs) ≡ further i (position k xs)
 unfolding lookup indexed position further
@@ -42,8 +42,8 @@ lookup_from k i [] = refl
 lookup_from k i (x ∷ xs) = go (eqb k x) (lookup_from k (suc i) xs)
   where
     go : (t : Bool) → lookup k (indexed (suc i) xs) ≡ further (suc i) (position k xs)
-        → cond t (some i) (lookup k (indexed (suc i) xs)) ≡ further i (cond t (some 0) (later (position k xs)))
-    go true e = ap some (sym (add-zero i))
+        → cond t (Some i) (lookup k (indexed (suc i) xs)) ≡ further i (cond t (Some 0) (later (position k xs)))
+    go true e = ap Some (sym (add-zero i))
     go false e = e ∙ further_later i (position k xs)
 
 pub lookup_place : (k : ℕ) (xs : List ℕ) → lookup k (indexed 0 xs) ≡ position k xs
@@ -51,8 +51,8 @@ unfolding further
 lookup_place k xs = lookup_from k 0 xs ∙ go (position k xs)
   where
     go : (o : Option ℕ) → further 0 o ≡ o
-    go none = refl
-    go (some j) = ap {B = Option ℕ} some (omega arith)
+    go None = refl
+    go (Some j) = ap {B = Option ℕ} Some (omega arith)
 
 -- ---- defined
 

@@ -4,14 +4,18 @@ use Prim.Native.Nat.{ℕ}
 use native.Mathlib.Omega.{arith}
 use mathlib.Core.Bool.{Bool, true, false, cond, not, ◌&&◌, ◌||◌}
 use mathlib.Core.List.{List, [], ◌∷◌, map}
-use mathlib.Core.Option.{none, some}
+use Rattle.std.specs.Prelude.{None, Some}
 use mathlib.Core.Path.{◌≡◌, refl, sym, ap, ◌∙◌}
 use lib.Dec.{eqb}
 use lib.ListN.{length, get_or, set}
-use Rattle.rules.specs.Lists.{every, any, all_pairs, same_list}
-use Rattle.rules.specs.Store.{Store, Attribute, of_op, of_block, op_at, block_at, type_of, regions_of, results_of, arguments_of, values_of, keys_rise}
-use Rattle.rules.specs.Fragments.{op, block}
-use Rattle.rules.specs.Shells.{Ignore, unignored, unignored_location, shell_of, counts_of, same_attribute, same_location, same_shells}
+use Rattle.rules.specs.Lists.{every, all_pairs, same_list}
+use Rattle.std.specs.List.{list_any}
+use Rattle.rules.specs.Store.{Store, op_at, block_at, type_of, regions_of, results_of, arguments_of, values_of, keys_rise}
+use Rattle.rules.specs.declared.types.Attribute.{Attribute}
+use Rattle.rules.specs.declared.types.Owner.TheVariants.{Op as of_op, Block as of_block}
+use Rattle.rules.specs.declared.types.Sort.TheVariants.{Op as op, Block as block}
+use Rattle.rules.specs.Shells.{unignored, unignored_location, shell_of, counts_of, same_attribute, same_location, same_shells}
+use Rattle.rules.specs.declared.types.Ignore.{Ignore}
 use Rattle.rules.specs.Mapping.{Mapping, image, enter_all}
 use Rattle.rules.specs.Comparison.{State, Pair, standing, pair_of, expect, enter_ops, pair_ops, enter_blocks, pair_blocks, operands_agree, successors_agree}
 use Rattle.rules.specs.Rust.{zip, Eq, FirstNEQOps, FirstNEQBlocks, answers, attributes_eq, map_values, types_differ, op_eq_map, block_eq_map, operands_differ, successors_differ}
@@ -65,7 +69,7 @@ locations : (ig : Ignore) (a b : ℕ) → Opposite (same_location (unignored_loc
 unfolding same_location unignored_location Opposite
 locations ig a b = go ig.locations
   where
-    go : (t : Bool) → same_location (cond t none (some a)) (cond t none (some b)) ≡ not (not t && not (eqb a b))
+    go : (t : Bool) → same_location (cond t None (Some a)) (cond t None (Some b)) ≡ not (not t && not (eqb a b))
     go true = refl
     go false = not_not (eqb a b)
 
@@ -73,14 +77,14 @@ locations ig a b = go ig.locations
 
 -- 01's test of pairs passes where the Rust finds none that differs
 pairs_agree : (t : ℕ → ℕ → Bool) (d : ℕ × ℕ → Bool) → ((a b : ℕ) → not (t a b) ≡ d (a, b)) → (xs ys : List ℕ)
-    → all_pairs t xs ys ≡ not (any d (zip xs ys).pairs)
-unfolding all_pairs any zip
+    → all_pairs t xs ys ≡ not (list_any d (zip xs ys).pairs)
+unfolding all_pairs zip
 pairs_agree t d h [] ys = refl
 pairs_agree t d h (x ∷ xs) [] = refl
 pairs_agree t d h (x ∷ xs) (y ∷ ys) =
     ap (λ (b : Bool). t x y && b) (pairs_agree t d h xs ys)
-    ∙ not_or (t x y) (any d (zip xs ys).pairs)
-    ∙ ap (λ (b : Bool). not (b || any d (zip xs ys).pairs)) (h x y)
+    ∙ not_or (t x y) (list_any d (zip xs ys).pairs)
+    ∙ ap (λ (b : Bool). not (b || list_any d (zip xs ys).pairs)) (h x y)
 
 same_pairs : (t : ℕ → ℕ) (xs ys : List ℕ) → length xs ≡ length ys → same_list eqb (map t xs) (map t ys) ≡ all_pairs (λ (a b : ℕ). eqb (t a) (t b)) xs ys
 unfolding same_list all_pairs

@@ -6,13 +6,15 @@ use mathlib.Core.Bool.{Bool, true, false, cond}
 use mathlib.Core.List.Memᴰ
 use mathlib.Core.List.{List, [], ◌∷◌, Memᴰ}
 use mathlib.Core.Logic.{⊎_elim}
-use mathlib.Core.Option.{Option, none, some}
+use Rattle.std.specs.Prelude.{Option, None, Some}
 use mathlib.Core.Path.{◌≡◌, refl, sym, subst, ◌∙◌, ap}
 use borrow.Author.Tests.{eqb-true}
 use lib.Dec.{eqb}
 use lib.ListN.{length, get_or}
 use Rattle.rules.specs.Lists.{numbers_from, numbers_where}
-use Rattle.rules.specs.Store.{Store, Op, Block, Value, Owner, of_op, of_block, no_op, no_block, no_value, op_at, block_at, value_at, parent_of, same_owner, is_parent, ops_of, blocks_of, regions_of, values_of}
+use Rattle.rules.specs.Store.{Store, Op, Block, Value, no_op, no_block, no_value, op_at, block_at, value_at, parent_of, same_owner, is_parent, ops_of, blocks_of, regions_of, values_of}
+use Rattle.rules.specs.declared.types.Owner.{Owner}
+use Rattle.rules.specs.declared.types.Owner.TheVariants.{Op as of_op, Block as of_block}
 use Rattle.rules.proofs.Basics.Tests.{clash}
 use Rattle.rules.proofs.Basics.Distinct.{Distinct}
 
@@ -75,13 +77,13 @@ same_owner_lem (of_block a) (of_op b) e = clash e refl
 same_owner_lem (of_block a) (of_block b) e = ap of_block (eqb-true a b e)
 
 module _ (s : Store) where
-  pub ops_in_lem : (b : ℕ) {n : ℕ} → Memᴰ n (ops_of s b) → (n < length s.ops) × (parent_of s n ≡ some b)
+  pub ops_in_lem : (b : ℕ) {n : ℕ} → Memᴰ n (ops_of s b) → (n < length s.ops) × (parent_of s n ≡ Some b)
   unfolding ops_of parent_of op_at is_parent
   ops_in_lem b {n} m = let a = where_at (λ (o : Op). is_parent b o.parent) no_op s.ops m in (a.0, parent (get_or s.ops n no_op).parent a.1)
     where
-      parent : (q : Option ℕ) → is_parent b q ≡ true → q ≡ some b
-      parent none h = clash h refl
-      parent (some q) h = ap {B = Option ℕ} some (eqb-true q b h)
+      parent : (q : Option ℕ) → is_parent b q ≡ true → q ≡ Some b
+      parent None h = clash h refl
+      parent (Some q) h = ap {B = Option ℕ} Some (eqb-true q b h)
 
   pub blocks_in_lem : (r : ℕ) {b : ℕ} → Memᴰ b (blocks_of s r) → (b < length s.blocks) × ((block_at s b).region ≡ r)
   unfolding blocks_of block_at

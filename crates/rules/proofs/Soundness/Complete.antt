@@ -6,10 +6,10 @@ use mathlib.Core.Bool.{true}
 use mathlib.Core.Path.{◌≡◌, refl}
 use borrow.Author.Tests.{ltb-true, le-leb}
 use lib.ListN.{length}
-use Rattle.rules.specs.Lists.{any, filter}
-use Rattle.rules.specs.Store.{Store, Op, Block, of_op, of_block, no_op, no_block, op_at, block_at, op_exists, block_exists, owner_exists, attribute_total, max_attributes}
+use Rattle.rules.specs.Store.{Store, Op, Block, no_op, no_block, op_at, block_at, op_exists, block_exists, owner_exists, attribute_total, max_attributes}
+use Rattle.rules.specs.declared.types.Owner.TheVariants.{Op as of_op, Block as of_block}
 use Rattle.rules.specs.Building.{Call, new_operation, new_block, set_attribute, set_operand, attributes_of, tests, operation_names, operation_fits, operation_room, block_room, op_with_attribute, block_with_attribute, applied}
-use Rattle.rules.specs.Statements.{of_names, names_hold, AcceptedExactly}
+use Rattle.rules.specs.BuildingLaws.{of_names, names_hold, AcceptedExactly}
 use Rattle.rules.proofs.Basics.Tests.{passed, every_of}
 use Rattle.rules.proofs.Soundness.Sound.{Sound, facts, sound_of}
 use Rattle.rules.proofs.Basics.Appended.{length_update, sum_update}
@@ -20,7 +20,7 @@ use Rattle.rules.proofs.Soundness.Kept.{applied_sound}
 use Rattle.rules.proofs.Soundness.Room.{operation_allowed, block_allowed, update_there, put_allowed, keys_allowed}
 
 limits_hold : (s : Store) (c : Call) → Sound s → names_hold s c ≡ true → Sound (applied s c) → AllPassed (tests s c)
-unfolding names_hold of_names any filter applied tests operation_names operation_fits operation_room block_room attributes_of attribute_total op_at block_at owner_exists op_exists block_exists op_with_attribute block_with_attribute
+unfolding names_hold of_names applied tests operation_names operation_fits operation_room block_room attributes_of attribute_total op_at block_at owner_exists op_exists block_exists op_with_attribute block_with_attribute
 limits_hold s (new_operation o) h p u =
     let names = passed _ (passed _ p).0 in
     let c : OpAllowed s _ o.regions o.types = operation_allowed s _ o.regions o.types h u names.0 names.1.0 names.1.1.0 refl in (

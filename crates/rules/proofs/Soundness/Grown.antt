@@ -3,14 +3,16 @@
 use Prim.Native.Nat.{ℕ, zero, suc, ◌<◌, ◌≤◌}
 use native.Mathlib.Omega.{arith}
 use mathlib.Core.Bool.{true}
-use mathlib.Core.Option.{Option, none, some}
+use Rattle.std.specs.Prelude.{Option, None, Some, is_some}
 use mathlib.Core.List.{List, ◌++◌}
 use mathlib.Core.Path.{◌≡◌, refl, ap, ◌∙◌}
 use borrow.Author.Tests.{ltb-true, lt-ltb}
 use lib.Dec.{ltb}
 use lib.ListN.{length, get_or, length-append, get_or-append}
-use Rattle.rules.specs.Lists.{all, is_some}
-use Rattle.rules.specs.Store.{Store, Op, Block, Value, no_op, no_block, Owner, of_op, of_block, op_at, block_at, op_exists, block_exists, region_exists, value_exists, owner_exists, parent_exists, parent_of, op_around, levels_left, max_nesting, nesting_holds, op_after, regions_of, results_of, arguments_of, attributes_hold, max_own_regions, max_own_values, max_own_operands, max_own_successors}
+use Rattle.std.specs.List.{list_all}
+use Rattle.rules.specs.Store.{Store, Op, Block, Value, no_op, no_block, op_at, block_at, op_exists, block_exists, region_exists, value_exists, owner_exists, parent_exists, parent_of, op_around, levels_left, max_nesting, nesting_holds, op_after, regions_of, results_of, arguments_of, attributes_hold, max_own_regions, max_own_values, max_own_operands, max_own_successors}
+use Rattle.rules.specs.declared.types.Owner.{Owner}
+use Rattle.rules.specs.declared.types.Owner.TheVariants.{Op as of_op, Block as of_block}
 use Rattle.rules.proofs.Basics.Tests.{all_at}
 use Rattle.rules.proofs.Soundness.Sound.{Sound, OpSound, BlockSound}
 use Rattle.rules.proofs.Basics.Appended.{all_imp, mem_get_d}
@@ -41,8 +43,8 @@ appended_grown s t a b r v eo eb er ev =
 
 -- what an operation's own lists have to be
 pub record OpFits (s : Store) (o : Op) : Type 0 where
-  pub operands_in : all (value_exists s) o.operands ≡ true
-  pub successors_in : all (block_exists s) o.successors ≡ true
+  pub operands_in : list_all (value_exists s) o.operands ≡ true
+  pub successors_in : list_all (block_exists s) o.successors ≡ true
   pub operands_fit : length o.operands ≤ max_own_operands
   pub successors_fit : length o.successors ≤ max_own_successors
   pub attributes_fit : attributes_hold o.attributes ≡ true
@@ -101,8 +103,8 @@ module _ (s t : Store) (g : Grown s t) where
 
   pub parent_kept : (p : Option ℕ) → parent_exists s p ≡ true → parent_exists t p ≡ true
   unfolding parent_exists
-  parent_kept none e = refl
-  parent_kept (some b) e = block_exists_kept b e
+  parent_kept None e = refl
+  parent_kept (Some b) e = block_exists_kept b e
 
   pub fits_kept : (o : Op) → OpFits s o → OpFits t o
   fits_kept o f =
@@ -125,10 +127,10 @@ module _ (s t : Store) (g : Grown s t) where
 
     pub levels_kept : (k : ℕ) (p : Option ℕ) → parent_exists s p ≡ true → levels_left k t p ≡ levels_left k s p
     unfolding levels_left parent_exists block_exists
-    levels_kept zero none e = refl
-    levels_kept zero (some b) e = refl
-    levels_kept (suc k) none e = refl
-    levels_kept (suc k) (some b) e =
+    levels_kept zero None e = refl
+    levels_kept zero (Some b) e = refl
+    levels_kept (suc k) None e = refl
+    levels_kept (suc k) (Some b) e =
         let l : b < length s.blocks = ltb-true _ _ e in
         ap (levels_left k t) (outer_kept b l) ∙ levels_kept k (parent_of s (op_around s b)) (parent_in_lem s h _ (around_in s h b l))
 
@@ -138,8 +140,8 @@ module _ (s t : Store) (g : Grown s t) where
 
     pub after_kept : (n : ℕ) (p : Option ℕ) → parent_exists s p ≡ true → op_after s n p ≡ true → op_after t n p ≡ true
     unfolding op_after parent_exists block_exists
-    after_kept n none e a = refl
-    after_kept n (some b) e a = ap (λ (o : ℕ). ltb o n) (around_kept b (ltb-true _ _ e)) ∙ a
+    after_kept n None e a = refl
+    after_kept n (Some b) e a = ap (λ (o : ℕ). ltb o n) (around_kept b (ltb-true _ _ e)) ∙ a
 
     pub op_kept : (n : ℕ) → n < length s.ops → OpFits t (op_at t n) → length (regions_of t n) ≤ max_own_regions → length (results_of t n) ≤ max_own_values
         → OpSound t n
@@ -170,8 +172,8 @@ module _ (s t : Store) (g : Grown s t) where
           attributes_fit = f;
         }
 
-    pub regions_kept : all (op_exists t) s.regions ≡ true
+    pub regions_kept : list_all (op_exists t) s.regions ≡ true
     regions_kept = all_imp _ _ s.regions op_exists_kept h.regions_in
 
-    pub values_kept : all (λ (v : Value). owner_exists t v.owner) s.values ≡ true
+    pub values_kept : list_all (λ (v : Value). owner_exists t v.owner) s.values ≡ true
     values_kept = all_imp _ _ s.values (λ v. owner_kept v.owner) h.values_in

@@ -1,15 +1,17 @@
 -- Each building call, accepted or refused, keeps a sound store sound: an accepted one passed its tests, a refused one changes nothing.
 -- Assumes nothing.
-use Prim.Native.Nat.{ℕ, ◌<◌}
+use Prim.Native.Nat.{◌<◌}
 use native.Mathlib.Omega.{arith}
 use mathlib.Core.Bool.{true}
-use mathlib.Core.Option.{Option, none, some}
+use Rattle.rules.specs.declared.types.Cause.{Cause}
+use Rattle.std.specs.Prelude.{Option, None, Some}
 use mathlib.Core.List.{List, [], ◌∷◌}
 use mathlib.Core.Path.{◌≡◌, refl}
 use borrow.Author.Tests.{ltb-true, leb-true}
 use lib.ListN.{length, set, length-set}
-use Rattle.rules.specs.Lists.{every, all, all_below, sum}
-use Rattle.rules.specs.Store.{Store, of_op, of_block, empty_store, op_at, op_exists, block_exists, owner_exists, operand_total, successor_total, attribute_total, max_attributes, totals_hold, sound}
+use Rattle.rules.specs.Lists.{every, all_below, sum}
+use Rattle.rules.specs.Store.{Store, empty_store, op_at, op_exists, block_exists, owner_exists, operand_total, successor_total, attribute_total, max_attributes, totals_hold, sound}
+use Rattle.rules.specs.declared.types.Owner.TheVariants.{Op as of_op, Block as of_block}
 use Rattle.rules.specs.Building.{Call, new_operation, new_block, set_attribute, set_operand, attributes_of, tests, operation_names, operation_fits, operation_room, block_room, first_failed, op_with_attribute, block_with_attribute, op_with_operand, applied, store_by, built, after}
 use Rattle.rules.proofs.Basics.Tests.{passed}
 use Rattle.rules.proofs.Soundness.Sound.{Sound, facts, sound_of}
@@ -98,9 +100,9 @@ pub built_sound : (s : Store) (c : Call) → sound s ≡ true → sound (built s
 unfolding built store_by
 built_sound s c h = go (first_failed (tests s c)) refl
   where
-    go : (f : Option ℕ) → first_failed (tests s c) ≡ f → sound (store_by f s c) ≡ true
-    go none e = sound_of _ (applied_sound s c (facts s h) (first_failed_none _ e))
-    go (some cause) e = h
+    go : (f : Option Cause) → first_failed (tests s c) ≡ f → sound (store_by f s c) ≡ true
+    go None e = sound_of _ (applied_sound s c (facts s h) (first_failed_none _ e))
+    go (Some cause) e = h
 
 pub after_sound : (s : Store) (cs : List Call) → sound s ≡ true → sound (after s cs) ≡ true
 unfolding after
@@ -108,5 +110,5 @@ after_sound s [] h = h
 after_sound s (c ∷ cs) h = after_sound (built s c) cs (built_sound s c h)
 
 pub empty_sound : sound empty_store ≡ true
-unfolding empty_store sound every all all_below totals_hold operand_total successor_total attribute_total sum
+unfolding empty_store sound every all_below totals_hold operand_total successor_total attribute_total sum
 empty_sound = refl

@@ -9,13 +9,15 @@ use mathlib.Core.Path.{◌≡◌, refl, ap}
 use borrow.Author.Tests.{ltb-true, ltb-false, lt-ltb, leb-true, le-leb, eqb-true, eqb-false, ne_eqb}
 use lib.Dec.{eqb, leb, ltb}
 use lib.ListN.{length}
-use Rattle.rules.specs.Lists.{every, all, any}
-use Rattle.rules.specs.Store.{Attribute, keys_rise_after, keys_rise, attributes_hold, max_own_keys, max_attribute_kind}
+use Rattle.rules.specs.Lists.{every}
+use Rattle.std.specs.List.{list_all}
+use Rattle.rules.specs.Store.{keys_rise_after, keys_rise, attributes_hold, max_own_keys, max_attribute_kind}
+use Rattle.rules.specs.declared.types.Attribute.{Attribute}
 use Rattle.rules.specs.Building.{has_key, put_attribute}
 use Rattle.rules.proofs.Basics.Tests.{and_left, and_right, and_both, or_cases, clash, passed, every_of}
 
 pub none_hold : attributes_hold [] ≡ true
-unfolding attributes_hold every keys_rise all
+unfolding attributes_hold every keys_rise
 none_hold = refl
 
 pub keys_rise_lem : (bs : List Attribute) → attributes_hold bs ≡ true → keys_rise bs ≡ true
@@ -61,18 +63,18 @@ put_rises a (b ∷ bs) h =
     (λ e. rw e h)
     (λ u. put_after a b.key bs u h)
 
-put_kinds : (p : Attribute → Bool) (a : Attribute) (bs : List Attribute) → p a ≡ true → all p bs ≡ true → all p (put_attribute a bs) ≡ true
-unfolding all put_attribute
+put_kinds : (p : Attribute → Bool) (a : Attribute) (bs : List Attribute) → p a ≡ true → list_all p bs ≡ true → list_all p (put_attribute a bs) ≡ true
+unfolding put_attribute
 put_kinds p a [] e h = and_both _ _ e refl
 put_kinds p a (b ∷ bs) e h =
     put_cases
-    (λ (xs : List Attribute). all p xs ≡ true)
+    (λ (xs : List Attribute). list_all p xs ≡ true)
     a
     b
     bs
     (λ u. and_both _ _ e h)
     (λ u. and_both _ _ e (and_right (p b) _ h))
-    (λ u. and_both (p b) _ (and_left (p b) (all p bs) h) (put_kinds p a bs e (and_right (p b) _ h)))
+    (λ u. and_both (p b) _ (and_left (p b) (list_all p bs) h) (put_kinds p a bs e (and_right (p b) _ h)))
 
 put_longer : (a : Attribute) (bs : List Attribute) → length (put_attribute a bs) ≤ length bs + 1
 unfolding put_attribute
@@ -81,7 +83,7 @@ put_longer a (b ∷ bs) = put_cases (λ (xs : List Attribute). length xs ≤ suc
 
 -- no key at or below k where all are above it
 pub not_below : (j k : ℕ) (bs : List Attribute) → j ≤ k → keys_rise_after k bs ≡ true → has_key j bs ≡ false
-unfolding keys_rise_after has_key any
+unfolding keys_rise_after has_key
 not_below j k [] l h = refl
 not_below j k (b ∷ bs) l h =
     let u : k < b.key = ltb-true _ _ (and_left _ (keys_rise_after b.key bs) h) in
@@ -93,7 +95,7 @@ rises_behind k [] h = refl
 rises_behind k (b ∷ bs) h = and_right (ltb k b.key) _ h
 
 pub put_replaced : (a : Attribute) (bs : List Attribute) → keys_rise bs ≡ true → has_key a.key bs ≡ true → length (put_attribute a bs) ≡ length bs
-unfolding keys_rise has_key any
+unfolding keys_rise has_key
 put_replaced a [] h e = clash e refl
 put_replaced a (b ∷ bs) h e =
     put_cases

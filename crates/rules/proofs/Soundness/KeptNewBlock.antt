@@ -4,14 +4,16 @@ use Prim.Native.Nat.{ℕ, ◌+◌, ◌<◌, ◌≤◌}
 use native.Mathlib.Decide.{ℕ_discrete}
 use native.Mathlib.Omega.{arith}
 use mathlib.Core.Bool.{true, false}
-use mathlib.Core.Option.{Option, none, some}
+use Rattle.std.specs.Prelude.{Option, None, Some}
 use mathlib.Core.List.{List, [], ◌∷◌, ◌++◌, append-nil}
 use mathlib.Core.Path.{◌≡◌, refl, sym, ap}
 use borrow.Author.Tests.{ltb-true, lt-ltb, le-ltb}
 use lib.ListN.{length, get_or, length-append, get_or-append}
 use lib.Seq.{get_or-append_seam}
 use Rattle.rules.specs.Lists.{sum}
-use Rattle.rules.specs.Store.{Store, Block, Attribute, of_op, of_block, no_block, op_at, block_at, block_exists, region_exists, owner_exists, parent_exists, parent_of, op_around, block_after, regions_of, results_of, arguments_of, operand_total, successor_total, attribute_total, max_blocks, max_values, max_own_values}
+use Rattle.rules.specs.Store.{Store, Block, no_block, op_at, block_at, block_exists, region_exists, owner_exists, parent_exists, parent_of, op_around, block_after, regions_of, results_of, arguments_of, operand_total, successor_total, attribute_total, max_blocks, max_values, max_own_values}
+use Rattle.rules.specs.declared.types.Attribute.{Attribute}
+use Rattle.rules.specs.declared.types.Owner.TheVariants.{Op as of_op, Block as of_block}
 use Rattle.rules.specs.Building.{values_for}
 use Rattle.rules.proofs.Soundness.Sound.{Sound, OpSound, BlockSound, TotalsSound}
 use Rattle.rules.proofs.Basics.Appended.{sum_append}
@@ -57,8 +59,8 @@ module _ (s : Store) (b : Block) (types : List ℕ) (h : Sound s) (c : BlockAllo
 
   later_than : (p : Option ℕ) → parent_exists s p ≡ true → block_after (length s.blocks) p ≡ true
   unfolding parent_exists block_exists block_after
-  later_than none e = refl
-  later_than (some p) e = e
+  later_than None e = refl
+  later_than (Some p) e = e
 
   -- the block around the operation that the new block stands in is one of before
   new_outer : parent_of t (op_around t (length s.blocks)) ≡ parent_of s (get_or s.regions b.region 0)

@@ -4,14 +4,16 @@ use Prim.Native.Nat.{ℕ, ◌+◌, ◌<◌, ◌≤◌}
 use native.Mathlib.Decide.{ℕ_discrete}
 use native.Mathlib.Omega.{arith}
 use mathlib.Core.Bool.{true, false}
-use mathlib.Core.Option.{Option, none, some}
+use Rattle.std.specs.Prelude.{Option, None, Some}
 use mathlib.Core.List.{List, [], ◌∷◌, ◌++◌, append-nil}
 use mathlib.Core.Path.{◌≡◌, refl, sym, ap, ◌∙◌}
 use borrow.Author.Tests.{ltb-true, lt-ltb, le-ltb, eq-eqb, ne_eqb}
 use lib.ListN.{length, replicate, length-append, length-replicate, get_or-append}
 use lib.Seq.{get_or-append_seam}
 use Rattle.rules.specs.Lists.{sum}
-use Rattle.rules.specs.Store.{Store, Op, Attribute, of_op, of_block, no_op, op_at, block_at, op_exists, block_exists, owner_exists, parent_exists, parent_of, nesting_holds, op_after, regions_of, results_of, arguments_of, operand_total, successor_total, attribute_total, max_ops, max_regions, max_values, max_operands, max_successors, max_own_regions, max_own_values}
+use Rattle.rules.specs.Store.{Store, Op, no_op, op_at, block_at, op_exists, block_exists, owner_exists, parent_exists, parent_of, nesting_holds, op_after, regions_of, results_of, arguments_of, operand_total, successor_total, attribute_total, max_ops, max_regions, max_values, max_operands, max_successors, max_own_regions, max_own_values}
+use Rattle.rules.specs.declared.types.Attribute.{Attribute}
+use Rattle.rules.specs.declared.types.Owner.TheVariants.{Op as of_op, Block as of_block}
 use Rattle.rules.specs.Building.{values_for}
 use Rattle.rules.proofs.Basics.Tests.{all_at, all_of}
 use Rattle.rules.proofs.Soundness.Sound.{Sound, OpSound, BlockSound, TotalsSound}
@@ -83,8 +85,8 @@ module _ (s : Store) (o : Op) (regions : ℕ) (types : List ℕ) (h : Sound s) (
 
   later_than_parent : (p : Option ℕ) → parent_exists s p ≡ true → op_after s (length s.ops) p ≡ true
   unfolding op_after parent_exists block_exists
-  later_than_parent none e = refl
-  later_than_parent (some b) e = lt-ltb _ _ (around_in s h b (ltb-true _ _ e))
+  later_than_parent None e = refl
+  later_than_parent (Some b) e = lt-ltb _ _ (around_in s h b (ltb-true _ _ e))
 
   old_op : (n : ℕ) → n < length s.ops → OpSound t n
   unfolding results_of

@@ -8,8 +8,10 @@ use mathlib.Core.Logic.{◌⊎◌, inl, inr}
 use mathlib.Core.Path.{◌≡◌, refl, sym, ap, subst, ◌∙◌}
 use borrow.Author.Tests.{eq-eqb}
 use lib.ListN.{length, length-map}
-use Rattle.rules.specs.Lists.{all}
-use Rattle.rules.specs.Store.{Store, Value, Owner, of_op, of_block, same_owner, owner_exists, values_of}
+use Rattle.std.specs.List.{list_all}
+use Rattle.rules.specs.Store.{Store, Value, same_owner, owner_exists, values_of}
+use Rattle.rules.specs.declared.types.Owner.{Owner}
+use Rattle.rules.specs.declared.types.Owner.TheVariants.{Op as of_op, Block as of_block}
 use Rattle.rules.specs.Building.{values_for}
 use Rattle.rules.proofs.Basics.Tests.{all_at, all_of, decided, clash}
 use Rattle.rules.proofs.Soundness.Children.{same_owner_lem}
@@ -47,5 +49,5 @@ module _ (s t : Store) (h : Sound s) (w : Owner) (types : List ℕ) (grew : t.va
   unfolding values_of
   values_new = rw grew (numbers_new _ s.values (values_for w types) (λ v m. differ (owner_exists s) v.owner w (λ q. clash (all_at _ s.values h.values_in m) (q ∙ new))) (λ v m. rw (mem_values_for w types v m) (same_self w)) ∙ length_values_for w types)
 
-  pub values_in_lem : Grown s t → owner_exists t w ≡ true → all (λ (v : Value). owner_exists t v.owner) t.values ≡ true
-  values_in_lem g e = subst (λ (vs : List Value). all (λ (v : Value). owner_exists t v.owner) vs ≡ true) (sym grew) (all_append _ s.values (values_for w types) (values_kept s t g h) (all_of _ _ (λ v m. rw (mem_values_for w types v m) e)))
+  pub values_in_lem : Grown s t → owner_exists t w ≡ true → list_all (λ (v : Value). owner_exists t v.owner) t.values ≡ true
+  values_in_lem g e = subst (λ (vs : List Value). list_all (λ (v : Value). owner_exists t v.owner) vs ≡ true) (sym grew) (all_append _ s.values (values_for w types) (values_kept s t g h) (all_of _ _ (λ v m. rw (mem_values_for w types v m) e)))

@@ -10,8 +10,12 @@ use mathlib.Core.Path.{◌≡◌, refl, sym, ap, ◌∙◌}
 use borrow.Author.Tests.{le-ltb, leb-true, le-leb, eq-eqb, ne_eqb}
 use lib.Dec.{leb}
 use lib.ListN.{length, get_or, replicate, length-append, length-replicate}
-use Rattle.rules.specs.Lists.{any, all, sum, is_some, update_at}
-use Rattle.rules.specs.Store.{Store, Op, Block, Attribute, of_op, of_block, op_exists, block_exists, region_exists, value_exists, owner_exists, parent_exists, parent_of, max_nesting, nesting_holds, results_of, arguments_of, operand_total, successor_total, attributes_hold, max_own_keys}
+use Rattle.std.specs.List.{list_all}
+use Rattle.rules.specs.Lists.{sum, update_at}
+use Rattle.std.specs.Prelude.{is_some}
+use Rattle.rules.specs.Store.{Store, Op, Block, op_exists, block_exists, region_exists, value_exists, owner_exists, parent_exists, parent_of, max_nesting, nesting_holds, results_of, arguments_of, operand_total, successor_total, attributes_hold, max_own_keys}
+use Rattle.rules.specs.declared.types.Attribute.{Attribute}
+use Rattle.rules.specs.declared.types.Owner.TheVariants.{Op as of_op, Block as of_block}
 use Rattle.rules.specs.Building.{has_key, put_attribute, values_for}
 use Rattle.rules.proofs.Basics.Tests.{or_left, or_right, decided, clash, passed}
 use Rattle.rules.proofs.Soundness.Sound.{Sound, OpSound}
@@ -40,8 +44,8 @@ module _ (s : Store) (o : Op) (regions : ℕ) (types : List ℕ) (h : Sound s) (
 
   pub operation_allowed :
       parent_exists s o.parent ≡ true
-      → all (value_exists s) o.operands ≡ true
-      → all (block_exists s) o.successors ≡ true
+      → list_all (value_exists s) o.operands ≡ true
+      → list_all (block_exists s) o.successors ≡ true
       → o.attributes ≡ []
       → OpAllowed s o regions types
   unfolding parent_of nesting_holds operand_total successor_total sum
@@ -91,7 +95,7 @@ update_there g zero (x ∷ xs) d l = refl
 update_there g (suc n) (x ∷ xs) d l = update_there g n xs d (le_of_suc-le-suc l)
 
 put_added : (a : Attribute) (bs : List Attribute) → has_key a.key bs ≡ false → length (put_attribute a bs) ≡ length bs + 1
-unfolding has_key any put_attribute
+unfolding has_key put_attribute
 put_added a [] e = omega arith
 put_added a (b ∷ bs) e =
     put_cases

@@ -4,14 +4,14 @@ use mathlib.Core.Bool.{true}
 use mathlib.Core.Path.{◌≡◌}
 use borrow.Author.Tests.{leb-true, le-leb}
 use lib.ListN.{length}
-use Rattle.rules.specs.Lists.{all}
+use Rattle.std.specs.List.{list_all}
 use Rattle.rules.specs.Store.{Store, Value, op_at, block_at, op_exists, block_exists, region_exists, value_exists, owner_exists, parent_exists, parent_of, op_around, op_after, block_after, nesting_holds, regions_of, results_of, arguments_of, attributes_hold, operand_total, successor_total, attribute_total, max_ops, max_blocks, max_regions, max_values, max_operands, max_successors, max_attributes, max_own_regions, max_own_values, max_own_operands, max_own_successors, totals_hold, op_holds, block_holds, sound}
 use Rattle.rules.proofs.Basics.Tests.{passed, every_of, all_below_at, all_below_of}
 
 pub record OpSound (s : Store) (n : ℕ) : Type 0 where
   pub parent_in : parent_exists s (parent_of s n) ≡ true
-  pub operands_in : all (value_exists s) (op_at s n).operands ≡ true
-  pub successors_in : all (block_exists s) (op_at s n).successors ≡ true
+  pub operands_in : list_all (value_exists s) (op_at s n).operands ≡ true
+  pub successors_in : list_all (block_exists s) (op_at s n).successors ≡ true
   pub later : op_after s n (parent_of s n) ≡ true
   pub nesting : nesting_holds s (parent_of s n) ≡ true
   pub regions_fit : length (regions_of s n) ≤ max_own_regions
@@ -38,8 +38,8 @@ pub record TotalsSound (s : Store) : Type 0 where
 pub record Sound (s : Store) : Type 0 where
   pub op : (n : ℕ) → n < length s.ops → OpSound s n
   pub block : (m : ℕ) → m < length s.blocks → BlockSound s m
-  pub regions_in : all (op_exists s) s.regions ≡ true
-  pub values_in : all (λ (v : Value). owner_exists s v.owner) s.values ≡ true
+  pub regions_in : list_all (op_exists s) s.regions ≡ true
+  pub values_in : list_all (λ (v : Value). owner_exists s v.owner) s.values ≡ true
   pub totals : TotalsSound s
 
 op_facts : (s : Store) (n : ℕ) → op_holds s n ≡ true → OpSound s n

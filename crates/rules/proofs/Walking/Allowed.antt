@@ -4,20 +4,23 @@ use Prim.Native.Nat.{ℕ, zero, suc, ◌+◌, ◌<◌}
 use native.Mathlib.Omega.{arith}
 use mathlib.Core.Bool.{Bool, true, ◌&&◌, ◌||◌}
 use mathlib.Core.List.{List, [], ◌∷◌, Memᴰ}
-use mathlib.Core.Option.{Option, none, some}
+use Rattle.rules.specs.declared.types.Cause.{Cause}
+use Rattle.std.specs.Prelude.{Option, None, Some}
 use mathlib.Core.Path.{◌≡◌, refl, sym, ◌∙◌}
 use borrow.Author.Tests.{lt-ltb, eqb-true, eq-eqb}
 use lib.Dec.{eqb, ltb}
 use lib.ListN.{length, set, length-set}
-use Rattle.rules.specs.Store.{Store, Owner, values_of}
-use Rattle.rules.specs.Fragments.{Sort, exists}
+use Rattle.rules.specs.Store.{Store, values_of}
+use Rattle.rules.specs.declared.types.Owner.{Owner}
+use Rattle.rules.specs.Fragments.{exists}
+use Rattle.rules.specs.declared.types.Sort.{Sort}
 use Rattle.rules.specs.Building.{first_failed}
-use Rattle.rules.specs.Shells.{Ignore}
+use Rattle.rules.specs.declared.types.Ignore.{Ignore}
 use Rattle.rules.specs.Mapping.{Mapping, no_image, enter_all, entries_allowed, table_allowed, allowed}
 use Rattle.rules.specs.Comparison.{State, unequal, one_longer, Walk, on, ended, standing, enter_ops, enter_blocks, start, compare}
 use Rattle.rules.specs.Types.{renamed}
 use Rattle.rules.specs.Answers.{compare_tests, comparison_of, comparison_by, comparison}
-use Rattle.rules.proofs.Types.Renamed.{exists_renamed, allowed_renamed}
+use Rattle.rules.proofs.RenamedTypes.Renamed.{exists_renamed, allowed_renamed}
 use Rattle.rules.proofs.Basics.Tests.{and_left, and_right, and_both, or_right, passed, every_of}
 use Rattle.rules.proofs.Soundness.Accepted.{first_failed_none}
 use Rattle.rules.proofs.Soundness.Children.{values_in_lem}
@@ -96,9 +99,9 @@ pub comparison_allowed : (s : Store) (lent : Bool) (types : List ℕ) (ig : Igno
 unfolding comparison comparison_by compare_tests
 comparison_allowed s lent types ig f l r m h = go (first_failed (compare_tests lent s types m f l r)) refl
   where
-    go : (o : Option ℕ) → first_failed (compare_tests lent s types m f l r) ≡ o → allowed s (comparison_by o (renamed types s) m ig f l r).mapping ≡ true
-    go none e =
+    go : (o : Option Cause) → first_failed (compare_tests lent s types m f l r) ≡ o → allowed s (comparison_by o (renamed types s) m ig f l r).mapping ≡ true
+    go None e =
         let both = (first_failed_none (compare_tests lent s types m f l r) e).1.1.1.0 in
         let kept = allowed_kept (renamed types s) ig f l r (exists_renamed types s f l ∙ and_left _ (exists s f r) both) (exists_renamed types s f r ∙ and_right (exists s f l) _ both) m (allowed_renamed types s m ∙ h) in
         kept_by s (compare (renamed types s) ig f l r m) m h (sym (allowed_renamed types s _) ∙ kept)
-    go (some cause) e = h
+    go (Some cause) e = h

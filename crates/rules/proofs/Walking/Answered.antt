@@ -4,14 +4,16 @@ use Prim.Native.Nat.{ℕ, zero, suc}
 use mathlib.Core.Bool.{true}
 use mathlib.Core.List.{List}
 use mathlib.Core.Logic.{◌↔◌}
-use mathlib.Core.Option.{none}
+use Rattle.rules.specs.declared.types.Cause.{Cause}
+use Rattle.std.specs.Prelude.{None}
 use mathlib.Core.Path.{◌≡◌, refl}
 use borrow.Author.Tests.{eq-eqb}
 use lib.ListN.{replicate, length-replicate}
 use Rattle.rules.specs.Store.{Store, sound}
-use Rattle.rules.specs.Fragments.{Sort, exists}
+use Rattle.rules.specs.Fragments.{exists}
+use Rattle.rules.specs.declared.types.Sort.{Sort}
 use Rattle.rules.specs.Building.{first_failed}
-use Rattle.rules.specs.Shells.{Ignore}
+use Rattle.rules.specs.declared.types.Ignore.{Ignore}
 use Rattle.rules.specs.Mapping.{Mapping, no_image, empty_mapping, entries_allowed, table_allowed, allowed}
 use Rattle.rules.specs.Comparison.{unequal, one_longer, Walk, on, ended, standing, compare}
 use Rattle.rules.specs.Hash.{hash}
@@ -26,7 +28,7 @@ use Rattle.rules.proofs.Soundness.Accepted.{all_passed}
 
 module _ (s : Store) (sd : sound s ≡ true) (ig : Ignore) (f : Sort) where
   module _ (types : List ℕ) (th : types_hold types ≡ true) (m : Mapping) (am : allowed s m ≡ true) (l r : ℕ) (el : exists s f l ≡ true) (er : exists s f r ≡ true) where
-    compare_accepted : first_failed (compare_tests true s types m f l r) ≡ none
+    compare_accepted : first_failed (compare_tests true s types m f l r) ≡ None
     unfolding compare_tests
     compare_accepted = all_passed _ (refl, (am, (th, (and_both _ _ el er, tt))))
 
@@ -34,7 +36,7 @@ module _ (s : Store) (sd : sound s ≡ true) (ig : Ignore) (f : Sort) where
     unfolding comparison comparison_by
     comparison_is = rw compare_accepted
 
-    pub never_refused : (cause : ℕ) → (comparison true s types m ig f l r).answer ≡ refused cause → ⊥
+    pub never_refused : (cause : Cause) → (comparison true s types m ig f l r).answer ≡ refused cause → ⊥
     unfolding comparison_of
     never_refused cause h = go (compare (renamed types s) ig f l r m) (rw comparison_is at h)
       where
@@ -47,7 +49,7 @@ module _ (s : Store) (sd : sound s ≡ true) (ig : Ignore) (f : Sort) where
       → hashed true s types ig f n ≡ hash_is (hash (renamed types s) ig f n)
   unfolding hashed hashed_by hash_tests
   hashed_is types th n e =
-      let t : first_failed (hash_tests true s types f n) ≡ none = all_passed _ (refl, (th, (e, tt))) in
+      let t : first_failed (hash_tests true s types f n) ≡ None = all_passed _ (refl, (th, (e, tt))) in
       rw t
 
 -- ---- the empty mapping is allowed, and equality is the answer eq

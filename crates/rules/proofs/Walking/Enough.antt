@@ -5,12 +5,14 @@ use native.Mathlib.Omega.{arith}
 use mathlib.Core.Bool.{true}
 use mathlib.Core.List.{List, [], ◌∷◌, ◌++◌, Memᴰ}
 use mathlib.Core.Path.{◌≡◌, refl}
-use Rattle.rules.specs.Store.{Store, of_op, of_block, ops_of, blocks_of, regions_of, sound}
-use Rattle.rules.specs.Fragments.{region, levels, names}
-use Rattle.rules.specs.Shells.{Ignore}
+use Rattle.rules.specs.Store.{Store, ops_of, blocks_of, regions_of, sound}
+use Rattle.rules.specs.declared.types.Owner.TheVariants.{Op as of_op, Block as of_block}
+use Rattle.rules.specs.Fragments.{levels, names}
+use Rattle.rules.specs.declared.types.Sort.TheVariants.{Region as region}
+use Rattle.rules.specs.declared.types.Ignore.{Ignore}
 use Rattle.rules.specs.Comparison.{State, Pair, Walk, ◌>>=◌, each_pair, pair_of, check_names, check_ops, pass1, pass2, pass3, compare_lists, compare_regions}
 use Rattle.rules.specs.Form.{Event, step, more, list_events, shell_events, op_events, blocks_events, region_events}
-use Rattle.rules.specs.Statements.{LevelsEnough}
+use Rattle.rules.specs.BuildingLaws.{LevelsEnough}
 use Rattle.rules.proofs.Walking.Levels.{by_levels}
 use Rattle.rules.proofs.Walking.EnoughSteps.{steps_enough}
 

@@ -5,8 +5,9 @@ use native.Mathlib.Omega.{arith}
 use mathlib.Core.Bool.{true}
 use mathlib.Core.List.{List, ◌∷◌, ◌++◌, Memᴰ}
 use mathlib.Core.Path.{◌≡◌, ap}
-use Rattle.rules.specs.Lists.{concat_map}
-use Rattle.rules.specs.Store.{Store, of_op, of_block, ops_of, blocks_of, regions_of, sound}
+use Rattle.std.specs.List.{flat_map}
+use Rattle.rules.specs.Store.{Store, ops_of, blocks_of, regions_of, sound}
+use Rattle.rules.specs.declared.types.Owner.TheVariants.{Op as of_op, Block as of_block}
 use Rattle.rules.specs.Fragments.{levels, Step, names, full_op, shells, list_steps, region_steps}
 use Rattle.rules.proofs.Basics.Distinct.{concat_map_same}
 use Rattle.rules.proofs.Walking.Levels.{by_levels}
@@ -15,8 +16,8 @@ list_same : (s : Store) (full full' : ℕ → List Step) (bs : List ℕ) → ((b
     → list_steps s full bs ≡ list_steps s full' bs
 unfolding list_steps
 list_same s full full' bs same =
-    ap (λ (xs : List Step). shells of_block bs ++ concat_map (λ (b : ℕ). shells of_op (ops_of s b)) bs ++ xs)
-    (concat_map_same (λ (b : ℕ). concat_map full (ops_of s b)) (λ (b : ℕ). concat_map full' (ops_of s b)) bs (λ b m. concat_map_same full full' (ops_of s b) (same b m)))
+    ap (λ (xs : List Step). shells of_block bs ++ flat_map (λ (b : ℕ). shells of_op (ops_of s b)) bs ++ xs)
+    (concat_map_same (λ (b : ℕ). flat_map full (ops_of s b)) (λ (b : ℕ). flat_map full' (ops_of s b)) bs (λ b m. concat_map_same full full' (ops_of s b) (same b m)))
 
 module _ (s : Store) (sd : sound s ≡ true) where
   pub steps_enough : (k l : ℕ) → levels ≤ k → levels ≤ l → (r : ℕ) → region_steps k s r ≡ region_steps l s r

@@ -5,24 +5,29 @@ use native.Mathlib.Decide.{ℕ_discrete}
 use native.Mathlib.Omega.{arith}
 use mathlib.Core.Bool.{Bool, true, false, not}
 use mathlib.Core.List.{List, Memᴰ}
-use mathlib.Core.Option.{Option, none, some}
+use Rattle.rules.specs.declared.types.Cause.{Cause}
+use Rattle.std.specs.Prelude.{Option, None, Some}
 use mathlib.Core.Path.{◌≡◌, refl, sym, ap, subst, ◌∙◌}
 use borrow.Author.Tests.{eq-eqb}
 use lib.Dec.{eqb}
 use lib.ListN.{length, get_or, set, replicate, length-set, length-replicate}
 use lib.Seq.{get_or-set_same, get_or-set_other}
 use Rattle.rules.specs.Lists.{count_below}
-use Rattle.rules.specs.Store.{Store, Owner, of_op, of_block, value_at, values_of, sound, max_blocks, max_ops}
-use Rattle.rules.specs.Fragments.{Sort, exists, block}
+use Rattle.rules.specs.Store.{Store, value_at, values_of, sound, max_blocks, max_ops}
+use Rattle.rules.specs.declared.types.Owner.{Owner}
+use Rattle.rules.specs.declared.types.Owner.TheVariants.{Op as of_op, Block as of_block}
+use Rattle.rules.specs.Fragments.{exists}
+use Rattle.rules.specs.declared.types.Sort.{Sort}
+use Rattle.rules.specs.declared.types.Sort.TheVariants.{Block as block}
 use Rattle.rules.specs.Building.{first_failed}
-use Rattle.rules.specs.Shells.{Ignore}
+use Rattle.rules.specs.declared.types.Ignore.{Ignore}
 use Rattle.rules.specs.Mapping.{no_image, empty_mapping, enter_all}
 use Rattle.rules.specs.Comparison.{State, unequal, one_longer, Walk, on, ended, standing, enter_ops, enter_blocks, start, compare, pair_of}
 use Rattle.rules.specs.Types.{renamed}
 use Rattle.rules.specs.Answers.{compare_tests, comparison_of, comparison_by, comparison}
 use Rattle.rules.specs.Runs.{compare_runs}
 use Rattle.rules.specs.Entered.{mapped, owner_entry, EnteredBy, paired_in}
-use Rattle.rules.proofs.Types.Renamed.{exists_renamed, entered_renamed, renamed_sound}
+use Rattle.rules.proofs.RenamedTypes.Renamed.{exists_renamed, entered_renamed, renamed_sound}
 use Rattle.rules.proofs.Basics.Counts.{count_more, count_zero}
 use Rattle.rules.proofs.Basics.Entries.{none_at, enter_other}
 use Rattle.rules.proofs.Basics.Tests.{and_left, and_right}
@@ -186,10 +191,10 @@ module _ (s : Store) (sd : sound s ≡ true) (lent : Bool) (types : List ℕ) (i
   unfolding comparison comparison_by compare_tests paired_in
   comparison_entered = go (first_failed (compare_tests lent s types empty_mapping f l r)) refl
     where
-      go : (o : Option ℕ) → first_failed (compare_tests lent s types empty_mapping f l r) ≡ o
+      go : (o : Option Cause) → first_failed (compare_tests lent s types empty_mapping f l r) ≡ o
           → EnteredBy s (comparison_by o (renamed types s) empty_mapping ig f l r).mapping (paired_in (comparison_by o (renamed types s) empty_mapping ig f l r).answer)
-      go none e =
+      go None e =
           let both = (first_failed_none (compare_tests lent s types empty_mapping f l r) e).1.1.1.0 in
           by_walk (compare (renamed types s) ig f l r empty_mapping)
           (entered_renamed types s (entered_by (renamed types s) (renamed_sound types s sd) ig f l r (exists_renamed types s f l ∙ and_left _ (exists s f r) both) (exists_renamed types s f r ∙ and_right (exists s f l) _ both)))
-      go (some cause) e = none_entered s
+      go (Some cause) e = none_entered s

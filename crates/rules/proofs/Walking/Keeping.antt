@@ -8,8 +8,10 @@ use mathlib.Core.Path.{◌≡◌, refl}
 use borrow.Author.Tests.{ltb-true}
 use lib.ListN.{length}
 use Rattle.rules.specs.Store.{Store, ops_of, blocks_of, regions_of, op_exists, block_exists}
-use Rattle.rules.specs.Fragments.{Sort, op, block, region, exists, levels}
-use Rattle.rules.specs.Shells.{Ignore}
+use Rattle.rules.specs.Fragments.{exists, levels}
+use Rattle.rules.specs.declared.types.Sort.{Sort}
+use Rattle.rules.specs.declared.types.Sort.TheVariants.{Op as op, Block as block, Region as region}
+use Rattle.rules.specs.declared.types.Ignore.{Ignore}
 use Rattle.rules.specs.Comparison.{State, Pair, Walk, on, ended, standing, ◌>>=◌, pairwise, each_pair, pair_of, expect, enter_ops, enter_blocks, pair_ops, pair_blocks, check_names, check_ops, pass1, pass2, pass3, compare_lists, compare_regions, compare_by}
 use Rattle.rules.proofs.Soundness.Children.{ops_in_lem, blocks_in_lem}
 

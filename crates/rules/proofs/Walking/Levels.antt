@@ -6,10 +6,9 @@ use native.Mathlib.Decide.{dec_lt}
 use native.Mathlib.Omega.{arith}
 use mathlib.Core.Bool.{true}
 use mathlib.Core.List.{Memᴰ}
-use mathlib.Core.Option.{Option, none, some}
+use Rattle.std.specs.Prelude.{Option, None, Some, is_some}
 use mathlib.Core.Path.{◌≡◌, refl, ap}
 use lib.ListN.{length, get_or-eq_default}
-use Rattle.rules.specs.Lists.{is_some}
 use Rattle.rules.specs.Store.{Store, no_op, op_at, parent_of, op_around, levels_left, max_nesting, nesting_holds, regions_of, blocks_of, ops_of, sound}
 use Rattle.rules.specs.Fragments.{levels, ops_in_blocks, ops_inside}
 use Rattle.rules.proofs.Basics.Distinct.{mem_concat_map}
@@ -17,32 +16,31 @@ use Rattle.rules.proofs.Basics.Tests.{clash, impossible}
 use Rattle.rules.proofs.Soundness.Sound.{facts}
 use Rattle.rules.proofs.Soundness.Children.{ops_in_lem, blocks_in_lem, regions_in_lem}
 
-is_some_lem : (q : Option ℕ) → is_some q ≡ true → (j : ℕ) × (q ≡ some j)
-unfolding is_some
-is_some_lem none h = clash h refl
-is_some_lem (some j) h = (j, refl)
+is_some_lem : (q : Option ℕ) → is_some q ≡ true → (j : ℕ) × (q ≡ Some j)
+is_some_lem None h = clash h refl
+is_some_lem (Some j) h = (j, refl)
 
 module _ (s : Store) where
   -- of so many levels an operation with this parent leaves j
   abbrev pub Leaves : ℕ → Option ℕ → ℕ → Type 0
-  Leaves k p j = levels_left k s p ≡ some j
+  Leaves k p j = levels_left k s p ≡ Some j
 
   leaves_more : (k : ℕ) (p : Option ℕ) (j : ℕ) → Leaves k p j → Leaves (suc k) p (suc j)
   unfolding levels_left
-  leaves_more zero none j h = let e : 0 ≡ j = cc in ap (λ (i : ℕ). some (suc i)) e
-  leaves_more zero (some b) j h = cc
-  leaves_more (suc k) none j h = cc
-  leaves_more (suc k) (some b) j h = leaves_more k (parent_of s (op_around s b)) j h
+  leaves_more zero None j h = let e : 0 ≡ j = cc in ap (λ (i : ℕ). Some (suc i)) e
+  leaves_more zero (Some b) j h = cc
+  leaves_more (suc k) None j h = cc
+  leaves_more (suc k) (Some b) j h = leaves_more k (parent_of s (op_around s b)) j h
 
   pub leaves_most : (k : ℕ) (p : Option ℕ) (j : ℕ) → Leaves k p j → j ≤ k
   unfolding levels_left
-  leaves_most zero none j h = let e : 0 ≡ j = cc in omega arith
-  leaves_most zero (some b) j h = impossible cc
-  leaves_most (suc k) none j h = let e : suc k ≡ j = cc in omega arith
-  leaves_most (suc k) (some b) j h = let l : j ≤ k = leaves_most k (parent_of s (op_around s b)) j h in omega arith
+  leaves_most zero None j h = let e : 0 ≡ j = cc in omega arith
+  leaves_most zero (Some b) j h = impossible cc
+  leaves_most (suc k) None j h = let e : suc k ≡ j = cc in omega arith
+  leaves_most (suc k) (Some b) j h = let l : j ≤ k = leaves_most k (parent_of s (op_around s b)) j h in omega arith
 
   -- inside a block one level less is left than around it
-  pub leaves_inside : (k b i j : ℕ) → Leaves (suc k) (parent_of s (op_around s b)) j → Leaves (suc k) (some b) i → j ≡ suc i
+  pub leaves_inside : (k b i j : ℕ) → Leaves (suc k) (parent_of s (op_around s b)) j → Leaves (suc k) (Some b) i → j ≡ suc i
   unfolding levels_left
   leaves_inside k b i j around inside = let e : Leaves (suc k) (parent_of s (op_around s b)) (suc i) = leaves_more k _ i inside in cc
 
@@ -69,7 +67,7 @@ module _ (s : Store) (sd : sound s ≡ true) where
   nested_leaves n j h {b} {m} r∈ b∈ m∈ =
       let i = op_leaves m in
       let around : Leaves s max_nesting (parent_of s (op_around s b)) j = rw (around_block s n r∈ b∈) h in
-      let inside : Leaves s max_nesting (some b) i.0 = rw (ops_in_lem s b m∈).1 at i.1 in
+      let inside : Leaves s max_nesting (Some b) i.0 = rw (ops_in_lem s b m∈).1 at i.1 in
       (i.0, i.1, leaves_inside s 31 b i.0 j around inside)
 
   -- in a block one level is taken
@@ -77,7 +75,7 @@ module _ (s : Store) (sd : sound s ≡ true) where
   unfolding levels_left
   block_leaves b {m} m∈ =
       let i = op_leaves m in
-      let inside : Leaves s max_nesting (some b) i.0 = rw (ops_in_lem s b m∈).1 at i.1 in
+      let inside : Leaves s max_nesting (Some b) i.0 = rw (ops_in_lem s b m∈).1 at i.1 in
       let l : i.0 ≤ 31 = leaves_most s 31 (parent_of s (op_around s b)) i.0 inside in
       (i.0, i.1, omega arith)
 

@@ -7,10 +7,13 @@ use mathlib.Core.Bool.{true}
 use mathlib.Core.List.{List, [], ◌∷◌, ◌++◌, map, append-nil}
 use mathlib.Core.Path.{◌≡◌, refl, ap, ◌∙◌}
 use lib.ListN.{length, take, drop, length-append}
-use Rattle.rules.specs.Lists.{concat_map}
-use Rattle.rules.specs.Store.{Store, of_op, of_block, ops_of, blocks_of, sound}
-use Rattle.rules.specs.Fragments.{Sort, op, block, region, exists, levels, Step, shell, full_op, shells, list_steps, region_steps, steps, step_defines, defines_owners}
-use Rattle.rules.specs.Shells.{Ignore}
+use Rattle.std.specs.List.{flat_map}
+use Rattle.rules.specs.Store.{Store, ops_of, blocks_of, sound}
+use Rattle.rules.specs.declared.types.Owner.TheVariants.{Op as of_op, Block as of_block}
+use Rattle.rules.specs.Fragments.{exists, levels, Step, shell, full_op, shells, list_steps, region_steps, steps, step_defines, defines_owners}
+use Rattle.rules.specs.declared.types.Sort.{Sort}
+use Rattle.rules.specs.declared.types.Sort.TheVariants.{Op as op, Block as block, Region as region}
+use Rattle.rules.specs.declared.types.Ignore.{Ignore}
 use Rattle.rules.specs.Comparison.{State, Pair, Walk, on, ended, standing, ◌>>=◌, pairwise, each_pair, pair_of, enter_ops, enter_blocks, pair_ops, pair_blocks, check_ops, pass2, pass3, compare_regions, compare_by}
 use Rattle.rules.proofs.Basics.Distinct.{concat_map_append}
 use Rattle.rules.proofs.Form.OnceInLists.{defined}
@@ -85,7 +88,7 @@ bind_most xs (ended why st) f h = omega arith
 
 defined_append : (xs ys : List Step) → length (defined (xs ++ ys)) ≡ length (defined xs) + length (defined ys)
 unfolding defined
-defined_append xs ys = ap length (concat_map_append step_defines xs ys) ∙ length-append (concat_map step_defines xs) (concat_map step_defines ys)
+defined_append xs ys = ap length (concat_map_append step_defines xs ys) ∙ length-append (flat_map step_defines xs) (flat_map step_defines ys)
 
 at_most : Passes AtMost
 unfolding standing
@@ -98,11 +101,11 @@ at_most =
 
 module _ (s : Store) (ig : Ignore) where
   ops_most : (l r : ℕ) → Always AtMost (shell (of_op l) ∷ []) (pair_ops s ig l r)
-  unfolding pair_ops enter_ops standing defined concat_map step_defines
+  unfolding pair_ops enter_ops standing defined step_defines
   ops_most l r st = always_expect AtMost at_most (shell (of_op l) ∷ []) _ (pair_of op l r) st (enter_ops s l r st) (omega arith)
 
   blocks_most : (l r : ℕ) → Always AtMost (shell (of_block l) ∷ []) (pair_blocks s ig l r)
-  unfolding pair_blocks enter_blocks standing defined concat_map step_defines
+  unfolding pair_blocks enter_blocks standing defined step_defines
   blocks_most l r st = always_expect AtMost at_most (shell (of_block l) ∷ []) _ (pair_of block l r) st (enter_blocks s l r st) (omega arith)
 
   regions_most : (k : ℕ) (l r : ℕ) → Always AtMost (region_steps k s l) (compare_regions k s ig l r)
@@ -133,27 +136,25 @@ paired_most s sd ig f l r e st =
 -- a part of a list defines no more than the list
 module _ (f : ℕ → List Step) where
   abbrev many : List ℕ → ℕ
-  many ns = length (defined (concat_map f ns))
+  many ns = length (defined (flat_map f ns))
 
   taken_most : (n : ℕ) (ns : List ℕ) → many (take n ns) ≤ many ns
-  unfolding concat_map defined
+  unfolding defined
   taken_most zero ns = omega arith
   taken_most (suc n) [] = omega arith
   taken_most (suc n) (m ∷ ns) =
-      omega (arith, taken_most n ns, defined_append (f m) (concat_map f (take n ns)), defined_append (f m) (concat_map f ns))
+      omega (arith, taken_most n ns, defined_append (f m) (flat_map f (take n ns)), defined_append (f m) (flat_map f ns))
 
   dropped_most : (i : ℕ) (ns : List ℕ) → many (drop i ns) ≤ many ns
-  unfolding concat_map
   dropped_most zero ns = omega arith
   dropped_most (suc i) [] = omega arith
-  dropped_most (suc i) (m ∷ ns) = omega (arith, dropped_most i ns, defined_append (f m) (concat_map f ns))
+  dropped_most (suc i) (m ∷ ns) = omega (arith, dropped_most i ns, defined_append (f m) (flat_map f ns))
 
   part_most : (n i : ℕ) (ns : List ℕ) → many (take n (drop i ns)) ≤ many ns
   part_most n i ns = omega (arith, taken_most n (drop i ns), dropped_most i ns)
 
 -- a list of operations by their shells alone
-shells_each : (ns : List ℕ) → map (λ (n : ℕ). shell (of_op n)) ns ≡ concat_map (λ (n : ℕ). shell (of_op n) ∷ []) ns
-unfolding concat_map
+shells_each : (ns : List ℕ) → map (λ (n : ℕ). shell (of_op n)) ns ≡ flat_map (λ (n : ℕ). shell (of_op n) ∷ []) ns
 shells_each [] = refl
 shells_each (n ∷ ns) = ap (λ (xs : List Step). shell (of_op n) ∷ xs) (shells_each ns)
 
@@ -165,19 +166,19 @@ module _ (s : Store) (ig : Ignore) where
   own n = shell (of_op n) ∷ []
 
   runs_most : (p : Pair) (ls rs : List ℕ)
-      → Always AtMost (map (λ (n : ℕ). shell (of_op n)) ls ++ concat_map full ls) (λ st. pairwise (pair_ops s ig) p ls rs st >>= each_pair (check_ops s (compare_regions levels s ig)) ls rs)
+      → Always AtMost (map (λ (n : ℕ). shell (of_op n)) ls ++ flat_map full ls) (λ st. pairwise (pair_ops s ig) p ls rs st >>= each_pair (check_ops s (compare_regions levels s ig)) ls rs)
   runs_most p ls rs =
-      always_then AtMost at_most _ (concat_map full ls) (pairwise (pair_ops s ig) p ls rs) (each_pair (check_ops s (compare_regions levels s ig)) ls rs)
+      always_then AtMost at_most _ (flat_map full ls) (pairwise (pair_ops s ig) p ls rs) (each_pair (check_ops s (compare_regions levels s ig)) ls rs)
       (always_pairwise AtMost at_most (pair_ops s ig) of_op (ops_most s ig) p ls rs)
       (always_each AtMost at_most _ full ls rs (λ l m. full_most s ig l))
 
   block_defines : (b : ℕ) → many own (ops_of s b) + many full (ops_of s b) ≤ length (defines_owners s block b)
-  unfolding defines_owners steps list_steps shells concat_map defined step_defines
+  unfolding defines_owners steps list_steps shells defined step_defines
   block_defines b =
       let ns = ops_of s b in
-      let spread : concat_map step_defines (map (λ (n : ℕ). shell (of_op n)) ns ++ [] ++ (concat_map full ns ++ [])) ≡ defined (concat_map own ns) ++ defined (concat_map full ns) =
-      (λ i. concat_map step_defines ((append-nil (map (λ (n : ℕ). shell (of_op n)) ns) ∙ shells_each ns) i ++ append-nil (concat_map full ns) i)) ∙ concat_map_append step_defines (concat_map own ns) (concat_map full ns) in
-      omega (arith, ap length spread, length-append (defined (concat_map own ns)) (defined (concat_map full ns)))
+      let spread : flat_map step_defines (map (λ (n : ℕ). shell (of_op n)) ns ++ [] ++ (flat_map full ns ++ [])) ≡ defined (flat_map own ns) ++ defined (flat_map full ns) =
+      (λ i. flat_map step_defines ((append-nil (map (λ (n : ℕ). shell (of_op n)) ns) ∙ shells_each ns) i ++ append-nil (flat_map full ns) i)) ∙ concat_map_append step_defines (flat_map own ns) (flat_map full ns) in
+      omega (arith, ap length spread, length-append (defined (flat_map own ns)) (defined (flat_map full ns)))
 
 -- two runs of a block of a sound store, whatever the starts
 pub runs_paired : (s : Store) → sound s ≡ true → (ig : Ignore) (p : Pair) (b n i : ℕ) (rs : List ℕ) → exists s block b ≡ true → (st : State)
@@ -186,6 +187,6 @@ unfolding defines_owners
 runs_paired s sd ig p b n i rs e st =
     let ls = take n (drop i (ops_of s b)) in
     let most = runs_most s ig p ls rs st in
-    let parts : length (defined (map (λ (m : ℕ). shell (of_op m)) ls ++ concat_map (full s ig) ls)) ≡ many (own s ig) ls + many (full s ig) ls =
-    defined_append (map (λ (m : ℕ). shell (of_op m)) ls) (concat_map (full s ig) ls) ∙ ap (λ (xs : List Step). length (defined xs) + many (full s ig) ls) (shells_each ls) in
+    let parts : length (defined (map (λ (m : ℕ). shell (of_op m)) ls ++ flat_map (full s ig) ls)) ≡ many (own s ig) ls + many (full s ig) ls =
+    defined_append (map (λ (m : ℕ). shell (of_op m)) ls) (flat_map (full s ig) ls) ∙ ap (λ (xs : List Step). length (defined xs) + many (full s ig) ls) (shells_each ls) in
     omega (arith, most, parts, part_most (own s ig) n i (ops_of s b), part_most (full s ig) n i (ops_of s b), block_defines s ig b, owners_most s sd block b e)

@@ -5,12 +5,15 @@ use Prim.Native.Nat.{ℕ, zero, suc, ◌≤◌}
 use native.Mathlib.Omega.{arith}
 use mathlib.Core.Bool.{true}
 use mathlib.Core.List.{Memᴰ}
-use mathlib.Core.Option.{some}
+use Rattle.std.specs.Prelude.{Some}
 use mathlib.Core.Path.{◌≡◌}
 use borrow.Author.Tests.{ltb-true}
-use Rattle.rules.specs.Store.{Store, Owner, of_op, op_exists, owner_exists, parent_of, op_around, levels_left, max_nesting, sound}
-use Rattle.rules.specs.Fragments.{Sort, exists, shell, steps}
-use Rattle.rules.specs.Statements.{Around, NestedAtMost, WalkStays}
+use Rattle.rules.specs.Store.{Store, op_exists, owner_exists, parent_of, op_around, levels_left, max_nesting, sound}
+use Rattle.rules.specs.declared.types.Owner.{Owner}
+use Rattle.rules.specs.declared.types.Owner.TheVariants.{Op as of_op}
+use Rattle.rules.specs.Fragments.{exists, shell, steps}
+use Rattle.rules.specs.declared.types.Sort.{Sort}
+use Rattle.rules.specs.BuildingLaws.{Around, NestedAtMost, WalkStays}
 use Rattle.rules.proofs.Basics.Tests.{impossible}
 use Rattle.rules.proofs.Soundness.Sound.{facts}
 use Rattle.rules.proofs.Form.Once.{owners_here}
@@ -20,9 +23,9 @@ use Rattle.rules.proofs.Copying.Shelled.{in_steps, shell_defined}
 around_most : (s : Store) (m k n j : ℕ) → Leaves s m (parent_of s n) j → Around k s n → k ≤ m
 unfolding Around levels_left
 around_most s m zero n j h a = omega arith
-around_most s zero (suc k) n j h a = let inside : Leaves s zero (some a.0) j = rw a.1.0 at h in impossible cc
+around_most s zero (suc k) n j h a = let inside : Leaves s zero (Some a.0) j = rw a.1.0 at h in impossible cc
 around_most s (suc m) (suc k) n j h a =
-    let inside : Leaves s (suc m) (some a.0) j = rw a.1.0 at h in
+    let inside : Leaves s (suc m) (Some a.0) j = rw a.1.0 at h in
     let l : k ≤ m = around_most s m k (op_around s a.0) j inside a.1.1 in
     omega arith
 

@@ -5,10 +5,13 @@ use mathlib.Core.Bool.{Bool, true, false}
 use mathlib.Core.List.{List, [], ◌∷◌, ◌++◌, map, Memᴰ}
 use mathlib.Core.Path.{refl}
 use lib.ListN.{length}
-use Rattle.rules.specs.Lists.{concat_map}
-use Rattle.rules.specs.Store.{Store, Owner, of_op, of_block, ops_of, regions_of}
-use Rattle.rules.specs.Fragments.{op, block, Step, shell, names, counted, full_op, shells, list_steps}
-use Rattle.rules.specs.Shells.{Ignore}
+use Rattle.std.specs.List.{flat_map}
+use Rattle.rules.specs.Store.{Store, ops_of, regions_of}
+use Rattle.rules.specs.declared.types.Owner.{Owner}
+use Rattle.rules.specs.declared.types.Owner.TheVariants.{Op as of_op, Block as of_block}
+use Rattle.rules.specs.Fragments.{Step, shell, names, counted, full_op, shells, list_steps}
+use Rattle.rules.specs.declared.types.Sort.TheVariants.{Op as op, Block as block}
+use Rattle.rules.specs.declared.types.Ignore.{Ignore}
 use Rattle.rules.specs.Comparison.{State, Pair, Stop, unequal, one_longer, Walk, on, ended, ◌>>=◌, pairwise, each_pair, pair_of, expect, pair_ops, pair_blocks, check_names, check_ops, pass1, pass2, pass3, compare_lists}
 
 -- ---- of the steps on the left that a walk goes through, the state in which it begins, and what it comes to
@@ -56,29 +59,29 @@ module _ (R : List Step → State → Walk → Type 0) (h : Passes R) where
 
   -- pair by pair, each with steps
   pub always_each : (f : ℕ → ℕ → State → Walk) (g : ℕ → List Step) (ls rs : List ℕ) → ((l : ℕ) → Memᴰ l ls → (r : ℕ) → Always R (g l) (f l r))
-      → Always R (concat_map g ls) (each_pair f ls rs)
-  unfolding each_pair concat_map
+      → Always R (flat_map g ls) (each_pair f ls rs)
+  unfolding each_pair
   always_each f g [] rs a st = h.stays _ st
   always_each f g (l ∷ ls) [] a st = h.stays _ st
   always_each f g (l ∷ ls) (r ∷ rs) a st =
-      always_then (g l) (concat_map g ls) (f l r) (each_pair f ls rs) (a l (Memᴰ.head refl) r) (always_each f g ls rs (λ m k. a m (Memᴰ.tail k))) st
+      always_then (g l) (flat_map g ls) (f l r) (each_pair f ls rs) (a l (Memᴰ.head refl) r) (always_each f g ls rs (λ m k. a m (Memᴰ.tail k))) st
 
   module _ (s : Store) (f : ℕ → ℕ → State → Walk) (g : ℕ → List Step) where
     pub always_ops : (l r : ℕ) → ((x : ℕ) → Memᴰ x (regions_of s l) → (y : ℕ) → Always R (g x) (f x y)) → Always R (full_op s g l) (check_ops s f l r)
     unfolding check_ops check_names full_op
     always_ops l r a =
-        always_then (names l ∷ []) (concat_map g (regions_of s l)) (check_names s l r) _
+        always_then (names l ∷ []) (flat_map g (regions_of s l)) (check_names s l r) _
         (λ st. always_expect (names l ∷ []) _ (pair_of op l r) st st (h.stays _ st))
         (always_each f g (regions_of s l) (regions_of s r) a)
 
     pub always_pass3 : (ls rs : List ℕ) → ((b : ℕ) → Memᴰ b ls → (n : ℕ) → Memᴰ n (ops_of s b) → (r : ℕ) → Always R (g n) (f n r))
-        → Always R (concat_map (λ (b : ℕ). concat_map g (ops_of s b)) ls) (pass3 s f ls rs)
+        → Always R (flat_map (λ (b : ℕ). flat_map g (ops_of s b)) ls) (pass3 s f ls rs)
     unfolding pass3
     always_pass3 ls rs a = always_each _ _ ls rs (λ l m r. always_each f g (ops_of s l) (ops_of s r) (a l m))
 
   -- where it holds of pairs
   module _ (s : Store) (ig : Ignore) (ops : (l r : ℕ) → Always R (shell (of_op l) ∷ []) (pair_ops s ig l r)) where
-    pub always_pass2 : (ls rs : List ℕ) → Always R (concat_map (λ (b : ℕ). shells of_op (ops_of s b)) ls) (pass2 s ig ls rs)
+    pub always_pass2 : (ls rs : List ℕ) → Always R (flat_map (λ (b : ℕ). shells of_op (ops_of s b)) ls) (pass2 s ig ls rs)
     unfolding pass2
     always_pass2 ls rs = always_each _ _ ls rs (λ l m r. always_shells (pair_ops s ig) of_op ops (pair_of block l r) (ops_of s l) (ops_of s r))
 

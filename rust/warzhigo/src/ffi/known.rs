@@ -154,7 +154,7 @@ impl SoundWords {
     }
 
     #[inline]
-    pub(crate) fn hash(&self, sort: Sort, n: u32, options: Options) -> Sum {
+    pub(crate) fn hash(&self, sort: Sort, n: u32, options: Options) -> HashAnswer {
         let call = match sort {
             Sort::Op => wz_known_operation_hash,
             Sort::Block => wz_known_basic_block_hash,

@@ -132,7 +132,7 @@ pub(crate) fn compare(sort: Sort, store: &[u32], types: &[u32], mapping: &mut [u
 }
 
 #[inline]
-pub(crate) fn hash(sort: Sort, store: &[u32], types: &[u32], n: u32, ignore: &Ignore) -> Sum {
+pub(crate) fn hash(sort: Sort, store: &[u32], types: &[u32], n: u32, ignore: &Ignore) -> HashAnswer {
     let call = match sort {
         Sort::Op => wz_operation_hash,
         Sort::Block => wz_basic_block_hash,

@@ -9,4 +9,4 @@ pub returns-in-Ok : goal.returns-in-Ok
 returns-in-Ok c = converted_said c.args.listing.now c.in-Ok.edition c.in-Ok.ensures c.put_listing.ensures
 
 pub returns-in-Err : goal.returns-in-Err
-returns-in-Err c = refusal_said c.args.listing.now c.in-Err.refusal c.in-Err.ensures _ c.number.ensures c.put_refusal.ensures
+returns-in-Err c = refusal_said c.args.listing.now c.in-Err.refusal c.in-Err.ensures c.put_refusal.ensures

@@ -1,10 +1,11 @@
 -- `clone_operation` meets its contract: an operation or a parent that isn't there is refused first. Assumes nothing.
+use Rattle.rules.specs.declared.types.Cause.TheVariants.{NotThere}
 use mathlib.Core.Path.{sym, ◌∙◌}
 use Rattle.layout.specs.Columns.{columns}
 use Rattle.layout.specs.Reading.{store_in}
 use Rattle.layout.proofs.Tabulate.{op_in_lem}
-use Rattle.calling.specs.Types.{parent_of, made_of}
-use Rattle.marks.proofs.Lent.{lent_facts}
+use Rattle.mutation.specs.Types.{made_of}
+use Rattle.undo_log.proofs.Lent.{lent_facts}
 use Rattle.copying.proofs.Refusing.{no_op_lem, no_parent}
 use Rattle.copying.proofs.Deciding.{refused_by}
 use Rattle.copying.proofs.cloning.clone_operation.Goals as goal
@@ -18,11 +19,11 @@ unfolding made_of
 returns-then-not-op_exists c =
     let a = c.args in
     let s = store_in a.store.now in
-    refused_by a.store.now c.requires.lent a.mapping.now a.op (parent_of a.parent) 2
+    refused_by a.store.now c.requires.lent a.mapping.now a.op a.parent NotThere
     (elim c.then-not-op_exists.branch [
-      | then-not-op_exists-via-then-not-op_exists w ↦ no_op_lem s a.op (parent_of a.parent) (sym c.op_exists.ensures ∙ w.if-not-op_exists.true)
+      | then-not-op_exists-via-then-not-op_exists w ↦ no_op_lem s a.op a.parent (sym c.op_exists.ensures ∙ w.if-not-op_exists.true)
       | then-not-op_exists-via-else-not-op_exists+then-not-parent_exists w ↦
-          no_parent s a.op (parent_of a.parent) (sym c.op_exists.ensures ∙ w.if-not-op_exists.false)
+          no_parent s a.op a.parent (sym c.op_exists.ensures ∙ w.if-not-op_exists.false)
           (sym w.parent_exists.ensures ∙ w.if-not-parent_exists.true)
     ])
 

@@ -1,11 +1,13 @@
 -- `in_time` meets its contract: what is left of the steps, with the numbering that the words stand for, tells of them all. Assumes nothing.
 use Rattle.std.proofs.Common.{ℕ, List, [], ◌∷◌, sym, subst, ◌∙◌, lt-ltb}
-use Rattle.rules.specs.Store.{Store, of_op, of_block}
-use Rattle.rules.specs.Fragments.{Step, shell, names, op, steps}
+use Rattle.rules.specs.Store.{Store}
+use Rattle.rules.specs.declared.types.Owner.TheVariants.{Op as of_op, Block as of_block}
+use Rattle.rules.specs.Fragments.{Step, shell, names, steps}
+use Rattle.rules.specs.declared.types.Sort.TheVariants.{Op as op}
 use Rattle.layout.specs.Columns.{Cols, columns}
 use Rattle.layout.specs.Reading.{op_count, store_in}
 use Rattle.layout.proofs.Tabulate.{op_exists_lem}
-use Rattle.numbering.specs.Numbered.{Numbers}
+use Rattle.fragments.specs.Numbered.{Numbers}
 use Rattle.copying.proofs.Told.{are_steps_lem, none_left, op_left, block_left, names_left, op_there, block_there, names_there}
 use Rattle.copying.proofs.InTime.{timely_begun, timely_over, timely_fits, timely_late, timely_next, names_number, shell_timely}
 use Rattle.copying.proofs.early.in_time.Goals as goal

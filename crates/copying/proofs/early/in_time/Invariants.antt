@@ -1,5 +1,6 @@
 -- `in_time` meets its contract: what is left of the steps, with the numbering that the words stand for, tells of them all. Assumes nothing.
-use Rattle.rules.specs.Fragments.{op, steps}
+use Rattle.rules.specs.Fragments.{steps}
+use Rattle.rules.specs.declared.types.Sort.TheVariants.{Op as op}
 use Rattle.layout.specs.Reading.{store_in}
 use Rattle.copying.proofs.InTime.{TimelyFrom}
 use Rattle.copying.proofs.early.in_time.Given as goal

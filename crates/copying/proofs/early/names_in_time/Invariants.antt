@@ -1,9 +1,10 @@
 -- `names_in_time` meets its contract: a scan of the operands and one of the successors, each of which ends at the first that lies inside and has no
 -- number yet. Assumes nothing.
-use Rattle.rules.specs.Fragments.{op, defines_values, defines_blocks}
+use Rattle.rules.specs.Fragments.{defines_values, defines_blocks}
+use Rattle.rules.specs.declared.types.Sort.TheVariants.{Op as op}
 use Rattle.rules.specs.Hash.{Numbering}
 use Rattle.layout.specs.Reading.{store_in}
-use Rattle.numbering.specs.Words.{Stands}
+use Rattle.fragments.specs.Words.{Stands}
 use Rattle.copying.proofs.InTime.{NamesPassed}
 use Rattle.copying.proofs.early.names_in_time.Given as goal
 

@@ -2,7 +2,8 @@
 -- Assumes nothing.
 use Rattle.std.proofs.Common.{ℕ, refl, sym, ◌∙◌, lt-ltb}
 use Rattle.rules.specs.Store.{Store}
-use Rattle.rules.specs.Fragments.{op, steps}
+use Rattle.rules.specs.Fragments.{steps}
+use Rattle.rules.specs.declared.types.Sort.TheVariants.{Op as op}
 use Rattle.rules.proofs.Soundness.Sound.{facts}
 use Rattle.layout.specs.Columns.{Cols, columns}
 use Rattle.layout.specs.Reading.{op_count, block_count, value_count, store_in}

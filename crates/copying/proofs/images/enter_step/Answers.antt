@@ -1,11 +1,11 @@
 -- `enter_step` meets its contract: an operation or a block gets the next number, and its values are a run of numbers of the store. Assumes nothing.
 use Rattle.std.proofs.Common.{◌<◌, sym, ap, subst, ◌∙◌, arith}
-use Rattle.rules.specs.Store.{of_op, of_block}
+use Rattle.rules.specs.declared.types.Owner.TheVariants.{Op as of_op, Block as of_block}
 use Rattle.rules.specs.Fragments.{step_defines}
 use Rattle.layout.specs.Columns.{columns}
 use Rattle.layout.specs.Reading.{op_count, block_count, store_in, consecutive}
 use Rattle.layout.proofs.Laid.{laid_facts}
-use Rattle.mapping.specs.MappingWords.{mapping_of, values_mapped}
+use Rattle.equivalence.specs.MappingWords.{mapping_of, values_mapped}
 use Rattle.copying.specs.declared.steps.Step.{Step}
 use Rattle.copying.specs.Steps.{StepThere, step_of, step_owners}
 use Rattle.copying.specs.Images.{CopiesFit, owners_entered, owners_copied}

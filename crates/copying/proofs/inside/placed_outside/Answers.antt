@@ -2,32 +2,29 @@
 use Rattle.std.proofs.Common.{◌≡◌, true, ap, sym, subst, ◌∙◌}
 use mathlib.Core.Bool.{not}
 use Rattle.rules.specs.Store.{parent_exists}
-use Rattle.rules.specs.Fragments.{op}
+use Rattle.rules.specs.declared.types.Sort.TheVariants.{Op as op}
 use Rattle.rules.specs.Copying.{placed_outside}
 use Rattle.layout.specs.Columns.{columns}
 use Rattle.layout.specs.Reading.{store_in}
 use Rattle.layout.proofs.Tabulate.{block_in_lem}
-use Rattle.calling.specs.Types.{parent_of}
-use Rattle.fragments.specs.Sorts.{sort_of}
 use Rattle.fragments.proofs.There.{is_there}
 use Rattle.copying.proofs.inside.placed_outside.Goals as goal
 
 pub block_inside-requires : goal.block_inside-requires
-unfolding parent_exists parent_of
+unfolding parent_exists
 block_inside-requires c =
     block_in_lem (columns c.args.original.now.store.now) c.in-Some.b
-    (subst (λ p. parent_exists (store_in c.args.original.now.store.now) (parent_of p) ≡ true) c.in-Some.is c.requires)
+    (subst (λ p. parent_exists (store_in c.args.original.now.store.now) p ≡ true) c.in-Some.is c.requires)
 
 pub returns-in_default : goal.returns-in_default
-unfolding placed_outside parent_of
-returns-in_default c = sym (ap (λ p. placed_outside (store_in c.args.original.now.store.now) c.args.original.now.n (parent_of p)) c.in_default.is)
+unfolding placed_outside
+returns-in_default c = sym (ap (λ p. placed_outside (store_in c.args.original.now.store.now) c.args.original.now.n p) c.in_default.is)
 
 pub invariant_of-whole : goal.invariant_of-whole
-unfolding sort_of
 invariant_of-whole c =
     record { sound = c.args.original.now.sound; exists = is_there (columns c.args.original.now.store.now) op c.args.original.now.n c.args.original.now.exists }
 
 pub returns : goal.returns
-unfolding placed_outside parent_of sort_of
+unfolding placed_outside
 returns c =
-    ap not c.block_inside.ensures ∙ sym (ap (λ p. placed_outside (store_in c.args.original.now.store.now) c.args.original.now.n (parent_of p)) c.in-Some.is)
+    ap not c.block_inside.ensures ∙ sym (ap (λ p. placed_outside (store_in c.args.original.now.store.now) c.args.original.now.n p) c.in-Some.is)

@@ -1,7 +1,6 @@
 -- The operations left to test decide. Assumes nothing.
-use Rattle.calling.specs.Types.{parent_of}
 use Rattle.copying.proofs.Nested.{NestsLeft}
 use Rattle.copying.proofs.nesting.copy_nests.Given as goal
 
 abbrev pub invariant-loop-step : goal.invariant-loop-step
-invariant-loop-step l = NestsLeft l.original.store.now l.original.n (parent_of l.fn.parent) l.step-index
+invariant-loop-step l = NestsLeft l.original.store.now l.original.n l.fn.parent l.step-index

@@ -2,7 +2,7 @@
 -- its list child by child, and once all came, all is listed. Assumes nothing.
 use Rattle.std.proofs.Common.{◌≡◌, ℕ, ◌+◌, ◌*◌, ◌<◌, ◌∷◌, ◌++◌, [], List, sym, refl, ap, ap₂, ◌∙◌, subst, arith}
 use mathlib.Core.List.{Memᴰ}
-use Rattle.rules.specs.Lists.{concat_map}
+use Rattle.std.specs.List.{flat_map}
 use Rattle.rules.specs.Store.{Store, ops_of, regions_of}
 use Rattle.rules.specs.Fragments.{names, full_op}
 use Rattle.rules.specs.Fragments as rules
@@ -13,13 +13,13 @@ use Rattle.layout.proofs.Laid.{Laid, laid_facts}
 use Rattle.layout.proofs.Ranges.{range, range_empty, regions_range}
 use Rattle.fragments.specs.BlocksLeft.{blocks_left}
 use Rattle.fragments.specs.Order.{block_list, BlocksExist}
-use Rattle.fragments.specs.declared.types.Blocks.TheVariants.{InRegion, Alone}
+use Rattle.fragments.specs.declared.types.Blocks.TheVariants.{InRegion, Single}
 use Rattle.fragments.proofs.Ordered.{block_in_lem, op_in_lem}
 use Rattle.fragments.proofs.Below.{below, around_list, around_block, op_falls, around_region}
 use Rattle.fragments.proofs.Yielded.{item_comes, all_came, comes_mem, number_comes, number_came}
-use Rattle.numbering.specs.Parts.{full_steps, ops_in_full}
-use Rattle.numbering.proofs.Passing.{none_came, came_over, came_room, came_again}
-use Rattle.numbering.proofs.Rounds.{in_region, region_list, regions_room, full_done, each, first_room, second_room, third_room, passes_done}
+use Rattle.fragments.specs.Parts.{full_steps, ops_in_full}
+use Rattle.fragments.proofs.Passing.{none_came, came_over, came_room, came_again}
+use Rattle.fragments.proofs.Rounds.{in_region, region_list, regions_room, full_done, each, first_room, second_room, third_room, passes_done}
 use Rattle.copying.specs.declared.steps.Step.TheVariants.{Names}
 use Rattle.copying.specs.Steps.{StepsFit, Listed, step_of}
 use Rattle.copying.proofs.Listing.{list_walk, fits_one, fit_first, listed_one}
@@ -52,10 +52,10 @@ list_blocks_full-list_ops_full-requires t c =
     let turn = block_comes t ((goal.at.list_blocks_full-list_ops_full-requires t c).In-Some) in
     let inside : Memᴰ b (block_list S c.args.blocks) = comes_mem _ _ _ _ turn in
     let here : b < block_count (columns c.args.store.now) = block_in_lem _ c.args.blocks _ c.requires.blocks_exist inside in
-    let same : around_list S (Alone b) ≡ around_list S c.args.blocks = around_block S c.args.blocks b inside in
-    let falls : 3 * below S (around_list S (Alone b)) < 3 * below S (around_list S c.args.blocks) + 1 = omega arith in
+    let same : around_list S (Single b) ≡ around_list S c.args.blocks = around_block S c.args.blocks b inside in
+    let falls : 3 * below S (around_list S (Single b)) < 3 * below S (around_list S c.args.blocks) + 1 = omega arith in
     let third = third_room list_walk S (block_list S c.args.blocks) c.list_block_shells.ensures c.list_op_shells.ensures c.requires.steps_fit in (
-      subst (λ (j : ℕ). 3 * below S (around_list S (Alone b)) < j) c.decreases falls,
+      subst (λ (j : ℕ). 3 * below S (around_list S (Single b)) < j) c.decreases falls,
       (c.requires.sound, (here, came_room list_walk (each (ops_in_full S)) _ c.loop-b.invariant.2 _ _ _ turn third)),
     )
 
@@ -94,7 +94,7 @@ list_op_full-number-r-end-requires-clause-n_bound t c = omega (arith, (laid_fact
 
 pub list_op_full-loop-r-init : goal.list_op_full-loop-r-init
 list_op_full-loop-r-init t c =
-    subst (λ (xs : List ℕ). Listed (concat_map (in_region (store_in c.args.store.now)) xs) c.push.new.self c.push.new.self) (sym (range_empty _ _ (omega arith)))
+    subst (λ (xs : List ℕ). Listed (flat_map (in_region (store_in c.args.store.now)) xs) c.push.new.self c.push.new.self) (sym (range_empty _ _ (omega arith)))
     (none_came list_walk (each (in_region (store_in c.args.store.now))))
 
 pub list_op_full-list_blocks_full-requires : goal.list_op_full-list_blocks_full-requires
@@ -119,7 +119,7 @@ list_op_full-loop-r-preserved t c =
     let S : Store = store_in c.args.store.now in
     let r : ℕ = c.loop-r.r in
     let one = subst (λ (xs : List rules.Step). Listed xs c.loop-r.walk c.list_blocks_full.new.walk) (sym (region_list S c.requires.sound.ruled r)) c.list_blocks_full.ensures in
-    subst (λ (xs : List ℕ). Listed (concat_map (in_region S) xs) c.push.new.self c.list_blocks_full.new.walk) (sym (number_came _ _ c.loop-r.auto.r))
+    subst (λ (xs : List ℕ). Listed (flat_map (in_region S) xs) c.push.new.self c.list_blocks_full.new.walk) (sym (number_came _ _ c.loop-r.auto.r))
     (came_again list_walk (each (in_region S)) _ c.loop-r.invariant r one)
 
 pub list_op_full-returns : goal.list_op_full-returns
@@ -150,8 +150,8 @@ list_ops_full-list_op_full-requires t c =
     let n : ℕ = c.in-Some.n in
     let turn = op_comes t ((goal.at.list_ops_full-list_op_full-requires t c).In-Some) in
     let inside : Memᴰ n (ops_of S c.args.b) = comes_mem _ _ _ _ turn in
-    let fewer : below S n < below S (around_list S (Alone c.args.b)) = op_falls S c.requires.sound.ruled (Alone c.args.b) c.args.b n (Memᴰ.head refl) inside in
-    let falls : 3 * below S n + 2 < 3 * below S (around_list S (Alone c.args.b)) = omega arith in (
+    let fewer : below S n < below S (around_list S (Single c.args.b)) = op_falls S c.requires.sound.ruled (Single c.args.b) c.args.b n (Memᴰ.head refl) inside in
+    let falls : 3 * below S n + 2 < 3 * below S (around_list S (Single c.args.b)) = omega arith in (
       subst (λ (j : ℕ). 3 * below S n + 2 < j) c.decreases falls,
       (c.requires.sound, (op_in_lem _ _ _ inside, came_room list_walk (each (full_steps S)) _ c.loop-n.invariant.2 _ _ _ turn c.requires.steps_fit)),
     )

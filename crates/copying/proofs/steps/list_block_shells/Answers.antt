@@ -1,6 +1,6 @@
 -- `list_block_shells` meets its contract: a pass through the list, whose step is a block's shell. Assumes nothing.
 use Rattle.std.proofs.Common.{◌≡◌, ◌<◌, ◌∷◌, ◌++◌, ap, ◌∙◌, arith}
-use Rattle.rules.specs.Store.{of_block}
+use Rattle.rules.specs.declared.types.Owner.TheVariants.{Block as of_block}
 use Rattle.layout.specs.Columns.{columns}
 use Rattle.layout.specs.Reading.{block_count, store_in}
 use Rattle.layout.proofs.Laid.{laid_facts}
@@ -8,9 +8,9 @@ use Rattle.fragments.specs.BlocksLeft.{blocks_left}
 use Rattle.fragments.specs.Order.{block_list}
 use Rattle.fragments.proofs.Ordered.{block_in_lem}
 use Rattle.fragments.proofs.Yielded.{item_comes, all_came, comes_mem}
-use Rattle.numbering.specs.Parts.{block_shells}
-use Rattle.numbering.proofs.Passing.{none_came, came_over, came_room, came_again}
-use Rattle.numbering.proofs.Rounds.{each_shell_lem}
+use Rattle.fragments.specs.Parts.{block_shells}
+use Rattle.fragments.proofs.Passing.{none_came, came_over, came_room, came_again}
+use Rattle.fragments.proofs.Rounds.{each_shell_lem}
 use Rattle.copying.specs.declared.steps.Step.TheVariants.{BlockShell}
 use Rattle.copying.specs.Steps.{step_of}
 use Rattle.copying.proofs.Listing.{list_walk, shells_fit, shells_listed, fits_one, listed_one}

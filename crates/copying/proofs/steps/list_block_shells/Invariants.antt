@@ -1,6 +1,6 @@
 -- `list_block_shells` meets its contract: the shells of the blocks that came so far are there. Assumes nothing.
-use Rattle.rules.specs.Store.{of_block}
-use Rattle.numbering.proofs.Rounds.{each_shell}
+use Rattle.rules.specs.declared.types.Owner.TheVariants.{Block as of_block}
+use Rattle.fragments.proofs.Rounds.{each_shell}
 use Rattle.copying.specs.Steps.{Listed}
 use Rattle.copying.proofs.steps.list_block_shells.Given as goal
 

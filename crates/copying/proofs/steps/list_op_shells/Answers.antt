@@ -6,9 +6,9 @@ use Rattle.fragments.specs.BlocksLeft.{blocks_left}
 use Rattle.fragments.specs.Order.{block_list}
 use Rattle.fragments.proofs.Ordered.{block_in_lem}
 use Rattle.fragments.proofs.Yielded.{item_comes, comes_mem}
-use Rattle.numbering.specs.Parts.{op_shells}
-use Rattle.numbering.proofs.Passing.{none_came, came_room, came_again}
-use Rattle.numbering.proofs.Rounds.{each}
+use Rattle.fragments.specs.Parts.{op_shells}
+use Rattle.fragments.proofs.Passing.{none_came, came_room, came_again}
+use Rattle.fragments.proofs.Rounds.{each}
 use Rattle.copying.proofs.Listing.{list_walk}
 use Rattle.copying.proofs.steps.list_op_shells.Goals as goal
 use Rattle.copying.proofs.steps.list_op_shells.Goals.{In-Some}

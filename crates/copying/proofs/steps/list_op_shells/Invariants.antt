@@ -1,7 +1,7 @@
 -- `list_op_shells` meets its contract: the shells of the operations of the blocks that came so far are there. Assumes nothing.
-use Rattle.rules.specs.Lists.{concat_map}
+use Rattle.std.specs.List.{flat_map}
 use Rattle.layout.specs.Reading.{store_in}
-use Rattle.numbering.specs.Parts.{op_shells}
+use Rattle.fragments.specs.Parts.{op_shells}
 use Rattle.copying.specs.Steps.{Listed}
 use Rattle.copying.proofs.steps.list_op_shells.Given as goal
 
@@ -9,4 +9,4 @@ abbrev pub invariant-loop-b : goal.invariant-loop-b
 invariant-loop-b l =
     (goal.iterator-loop-b).can_next l.b-iterator
     × (goal.iterator-loop-b).is_finite l.b-iterator
-    × Listed (concat_map (op_shells (store_in l.store)) l.yielded) l.initial.walk l.walk
+    × Listed (flat_map (op_shells (store_in l.store)) l.yielded) l.initial.walk l.walk

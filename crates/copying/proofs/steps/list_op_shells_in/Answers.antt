@@ -1,15 +1,16 @@
 -- `list_op_shells_in` meets its contract: a pass through the block's operations, whose step is a shell. Assumes nothing.
 use Rattle.std.proofs.Common.{◌≡◌, ◌<◌, ◌∷◌, ◌++◌, ap, ◌∙◌, arith}
-use Rattle.rules.specs.Store.{of_op, ops_of}
+use Rattle.rules.specs.Store.{ops_of}
+use Rattle.rules.specs.declared.types.Owner.TheVariants.{Op as of_op}
 use Rattle.layout.specs.Columns.{columns}
 use Rattle.layout.specs.OpsLeft.{ops_left}
 use Rattle.layout.specs.Reading.{op_count, store_in}
 use Rattle.layout.proofs.Laid.{laid_facts}
 use Rattle.fragments.proofs.Ordered.{op_in_lem}
 use Rattle.fragments.proofs.Yielded.{item_comes, all_came, comes_mem}
-use Rattle.numbering.specs.Parts.{op_shells}
-use Rattle.numbering.proofs.Passing.{none_came, came_over, came_room, came_again}
-use Rattle.numbering.proofs.Rounds.{each_shell_lem}
+use Rattle.fragments.specs.Parts.{op_shells}
+use Rattle.fragments.proofs.Passing.{none_came, came_over, came_room, came_again}
+use Rattle.fragments.proofs.Rounds.{each_shell_lem}
 use Rattle.copying.specs.declared.steps.Step.TheVariants.{OpShell}
 use Rattle.copying.specs.Steps.{step_of}
 use Rattle.copying.proofs.Listing.{list_walk, shells_fit, shells_listed, fits_one, listed_one}

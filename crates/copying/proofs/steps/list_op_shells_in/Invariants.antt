@@ -1,6 +1,6 @@
 -- `list_op_shells_in` meets its contract: the shells of the operations that came so far are there. Assumes nothing.
-use Rattle.rules.specs.Store.{of_op}
-use Rattle.numbering.proofs.Rounds.{each_shell}
+use Rattle.rules.specs.declared.types.Owner.TheVariants.{Op as of_op}
+use Rattle.fragments.proofs.Rounds.{each_shell}
 use Rattle.copying.specs.Steps.{Listed}
 use Rattle.copying.proofs.steps.list_op_shells_in.Given as goal
 

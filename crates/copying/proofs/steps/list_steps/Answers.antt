@@ -1,15 +1,16 @@
 -- `list_steps` meets its contract: the shell is the first step, and the operation in full the others; there is room for the steps of every walk. Assumes nothing.
 use Rattle.std.proofs.Common.{◌<◌, List, [], ◌∷◌, ◌++◌, length, sym, ap, subst, ◌∙◌, arith}
 use borrow.Author.Tests.{lt-ltb}
-use Rattle.rules.specs.Store.{of_op}
-use Rattle.rules.specs.Fragments.{shell, op, steps}
+use Rattle.rules.specs.declared.types.Owner.TheVariants.{Op as of_op}
+use Rattle.rules.specs.Fragments.{shell, steps}
+use Rattle.rules.specs.declared.types.Sort.TheVariants.{Op as op}
 use Rattle.rules.specs.Fragments as rules
 use Rattle.layout.specs.Columns.{columns}
 use Rattle.layout.specs.Reading.{store_in}
 use Rattle.layout.proofs.Laid.{laid_facts}
 use Rattle.layout.proofs.Tabulate.{op_exists_lem}
-use Rattle.numbering.specs.Parts.{full_steps}
-use Rattle.numbering.proofs.Rounds.{op_steps}
+use Rattle.fragments.specs.Parts.{full_steps}
+use Rattle.fragments.proofs.Rounds.{op_steps}
 use Rattle.copying.specs.declared.steps.Step.{Step}
 use Rattle.copying.specs.declared.steps.Step.TheVariants.{OpShell}
 use Rattle.copying.specs.Steps.{steps_listed, StepsFit, AreSteps, step_of}

@@ -21,52 +21,52 @@ unfolding op_count
 overflow_add-number c =
     omega (arith, (little ((goal.at.overflow_add-number c).After-totals_of-more)).ops, (counted c.args.original.now.store.now c.args.original.now.sound).ops, c.number.ensures)
 
-pub overflow_add-number-then-number-more-le512 : goal.overflow_add-number-then-number-more-le512
+pub overflow_add-number-then-number-more-le-MAX_OPS : goal.overflow_add-number-then-number-more-le-MAX_OPS
 unfolding block_count
-overflow_add-number-then-number-more-le512 c =
-    omega (arith, (little ((goal.at.overflow_add-number-then-number-more-le512 c).After-totals_of-more)).blocks, (counted c.args.original.now.store.now c.args.original.now.sound).blocks, c.number-then-number-more-le512.ensures)
+overflow_add-number-then-number-more-le-MAX_OPS c =
+    omega (arith, (little ((goal.at.overflow_add-number-then-number-more-le-MAX_OPS c).After-totals_of-more)).blocks, (counted c.args.original.now.store.now c.args.original.now.sound).blocks, c.number-then-number-more-le-MAX_OPS.ensures)
 
-pub overflow_add-number-then-number-more-le256 : goal.overflow_add-number-then-number-more-le256
+pub overflow_add-number-then-number-more-le-MAX_BLOCKS : goal.overflow_add-number-then-number-more-le-MAX_BLOCKS
 unfolding region_count
-overflow_add-number-then-number-more-le256 c =
-    omega (arith, (little ((goal.at.overflow_add-number-then-number-more-le256 c).After-totals_of-more)).regions, (counted c.args.original.now.store.now c.args.original.now.sound).regions, c.number-then-number-more-le256.ensures)
+overflow_add-number-then-number-more-le-MAX_BLOCKS c =
+    omega (arith, (little ((goal.at.overflow_add-number-then-number-more-le-MAX_BLOCKS c).After-totals_of-more)).regions, (counted c.args.original.now.store.now c.args.original.now.sound).regions, c.number-then-number-more-le-MAX_BLOCKS.ensures)
 
-pub overflow_add-number-then-number-more-le256-2 : goal.overflow_add-number-then-number-more-le256-2
+pub overflow_add-number-then-number-more-le-MAX_REGIONS : goal.overflow_add-number-then-number-more-le-MAX_REGIONS
 unfolding value_count
-overflow_add-number-then-number-more-le256-2 c =
-    omega (arith, (little ((goal.at.overflow_add-number-then-number-more-le256-2 c).After-totals_of-more)).values, (counted c.args.original.now.store.now c.args.original.now.sound).values, c.number-then-number-more-le256-2.ensures)
+overflow_add-number-then-number-more-le-MAX_REGIONS c =
+    omega (arith, (little ((goal.at.overflow_add-number-then-number-more-le-MAX_REGIONS c).After-totals_of-more)).values, (counted c.args.original.now.store.now c.args.original.now.sound).values, c.number-then-number-more-le-MAX_REGIONS.ensures)
 
-pub overflow_add-number-then-number-more-le2048 : goal.overflow_add-number-then-number-more-le2048
+pub overflow_add-number-then-number-more-le-MAX_VALUES : goal.overflow_add-number-then-number-more-le-MAX_VALUES
 unfolding operand_count
-overflow_add-number-then-number-more-le2048 c =
-    omega (arith, (little ((goal.at.overflow_add-number-then-number-more-le2048 c).After-totals_of-more)).operands, (counted c.args.original.now.store.now c.args.original.now.sound).operands, c.number-then-number-more-le2048.ensures)
+overflow_add-number-then-number-more-le-MAX_VALUES c =
+    omega (arith, (little ((goal.at.overflow_add-number-then-number-more-le-MAX_VALUES c).After-totals_of-more)).operands, (counted c.args.original.now.store.now c.args.original.now.sound).operands, c.number-then-number-more-le-MAX_VALUES.ensures)
 
-pub overflow_add-number-then-number-more-le2048-2 : goal.overflow_add-number-then-number-more-le2048-2
+pub overflow_add-number-then-number-more-le-MAX_OPERANDS : goal.overflow_add-number-then-number-more-le-MAX_OPERANDS
 unfolding successor_count
-overflow_add-number-then-number-more-le2048-2 c =
-    omega (arith, (little ((goal.at.overflow_add-number-then-number-more-le2048-2 c).After-totals_of-more)).successors, (counted c.args.original.now.store.now c.args.original.now.sound).successors, c.number-then-number-more-le2048-2.ensures)
+overflow_add-number-then-number-more-le-MAX_OPERANDS c =
+    omega (arith, (little ((goal.at.overflow_add-number-then-number-more-le-MAX_OPERANDS c).After-totals_of-more)).successors, (counted c.args.original.now.store.now c.args.original.now.sound).successors, c.number-then-number-more-le-MAX_OPERANDS.ensures)
 
 pub overflow_add-result : goal.overflow_add-result
 unfolding attribute_count
 overflow_add-result c =
-    omega (arith, (little ((goal.at.overflow_add-result c).After-totals_of-more)).attributes, (counted c.args.original.now.store.now c.args.original.now.sound).attributes, c.number-then-number-more-le512-2.ensures)
+    omega (arith, (little ((goal.at.overflow_add-result c).After-totals_of-more)).attributes, (counted c.args.original.now.store.now c.args.original.now.sound).attributes, c.number-then-number-more-le-MAX_SUCCESSORS.ensures)
 
-pub returns-then-number-more-le512-2 : goal.returns-then-number-more-le512-2
+pub returns-then-number-more-le-MAX_SUCCESSORS : goal.returns-then-number-more-le-MAX_SUCCESSORS
 unfolding holds every op_count block_count region_count value_count operand_count successor_count attribute_count
-returns-then-number-more-le512-2 c =
+returns-then-number-more-le-MAX_SUCCESSORS c =
     let C : Cols = columns c.args.original.now.store.now in
     let t : Totals = c.totals_of-more.result in
-    let told : leb (c.number-then-number-more-le512-2.result + t.attributes) 1024
+    let told : leb (c.number-then-number-more-le-MAX_SUCCESSORS.result + t.attributes) 1024
     ≡ holds (op_count C + t.ops) (block_count C + t.blocks) (region_count C + t.regions) (value_count C + t.values) (operand_count C + t.operands) (successor_count C + t.successors) (attribute_count C + t.attributes) =
     grind (arith, nat_tests) in
     λ place. told ∙ totals_with c.args.original.now.store.now c.args.original.now.sound c.args.original.now.n c.args.original.now.exists place t c.totals_of-more.ensures
 
-pub returns-else-number-more-le512-2 : goal.returns-else-number-more-le512-2
+pub returns-else-number-more-le-MAX_SUCCESSORS : goal.returns-else-number-more-le-MAX_SUCCESSORS
 unfolding holds every op_count block_count region_count value_count operand_count successor_count attribute_count
-returns-else-number-more-le512-2 c =
+returns-else-number-more-le-MAX_SUCCESSORS c =
     let C : Cols = columns c.args.original.now.store.now in
     let t : Totals = c.totals_of-more.result in
-    let told : c.if-number-more-le2048-2.value
+    let told : c.if-number-more-le-MAX_OPERANDS.value
     ≡ holds (op_count C + t.ops) (block_count C + t.blocks) (region_count C + t.regions) (value_count C + t.values) (operand_count C + t.operands) (successor_count C + t.successors) (attribute_count C + t.attributes) =
     grind (arith, nat_tests) in
     λ place. told ∙ totals_with c.args.original.now.store.now c.args.original.now.sound c.args.original.now.n c.args.original.now.exists place t c.totals_of-more.ensures

@@ -1,7 +1,8 @@
 -- `totals_of` meets its contract: a shell adds its operation or block to the totals, and an operation's names add nothing; sums that are a part of the
 -- operation's are small. Assumes nothing.
 use Rattle.std.proofs.Common.{◌≡◌, sym, ◌∙◌, subst}
-use Rattle.rules.specs.Fragments.{op, steps}
+use Rattle.rules.specs.Fragments.{steps}
+use Rattle.rules.specs.declared.types.Sort.TheVariants.{Op as op}
 use Rattle.layout.specs.Columns.{columns}
 use Rattle.layout.specs.Reading.{store_in}
 use Rattle.copying.specs.declared.totals.Totals.{Totals}

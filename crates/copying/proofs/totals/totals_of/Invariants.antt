@@ -1,6 +1,7 @@
 -- With what is left of the owners added, the totals so far are those of the whole operation. Assumes nothing.
 use Rattle.std.proofs.Common.{◌≡◌}
-use Rattle.rules.specs.Fragments.{op, steps}
+use Rattle.rules.specs.Fragments.{steps}
+use Rattle.rules.specs.declared.types.Sort.TheVariants.{Op as op}
 use Rattle.layout.specs.Columns.{columns}
 use Rattle.layout.specs.Reading.{store_in}
 use Rattle.copying.specs.Totals.{owners_totalled, totalled}

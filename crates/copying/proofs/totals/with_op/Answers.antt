@@ -5,5 +5,5 @@ use Rattle.copying.proofs.totals.with_op.Goals as goal
 pub span-requires-clause-n_bound : goal.span-requires-clause-n_bound
 span-requires-clause-n_bound c = (op_spans _ c.requires.sound _ c.requires.m_bound).low
 
-pub span-requires-clause-n_bound_2 : goal.span-requires-clause-n_bound_2
-span-requires-clause-n_bound_2 c = (op_spans _ c.requires.sound _ c.requires.m_bound).low
+pub span-requires-clause-end_bound : goal.span-requires-clause-end_bound
+span-requires-clause-end_bound c = (op_spans _ c.requires.sound _ c.requires.m_bound).low

@@ -1,27 +1,26 @@
 -- `copy_attributes` meets its contract: the first of the attributes are the other owner's so far, and the total has grown by as many. Assumes nothing.
 use Rattle.std.proofs.Common.{◌≡◌, ℕ, ◌+◌, ◌<◌, ◌≤◌, get_or, ap, ◌∙◌, arith}
-use Rattle.rules.specs.Store.{Attribute}
+use Rattle.rules.specs.declared.types.Attribute.{Attribute}
 use Rattle.rules.specs.Building.{attributes_of}
 use Rattle.layout.specs.Columns.{columns}
 use Rattle.layout.specs.Reading.{slots_of, attribute_at, store_in}
-use Rattle.layout.specs.Owners.{owner_of, key_count}
-use Rattle.calling.specs.Types.{attribute_of}
+use Rattle.layout.specs.Owners.{key_count}
 use Rattle.copying.proofs.Setting.{NextOne, no_attribute, begun, ended, next_one, again, total_again}
 use Rattle.copying.proofs.writing.copy_attributes.Goals as goal
 use Rattle.copying.proofs.writing.copy_attributes.Goals.{In-loop-i}
 
 -- the next attribute
-known : (c : In-loop-i) → NextOne c.loop-i.store (owner_of c.args.from) (owner_of c.args.to) c.loop-i.i (get_or (attributes_of (store_in c.args.store.now) (owner_of c.args.from)) c.loop-i.i no_attribute)
+known : (c : In-loop-i) → NextOne c.loop-i.store c.args.from c.args.to c.loop-i.i (get_or (attributes_of (store_in c.args.store.now) c.args.from) c.loop-i.i no_attribute)
 known c =
     let r = c.requires in
-    let low : c.loop-i.i < key_count (columns c.args.store.now) (owner_of c.args.from) = omega (arith, c.loop-i-test.true, c.key_count-count.ensures) in
-    next_one c.args.store.now (owner_of c.args.from) (owner_of c.args.to) r.arranged r.from_exists r.to_exists r.apart r.held r.room
+    let low : c.loop-i.i < key_count (columns c.args.store.now) c.args.from = omega (arith, c.loop-i-test.true, c.key_count-count.ensures) in
+    next_one c.args.store.now c.args.from c.args.to r.arranged r.from_exists r.to_exists r.apart r.held r.room
     c.loop-i.store c.loop-i.i low c.loop-i.invariant.0 c.loop-i.invariant.1
 
 pub loop-i-init : goal.loop-i-init
 loop-i-init c =
     let r = c.requires in
-    (begun c.args.store.now (owner_of c.args.from) (owner_of c.args.to) r.arranged r.from_exists r.to_exists r.empty, omega arith)
+    (begun c.args.store.now c.args.from c.args.to r.arranged r.from_exists r.to_exists r.empty, omega arith)
 
 pub overflow_add-first_slot : goal.overflow_add-first_slot
 overflow_add-first_slot c =
@@ -50,7 +49,6 @@ pub put_added-requires-clause-owner_bound : goal.put_added-requires-clause-owner
 put_added-requires-clause-owner_bound c = (known ((goal.at.put_added-requires-clause-owner_bound c).In-loop-i)).few_keys
 
 pub put_added-requires-clause-kind_le_max_attribute_kind : goal.put_added-requires-clause-kind_le_max_attribute_kind
-unfolding attribute_of
 put_added-requires-clause-kind_le_max_attribute_kind c =
     let k = known ((goal.at.put_added-requires-clause-kind_le_max_attribute_kind c).In-loop-i) in
     let e = c.attribute_at-attribute.ensures ∙ ap (λ (x : ℕ). attribute_at (columns c.loop-i.store) (x + c.loop-i.i)) c.first_slot.ensures ∙ k.read in
@@ -59,8 +57,8 @@ put_added-requires-clause-kind_le_max_attribute_kind c =
 pub loop-i-preserved : goal.loop-i-preserved
 loop-i-preserved c =
     let a = c.args.store.now in
-    let from = owner_of c.args.from in
-    let to = owner_of c.args.to in
+    let from = c.args.from in
+    let to = c.args.to in
     let r = c.requires in
     let m = c.loop-i in
     let k = known ((goal.at.loop-i-preserved c).In-loop-i) in
@@ -69,13 +67,13 @@ loop-i-preserved c =
     let slot : c.first_slot-in-loop-i.result + m.i ≡ slots_of to + m.i = ap (λ (x : ℕ). x + m.i) c.first_slot-in-loop-i.ensures in
     let d = c.put_added.new.store in (
       again a from to r.arranged r.from_exists r.to_exists r.apart r.held r.room m.store m.i low m.invariant.0 m.invariant.1
-          d (omega arith) (c.first_slot-in-loop-i.result + m.i) slot (attribute_of c.attribute_at-attribute.result) e c.put_added.ensures,
+          d (omega arith) (c.first_slot-in-loop-i.result + m.i) slot c.attribute_at-attribute.result e c.put_added.ensures,
       total_again a from to r.arranged r.from_exists r.to_exists r.apart r.held r.room m.store m.i low m.invariant.0 m.invariant.1
-          d (omega arith) (c.first_slot-in-loop-i.result + m.i) slot (attribute_of c.attribute_at-attribute.result) e c.put_added.ensures,
+          d (omega arith) (c.first_slot-in-loop-i.result + m.i) slot c.attribute_at-attribute.result e c.put_added.ensures,
     )
 
 pub returns : goal.returns
 returns c =
     let r = c.requires in
-    let past : key_count (columns c.args.store.now) (owner_of c.args.from) ≤ c.loop-i.i = omega (arith, c.loop-i-test.false, c.key_count-count.ensures) in
-    ended c.args.store.now (owner_of c.args.from) (owner_of c.args.to) r.arranged r.from_exists r.to_exists c.loop-i.store c.loop-i.i past c.loop-i.invariant.0
+    let past : key_count (columns c.args.store.now) c.args.from ≤ c.loop-i.i = omega (arith, c.loop-i-test.false, c.key_count-count.ensures) in
+    ended c.args.store.now c.args.from c.args.to r.arranged r.from_exists r.to_exists c.loop-i.store c.loop-i.i past c.loop-i.invariant.0

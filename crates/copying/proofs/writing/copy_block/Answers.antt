@@ -1,13 +1,13 @@
 -- `copy_block` meets its contract: its row is written as the rules say, and then its attributes, one after the other. Assumes nothing.
 use Rattle.std.proofs.Common.{◌≡◌, ℕ, ◌+◌, ◌<◌, ◌≤◌, List, length, get_or, sym, ap, subst, ◌∙◌, arith}
-use Rattle.rules.specs.Store.{Block, Attribute, block_at, regions_of, attributes_hold, attribute_total, max_attributes}
+use Rattle.rules.specs.Store.{Block, block_at, regions_of, attributes_hold, attribute_total, max_attributes}
+use Rattle.rules.specs.declared.types.Attribute.{Attribute}
 use Rattle.rules.specs.Mapping.{image}
 use Rattle.layout.specs.Columns.{columns}
 use Rattle.layout.specs.Reading.{block_count, block_of, store_in}
-use Rattle.layout.specs.Owners.{owner_of}
 use Rattle.layout.proofs.Laid.{laid_facts}
 use Rattle.layout.proofs.Tabulate.{block_read, ops_length}
-use Rattle.mapping.specs.MappingWords.{mapping_of}
+use Rattle.equivalence.specs.MappingWords.{mapping_of}
 use Rattle.copying.specs.Written.{region_by}
 use Rattle.copying.proofs.Making.{block_low, arguments_rise, arguments_end, arguments_few, block_room_lem, block_set, block_done}
 use Rattle.copying.proofs.Asked.{BlockTaken, argument_types_asked, region_there, block_row_wrote}
@@ -103,7 +103,7 @@ overflow_cast-b c =
     record { fits = omega (arith, block_low c.args.store.now c.requires.arranged (mapping_of c.args.mapping.now) c.args.b c.requires.b_bound c.requires.ready) }
 
 pub copy_attributes-requires : goal.copy_attributes-requires
-unfolding block_count owner_of
+unfolding block_count
 copy_attributes-requires c =
     let a = c.args.store.now in
     let r = c.requires in
@@ -121,7 +121,7 @@ copy_attributes-requires c =
     }
 
 pub returns : goal.returns
-unfolding block_count owner_of
+unfolding block_count
 returns c =
     let a = c.args.store.now in
     let r = c.requires in

@@ -1,15 +1,14 @@
 -- `copy_op` meets its contract: its row is written as the rules say, and then its attributes, one after the other. Assumes nothing.
 use Rattle.std.proofs.Common.{ℕ, ◌+◌, ◌≤◌, List, length, get_or, map, sym, ap, subst, ◌∙◌, arith}
-use Rattle.rules.specs.Store.{Attribute, attributes_hold, attribute_total, max_attributes}
+use Rattle.rules.specs.Store.{attributes_hold, attribute_total, max_attributes}
+use Rattle.rules.specs.declared.types.Attribute.{Attribute}
 use lib.Dec.{ltb}
-use Rattle.rules.specs.Lists.{all}
+use Rattle.std.specs.List.{list_all}
 use Rattle.rules.specs.Mapping.{or_self}
 use Rattle.layout.specs.Columns.{columns}
 use Rattle.layout.specs.Reading.{op_count, store_in}
-use Rattle.layout.specs.Owners.{owner_of}
 use Rattle.layout.proofs.Laid.{laid_facts}
-use Rattle.calling.specs.Types.{parent_of}
-use Rattle.mapping.specs.MappingWords.{mapping_of}
+use Rattle.equivalence.specs.MappingWords.{mapping_of}
 use Rattle.copying.proofs.Making.{named_low, op_low, results_rise, results_end, results_few, op_set, op_done}
 use Rattle.copying.proofs.Asked.{OpTaken, op_asked_room, op_row_wrote}
 use Rattle.copying.proofs.writing.copy_op.Goals as goal
@@ -45,11 +44,11 @@ types_of-results-requires-clause-room c = results_few c.args.store.now c.require
 
 pub images_of-uses-requires-clause-names_bound : goal.images_of-uses-requires-clause-names_bound
 images_of-uses-requires-clause-names_bound c =
-    λ k l. omega (arith, named_low 2048 c.operands_of.result.now (ap (all (λ (v : ℕ). ltb v 2048)) c.operands_of.ensures ∙ c.requires.ready.values_named) k l, c.told-mapping)
+    λ k l. omega (arith, named_low 2048 c.operands_of.result.now (ap (list_all (λ (v : ℕ). ltb v 2048)) c.operands_of.ensures ∙ c.requires.ready.values_named) k l, c.told-mapping)
 
 pub images_of-targets-requires-clause-names_bound : goal.images_of-targets-requires-clause-names_bound
 images_of-targets-requires-clause-names_bound c =
-    λ k l. omega (arith, named_low 256 c.successors_of.result.now (ap (all (λ (v : ℕ). ltb v 256)) c.successors_of.ensures ∙ c.requires.ready.blocks_named) k l, c.told-mapping)
+    λ k l. omega (arith, named_low 256 c.successors_of.result.now (ap (list_all (λ (v : ℕ). ltb v 256)) c.successors_of.ensures ∙ c.requires.ready.blocks_named) k l, c.told-mapping)
 
 pub at-requires-clause-n_bound : goal.at-requires-clause-n_bound
 at-requires-clause-n_bound c = op_low c.args.store.now c.requires.arranged c.args.m c.requires.m_bound c.requires.ready
@@ -80,7 +79,7 @@ pub overflow_cast-m : goal.overflow_cast-m
 overflow_cast-m c = record { fits = omega (arith, op_low c.args.store.now c.requires.arranged c.args.m c.requires.m_bound c.requires.ready) }
 
 pub copy_attributes-requires : goal.copy_attributes-requires
-unfolding op_count owner_of
+unfolding op_count
 copy_attributes-requires c =
     let a = c.args.store.now in
     let r = c.requires in
@@ -89,7 +88,7 @@ copy_attributes-requires c =
     op_row_wrote a r.arranged c.args.mapping.now c.told-mapping c.args.parent c.args.m r.m_bound r.ready (taken ((goal.at.copy_attributes-requires c).After-at-4)) b (omega arith)
     c.put_operation.ensures r.parent_value
     in
-    let set = op_set a r.arranged c.args.m r.m_bound r.ready (mapping_of c.args.mapping.now) (parent_of c.args.parent) b w c.at-copy.result c.at-copy.ensures in
+    let set = op_set a r.arranged c.args.m r.m_bound r.ready (mapping_of c.args.mapping.now) c.args.parent b w c.at-copy.result c.at-copy.ensures in
     record {
       arranged = w.arranged;
       from_exists = set.from_exists;
@@ -101,7 +100,7 @@ copy_attributes-requires c =
     }
 
 pub returns : goal.returns
-unfolding op_count owner_of
+unfolding op_count
 returns c =
     let a = c.args.store.now in
     let r = c.requires in
@@ -110,5 +109,5 @@ returns c =
     op_row_wrote a r.arranged c.args.mapping.now c.told-mapping c.args.parent c.args.m r.m_bound r.ready (taken ((goal.at.returns c).After-at-4)) b (omega arith)
     c.put_operation.ensures r.parent_value
     in
-    op_done a r.arranged c.args.m r.m_bound r.ready (mapping_of c.args.mapping.now) (parent_of c.args.parent) b w c.at-copy.result c.at-copy.ensures
+    op_done a r.arranged c.args.m r.m_bound r.ready (mapping_of c.args.mapping.now) c.args.parent b w c.at-copy.result c.at-copy.ensures
     c.copy_attributes.new.store c.copy_attributes.ensures

@@ -4,7 +4,7 @@ use Rattle.rules.specs.Mapping.{image}
 use Rattle.layout.specs.Columns.{columns, at, op_region_first}
 use Rattle.layout.specs.Reading.{op_count}
 use Rattle.layout.proofs.Laid.{laid_facts}
-use Rattle.mapping.specs.MappingWords.{mapping_of}
+use Rattle.equivalence.specs.MappingWords.{mapping_of}
 use Rattle.copying.proofs.Named.{op_image}
 use Rattle.copying.proofs.Regions.{around_read, around_low, behind_first_lem, first_low, region_by_lem}
 use Rattle.copying.proofs.writing.region_copy.Goals as goal

@@ -2,8 +2,8 @@
 use Rattle.rules.specs.Comparison.{each_pair}
 use Rattle.layout.specs.Reading.{store_in}
 use Rattle.fragments.specs.BlocksLeft.{blocks_left}
-use Rattle.fragments.specs.Terms.{options_in}
-use Rattle.pairing.specs.Told.{state_of}
+use Rattle.fragments.specs.View.{options_in}
+use Rattle.equivalence.specs.Compares.{state_of}
 use Rattle.equivalence.specs.Walked.{lefts, rights, pass2_walk, pairs_walk}
 use Rattle.equivalence.proofs.Zipped.{Rest}
 use Rattle.equivalence.proofs.passes.map_ops.Given as goal
@@ -12,6 +12,6 @@ abbrev pub invariant-loop-lhs : goal.invariant-loop-lhs
 invariant-loop-lhs l =
     (goal.iterator-loop-lhs).can_next l.lhs-iterator
     × (goal.iterator-loop-lhs).is_finite l.lhs-iterator
-    × Rest (each_pair (pairs_walk (store_in l.terms.store.now) (options_in l.terms)))
-    (lefts (store_in l.terms.store.now) l.fn.lists) (rights (store_in l.terms.store.now) l.fn.lists) (blocks_left l.lhs-iterator.a) (blocks_left l.lhs-iterator.b)
-    (pass2_walk (store_in l.terms.store.now) (options_in l.terms) l.fn.lists (state_of l.initial.mapping l.paired)) l.mapping l.count
+    × Rest (each_pair (pairs_walk (store_in l.view.store.now) (options_in l.view)))
+    (lefts (store_in l.view.store.now) l.fn.lists) (rights (store_in l.view.store.now) l.fn.lists) (blocks_left l.lhs-iterator.a) (blocks_left l.lhs-iterator.b)
+    (pass2_walk (store_in l.view.store.now) (options_in l.view) l.fn.lists (state_of l.initial.mapping l.paired)) l.mapping l.count

@@ -7,11 +7,11 @@ use borrow.Author.Tests.{leb-false}
 use Rattle.rules.specs.Shells.{ignored}
 use Rattle.layout.specs.Columns.{columns, at, slot_kind}
 use Rattle.layout.specs.Reading.{attribute_at, kind_from, inherent_from}
-use Rattle.fragments.specs.Ignoring.{ignore_of, bit_set}
+use Rattle.fragments.specs.Ignoring.{bit_set}
 use Rattle.fragments.proofs.ignoring.slot_ignored.Goals as goal
 
 pub returns-then-inherent_from : goal.returns-then-inherent_from
-unfolding ignored attribute_at ignore_of bit_set kind_from
+unfolding ignored attribute_at bit_set kind_from
 returns-then-inherent_from c =
     let word : ℕ = at (columns c.args.store.now) slot_kind c.args.slot in
     let bit : ℕ → Bool = bit_set c.args.ignore.bits in
@@ -27,7 +27,7 @@ bit_set-requires c =
     omega (arith, leb-false 64 word (flag_told _ c.if-inherent_from.false), c.at-kind.ensures)
 
 pub returns : goal.returns
-unfolding ignored attribute_at ignore_of bit_set kind_from
+unfolding ignored attribute_at bit_set kind_from
 returns c =
     let word : ℕ = at (columns c.args.store.now) slot_kind c.args.slot in
     let bit : ℕ → Bool = bit_set c.args.ignore.bits in

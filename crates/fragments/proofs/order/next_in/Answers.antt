@@ -16,6 +16,6 @@ pub returns-in-InRegion : goal.returns-in-InRegion
 unfolding block_list
 returns-in-InRegion c = rw c.in-InRegion.is c.next_block.ensures
 
-pub returns-in-Alone : goal.returns-in-Alone
+pub returns-in-Single : goal.returns-in-Single
 unfolding block_list
-returns-in-Alone c = rw c.in-Alone.is c.one_from.ensures
+returns-in-Single c = rw c.in-Single.is c.one_from.ensures

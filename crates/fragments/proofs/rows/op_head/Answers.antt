@@ -8,11 +8,11 @@ at-requires-clause-n_bound c = op_low _ c.requires.sound _ c.requires.n_bound
 pub span-requires-clause-n_bound : goal.span-requires-clause-n_bound
 span-requires-clause-n_bound c = op_low _ c.requires.sound _ c.requires.n_bound
 
-pub span-requires-clause-n_bound_2 : goal.span-requires-clause-n_bound_2
-span-requires-clause-n_bound_2 c = op_low _ c.requires.sound _ c.requires.n_bound
+pub span-requires-clause-end_bound : goal.span-requires-clause-end_bound
+span-requires-clause-end_bound c = op_low _ c.requires.sound _ c.requires.n_bound
 
 pub span-requires-2-clause-n_bound : goal.span-requires-2-clause-n_bound
 span-requires-2-clause-n_bound c = op_low _ c.requires.sound _ c.requires.n_bound
 
-pub span-requires-2-clause-n_bound_2 : goal.span-requires-2-clause-n_bound_2
-span-requires-2-clause-n_bound_2 c = op_low _ c.requires.sound _ c.requires.n_bound
+pub span-requires-2-clause-end_bound : goal.span-requires-2-clause-end_bound
+span-requires-2-clause-end_bound c = op_low _ c.requires.sound _ c.requires.n_bound

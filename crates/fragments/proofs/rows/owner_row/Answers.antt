@@ -2,7 +2,6 @@
 use Prim.Native.Nat.{◌-◌}
 use mathlib.Core.Path.{ap, ap₂, ◌∙◌}
 use Rattle.layout.specs.Columns.{Cols, at, columns}
-use Rattle.layout.specs.Owners.{owner_of}
 use Rattle.layout.proofs.OwnerKeys.{owner_in_lem}
 use Rattle.fragments.specs.declared.rows.OwnColumns.{OwnColumns}
 use Rattle.fragments.proofs.ByRows.{OwnFits, own_fits, own_row}
@@ -10,8 +9,8 @@ use Rattle.fragments.proofs.rows.owner_row.Goals as goal
 use Rattle.fragments.proofs.rows.owner_row.Goals.{Start}
 
 -- the owner's columns have its row
-fits : (c : Start) → OwnFits c.args.store.now c.requires.sound (owner_of c.args.owner)
-fits c = own_fits c.args.store.now c.requires.sound (owner_of c.args.owner) (owner_in_lem (columns c.args.store.now) (owner_of c.args.owner) c.requires.owner_value)
+fits : (c : Start) → OwnFits c.args.store.now c.requires.sound c.args.owner
+fits c = own_fits c.args.store.now c.requires.sound c.args.owner (owner_in_lem (columns c.args.store.now) c.args.owner c.requires.owner_value)
 
 pub at-requires : goal.at-requires
 at-requires c =
@@ -36,8 +35,8 @@ span-requires c =
       first_lt_column_count = rw c.own_columns-own.ensures own.first;
       end_lt_column_count = rw c.own_columns-own.ensures own.end;
       n_bound = rw (c.own_columns-own.ensures, c.owner_number-n.ensures) own.in_first;
-      n_bound_2 = rw (c.own_columns-own.ensures, c.owner_number-n.ensures) own.in_end;
-      n_bound_3 = rw (c.own_columns-own.ensures, c.owner_number-n.ensures) own.range.rises;
+      end_bound = rw (c.own_columns-own.ensures, c.owner_number-n.ensures) own.in_end;
+      range_rises = rw (c.own_columns-own.ensures, c.owner_number-n.ensures) own.range.rises;
     }
 
 pub returns : goal.returns
@@ -46,5 +45,5 @@ returns c =
     let place = ap₂ (at C) (ap (λ (own : OwnColumns). own.location) c.own_columns-own.ensures) c.owner_number-n.ensures in
     let first = ap₂ (at C) (ap (λ (own : OwnColumns). own.first) c.own_columns-own.ensures) c.owner_number-n.ensures in
     let end = ap₂ (at C) (ap (λ (own : OwnColumns). own.end) c.own_columns-own.ensures) c.owner_number-n.ensures in
-    own_row c.args.store.now c.requires.sound (owner_of c.args.owner) (owner_in_lem C (owner_of c.args.owner) c.requires.owner_value) (c.at.ensures ∙ place)
+    own_row c.args.store.now c.requires.sound c.args.owner (owner_in_lem C c.args.owner c.requires.owner_value) (c.at.ensures ∙ place)
     c.first_slot.ensures c.key_count.ensures (c.number.ensures ∙ first) (c.span.ensures ∙ ap₂ ◌-◌ end first)

@@ -5,7 +5,8 @@ use native.Mathlib.Omega.{arith}
 use native.Mathlib.Nat.{suc-add}
 use mathlib.Core.List.{List, [], Memᴰ, ◌++◌, ◌∷◌, append-nil}
 use mathlib.Core.Path.{◌≡◌, refl, sym, ap, ap₂, subst, ◌∙◌}
-use Rattle.rules.specs.Lists.{concat_map, sum}
+use Rattle.std.specs.List.{flat_map}
+use Rattle.rules.specs.Lists.{sum}
 use Rattle.rules.specs.Store.{Store, ops_of, blocks_of, regions_of}
 use Rattle.rules.specs.Fragments.{ops_in_blocks, ops_inside}
 use Rattle.rules.specs.Extents.{deepest, op_nesting}
@@ -85,7 +86,7 @@ unfolding BlocksExist
 size_in_region-new-b-items-requires-clause-blocks_exist t c = c.requires.r_bound
 
 pub size_in_region-loop-b-init : goal.size_in_region-loop-b-init
-unfolding ops_in_blocks concat_map
+unfolding ops_in_blocks
 size_in_region-loop-b-init t c = (_, _, none_sized (c.args.left - 1) (store_in c.args.store.now))
 
 pub size_in_region-size_in_block-requires : goal.size_in_region-size_in_block-requires
@@ -106,7 +107,7 @@ size_in_region-size_in_block-requires t c =
     )
 
 pub size_in_region-loop-b-preserved : goal.size_in_region-loop-b-preserved
-unfolding ops_in_blocks concat_map
+unfolding ops_in_blocks
 size_in_region-loop-b-preserved t c =
     let k : ℕ = c.args.left - 1 in
     let store : Store = store_in c.args.store.now in
@@ -141,12 +142,12 @@ pub size_of_op-number-r-end-requires-clause-n_bound : goal.size_of_op-number-r-e
 size_of_op-number-r-end-requires-clause-n_bound t c = omega (arith, (laid_facts _ c.requires.sound.laid).counts.ops, c.requires.n_bound)
 
 pub size_of_op-loop-r-init : goal.size_of_op-loop-r-init
-unfolding concat_map ops_size ops_nesting sum deepest
+unfolding ops_size ops_nesting sum deepest
 size_of_op-loop-r-init t c =
     let k : ℕ = c.args.left - 1 in
     let store : Store = store_in c.args.store.now in
-    let none : [] ≡ concat_map (ops_in_region store) (range c.number-r.result c.number-r.result) =
-    ap (concat_map (ops_in_region store)) (sym (range_empty _ _ (omega arith))) in
+    let none : [] ≡ flat_map (ops_in_region store) (range c.number-r.result c.number-r.result) =
+    ap (flat_map (ops_in_region store)) (sym (range_empty _ _ (omega arith))) in
     size_as (ap (λ (ns : List ℕ). suc (ops_size k store ns)) none) (ap (ops_nesting k store) none)
     (record { operations = λ l. refl; nesting = refl })
 
@@ -168,13 +169,12 @@ size_of_op-size_in_region-requires t c =
     )
 
 pub size_of_op-loop-r-preserved : goal.size_of_op-loop-r-preserved
-unfolding concat_map
 size_of_op-loop-r-preserved t c =
     let k : ℕ = c.args.left - 1 in
     let store : Store = store_in c.args.store.now in
     let r : ℕ = c.loop-r.r in
     let came : List ℕ = range c.number-r.result r in
-    let inside : List ℕ → List ℕ = concat_map (ops_in_region store) in
+    let inside : List ℕ → List ℕ = flat_map (ops_in_region store) in
     let both : inside came ++ ops_in_region store r ≡ inside (range c.number-r.result (r + 1)) =
     ap (λ (xs : List ℕ). inside came ++ xs) (sym (append-nil (ops_in_region store r)))
     ∙ sym (concat_map_append (ops_in_region store) came (r ∷ []))
@@ -195,8 +195,8 @@ size_of_op-returns t c =
     let rises = (laid.op n c.requires.n_bound).regions.range.rises in
     let done : r ≡ c.number-r-end.result =
     omega (arith, c.loop-r-test.false, c.loop-r.auto, c.number-r.ensures, c.number-r-end.ensures, rises) in
-    let all : concat_map (ops_in_region store) (range c.number-r.result r) ≡ ops_inside store n =
-    ap (concat_map (ops_in_region store))
+    let all : flat_map (ops_in_region store) (range c.number-r.result r) ≡ ops_inside store n =
+    ap (flat_map (ops_in_region store))
     (ap₂ range c.number-r.ensures (done ∙ c.number-r-end.ensures) ∙ sym (regions_range _ laid n c.requires.n_bound)) in
     size_as
     (ap (λ (ns : List ℕ). suc (ops_size (c.args.left - 1) store ns)) all ∙ size_inside store c.requires.sound.ruled c.args.left n c.requires.levels)

@@ -2,7 +2,7 @@
 -- Assumes nothing.
 use Prim.Native.Nat.{ℕ, suc, ◌+◌, ◌-◌, ◌*◌}
 use mathlib.Core.List.{List}
-use Rattle.rules.specs.Lists.{concat_map}
+use Rattle.std.specs.List.{flat_map}
 use Rattle.rules.specs.Store.{Store, blocks_of}
 use Rattle.rules.specs.Fragments.{ops_in_blocks}
 use Rattle.layout.specs.Reading.{store_in}
@@ -17,7 +17,7 @@ ops_in_region s r = ops_in_blocks s (blocks_of s r)
 
 abbrev pub invariant-size_of_op-loop-r : goal.invariant-size_of_op-loop-r
 invariant-size_of_op-loop-r l =
-    let inside : List ℕ = concat_map (ops_in_region (store_in l.store)) (range l.initial.r l.r) in
+    let inside : List ℕ = flat_map (ops_in_region (store_in l.store)) (range l.initial.r l.r) in
     SizeIs (suc (ops_size (l.left - 1) (store_in l.store) inside)) (ops_nesting (l.left - 1) (store_in l.store) inside) l.size
 
 abbrev pub decreases-size_of_op : goal.decreases-size_of_op

@@ -1,6 +1,6 @@
 -- `levels_left` meets its contract: no operation has more than 32 regions around it. Assumes nothing.
 use native.Mathlib.Omega.{arith}
-use mathlib.Core.Option.{some}
+use Rattle.std.specs.Prelude.{Some}
 use mathlib.Core.Path.{sym, ap, ◌∙◌}
 use Prim.Native.Nat.{ℕ, ◌-◌}
 use Rattle.layout.specs.Columns.{columns}
@@ -20,4 +20,4 @@ pub returns : goal.returns
 returns c =
     let C = columns c.args.store.now in
     levels_at C (laid_facts C c.requires.sound.laid) c.requires.sound.ruled c.args.n c.requires.n_bound
-    ∙ ap (λ (d : ℕ). some (32 - d)) (sym c.at.ensures)
+    ∙ ap (λ (d : ℕ). Some (32 - d)) (sym c.at.ensures)

@@ -2,19 +2,18 @@
 use Prim.Native.Nat.{ℕ, ◌+◌, ◌<◌, ◌≤◌}
 use native.Mathlib.Omega.{arith}
 use mathlib.Core.Bool.{Bool, false}
-use mathlib.Core.Option.{Option}
-use mathlib.Core.Path.{◌≡◌, sym, ap, subst, ◌∙◌}
+use Rattle.std.specs.Prelude.{Option}
+use mathlib.Core.Path.{◌≡◌, sym, subst, ◌∙◌}
 use lib.ListN.{length, get_or}
 use Rattle.std.specs.Prelude as std
 use Rattle.rules.specs.Grouping.{twin_of}
 use Rattle.layout.specs.Columns.{columns}
 use Rattle.layout.specs.Reading.{store_in}
-use Rattle.layout.specs.Children.{found_from}
 use Rattle.layout.proofs.Tabulate.{ops_length}
-use Rattle.fragments.specs.Options.{under}
-use Rattle.fragments.specs.Terms.{options_in}
+use Rattle.fragments.specs.Options.{renamed_under}
+use Rattle.fragments.specs.View.{options_in}
 use Rattle.fragments.proofs.Few.{op_low}
-use Rattle.windows.proofs.Tried.{left_on, Tried, tried_none, tried_all, tried_here, tried_over, tried_found, tried_next, to_go, fewer_to_go}
+use Rattle.hashing.proofs.Tried.{left_on, Tried, tried_none, tried_all, tried_here, tried_over, tried_found, tried_next, to_go, fewer_to_go}
 use Rattle.grouping.proofs.Searched.{stands, all_before, unlike}
 use Rattle.grouping.proofs.finding.twin_of.Goals as goal
 use Rattle.grouping.proofs.finding.twin_of.Goals.{Start, In-Some, else-hashes-m-via-then-hashes-m+else-is_twin, else-hashes-m-via-else-hashes-m}
@@ -24,20 +23,20 @@ module _ (c : Start) where
   hash = get_or c.args.hashes.now c.args.n 0
 
   abbrev test : ℕ → Bool
-  test = stands (store_in c.args.terms.now.store.now) (options_in c.args.terms.now) c.args.n
+  test = stands (store_in c.args.view.now.store.now) (options_in c.args.view.now) c.args.n
 
   abbrev TriedTo : ℕ → std.Option ℕ → Type 0
   TriedTo = Tried c.args.hashes.now hash test 1 c.args.n
 
-  below : c.args.n < length (store_in c.args.terms.now.store.now).ops
-  below = omega (arith, c.requires.n_bound, ops_length (columns c.args.terms.now.store.now))
+  below : c.args.n < length (store_in c.args.view.now.store.now).ops
+  below = omega (arith, c.requires.n_bound, ops_length (columns c.args.view.now.store.now))
 
   -- there are as many hashes as operations
   many : c.args.n < length c.args.hashes.now
   many = omega (arith, below, c.requires.hashed.hashes_of.many)
 
   few : c.args.n < 512
-  few = op_low c.args.terms.now.store.now c.args.terms.now.readable.sound c.args.n c.requires.n_bound
+  few = op_low c.args.view.now.store.now c.args.view.now.readable.sound c.args.n c.requires.n_bound
 
   enough : c.args.n < length c.args.hashes.now + 1
   enough = omega (arith, many)
@@ -45,11 +44,11 @@ module _ (c : Start) where
   other : (i : ℕ) → i + 1 ≤ c.args.n → (get_or c.args.hashes.now i 0 ≡ hash → ⊥) → test i ≡ false
   other =
       let a = c.args in
-      unlike (store_in a.terms.now.store.now) a.terms.now.readable.sound.ruled (options_in a.terms.now) a.hashes.now c.requires.hashed.hashes_of a.n below
+      unlike (store_in a.view.now.store.now) a.view.now.readable.sound.ruled (options_in a.view.now) a.hashes.now c.requires.hashed.hashes_of a.n below
 
   -- what is left to try is the whole
-  whole : {t : Option ℕ} → left_on test 1 c.args.n 0 ≡ t → found_from t ≡ found_from (twin_of (under (options_in c.args.terms.now) (store_in c.args.terms.now.store.now)) (options_in c.args.terms.now).ignore c.args.n)
-  whole e = sym (ap found_from (all_before (store_in c.args.terms.now.store.now) (options_in c.args.terms.now) c.args.n ∙ e))
+  whole : {t : Option ℕ} → left_on test 1 c.args.n 0 ≡ t → t ≡ twin_of (renamed_under (options_in c.args.view.now) (store_in c.args.view.now.store.now)) (options_in c.args.view.now).ignore c.args.n
+  whole e = sym (all_before (store_in c.args.view.now.store.now) (options_in c.args.view.now) c.args.n ∙ e)
 
 tried : (c : In-Some) → TriedTo ((goal.at.In-Some c).Start) c.loop-next.invariant.1 (std.Some c.in-Some.m)
 tried c = subst (TriedTo ((goal.at.In-Some c).Start) c.loop-next.invariant.1) c.in-Some.is c.loop-next.invariant.2
@@ -70,7 +69,6 @@ pub loop-next-init : goal.loop-next-init
 loop-next-init c = (c.requires.mapping_value, 0, tried_none _ _ _ _ _ _ (c.first_start-next.ensures c.args.hashes.now c.requires.hashed.chained))
 
 pub returns-then-m-n-clause-value : goal.returns-then-m-n-clause-value
-unfolding found_from
 returns-then-m-n-clause-value c =
     let at = goal.at.returns-then-m-n-clause-value c in
     let s = at.Start in
@@ -83,7 +81,6 @@ pub bounds-hashes-m : goal.bounds-hashes-m
 bounds-hashes-m c = here ((goal.at.bounds-hashes-m c).In-Some)
 
 pub returns-then-is_twin-clause-value : goal.returns-then-is_twin-clause-value
-unfolding found_from
 returns-then-is_twin-clause-value c =
     let at = goal.at.returns-then-is_twin-clause-value c in
     let s = at.Start in
@@ -119,7 +116,6 @@ loop-next-preserved c =
     ]
 
 pub returns-clause-value : goal.returns-clause-value
-unfolding found_from
 returns-clause-value c =
     let s = (goal.at.returns-clause-value c).Start in
     let t : TriedTo s c.loop-next.invariant.1 std.None = subst (TriedTo s c.loop-next.invariant.1) c.in_default.is c.loop-next.invariant.2 in

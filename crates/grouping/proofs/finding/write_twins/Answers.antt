@@ -8,15 +8,15 @@ use Rattle.rules.proofs.Soundness.Sound.{facts}
 use Rattle.layout.specs.Columns.{columns}
 use Rattle.layout.specs.Reading.{op_count, store_in}
 use Rattle.layout.proofs.Tabulate.{ops_length}
-use Rattle.fragments.specs.Options.{under}
-use Rattle.fragments.specs.Terms.{options_in}
-use Rattle.mapping.specs.MappingWords.{empty_words}
+use Rattle.fragments.specs.Options.{renamed_under}
+use Rattle.fragments.specs.View.{options_in}
+use Rattle.equivalence.specs.MappingWords.{empty_words}
 use Rattle.grouping.proofs.Words.{all_twins, word_is}
 use Rattle.grouping.proofs.finding.write_twins.Goals as goal
 
 pub new-chains-requires : goal.new-chains-requires
 new-chains-requires c =
-    omega (arith, c.requires.hashes.many, (facts (store_in c.args.terms.now.store.now) c.args.terms.now.readable.sound.ruled).totals.ops)
+    omega (arith, c.requires.hashes.many, (facts (store_in c.args.view.now.store.now) c.args.view.now.readable.sound.ruled).totals.ops)
 
 pub loop-n-init : goal.loop-n-init
 unfolding empty_words
@@ -34,8 +34,8 @@ loop-n-preserved c = (
 pub returns : goal.returns
 unfolding renamed
 returns c =
-    let s = store_in c.args.terms.now.store.now in
-    let long : length s.ops ≡ op_count (columns c.args.terms.now.store.now) = ops_length (columns c.args.terms.now.store.now) in
-    all_twins (under (options_in c.args.terms.now) s) (options_in c.args.terms.now).ignore c.loop-n.twins
+    let s = store_in c.args.view.now.store.now in
+    let long : length s.ops ≡ op_count (columns c.args.view.now.store.now) = ops_length (columns c.args.view.now.store.now) in
+    all_twins (renamed_under (options_in c.args.view.now) s) (options_in c.args.view.now).ignore c.loop-n.twins
     (omega (arith, c.loop-n.auto, c.requires.twins_len, long))
     (λ k l. let below : k < length s.ops = l in c.loop-n.invariant.1 k (omega (arith, below, c.loop-n-test.false, c.requires.twins_len, long)))

@@ -1,24 +1,23 @@
 -- A block, a region and an operation are gone through child by child, up to the first in which something reaches; once all came, none did. Assumes
 -- nothing.
-use Prim.Native.Nat.{◌+◌, ◌*◌, ◌<◌}
+use Prim.Native.Nat.{◌+◌, ◌-◌, ◌*◌, ◌<◌}
 use native.Mathlib.Omega.{arith}
-use mathlib.Core.Path.{◌≡◌, sym, ap, ap₂, ◌∙◌}
-use Rattle.rules.specs.Lists.{any}
+use mathlib.Core.Path.{refl, ◌≡◌, sym, ap, ap₂, ◌∙◌}
+use Rattle.std.specs.List.{list_any}
 use Rattle.rules.proofs.Basics.Filtered.{any_at}
 use Rattle.layout.specs.Columns.{columns}
 use Rattle.layout.specs.Reading.{region_count, store_in}
 use Rattle.layout.specs.OpsLeft.{ops_left}
 use Rattle.layout.proofs.Laid.{Laid, laid_facts}
 use Rattle.layout.proofs.Ranges.{range, range_empty, regions_range}
-use Rattle.fragments.specs.Sorts.{sort_of}
 use Rattle.fragments.specs.BlocksLeft.{blocks_left}
 use Rattle.fragments.specs.Order.{block_list, BlocksExist}
 use Rattle.fragments.specs.declared.types.Blocks.TheVariants.{InRegion}
 use Rattle.fragments.proofs.Yielded.{item_comes, all_came, comes_mem, number_came, number_comes}
 use Rattle.fragments.proofs.Few.{op_low}
 use Rattle.fragments.proofs.Ordered.{op_in_lem, block_in_lem}
-use Rattle.grouping.specs.Reaching.{op_reaches}
-use Rattle.grouping.proofs.ByParts.{block_parts, region_parts, region_none, op_itself, op_names, op_regions, first_part, second_part, none_yet, none_more}
+use Rattle.grouping.specs.Reaching.{region_reaches, block_reaches, op_reaches}
+use Rattle.grouping.proofs.ByParts.{block_parts, region_parts, region_none, op_itself, op_names, op_regions, first_part, second_part, none_more}
 use Rattle.grouping.proofs.reaching.+reaches.Goals as goal
 use Rattle.grouping.proofs.reaching.+reaches.Goals.{op_reaches-then-op_inside-via-then-op_inside, op_reaches-then-op_inside-via-else-op_inside+then-names_inside}
 
@@ -28,7 +27,7 @@ pub block_reaches-returns-then-block_inside : goal.block_reaches-returns-then-bl
 block_reaches-returns-then-block_inside t c = first_part _ (block_parts _ _ _ _ _) (sym c.block_inside.ensures ∙ c.if-block_inside.true)
 
 pub block_reaches-loop-m-init : goal.block_reaches-loop-m-init
-block_reaches-loop-m-init t c = (_, _, none_yet _)
+block_reaches-loop-m-init t c = (_, _, refl)
 
 pub block_reaches-op_reaches-requires : goal.block_reaches-op_reaches-requires
 block_reaches-op_reaches-requires t c =
@@ -42,17 +41,17 @@ block_reaches-returns-then-op_reaches t c =
     let begun = ap ops_left c.into_iter-m-iterator.ensures.into_iter_gives ∙ c.new-m-items.ensures in
     let turn = item_comes ops_left _ _ _ _ begun c.loop-m.yielded_by c.next.new.self _ _ c.in-Some.is c.next.ensures.steps in
     second_part (block_parts _ _ _ _ _) (sym c.block_inside.ensures ∙ c.if-block_inside.false)
-    (any_at _ (comes_mem _ _ _ _ turn) (sym c.op_reaches.ensures ∙ c.if-op_reaches.true))
+    (any_at (op_reaches (store_in c.args.other.now.store.now) c.args.other.now.sort c.args.other.now.n c.args.left) (comes_mem _ _ _ _ turn) (sym c.op_reaches.ensures ∙ c.if-op_reaches.true))
 
 pub block_reaches-loop-m-preserved : goal.block_reaches-loop-m-preserved
-block_reaches-loop-m-preserved t c = (_, _, none_more _ _ _ c.loop-m.invariant.2 (sym c.op_reaches.ensures ∙ c.if-op_reaches.false))
+block_reaches-loop-m-preserved t c = (_, _, none_more (op_reaches (store_in c.args.other.now.store.now) c.args.other.now.sort c.args.other.now.n c.args.left) c.loop-m.yielded c.in-Some.m c.loop-m.invariant.2 (sym c.op_reaches.ensures ∙ c.if-op_reaches.false))
 
 pub block_reaches-returns : goal.block_reaches-returns
 block_reaches-returns t c =
     let begun = ap ops_left c.into_iter-m-iterator.ensures.into_iter_gives ∙ c.new-m-items.ensures in
     let all = all_came ops_left _ _ _ _ begun c.loop-m.yielded_by c.next.new.self _ c.in-None.is c.next.ensures.steps in
     second_part (block_parts _ _ _ _ _) (sym c.block_inside.ensures ∙ c.if-block_inside.false)
-    (ap (any (op_reaches (store_in c.args.other.now.store.now) (sort_of c.args.other.now.sort) c.args.other.now.n c.args.left)) (sym all) ∙ c.loop-m.invariant.2)
+    (ap (list_any (op_reaches (store_in c.args.other.now.store.now) c.args.other.now.sort c.args.other.now.n c.args.left)) (sym all) ∙ c.loop-m.invariant.2)
 
 -- ---- an operation
 
@@ -70,7 +69,8 @@ pub op_reaches-number-end-requires-clause-n_bound : goal.op_reaches-number-end-r
 op_reaches-number-end-requires-clause-n_bound t c = op_low _ c.args.other.now.sound _ c.requires
 
 pub op_reaches-loop-r-init : goal.op_reaches-loop-r-init
-op_reaches-loop-r-init t c = ap (any _) (range_empty c.number-first.result c.number-first.result (omega arith)) ∙ none_yet _
+op_reaches-loop-r-init t c =
+    ap (list_any (region_reaches (store_in c.args.other.now.store.now) c.args.other.now.sort c.args.other.now.n c.args.left)) (range_empty c.number-first.result c.number-first.result (omega arith))
 
 pub op_reaches-region_reaches-requires : goal.op_reaches-region_reaches-requires
 op_reaches-region_reaches-requires t c =
@@ -86,12 +86,13 @@ op_reaches-returns-then-region_reaches t c =
     let laid : Laid C = laid_facts C c.args.other.now.sound.laid in
     let all = ap₂ range c.number-first.ensures c.number-end.ensures ∙ sym (regions_range C laid c.args.m c.requires) in
     op_regions _ _ _ _ _ (sym c.op_inside.ensures ∙ c.if-op_inside.false) (sym c.names_inside.ensures ∙ c.if-names_inside.false)
-    (ap (any _) (sym all)
-    ∙ any_at _ (comes_mem _ _ _ _ (number_comes _ _ _ c.loop-r.auto.r c.loop-r-test.true)) (sym c.region_reaches.ensures ∙ c.if-region_reaches.true))
+    (ap (list_any (region_reaches (store_in c.args.other.now.store.now) c.args.other.now.sort c.args.other.now.n c.args.left)) (sym all)
+    ∙ any_at (region_reaches (store_in c.args.other.now.store.now) c.args.other.now.sort c.args.other.now.n c.args.left) (comes_mem _ _ _ _ (number_comes _ _ _ c.loop-r.auto.r c.loop-r-test.true)) (sym c.region_reaches.ensures ∙ c.if-region_reaches.true))
 
 pub op_reaches-loop-r-preserved : goal.op_reaches-loop-r-preserved
 op_reaches-loop-r-preserved t c =
-    ap (any _) (number_came _ _ c.loop-r.auto.r) ∙ none_more _ _ _ c.loop-r.invariant (sym c.region_reaches.ensures ∙ c.if-region_reaches.false)
+    let p = region_reaches (store_in c.args.other.now.store.now) c.args.other.now.sort c.args.other.now.n c.args.left in
+    ap (list_any p) (number_came _ _ c.loop-r.auto.r) ∙ none_more p _ _ c.loop-r.invariant (sym c.region_reaches.ensures ∙ c.if-region_reaches.false)
 
 pub op_reaches-returns : goal.op_reaches-returns
 op_reaches-returns t c =
@@ -101,7 +102,7 @@ op_reaches-returns t c =
     let done : c.loop-r.r ≡ c.number-end.result = omega (arith, c.loop-r-test.false, c.loop-r.auto, c.number-first.ensures, c.number-end.ensures, rises) in
     let all = ap₂ range c.number-first.ensures (done ∙ c.number-end.ensures) ∙ sym (regions_range C laid c.args.m c.requires) in
     op_regions _ _ _ _ _ (sym c.op_inside.ensures ∙ c.if-op_inside.false) (sym c.names_inside.ensures ∙ c.if-names_inside.false)
-    (ap (any _) (sym all) ∙ c.loop-r.invariant)
+    (ap (list_any _) (sym all) ∙ c.loop-r.invariant)
 
 -- ---- a region
 
@@ -113,7 +114,7 @@ unfolding BlocksExist
 region_reaches-new-b-items-requires-clause-blocks_exist t c = c.requires
 
 pub region_reaches-loop-b-init : goal.region_reaches-loop-b-init
-region_reaches-loop-b-init t c = (_, _, none_yet _)
+region_reaches-loop-b-init t c = (_, _, refl)
 
 pub region_reaches-block_reaches-requires : goal.region_reaches-block_reaches-requires
 unfolding BlocksExist
@@ -131,10 +132,10 @@ region_reaches-returns-then-block_reaches t c =
     let turn = item_comes blocks_left _ _ _ _ begun c.loop-b.yielded_by c.next.new.self _ _ c.in-Some.is c.next.ensures.steps in
     sym
     (region_parts _ _ _ _ _ c.if-left-eq0.false
-    ∙ any_at _ (comes_mem _ _ _ _ turn) (sym c.block_reaches.ensures ∙ c.if-block_reaches.true))
+    ∙ any_at (block_reaches (store_in c.args.other.now.store.now) c.args.other.now.sort c.args.other.now.n (c.args.left - 1)) (comes_mem _ _ _ _ turn) (sym c.block_reaches.ensures ∙ c.if-block_reaches.true))
 
 pub region_reaches-loop-b-preserved : goal.region_reaches-loop-b-preserved
-region_reaches-loop-b-preserved t c = (_, _, none_more _ _ _ c.loop-b.invariant.2 (sym c.block_reaches.ensures ∙ c.if-block_reaches.false))
+region_reaches-loop-b-preserved t c = (_, _, none_more (block_reaches (store_in c.args.other.now.store.now) c.args.other.now.sort c.args.other.now.n (c.args.left - 1)) c.loop-b.yielded c.in-Some.b c.loop-b.invariant.2 (sym c.block_reaches.ensures ∙ c.if-block_reaches.false))
 
 pub region_reaches-returns : goal.region_reaches-returns
 unfolding block_list
@@ -143,5 +144,5 @@ region_reaches-returns t c =
     let all = all_came blocks_left _ _ _ _ begun c.loop-b.yielded_by c.next.new.self _ c.in-None.is c.next.ensures.steps in
     sym
     (region_parts _ _ _ _ _ c.if-left-eq0.false
-    ∙ ap (any _) (sym all)
+    ∙ ap (list_any _) (sym all)
     ∙ c.loop-b.invariant.2)

@@ -3,10 +3,9 @@
 use Prim.Native.Nat.{◌+◌, ◌-◌, ◌*◌}
 use mathlib.Core.Bool.{false}
 use mathlib.Core.Path.{◌≡◌}
-use Rattle.rules.specs.Lists.{any}
+use Rattle.std.specs.List.{list_any}
 use Rattle.layout.specs.Reading.{store_in}
 use Rattle.layout.proofs.Ranges.{range}
-use Rattle.fragments.specs.Sorts.{sort_of}
 use Rattle.grouping.specs.Reaching.{region_reaches, block_reaches, op_reaches}
 use Rattle.grouping.proofs.reaching.+reaches.Given as goal
 
@@ -23,13 +22,13 @@ abbrev pub invariant-block_reaches-loop-m : goal.invariant-block_reaches-loop-m
 invariant-block_reaches-loop-m l =
     (goal.iterator-block_reaches-loop-m).can_next l.m-iterator
     × (goal.iterator-block_reaches-loop-m).is_finite l.m-iterator
-    × (any (op_reaches (store_in l.other.store.now) (sort_of l.other.sort) l.other.n l.left) l.yielded ≡ false)
+    × (list_any (op_reaches (store_in l.other.store.now) l.other.sort l.other.n l.left) l.yielded ≡ false)
 
 abbrev pub invariant-op_reaches-loop-r : goal.invariant-op_reaches-loop-r
-invariant-op_reaches-loop-r l = any (region_reaches (store_in l.other.store.now) (sort_of l.other.sort) l.other.n l.left) (range l.initial.r l.r) ≡ false
+invariant-op_reaches-loop-r l = list_any (region_reaches (store_in l.other.store.now) l.other.sort l.other.n l.left) (range l.initial.r l.r) ≡ false
 
 abbrev pub invariant-region_reaches-loop-b : goal.invariant-region_reaches-loop-b
 invariant-region_reaches-loop-b l =
     (goal.iterator-region_reaches-loop-b).can_next l.b-iterator
     × (goal.iterator-region_reaches-loop-b).is_finite l.b-iterator
-    × (any (block_reaches (store_in l.other.store.now) (sort_of l.other.sort) l.other.n (l.left - 1)) l.yielded ≡ false)
+    × (list_any (block_reaches (store_in l.other.store.now) l.other.sort l.other.n (l.left - 1)) l.yielded ≡ false)

@@ -1,22 +1,22 @@
 -- `hash_block_shells` meets its contract: the steps of the blocks that came are done, whose step is a shell. Assumes nothing.
 use Rattle.std.proofs.Common.{◌≡◌, ◌∷◌, ◌++◌, ap, ◌∙◌, subst}
-use Rattle.rules.specs.Store.{of_block}
+use Rattle.rules.specs.declared.types.Owner.TheVariants.{Block as of_block}
 use Rattle.layout.specs.Columns.{columns}
 use Rattle.layout.specs.Reading.{store_in}
 use Rattle.fragments.specs.BlocksLeft.{blocks_left}
-use Rattle.fragments.specs.Terms.{options_in}
+use Rattle.fragments.specs.View.{options_in}
 use Rattle.fragments.specs.Order.{block_list}
 use Rattle.fragments.proofs.Ordered.{block_in_lem}
 use Rattle.fragments.proofs.Yielded.{item_comes, all_came, comes_mem}
-use Rattle.numbering.specs.Parts.{block_shells}
-use Rattle.numbering.proofs.Passing.{none_came, came_room, came_again}
-use Rattle.numbering.proofs.Rounds.{each_shell, each_shell_lem}
-use Rattle.hashing.specs.Walked.{Fed}
+use Rattle.fragments.specs.Parts.{block_shells}
+use Rattle.fragments.proofs.Passing.{none_came, came_room, came_again}
+use Rattle.fragments.proofs.Rounds.{each_shell, each_shell_lem}
+use Rattle.hashing.specs.Walked.{Feeds}
 use Rattle.hashing.proofs.Parting.{hash_walk, shells_room, shells_fed}
 use Rattle.hashing.proofs.passes.hash_block_shells.Goals as goal
 use Rattle.hashing.proofs.passes.hash_block_shells.Goals.{In-Some}
 
-block_comes : (c : In-Some) → c.loop-b.yielded ++ c.in-Some.b ∷ blocks_left c.next.new.self ≡ block_list (store_in c.args.terms.now.store.now) c.args.blocks
+block_comes : (c : In-Some) → c.loop-b.yielded ++ c.in-Some.b ∷ blocks_left c.next.new.self ≡ block_list (store_in c.args.view.now.store.now) c.args.blocks
 block_comes c =
     item_comes blocks_left _ _ _ _ (ap blocks_left c.into_iter-b-iterator.ensures.into_iter_gives ∙ c.new-b-items.ensures) c.loop-b.yielded_by c.next.new.self _ _ c.in-Some.is c.next.ensures.steps
 
@@ -28,7 +28,7 @@ unfolding block_shells
 hash_block_shell-requires c =
     let turn = block_comes ((goal.at.hash_block_shell-requires c).In-Some) in
     record {
-      n_bound = block_in_lem (columns c.args.terms.now.store.now) c.args.blocks _ c.requires.blocks_exist (comes_mem _ _ _ _ turn);
+      n_bound = block_in_lem (columns c.args.view.now.store.now) c.args.blocks _ c.requires.blocks_exist (comes_mem _ _ _ _ turn);
       definitions_fit = came_room (hash_walk _ _) (each_shell_lem of_block) c.loop-b.yielded c.loop-b.invariant c.in-Some.b _ _ turn (shells_room of_block _ c.requires.definitions_fit);
     }
 
@@ -39,4 +39,4 @@ pub returns : goal.returns
 unfolding block_shells
 returns c =
     let came = all_came blocks_left _ _ _ _ (ap blocks_left c.into_iter-b-iterator.ensures.into_iter_gives ∙ c.new-b-items.ensures) c.loop-b.yielded_by c.next.new.self _ c.in-None.is c.next.ensures.steps in
-    shells_fed of_block _ (subst (λ xs. Fed (store_in c.args.terms.now.store.now) (options_in c.args.terms.now) (each_shell of_block xs) c.args.numbers.now c.loop-b.numbers c.args.state.now.word c.loop-b.state.word) came c.loop-b.invariant)
+    shells_fed of_block _ (subst (λ xs. Feeds (store_in c.args.view.now.store.now) (options_in c.args.view.now) (each_shell of_block xs) c.args.numbers.now c.loop-b.numbers c.args.state.now.word c.loop-b.state.word) came c.loop-b.invariant)

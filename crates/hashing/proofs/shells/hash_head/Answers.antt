@@ -2,7 +2,7 @@
 use Rattle.std.proofs.Common.{arith}
 use Rattle.layout.specs.Columns.{columns}
 use Rattle.layout.proofs.Laid.{laid_facts}
-use Rattle.numbering.proofs.Rounds.{regions_few}
+use Rattle.fragments.proofs.Rounds.{regions_few}
 use Rattle.hashing.proofs.Reading.{head_fed}
 use Rattle.hashing.proofs.shells.hash_head.Goals as goal
 

@@ -1,10 +1,10 @@
 -- `hash_op_shell` meets its contract: what is defined is numbered, and what it is goes into the word. Assumes nothing.
-use Rattle.rules.specs.Store.{of_op}
+use Rattle.rules.specs.declared.types.Owner.TheVariants.{Op as of_op}
 use Rattle.layout.specs.Reading.{store_in}
-use Rattle.fragments.specs.Terms.{options_in}
+use Rattle.fragments.specs.View.{options_in}
 use Rattle.hashing.proofs.Feeding.{fed_shell}
 use Rattle.hashing.proofs.shells.hash_op_shell.Goals as goal
 
 pub returns : goal.returns
 returns c =
-    fed_shell (store_in c.args.terms.now.store.now) (options_in c.args.terms.now) (of_op c.args.n) c.define_op.ensures c.feed_op_shell.ensures
+    fed_shell (store_in c.args.view.now.store.now) (options_in c.args.view.now) (of_op c.args.n) c.define_op.ensures c.feed_op_shell.ensures

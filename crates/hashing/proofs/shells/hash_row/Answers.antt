@@ -1,11 +1,11 @@
 -- `hash_row` meets its contract: location, attributes and types go into the word one after the other. Assumes nothing.
 use Rattle.std.proofs.Common.{map, ap, ◌∙◌}
-use Rattle.rules.specs.Lists.{concat_map}
+use Rattle.std.specs.List.{flat_map}
 use Rattle.rules.specs.Hash.{fnv_from, leaf}
 use Rattle.rules.specs.Types.{present}
 use Rattle.layout.specs.Columns.{columns}
-use Rattle.renaming.specs.Index.{list_in}
-use Rattle.fragments.specs.Terms.{options_in}
+use Rattle.fragments.specs.Index.{list_in}
+use Rattle.fragments.specs.View.{options_in}
 use Rattle.fragments.specs.Rows.{row_shell}
 use Rattle.hashing.proofs.Bytes.{shell_fed}
 use Rattle.hashing.proofs.shells.hash_row.Goals as goal
@@ -14,5 +14,5 @@ pub returns : goal.returns
 unfolding row_shell
 returns c =
     let a = c.args in
-    shell_fed (row_shell (columns a.terms.now.store.now) (options_in a.terms.now) a.row) a.state.now.word c.location_hash.ensures c.attributes_hash.ensures
-    (c.hash_types.ensures ∙ ap (λ xs. fnv_from c.attributes_hash.new.state.word (concat_map leaf (map (present (list_in a.terms.now.types.now)) xs))) c.words-own.ensures)
+    shell_fed (row_shell (columns a.view.now.store.now) (options_in a.view.now) a.row) a.state.now.word c.location_hash.ensures c.attributes_hash.ensures
+    (c.hash_types.ensures ∙ ap (λ xs. fnv_from c.attributes_hash.new.state.word (flat_map leaf (map (present (list_in a.view.now.index.now)) xs))) c.words-own.ensures)

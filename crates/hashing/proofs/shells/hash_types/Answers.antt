@@ -3,7 +3,7 @@ use Rattle.std.proofs.Common.{ℕ, sym, ap, ◌∙◌}
 use Rattle.rules.specs.Types.{present}
 use Rattle.rules.specs.Hash.{fnv_from, leaf}
 use Rattle.rules.proofs.Form.Hashes.{concat_map_map}
-use Rattle.renaming.specs.Index.{list_in}
+use Rattle.fragments.specs.Index.{list_in}
 use Rattle.hashing.proofs.Bytes.{entry_fed, entries_fed}
 use Rattle.hashing.proofs.shells.hash_types.Invariants.{type_bytes}
 use Rattle.hashing.proofs.shells.hash_types.Goals as goal

@@ -2,7 +2,7 @@
 use Rattle.std.proofs.Common.{ℕ, List}
 use Rattle.rules.specs.Types.{present}
 use Rattle.rules.specs.Hash.{leaf}
-use Rattle.renaming.specs.Index.{list_in}
+use Rattle.fragments.specs.Index.{list_in}
 use Rattle.hashing.proofs.Bytes.{LeftOf}
 use Rattle.hashing.proofs.shells.hash_types.Given as goal
 

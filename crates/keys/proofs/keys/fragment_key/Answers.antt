@@ -5,11 +5,9 @@ use mathlib.Core.Bool.{true}
 use mathlib.Core.Path.{◌≡◌, sym, ◌∙◌}
 use Rattle.rules.specs.Types.{types_hold}
 use Rattle.layout.specs.Reading.{store_in}
-use Rattle.renaming.specs.Index.{list_in}
-use Rattle.renaming.proofs.Indexed.{index_holds}
-use Rattle.fragments.specs.Ignoring.{ignore_of}
+use Rattle.fragments.specs.Index.{list_in}
+use Rattle.fragments.proofs.Indexed.{index_holds}
 use Rattle.fragments.specs.Options.{options_of}
-use Rattle.fragments.specs.Sorts.{sort_of}
 use Rattle.keys.specs.Calls.{keyed_of}
 use Rattle.keys.proofs.Answering.{longest, whole_length, missing, too_short_lem, given}
 use Rattle.keys.proofs.keys.fragment_key.Goals as goal
@@ -17,24 +15,24 @@ use Rattle.keys.proofs.keys.fragment_key.Goals as goal
 pub returns-then-not-exists : goal.returns-then-not-exists
 unfolding keyed_of
 returns-then-not-exists c =
-    let listed : types_hold (list_in c.args.types.now) ≡ true = index_holds c.args.types.now c.requires.indexed in
+    let listed : types_hold (list_in c.args.index.now) ≡ true = index_holds c.args.index.now c.requires.indexed in
     let a = c.args in
-    missing a.store.now (list_in a.types.now) (ignore_of a.ignore) (sort_of a.sort) a.n a.lent.now c.requires.sound listed
+    missing a.store.now (list_in a.index.now) a.ignore a.sort a.n a.lent.now c.requires.sound listed
     (sym c.exists.ensures ∙ c.if-not-exists.true)
 
 pub returns-then-not-key_fits : goal.returns-then-not-key_fits
 unfolding keyed_of
 returns-then-not-key_fits c =
-    let listed : types_hold (list_in c.args.types.now) ≡ true = index_holds c.args.types.now c.requires.indexed in
+    let listed : types_hold (list_in c.args.index.now) ≡ true = index_holds c.args.index.now c.requires.indexed in
     let a = c.args in
-    too_short_lem a.store.now (list_in a.types.now) (ignore_of a.ignore) (sort_of a.sort) a.n a.lent.now c.requires.sound listed
-    (sym c.exists.ensures ∙ c.if-not-exists.false) (sym (c.key_fits.ensures (list_in c.args.types.now)) ∙ c.if-not-key_fits.true)
+    too_short_lem a.store.now (list_in a.index.now) a.ignore a.sort a.n a.lent.now c.requires.sound listed
+    (sym c.exists.ensures ∙ c.if-not-exists.false) (sym (c.key_fits.ensures (list_in c.args.index.now)) ∙ c.if-not-key_fits.true)
 
 pub overflow_cast-result : goal.overflow_cast-result
 overflow_cast-result c =
     let a = c.args in
     let there = sym c.exists.ensures ∙ c.if-not-exists.false in
-    let w = whole_length (store_in a.store.now) (options_of a.ignore a.types.now) (sort_of a.sort) a.n c.requires.sound.ruled there c.put_fragment-bytes.ensures in
+    let w = whole_length (store_in a.store.now) (options_of a.ignore a.index.now) a.sort a.n c.requires.sound.ruled there c.put_fragment-bytes.ensures in
     record { fits = omega (arith, w.1) }
 
 pub returns : goal.returns
@@ -42,10 +40,10 @@ unfolding keyed_of
 returns c =
     let a = c.args in
     let S = store_in a.store.now in
-    let o = options_of a.ignore a.types.now in
-    let f = sort_of a.sort in
+    let o = options_of a.ignore a.index.now in
+    let f = a.sort in
     let there = sym c.exists.ensures ∙ c.if-not-exists.false in
-    given a.store.now (list_in a.types.now) (ignore_of a.ignore) f a.n a.lent.now c.requires.sound
-    (index_holds a.types.now c.requires.indexed) there (sym (c.key_fits.ensures (list_in a.types.now)) ∙ c.if-not-key_fits.false)
+    given a.store.now (list_in a.index.now) a.ignore f a.n a.lent.now c.requires.sound
+    (index_holds a.index.now c.requires.indexed) there (sym (c.key_fits.ensures (list_in a.index.now)) ∙ c.if-not-key_fits.false)
     (longest S o f a.n c.requires.sound.ruled there)
     c.put_fragment-bytes.ensures

@@ -7,9 +7,7 @@ use lib.Dec.{leb}
 use lib.ListN.{length}
 use Rattle.rules.specs.Keys.{key, longest_key}
 use Rattle.layout.specs.Reading.{store_in}
-use Rattle.fragments.specs.Ignoring.{ignore_of}
-use Rattle.fragments.specs.Options.{Options, under}
-use Rattle.fragments.specs.Sorts.{sort_of}
+use Rattle.fragments.specs.Options.{Options, renamed_under}
 use Rattle.keys.proofs.Answering.{longest}
 use Rattle.keys.proofs.keys.key_fits.Goals as goal
 
@@ -18,10 +16,10 @@ returns-then-room-ge-LONGEST_KEY c =
     λ types.
     let a = c.args in
     let S = store_in a.store.now in
-    let o : Options = record { ignore = ignore_of a.ignore; types = types } in
-    let f = sort_of a.sort in
+    let o : Options = record { ignore = a.ignore; types = types } in
+    let f = a.sort in
     le-leb longest_key a.room c.if-room-ge-LONGEST_KEY.true
-    ∙ sym (le-leb (length (key (under o S) o.ignore f a.n)) a.room
+    ∙ sym (le-leb (length (key (renamed_under o S) o.ignore f a.n)) a.room
     (omega (arith, longest S o f a.n c.requires.sound.ruled c.requires.n_value, c.if-room-ge-LONGEST_KEY.true)))
 
 pub returns-else-room-ge-LONGEST_KEY : goal.returns-else-room-ge-LONGEST_KEY

@@ -5,8 +5,6 @@ use Rattle.rules.specs.Extents.{extent_is, extent_tests, sized_by, sized}
 use Rattle.rules.specs.ExtentLaws.{SizedIs}
 use Rattle.rules.proofs.Extents.Laws.{sized_is}
 use Rattle.layout.specs.Reading.{store_in}
-use Rattle.fragments.specs.Ignoring.{ignore_of}
-use Rattle.fragments.specs.Sorts.{sort_of}
 use Rattle.keys.specs.Extents.{sized_of}
 use Rattle.keys.proofs.measuring.sound_extent.Goals as goal
 
@@ -18,4 +16,4 @@ pub returns : goal.returns
 unfolding sized_of SizedIs
 returns c =
     ap extent_is c.fragment_extent.ensures
-    ∙ sym (sized_is (store_in c.args.store.now) c.requires.ruled (ignore_of c.args.ignore) (sort_of c.args.sort) c.args.n (sym c.exists.ensures ∙ c.if-not-exists.false))
+    ∙ sym (sized_is (store_in c.args.store.now) c.requires.ruled c.args.ignore c.args.sort c.args.n (sym c.exists.ensures ∙ c.if-not-exists.false))

@@ -1,7 +1,7 @@
 -- `put_uses` meets its contract: what is put behind the count are the names up to the next one. Assumes nothing.
 use native.Mathlib.Omega.{arith}
-use Rattle.key_bytes.proofs.Entries.{none_put, entries_next, counted_list}
-use Rattle.key_bytes.proofs.Putting.{puts_rest}
+use Rattle.keys.proofs.Entries.{none_put, entries_next, counted_list}
+use Rattle.keys.proofs.Putting.{puts_rest}
 use Rattle.keys.proofs.Naming.{named_bytes, name_put}
 use Rattle.keys.proofs.names.put_uses.Goals as goal
 

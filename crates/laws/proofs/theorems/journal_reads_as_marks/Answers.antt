@@ -1,9 +1,9 @@
 -- Each clause by the lemma that it is. Assumes nothing.
-use Rattle.journal.proofs.ReadCall.{call_read}
-use Rattle.journal.proofs.Copied.{copy_read}
-use Rattle.journal.proofs.ReadMark.{mark_read}
-use Rattle.journal.proofs.ReadBack.{back_read}
-use Rattle.journal.proofs.ReadTests.{tests_read}
+use Rattle.undo_log.proofs.ReadCall.{call_read}
+use Rattle.undo_log.proofs.Copied.{copy_read}
+use Rattle.undo_log.proofs.ReadMark.{mark_read}
+use Rattle.undo_log.proofs.ReadBack.{back_read}
+use Rattle.undo_log.proofs.ReadTests.{tests_read}
 use Rattle.laws.proofs.theorems.journal_reads_as_marks.Goals as goal
 
 pub returns : goal.returns

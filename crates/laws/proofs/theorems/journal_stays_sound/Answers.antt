@@ -1,10 +1,10 @@
 -- Each clause by the lemma that it is. Assumes nothing.
-use Rattle.journal.proofs.Sound.{sound_read, bare_sound}
-use Rattle.journal.proofs.KeptCall.{call_sound}
-use Rattle.journal.proofs.Copied.{copy_sound}
-use Rattle.journal.proofs.KeptMark.{mark_sound}
-use Rattle.journal.proofs.KeptBack.{back_sound_lem}
-use Rattle.journal.proofs.Short.{journal_short}
+use Rattle.undo_log.proofs.Sound.{sound_read, bare_sound}
+use Rattle.undo_log.proofs.KeptCall.{call_sound}
+use Rattle.undo_log.proofs.Copied.{copy_sound}
+use Rattle.undo_log.proofs.KeptMark.{mark_sound}
+use Rattle.undo_log.proofs.KeptBack.{back_sound_lem}
+use Rattle.undo_log.proofs.Short.{journal_short}
 use Rattle.laws.proofs.theorems.journal_stays_sound.Goals as goal
 
 pub returns : goal.returns

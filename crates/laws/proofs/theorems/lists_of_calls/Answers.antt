@@ -1,6 +1,6 @@
 -- Each clause by the lemma that it is. Assumes nothing.
-use Rattle.building.proofs.Always.{always_made}
-use Rattle.building.proofs.Answering.{after_calls, zeros_empty}
+use Rattle.api.proofs.Always.{always_made}
+use Rattle.api.proofs.Answering.{after_calls, zeros_empty}
 use Rattle.laws.proofs.theorems.lists_of_calls.Goals as goal
 
 pub returns : goal.returns

@@ -1,7 +1,7 @@
 -- Each clause by the lemma that it is. Assumes nothing.
-use Rattle.journal.proofs.Undone.{call_undone, call_undoable}
-use Rattle.journal.proofs.Copied.{copy_undone}
-use Rattle.journal.proofs.Cut.{cut_commutes, cut_commutes_all, cut_twice, cut_whole, undone_parts}
+use Rattle.undo_log.proofs.Undone.{call_undone, call_undoable}
+use Rattle.undo_log.proofs.Copied.{copy_undone}
+use Rattle.undo_log.proofs.CutJournal.{cut_commutes, cut_commutes_all, cut_twice, cut_whole, undone_parts}
 use Rattle.laws.proofs.theorems.undoing_and_cutting.Goals as goal
 
 pub returns : goal.returns

@@ -38,7 +38,7 @@ sum_of-requires-2 c =
     record {
       column_lt_column_count = omega arith;
       n_bound = omega (arith, k.blocks);
-      i_value = all_below_of c.number-blocks.result _ (λ i l. le-leb (at C block_attributes i) 8 (block_keys_lem C c.requires.store_value_2 i (omega arith)));
+      i_value = all_below_of c.number-blocks.result _ (λ i l. le-leb (at C block_attributes i) 8 (block_keys_lem C c.requires.blocks_laid i (omega arith)));
     }
 
 pub overflow_add-result : goal.overflow_add-result
@@ -48,7 +48,7 @@ overflow_add-result c =
     let k = counts_facts C c.requires.counts_bounded.counted in
     let ops = c.sum_of.ensures ∙ ap (λ (n : ℕ). sum (tabulate n (at C op_attributes))) c.number-ops.ensures in
     let blocks = c.sum_of-2.ensures ∙ ap (λ (n : ℕ). sum (tabulate n (at C block_attributes))) c.number-blocks.ensures in
-    omega (arith, ops, blocks, k.ops, k.blocks, sum_bound (at C 0 0) (at C op_attributes) (op_keys C c.requires.store_value), sum_bound (at C 0 1) (at C block_attributes) (block_keys_lem C c.requires.store_value_2))
+    omega (arith, ops, blocks, k.ops, k.blocks, sum_bound (at C 0 0) (at C op_attributes) (op_keys C c.requires.store_value), sum_bound (at C 0 1) (at C block_attributes) (block_keys_lem C c.requires.blocks_laid))
 
 pub returns : goal.returns
 unfolding attribute_sum op_count block_count

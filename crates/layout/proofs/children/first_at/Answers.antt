@@ -1,8 +1,7 @@
 -- `first_at` meets its contract: each turn leaves the rest to search, until a word is w or none is left. Assumes nothing.
 use native.Mathlib.Omega.{arith}
-use mathlib.Core.Path.{refl, sym, ap, ◌∙◌}
+use mathlib.Core.Path.{refl, sym, ◌∙◌}
 use Rattle.layout.specs.Columns.{columns}
-use Rattle.layout.specs.Children.{found_from}
 use Rattle.layout.proofs.Finds.{word_none, word_here, word_next}
 use Rattle.layout.proofs.children.first_at.Goals as goal
 
@@ -10,11 +9,10 @@ pub loop-i-init : goal.loop-i-init
 loop-i-init c = refl
 
 pub returns-then-at-w : goal.returns-then-at-w
-unfolding found_from
 returns-then-at-w c =
     let a = c.args in
     let i = c.loop-i.i in
-    sym (ap found_from (c.loop-i.invariant ∙ word_here (columns a.store.now) a.column a.w i a.e (omega arith) (sym c.at.ensures ∙ c.if-at-w.true)))
+    sym ((c.loop-i.invariant ∙ word_here (columns a.store.now) a.column a.w i a.e (omega arith) (sym c.at.ensures ∙ c.if-at-w.true)))
 
 pub loop-i-preserved : goal.loop-i-preserved
 loop-i-preserved c =
@@ -24,8 +22,7 @@ loop-i-preserved c =
     ∙ word_next (columns a.store.now) a.column a.w i a.e (omega arith) (λ e. c.if-at-w.false (c.at.ensures ∙ e))
 
 pub returns : goal.returns
-unfolding found_from
 returns c =
     let a = c.args in
     let i = c.loop-i.i in
-    sym (ap found_from (c.loop-i.invariant ∙ word_none (columns a.store.now) a.column a.w i a.e (omega arith)))
+    sym ((c.loop-i.invariant ∙ word_none (columns a.store.now) a.column a.w i a.e (omega arith)))

@@ -13,7 +13,7 @@ unfolding child_linked_by
 returns-then-word-family c =
     let a = c.args in
     let C = columns a.store.now in
-    sym (ap (λ (b : Bool). cond b true (link_holds a.next (at C a.family.links a.n) (at C a.family.ends (a.word - a.family.shift)) a.n)) (lt-ltb _ _ c.if-word-family.true))
+    sym (ap (λ (b : Bool). cond b true (link_holds a.next (at C a.family.links a.n) (at C a.family.ends (a.word - a.family.offset)) a.n)) (lt-ltb _ _ c.if-word-family.true))
 
 pub returns : goal.returns
 unfolding child_linked_by
@@ -22,4 +22,4 @@ returns c =
     let C = columns a.store.now in
     c.link_holds.ensures
     ∙ ap₂ (λ (l e : ℕ). link_holds a.next l e a.n) c.at.ensures c.number-end.ensures
-    ∙ sym (ap (λ (b : Bool). cond b true (link_holds a.next (at C a.family.links a.n) (at C a.family.ends (a.word - a.family.shift)) a.n)) (le-ltb _ _ c.if-word-family.false))
+    ∙ sym (ap (λ (b : Bool). cond b true (link_holds a.next (at C a.family.links a.n) (at C a.family.ends (a.word - a.family.offset)) a.n)) (le-ltb _ _ c.if-word-family.false))

@@ -1,7 +1,7 @@
 -- `is_placed` meets its contract: the word of the parent is 0 for none, else one more than the block's number. Assumes nothing.
 use Prim.Native.Nat.{ℕ, zero, suc, ◌-◌}
 use native.Mathlib.Omega.{arith}
-use mathlib.Core.Option.{some}
+use Rattle.std.specs.Prelude.{Some}
 use mathlib.Core.Path.{◌≡◌, refl, ap, ◌∙◌}
 use lib.Dec.{eqb}
 use Rattle.layout.specs.Columns.{Cols, columns, at, op_depth}
@@ -14,10 +14,10 @@ unfolding placed parent_from
 alone C n zero h = refl
 alone C n (suc p) h = absurd (let w : ⊥ = omega arith in w)
 
-inside : (C : Cols) (n p : ℕ) → (p ≡ 0 → ⊥) → placed C n (some (p - 1)) ≡ placed C n (parent_from p)
+inside : (C : Cols) (n p : ℕ) → (p ≡ 0 → ⊥) → placed C n (Some (p - 1)) ≡ placed C n (parent_from p)
 unfolding parent_from
 inside C n zero h = absurd (h refl)
-inside C n (suc p) h = ap (λ (b : ℕ). placed C n (some b)) (let e : suc p - 1 ≡ p = omega arith in e)
+inside C n (suc p) h = ap (λ (b : ℕ). placed C n (Some b)) (let e : suc p - 1 ≡ p = omega arith in e)
 
 pub returns-then-parent-eq0 : goal.returns-then-parent-eq0
 returns-then-parent-eq0 c =

@@ -17,6 +17,6 @@ pub holds-requires-clause-row_bound : goal.holds-requires-clause-row_bound
 unfolding block_count
 holds-requires-clause-row_bound c = omega (arith, (counts_facts (columns c.args.store.now) c.requires.counts_bounded.counted).blocks)
 
-pub holds-requires-clause-row_bound_2 : goal.holds-requires-clause-row_bound_2
+pub holds-requires-clause-end_bound : goal.holds-requires-clause-end_bound
 unfolding block_count
-holds-requires-clause-row_bound_2 c = omega (arith, (counts_facts (columns c.args.store.now) c.requires.counts_bounded.counted).blocks)
+holds-requires-clause-end_bound c = omega (arith, (counts_facts (columns c.args.store.now) c.requires.counts_bounded.counted).blocks)

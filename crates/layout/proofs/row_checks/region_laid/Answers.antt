@@ -9,6 +9,6 @@ pub holds-requires-clause-row_bound : goal.holds-requires-clause-row_bound
 unfolding op_count
 holds-requires-clause-row_bound c = omega (arith, (counts_facts (columns c.args.store.now) c.requires.counts_bounded.counted).ops)
 
-pub holds-requires-clause-row_bound_2 : goal.holds-requires-clause-row_bound_2
+pub holds-requires-clause-end_bound : goal.holds-requires-clause-end_bound
 unfolding op_count
-holds-requires-clause-row_bound_2 c = omega (arith, (counts_facts (columns c.args.store.now) c.requires.counts_bounded.counted).ops)
+holds-requires-clause-end_bound c = omega (arith, (counts_facts (columns c.args.store.now) c.requires.counts_bounded.counted).ops)

@@ -6,7 +6,6 @@ use Rattle.rules.specs.Store.{attributes_hold}
 use Rattle.layout.specs.Columns.{columns, first_block_slot}
 use Rattle.layout.specs.Reading.{slots_of, attributes_from, block_of}
 use Rattle.layout.specs.Soundness.{block_rules}
-use Rattle.layout.specs.Owners.{owner_of}
 use Rattle.layout.proofs.Laid.{laid_facts}
 use Rattle.layout.proofs.Scans.{fails, next, last}
 use Rattle.layout.proofs.ruled.block_rules.Goals as goal
@@ -23,8 +22,8 @@ at_most-requires c =
       first_lt_column_count = omega arith;
       end_lt_column_count = omega arith;
       row_bound = omega (arith, h.counts.blocks);
-      row_bound_2 = omega (arith, h.counts.blocks);
-      row_bound_3 = a.rises;
+      end_bound = omega (arith, h.counts.blocks);
+      range_rises = a.rises;
     }
 
 pub returns-then-not-at_most : goal.returns-then-not-at_most
@@ -42,7 +41,7 @@ number-requires c =
     record { column_lt_column_count = omega arith; n_bound = omega (arith, h.counts.blocks) }
 
 pub attributes_hold-requires : goal.attributes_hold-requires
-unfolding slots_of owner_of
+unfolding slots_of
 attributes_hold-requires c =
     let h = laid_facts (columns c.args.store.now) c.requires.arranged.laid in
     let first : c.first_slot-first.result ≡ first_block_slot + 8 * c.args.m = c.first_slot-first.ensures in
@@ -52,7 +51,7 @@ attributes_hold-requires c =
     }
 
 pub returns : goal.returns
-unfolding block_rules block_of owner_of
+unfolding block_rules block_of
 returns c =
     let a = c.args in
     let keys =

@@ -6,7 +6,6 @@ use Rattle.rules.specs.Store.{attributes_hold}
 use Rattle.layout.specs.Columns.{columns}
 use Rattle.layout.specs.Reading.{slots_of, attributes_from, op_of}
 use Rattle.layout.specs.Soundness.{op_rules}
-use Rattle.layout.specs.Owners.{owner_of}
 use Rattle.layout.proofs.Laid.{Laid, OpLaid, laid_facts}
 use Rattle.layout.proofs.Scans.{fails, next, last, above, within}
 use Rattle.layout.proofs.ruled.op_rules.Goals as goal
@@ -25,9 +24,9 @@ number-requires c =
     let low : c.args.n < 512 = omega (arith, laid.counts.ops, c.requires.n_bound) in
     record { column_lt_column_count = omega arith; n_bound = low }
 
-pub returns-then-number-gt32 : goal.returns-then-number-gt32
+pub returns-then-number-gt-MAX_NESTING : goal.returns-then-number-gt-MAX_NESTING
 unfolding op_rules
-returns-then-number-gt32 c = sym (fails _ 2 (above c.number.ensures c.if-number-gt32.true))
+returns-then-number-gt-MAX_NESTING c = sym (fails _ 2 (above c.number.ensures c.if-number-gt-MAX_NESTING.true))
 
 pub at_most-requires : goal.at_most-requires
 at_most-requires c =
@@ -38,8 +37,8 @@ at_most-requires c =
       first_lt_column_count = omega arith;
       end_lt_column_count = omega arith;
       row_bound = low;
-      row_bound_2 = low;
-      row_bound_3 = row.regions.range.rises;
+      end_bound = low;
+      range_rises = row.regions.range.rises;
     }
 
 pub returns-then-not-at_most : goal.returns-then-not-at_most
@@ -55,8 +54,8 @@ at_most-requires-2 c =
       first_lt_column_count = omega arith;
       end_lt_column_count = omega arith;
       row_bound = low;
-      row_bound_2 = low;
-      row_bound_3 = row.results.range.rises;
+      end_bound = low;
+      range_rises = row.results.range.rises;
     }
 
 pub returns-then-not-at_most-2 : goal.returns-then-not-at_most-2
@@ -72,8 +71,8 @@ at_most-requires-3 c =
       first_lt_column_count = omega arith;
       end_lt_column_count = omega arith;
       row_bound = low;
-      row_bound_2 = low;
-      row_bound_3 = row.operands.range.rises;
+      end_bound = low;
+      range_rises = row.operands.range.rises;
     }
 
 pub returns-then-not-at_most-3 : goal.returns-then-not-at_most-3
@@ -89,8 +88,8 @@ at_most-requires-4 c =
       first_lt_column_count = omega arith;
       end_lt_column_count = omega arith;
       row_bound = low;
-      row_bound_2 = low;
-      row_bound_3 = row.successors.range.rises;
+      end_bound = low;
+      range_rises = row.successors.range.rises;
     }
 
 pub returns-then-not-at_most-4 : goal.returns-then-not-at_most-4
@@ -110,7 +109,7 @@ number-requires-2 c =
     record { column_lt_column_count = omega arith; n_bound = low }
 
 pub attributes_hold-requires : goal.attributes_hold-requires
-unfolding slots_of owner_of
+unfolding slots_of
 attributes_hold-requires c =
     let laid : Laid (columns c.args.store.now) = laid_facts _ c.requires.arranged.laid in
     let row : OpLaid (columns c.args.store.now) c.args.n = laid.op c.args.n c.requires.n_bound in
@@ -122,7 +121,7 @@ attributes_hold-requires c =
     }
 
 pub returns : goal.returns
-unfolding op_rules op_of owner_of
+unfolding op_rules op_of
 returns c =
     let a = c.args in
     let C = columns a.store.now in
@@ -131,7 +130,7 @@ returns c =
     sym
     (next _ _ (sym c.operands_exist.ensures ∙ c.if-not-operands_exist.false)
     (next _ _ (sym c.successors_exist.ensures ∙ c.if-not-successors_exist.false)
-    (next _ _ (within c.number.ensures c.if-number-gt32.false)
+    (next _ _ (within c.number.ensures c.if-number-gt-MAX_NESTING.false)
     (next _ _ (sym c.at_most.ensures ∙ c.if-not-at_most.false)
     (next _ _ (sym c.at_most-2.ensures ∙ c.if-not-at_most-2.false)
     (next _ _ (sym c.at_most-3.ensures ∙ c.if-not-at_most-3.false)

@@ -17,9 +17,9 @@ row_words-requires c =
       end_lt_column_count = omega arith;
       column_lt_column_count = omega arith;
       row_bound = omega (arith, h.counts.ops);
-      row_bound_2 = omega (arith, h.counts.ops);
-      row_bound_3 = r.rises;
-      row_bound_4 = omega (arith, r.fits, h.counts.successors);
+      end_bound = omega (arith, h.counts.ops);
+      range_rises = r.rises;
+      range_within = omega (arith, r.fits, h.counts.successors);
     }
 
 pub returns : goal.returns

@@ -1,7 +1,6 @@
 -- `attribute_line` meets its contract: its line is an owner, three numbers, and nothing more. Assumes nothing.
 use Rattle.std.proofs.Common.{refl}
 use Rattle.rules.specs.Lines.{wholly}
-use Rattle.calling.specs.Types.{attribute_of}
 use Rattle.lines.specs.Parsing.{attribute_line_of}
 use Rattle.lines.proofs.Ended.{ended, attribute_parts}
 use Rattle.lines.proofs.parsing.attribute_line.Goals as goal
@@ -24,7 +23,7 @@ returns-in_err-content c =
     rw (c.from_residual-in_err-content.ensures, attribute_parts, c.in_ok-owner.ensures, c.in_ok-key.ensures.reads, c.in_ok-kind.ensures.reads, c.in_err-content.ensures.reads) refl
 
 pub returns : goal.returns
-unfolding wholly attribute_of
+unfolding wholly
 returns c =
     rw (attribute_parts, c.in_ok-owner.ensures, c.in_ok-key.ensures.reads, c.in_ok-kind.ensures.reads, c.in_ok-content.ensures.reads)
     (ended attribute_line_of _ _ _ _ c.is_empty.ensures c.then_some.ensures)

@@ -2,7 +2,7 @@
 use mathlib.Core.Path.{refl, ap, ◌∙◌}
 use lib.ListN.{length}
 use Rattle.rules.specs.Listings.{sums_program}
-use Rattle.mapping.specs.MappingWords.{empty_words}
+use Rattle.equivalence.specs.MappingWords.{empty_words}
 use Rattle.listing.specs.Progress.{program_of}
 use Rattle.listing.proofs.Emptied.{empty_length}
 use Rattle.listing.proofs.Whole.{wrong_store, no_room_lem, answered, unmapped, taken}

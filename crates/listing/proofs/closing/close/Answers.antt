@@ -2,7 +2,7 @@
 use Prim.Native.Nat.{ℕ}
 use mathlib.Core.Path.{ap₂, subst}
 use Rattle.rules.specs.Listings.{per_cent, share, share_line}
-use Rattle.lines.specs.Wrote.{Writes}
+use Rattle.lines.specs.Writing.{Writes}
 use Rattle.lines.specs.Room.{share_room}
 use Rattle.listing.specs.Stepping.{closes}
 use Rattle.lines.proofs.Joined.{nothing}

@@ -2,25 +2,25 @@
 use Rattle.std.proofs.Common.{ℕ, true, List, [], subst, sym}
 use Rattle.std.proofs.lemmas.Result.{err_from_is_err_and}
 use Rattle.rules.specs.Answers.{Compared}
-use Rattle.rules.specs.Fragments.{Sort}
-use Rattle.rules.specs.Shells.{Ignore}
+use Rattle.rules.specs.declared.types.Sort.{Sort}
+use Rattle.rules.specs.declared.types.Ignore.{Ignore}
 use Rattle.rules.specs.Entered.{EnteredBy}
 use Rattle.layout.specs.Reading.{store_in}
-use Rattle.renaming.specs.Index.{list_in}
-use Rattle.renaming.proofs.Indexed.{no_words_lem, no_list}
-use Rattle.mapping.specs.MappingWords.{mapping_of}
-use Rattle.pairing.specs.Told.{compared_of}
-use Rattle.equivalence.specs.Calls.{Answered}
+use Rattle.fragments.specs.Index.{list_in}
+use Rattle.fragments.proofs.Indexed.{no_words_lem, no_list}
+use Rattle.equivalence.specs.MappingWords.{mapping_of}
+use Rattle.equivalence.specs.Compares.{compared_of}
+use Rattle.equivalence.specs.Calls.{ComparisonAnswers}
 use Rattle.equivalence.proofs.AfterEmpty.{answered_entered}
 use Rattle.listing.proofs.Verdicts.{entries_allowed_lem, compares, refuses}
 use Rattle.listing.proofs.comparing.compare.Goals as goal
 
 -- as a list that is empty
-unlisted : {b m after : List ℕ} {ig : Ignore} {f : Sort} {l r : ℕ} {q : Compared} → Answered true b (list_in []) m after ig f l r q → Answered true b [] m after ig f l r q
-unlisted {b} {m} {after} {ig} {f} {l} {r} {q} h = subst (λ (ts : List ℕ). Answered true b ts m after ig f l r q) no_list h
+unlisted : {b m after : List ℕ} {ig : Ignore} {f : Sort} {l r : ℕ} {q : Compared} → ComparisonAnswers true b (list_in []) m after ig f l r q → ComparisonAnswers true b [] m after ig f l r q
+unlisted {b} {m} {after} {ig} {f} {l} {r} {q} h = subst (λ (ts : List ℕ). ComparisonAnswers true b ts m after ig f l r q) no_list h
 
-pub invariant_of-terms : goal.invariant_of-terms
-invariant_of-terms c = record { readable = record { sound = c.requires.sound; indexed = no_words_lem } }
+pub invariant_of-view : goal.invariant_of-view
+invariant_of-view c = record { readable = record { sound = c.requires.sound; indexed = no_words_lem } }
 
 pub fragments_eq-requires : goal.fragments_eq-requires
 fragments_eq-requires c = entries_allowed_lem (store_in c.args.store.now) c.args.mapping.now c.requires.mapping_value

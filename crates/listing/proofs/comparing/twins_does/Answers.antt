@@ -3,8 +3,7 @@
 use Rattle.std.proofs.Common.{Bool, subst}
 use Rattle.std.proofs.lemmas.Result.{err_from_is_err_and}
 use Rattle.layout.specs.Reading.{store_in}
-use Rattle.fragments.specs.Sorts.{sort_of}
-use Rattle.tally.specs.Tally.{Tallied}
+use Rattle.listing.specs.Tally.{Tallied}
 use Rattle.listing.proofs.Verdicts.{right_exists, twins_stops, twins_goes}
 use Rattle.listing.proofs.comparing.twins_does.Goals as goal
 
@@ -26,5 +25,5 @@ returns c =
     let a = c.args in
     let told = c.in_ok-result.ensures in
     let after = c.include_fragment.new.tally in
-    let counted = subst (λ (t : Bool). Tallied (store_in a.store.now) (sort_of a.query.sort) a.query.right t a.tally.now after) c.is_ok.ensures.value c.include_fragment.ensures in
+    let counted = subst (λ (t : Bool). Tallied (store_in a.store.now) a.query.sort a.query.right t a.tally.now after) c.is_ok.ensures.value c.include_fragment.ensures in
     record { stepped = twins_goes a.store.now a.tally.now a.query after _ _ told counted c.put_verdict.ensures; mapping_after = told.empty }

@@ -3,7 +3,7 @@ use native.Mathlib.Omega.{arith}
 use Rattle.std.proofs.Common.{◌≡◌, ℕ, length, ap, ◌∙◌, rules}
 use lib.ListN.{replicate}
 use Rattle.rules.specs.Mapping.{no_image}
-use Rattle.mapping.specs.MappingWords.{mapping_length, empty_words}
+use Rattle.equivalence.specs.MappingWords.{mapping_length, empty_words}
 use Rattle.listing.proofs.emptying.empty_mapping.Goals as goal
 
 pub returns : goal.returns

@@ -5,7 +5,6 @@ use mathlib.Core.Path.{ap}
 use lib.ListN.{length}
 use Rattle.std.proofs.Common.{rules}
 use Rattle.listing.specs.declared.types.Reading.{Reading}
-use Rattle.listing.proofs.Runs.{numbered}
 use Rattle.listing.proofs.Whole.{first_refused, all_ran}
 use Rattle.listing.proofs.running.listed.Goals as goal
 
@@ -17,7 +16,7 @@ returns-in-Err c =
     let mapping = a.mapping.now in
     let lent = a.lent.now in
     first_refused a.program listing store mapping lent _ _ _ c.in-Err.ensures c.new-out.ensures.lent c.new-out.ensures.at (search rules) c.length.ensures
-    (numbered 1 c.number.ensures c.put_refusal.ensures)
+    c.put_refusal.ensures
 
 pub run-requires : goal.run-requires
 run-requires c =

@@ -1,12 +1,12 @@
 -- `run` meets its contract: what is printed so far, followed by what the rules print from here on, is all. Assumes nothing.
 use Prim.Native.Nat.{◌≤◌}
-use Rattle.lines.specs.Wrote.{HasRoom}
+use Rattle.lines.specs.Writing.{HasRoom}
 use Rattle.rules.specs.Listings.{max_listing, max_output}
 use Rattle.layout.specs.Reading.{slice}
-use Rattle.listing.proofs.Runs.{running_starts, running_turn, has_room, few_lines, numbered, ran_out, ran_unended, refusal_fits, ran_stopped}
+use Rattle.listing.proofs.Runs.{running_starts, running_turn, has_room, few_lines, ran_out, ran_unended, refusal_fits, ran_stopped}
 use native.Mathlib.Omega.{arith}
 use lib.ListN.{length}
-use Rattle.tally.proofs.Empty.{outside_none}
+use Rattle.listing.proofs.Empty.{outside_none}
 use Rattle.listing.proofs.running.run.Goals as goal
 
 pub loop-start-init : goal.loop-start-init
@@ -22,7 +22,7 @@ returns-then-end-listing c =
     let roomy : HasRoom max_output c.args.out.now = c.requires.max_output_in_bounds in
     let short : length c.args.listing.now ≤ max_listing = c.requires.listing_len_bound in
     let unended = ran_unended roomy short c.loop-start.invariant _ c.piece_end-end.ensures c.loop-start-test.true in
-    unended _ c.if-end-listing.true (numbered _ c.number.ensures c.put_refusal.ensures)
+    unended _ c.if-end-listing.true c.put_refusal.ensures
 
 pub line_does-requires : goal.line_does-requires
 line_does-requires c =
@@ -47,7 +47,7 @@ returns-in-Err c =
     let short : length c.args.listing.now ≤ max_listing = c.requires.listing_len_bound in
     let step = c.line_does.ensures in
     let stops = ran_stopped roomy short c.loop-start.invariant _ c.piece_end-end.ensures c.loop-start-test.true c.if-end-listing.false in
-    stops _ _ _ _ (c.in-Err.ensures.line_does) _ _ step.mapping_after (numbered _ c.number-in-Err.ensures c.put_refusal-in-Err.ensures)
+    stops _ _ _ _ (c.in-Err.ensures.line_does) _ _ step.mapping_after c.put_refusal-in-Err.ensures
 
 pub overflow_add-number : goal.overflow_add-number
 overflow_add-number c =

@@ -1,21 +1,21 @@
 -- `sums_does` meets its contract: a refused hash stops the program, and else both are printed. Assumes nothing.
 use Rattle.std.proofs.Common.{ℕ, true, List, [], Result, subst}
 use Rattle.std.proofs.lemmas.Result.{err_from_is_err_and}
-use Rattle.rules.specs.Fragments.{Sort}
-use Rattle.rules.specs.Shells.{Ignore}
-use Rattle.layout.specs.declared.causes.Cause.{Cause}
-use Rattle.renaming.specs.Index.{list_in}
-use Rattle.renaming.proofs.Indexed.{no_words_lem, no_list}
-use Rattle.hashing.specs.Calls.{Answered}
+use Rattle.rules.specs.declared.types.Sort.{Sort}
+use Rattle.rules.specs.declared.types.Ignore.{Ignore}
+use Rattle.rules.specs.declared.types.Cause.{Cause}
+use Rattle.fragments.specs.Index.{list_in}
+use Rattle.fragments.proofs.Indexed.{no_words_lem, no_list}
+use Rattle.hashing.specs.Calls.{HashAnswers}
 use Rattle.listing.proofs.Hashes.{left_stops, right_stops, sums_goes}
 use Rattle.listing.proofs.summing.sums_does.Goals as goal
 
 -- as a list that is empty
-unlisted : {b : List ℕ} {ig : Ignore} {f : Sort} {n : ℕ} {h : Result ℕ Cause} → Answered true b (list_in []) ig f n h → Answered true b [] ig f n h
-unlisted {b} {ig} {f} {n} {h} a = subst (λ (ts : List ℕ). Answered true b ts ig f n h) no_list a
+unlisted : {b : List ℕ} {ig : Ignore} {f : Sort} {n : ℕ} {h : Result ℕ Cause} → HashAnswers true b (list_in []) ig f n h → HashAnswers true b [] ig f n h
+unlisted {b} {ig} {f} {n} {h} a = subst (λ (ts : List ℕ). HashAnswers true b ts ig f n h) no_list a
 
-pub invariant_of-terms : goal.invariant_of-terms
-invariant_of-terms c = record { readable = record { sound = c.requires.sound; indexed = no_words_lem } }
+pub invariant_of-view : goal.invariant_of-view
+invariant_of-view c = record { readable = record { sound = c.requires.sound; indexed = no_words_lem } }
 
 pub returns-in_err-left : goal.returns-in_err-left
 returns-in_err-left c =

@@ -4,7 +4,7 @@ use lib.ListN.{length-replicate}
 use Rattle.rules.specs.Mapping.{no_image}
 use Rattle.rules.specs.Listings.{sums_program, sums}
 use Rattle.layout.specs.Columns.{buffer_length}
-use Rattle.mapping.specs.MappingWords.{mapping_length, empty_words}
+use Rattle.equivalence.specs.MappingWords.{mapping_length, empty_words}
 use Rattle.listing.specs.Calls.{buffers}
 use Rattle.programs.proofs.Printing.{all_printed}
 use Rattle.programs.proofs.answers.sums_printed.Goals as goal

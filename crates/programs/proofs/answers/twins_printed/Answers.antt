@@ -3,7 +3,7 @@ use Rattle.std.proofs.Common.{ℕ}
 use lib.ListN.{length-replicate}
 use Rattle.rules.specs.Listings.{twins_program, twins}
 use Rattle.layout.specs.Columns.{buffer_length}
-use Rattle.mapping.specs.MappingWords.{mapping_length}
+use Rattle.equivalence.specs.MappingWords.{mapping_length}
 use Rattle.listing.specs.Calls.{buffers}
 use Rattle.programs.proofs.Printing.{all_printed}
 use Rattle.programs.proofs.answers.twins_printed.Goals as goal

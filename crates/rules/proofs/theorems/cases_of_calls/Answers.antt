@@ -3,7 +3,7 @@ use Rattle.rules.proofs.Keys.Computed.{key_cases_hold}
 use Rattle.rules.proofs.Extents.Computed.{extent_cases_hold}
 use Rattle.rules.proofs.MappingComputed.{mapping_cases_hold}
 use Rattle.rules.proofs.Walking.Computed.{nesting_cases_hold}
-use Rattle.rules.proofs.Types.Computed.{type_cases_hold}
+use Rattle.rules.proofs.RenamedTypes.Computed.{type_cases_hold}
 use Rattle.rules.proofs.Runs.Computed.{run_cases_hold}
 use Rattle.rules.proofs.Marks.Computed.{mark_cases_hold}
 use Rattle.rules.proofs.CopyComputed.{copy_cases_hold}

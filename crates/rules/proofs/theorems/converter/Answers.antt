@@ -1,5 +1,5 @@
 -- Each clause by the lemma that it is. Assumes nothing.
-use Rattle.rules.proofs.Stated.{converted_edition, same_output, there_and_back, back_and_there, convert_fits}
+use Rattle.rules.proofs.Converting.Laws.{converted_edition, same_output, there_and_back, back_and_there, convert_fits}
 use Rattle.rules.proofs.theorems.converter.Goals as goal
 
 pub returns : goal.returns

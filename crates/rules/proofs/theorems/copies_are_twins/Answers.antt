@@ -1,5 +1,5 @@
 -- Each clause by the lemma that it is. Assumes nothing.
-use Rattle.rules.proofs.Stated.{copy_equal, copy_alike, copy_filed, copy_order, copy_premise, early_unequal}
+use Rattle.rules.proofs.Copying.Laws.{copy_equal, copy_alike, copy_filed, copy_order, copy_premise, early_unequal}
 use Rattle.rules.proofs.theorems.copies_are_twins.Goals as goal
 
 pub returns : goal.returns

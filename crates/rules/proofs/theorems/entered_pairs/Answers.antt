@@ -1,5 +1,5 @@
 -- Each clause by the lemma that it is. Assumes nothing.
-use Rattle.rules.proofs.Stated.{noted_is, noted_count, entered_in_order}
+use Rattle.rules.proofs.Entering.{noted_is, noted_count, entered_in_order}
 use Rattle.rules.proofs.theorems.entered_pairs.Goals as goal
 
 pub returns : goal.returns

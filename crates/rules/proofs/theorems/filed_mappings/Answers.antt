@@ -1,5 +1,7 @@
 -- Each clause by the lemma that it is. Assumes nothing.
-use Rattle.rules.proofs.Stated.{side_by_side, mapping_laws_of_sound, mapping_laws_after, mapping_laws_marked}
+use Rattle.rules.proofs.Form.SideBySide.{side_by_side}
+use Rattle.rules.proofs.MappingLaws.{mapping_laws_of_sound, mapping_laws_after}
+use Rattle.rules.proofs.Marks.Laws.{mapping_laws_marked}
 use Rattle.rules.proofs.theorems.filed_mappings.Goals as goal
 
 pub returns : goal.returns

@@ -1,8 +1,8 @@
 -- Each clause by the lemma that it is. Assumes nothing.
 use Rattle.rules.proofs.Keys.Filed.{filers_law}
 use Rattle.rules.proofs.Keys.Kept.{fields_fit_kept, filers_law_after}
-use Rattle.rules.proofs.Types.Under.{filers_law_renamed}
-use Rattle.rules.proofs.Stated.{filers_law_marked}
+use Rattle.rules.proofs.RenamedTypes.Under.{filers_law_renamed}
+use Rattle.rules.proofs.Marks.Laws.{filers_law_marked}
 use Rattle.rules.proofs.theorems.filers_law.Goals as goal
 
 pub returns : goal.returns

@@ -1,5 +1,5 @@
 -- Each clause by the lemma that it is. Assumes nothing.
-use Rattle.rules.proofs.Stated.{went_back, went_back_whole}
+use Rattle.rules.proofs.Marks.WentBack.{went_back, went_back_whole}
 use Rattle.rules.proofs.theorems.going_back.Goals as goal
 
 pub returns : goal.returns

@@ -1,5 +1,6 @@
 -- Each clause by the lemma that it is. Assumes nothing.
-use Rattle.rules.proofs.Stated.{twin_stays, twins_together, twins_share, twinless_equal}
+use Rattle.rules.proofs.Grouping.Groups.{twin_stays, twins_together, twins_share}
+use Rattle.rules.proofs.Grouping.Computed.{twinless_equal}
 use Rattle.rules.proofs.theorems.groups_of_twins.Goals as goal
 
 pub returns : goal.returns

@@ -1,5 +1,6 @@
 -- Each clause by the lemma that it is. Assumes nothing.
-use Rattle.rules.proofs.Stated.{independent_is, independent_along}
+use Rattle.rules.proofs.Grouping.Independent.{independent_is}
+use Rattle.rules.proofs.Grouping.Along.{independent_along}
 use Rattle.rules.proofs.theorems.independence.Goals as goal
 
 pub returns : goal.returns

@@ -1,7 +1,7 @@
 -- Each clause by the lemma that it is. Assumes nothing.
 use Rattle.rules.proofs.Laws.{laws_of_sound, demand3}
-use Rattle.rules.proofs.Stated.{demand3_marked, laws_marked}
-use Rattle.rules.proofs.Types.Under.{laws_renamed}
+use Rattle.rules.proofs.Marks.Laws.{demand3_marked, laws_marked}
+use Rattle.rules.proofs.RenamedTypes.Under.{laws_renamed}
 use Rattle.rules.proofs.theorems.laws_of_equality_and_hash.Goals as goal
 
 pub returns : goal.returns

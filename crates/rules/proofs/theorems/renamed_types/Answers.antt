@@ -1,5 +1,5 @@
 -- Each clause by the lemma that it is. Assumes nothing.
-use Rattle.rules.proofs.Types.Under.{renamed_sound, renamed_in, renamed_premise, renamed_none, present_once}
+use Rattle.rules.proofs.RenamedTypes.Under.{renamed_sound, renamed_in, renamed_premise, renamed_none, present_once}
 use Rattle.rules.proofs.theorems.renamed_types.Goals as goal
 
 pub returns : goal.returns

@@ -1,5 +1,5 @@
 -- Each clause by the lemma that it is. Assumes nothing.
-use Rattle.rules.proofs.Stated.{twin_found, twin_none, twin_alike}
+use Rattle.rules.proofs.Grouping.Twins.{twin_found, twin_none, twin_alike}
 use Rattle.rules.proofs.theorems.twins.Goals as goal
 
 pub returns : goal.returns

@@ -1,6 +1,6 @@
 -- `of_line` meets its contract: a `b` line is cut behind its second field, and in the first edition behind its third too. Assumes nothing.
 use Rattle.std.proofs.Common.{sym}
-use Rattle.lines.specs.declared.editions.Edition.TheVariants.{First, Second}
+use Rattle.rules.specs.declared.types.Edition.TheVariants.{First, Second}
 use Rattle.converting.proofs.FieldEnds.{first_end}
 use Rattle.converting.proofs.Made.{copied, label_dropped, label_put, by_edition}
 use Rattle.converting.proofs.parts.Parts.of_line.Goals as goal

@@ -3,7 +3,6 @@ use Rattle.std.proofs.Common.{ap, sym, ◌∙◌, arith}
 use Rattle.rules.specs.Fragments.{fragment_ops}
 use Rattle.rules.specs.Copying.{has_place}
 use Rattle.layout.specs.Reading.{store_in}
-use Rattle.fragments.specs.Sorts.{sort_of}
 use Rattle.fragments.proofs.Upward.{around_op, block_own, block_in_lem}
 use Rattle.fragments.proofs.inside.Fragment.block_inside.Goals as goal
 
@@ -14,11 +13,11 @@ pub returns-then-is_outermost : goal.returns-then-is_outermost
 returns-then-is_outermost c =
     let a = c.args in
     c.if-is_outermost.true
-    ∙ sym (block_own a.self.now.store.now a.self.now.sound (sort_of a.self.now.sort) a.self.now.n a.self.now.exists a.b c.requires (sym c.is_outermost.ensures ∙ c.if-is_outermost.true))
+    ∙ sym (block_own a.self.now.store.now a.self.now.sound a.self.now.sort a.self.now.n a.self.now.exists a.b c.requires (sym c.is_outermost.ensures ∙ c.if-is_outermost.true))
 
 pub returns-else-is_outermost : goal.returns-else-is_outermost
 returns-else-is_outermost c =
     let a = c.args in
     c.op_inside.ensures
-    ∙ ap (has_place (fragment_ops (store_in a.self.now.store.now) (sort_of a.self.now.sort) a.self.now.n)) c.op_around.ensures
-    ∙ sym (block_in_lem a.self.now.store.now a.self.now.sound (sort_of a.self.now.sort) a.self.now.n a.self.now.exists a.b c.requires (sym c.is_outermost.ensures ∙ c.if-is_outermost.false))
+    ∙ ap (has_place (fragment_ops (store_in a.self.now.store.now) a.self.now.sort a.self.now.n)) c.op_around.ensures
+    ∙ sym (block_in_lem a.self.now.store.now a.self.now.sound a.self.now.sort a.self.now.n a.self.now.exists a.b c.requires (sym c.is_outermost.ensures ∙ c.if-is_outermost.false))

@@ -5,7 +5,6 @@ use Rattle.rules.specs.Fragments.{fragment_ops}
 use Rattle.rules.specs.Copying.{has_place}
 use Rattle.layout.specs.Columns.{columns, at, op_parent}
 use Rattle.layout.specs.Reading.{store_in}
-use Rattle.fragments.specs.Sorts.{sort_of}
 use Rattle.fragments.specs.Inside.{outer_op}
 use Rattle.fragments.proofs.Few.{op_low}
 use Rattle.fragments.proofs.Upward.{InBlock, stopped, op_alone, op_in_lem, around_op, block_own, block_in_lem}
@@ -13,16 +12,16 @@ use Rattle.fragments.proofs.inside.Fragment.op_inside.Goals as goal
 use Rattle.fragments.proofs.inside.Fragment.op_inside.Goals.{In-loop-at, In-Some}
 
 -- it is not come to yet
-higher : (c : In-loop-at) → outer_op (store_in c.args.self.now.store.now) (sort_of c.args.self.now.sort) c.args.self.now.n < c.loop-at.at
+higher : (c : In-loop-at) → outer_op (store_in c.args.self.now.store.now) c.args.self.now.sort c.args.self.now.n < c.loop-at.at
 higher c = omega (arith, c.outer_op-outer.ensures, c.loop-at-test.true)
 
 -- the block that the operation stands in
-in_block : (c : In-Some) → InBlock c.args.self.now.store.now c.args.self.now.sound (sort_of c.args.self.now.sort) c.args.self.now.n c.args.self.now.exists c.loop-at.at c.in-Some.b
+in_block : (c : In-Some) → InBlock c.args.self.now.store.now c.args.self.now.sound c.args.self.now.sort c.args.self.now.n c.args.self.now.exists c.loop-at.at c.in-Some.b
 in_block c =
     let a = c.args in
     let some = c.in-Some.ensures in
-    subst (InBlock a.self.now.store.now a.self.now.sound (sort_of a.self.now.sort) a.self.now.n a.self.now.exists c.loop-at.at) (sym some.1)
-    (op_in_lem a.self.now.store.now a.self.now.sound (sort_of a.self.now.sort) a.self.now.n a.self.now.exists
+    subst (InBlock a.self.now.store.now a.self.now.sound a.self.now.sort a.self.now.n a.self.now.exists c.loop-at.at) (sym some.1)
+    (op_in_lem a.self.now.store.now a.self.now.sound a.self.now.sort a.self.now.n a.self.now.exists
     c.loop-at.at c.number.result c.loop-at.invariant.bound (higher ((goal.at.In-Some c).In-loop-at))
     c.number.ensures (λ e. let z : ◌<◌ 0 c.number.result = omega (arith, some.0) in omega arith))
 
@@ -34,7 +33,7 @@ returns-in_default c =
     let a = c.args in
     let no : 1 ≤ c.number.result → ⊥ = c.in_default.ensures in
     let none : at (columns a.self.now.store.now) op_parent c.loop-at.at ≡ 0 = omega (arith, c.number.ensures, no) in
-    sym (op_alone a.self.now.store.now a.self.now.sound (sort_of a.self.now.sort) a.self.now.n a.self.now.exists
+    sym (op_alone a.self.now.store.now a.self.now.sound a.self.now.sort a.self.now.n a.self.now.exists
     c.loop-at.at c.loop-at.invariant.bound (higher ((goal.at.returns-in_default c).In-loop-at)) none)
     ∙ c.loop-at.invariant.same
 
@@ -45,7 +44,7 @@ pub returns-then-is_outermost : goal.returns-then-is_outermost
 returns-then-is_outermost c =
     let a = c.args in
     let p = in_block ((goal.at.returns-then-is_outermost c).In-Some) in
-    sym (block_own a.self.now.store.now a.self.now.sound (sort_of a.self.now.sort) a.self.now.n a.self.now.exists c.in-Some.b p.block_in (sym c.is_outermost.ensures ∙ c.if-is_outermost.true))
+    sym (block_own a.self.now.store.now a.self.now.sound a.self.now.sort a.self.now.n a.self.now.exists c.in-Some.b p.block_in (sym c.is_outermost.ensures ∙ c.if-is_outermost.true))
     ∙ sym p.same
     ∙ c.loop-at.invariant.same
 
@@ -65,8 +64,8 @@ loop-at-preserved c =
     record {
       bound = omega (arith, around_op b a.self.now.sound c.in-Some.b p.block_in, c.op_around-at.ensures);
       same =
-          ap (has_place (fragment_ops (store_in b) (sort_of a.self.now.sort) a.self.now.n)) c.op_around-at.ensures
-          ∙ sym (block_in_lem b a.self.now.sound (sort_of a.self.now.sort) a.self.now.n a.self.now.exists c.in-Some.b p.block_in (sym c.is_outermost.ensures ∙ c.if-is_outermost.false))
+          ap (has_place (fragment_ops (store_in b) a.self.now.sort a.self.now.n)) c.op_around-at.ensures
+          ∙ sym (block_in_lem b a.self.now.sound a.self.now.sort a.self.now.n a.self.now.exists c.in-Some.b p.block_in (sym c.is_outermost.ensures ∙ c.if-is_outermost.false))
           ∙ sym p.same
           ∙ c.loop-at.invariant.same;
     }
@@ -74,7 +73,7 @@ loop-at-preserved c =
 pub returns : goal.returns
 returns c =
     let a = c.args in
-    let low : c.loop-at.at ≤ outer_op (store_in a.self.now.store.now) (sort_of a.self.now.sort) a.self.now.n = omega (arith, c.outer_op-outer.ensures, c.loop-at-test.false) in
+    let low : c.loop-at.at ≤ outer_op (store_in a.self.now.store.now) a.self.now.sort a.self.now.n = omega (arith, c.outer_op-outer.ensures, c.loop-at-test.false) in
     c.is_itself.ensures
-    ∙ stopped a.self.now.store.now a.self.now.sound (sort_of a.self.now.sort) a.self.now.n a.self.now.exists c.loop-at.at low
+    ∙ stopped a.self.now.store.now a.self.now.sound a.self.now.sort a.self.now.n a.self.now.exists c.loop-at.at low
     ∙ c.loop-at.invariant.same

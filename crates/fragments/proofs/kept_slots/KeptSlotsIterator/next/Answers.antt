@@ -12,7 +12,7 @@ use Rattle.std.specs.Prelude as std
 use Rattle.rules.specs.Shells.{ignored}
 use Rattle.layout.specs.Columns.{columns}
 use Rattle.layout.specs.Reading.{attribute_at}
-use Rattle.fragments.specs.Ignoring.{ignore_of, kept_slots}
+use Rattle.fragments.specs.Ignoring.{kept_slots}
 use Rattle.fragments.specs.SlotsLeft.{slots_left}
 use Rattle.fragments.specs.declared.kept_slots.KeptSlots.{KeptSlots}
 use Rattle.fragments.proofs.Kept.{slots_next, slots_over}
@@ -23,17 +23,17 @@ use Rattle.fragments.proofs.kept_slots.KeptSlotsIterator.next.Goals.{After-find,
 abbrev Found : KeptSlots → std.Option ℕ → Type 0
 Found walk r =
     MatchOption r
-    ((k : ℕ) → walk.at ≤ k → k < walk.end → ignored (ignore_of walk.ignore) (attribute_at (columns walk.store.now) k) ≡ true)
+    ((k : ℕ) → walk.at ≤ k → k < walk.end → ignored walk.ignore (attribute_at (columns walk.store.now) k) ≡ true)
     (λ i. (walk.at ≤ i)
     × (i < walk.end)
-    × (ignored (ignore_of walk.ignore) (attribute_at (columns walk.store.now) i) ≡ false)
-    × ((k : ℕ) → walk.at ≤ k → k < i → ignored (ignore_of walk.ignore) (attribute_at (columns walk.store.now) k) ≡ true))
+    × (ignored walk.ignore (attribute_at (columns walk.store.now) i) ≡ false)
+    × ((k : ℕ) → walk.at ≤ k → k < i → ignored walk.ignore (attribute_at (columns walk.store.now) k) ≡ true))
 
 found : (c : After-find) → Found c.args.self.now c.find.result
 found c = first_from_Range _ _ _ _ _ _ c.find.ensures.ran (λ x q k. search (rules, tests)) (λ x q k. search (rules, tests))
 
 next_slot : (c : In_ok-slot) → Found c.args.self.now c.find.result
-    → slots_left c.args.self.now ≡ c.in_ok-slot.slot ∷ kept_slots (columns c.args.self.now.store.now) (ignore_of c.args.self.now.ignore) (c.in_ok-slot.slot + 1) c.args.self.now.end
+    → slots_left c.args.self.now ≡ c.in_ok-slot.slot ∷ kept_slots (columns c.args.self.now.store.now) c.args.self.now.ignore (c.in_ok-slot.slot + 1) c.args.self.now.end
 next_slot c f =
     let at = subst (Found c.args.self.now) c.in_ok-slot.was f in
     slots_next _ _ _ _ _ at.0 at.1 at.2 at.3

@@ -1,0 +1,5 @@
+-- `region_extent` meets its contract: it is `lent_extent` at its sort. Assumes nothing.
+use Rattle.api.proofs.extents.region_extent.Goals as goal
+
+pub returns : goal.returns
+returns c = c.lent_extent.ensures

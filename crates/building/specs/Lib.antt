@@ -1,2 +1,0 @@
--- The building calls on any buffer.
-pub mod Calls

@@ -1,5 +1,0 @@
-// The building calls, on any buffer.
-#![tactic(auto)]
-
-pub mod calls;
-pub mod types;

@@ -1,4 +1,0 @@
-// What the building calls have in common.
-#![tactic(auto)]
-
-pub mod types;

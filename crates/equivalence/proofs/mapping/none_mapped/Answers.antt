@@ -1,0 +1,15 @@
+-- `none_mapped` meets its contract: the flag answers of the entries that were passed. Assumes nothing.
+use Rattle.std.proofs.Common.{rules, ◌≡◌, refl, subst}
+use Rattle.std.proofs.lemmas.Fn.{fold_over, slice_gives, fronts}
+use Rattle.std.specs.List.{list_all}
+use Rattle.equivalence.specs.MappingWords.{unmapped}
+use Rattle.equivalence.proofs.MappingEntries.{all_push}
+use Rattle.equivalence.proofs.mapping.none_mapped.Goals as goal
+
+pub returns : goal.returns
+unfolding unmapped
+returns c =
+    subst (λ l. c.fold.result ≡ list_all unmapped l) c.iter.ensures.rest
+    (fold_over fronts (λ y. y.now) _ (λ ys good. good ≡ list_all unmapped ys) _
+    (λ ys a x b f' j k. let more = all_push unmapped ys x.now in search rules)
+    _ _ _ _ (slice_gives c.iter.result) refl c.fold.ensures.ran)

@@ -1,8 +1,0 @@
--- `put_leaf` meets its contract: a leaf is a number's 4 bytes, lowest first. Assumes nothing.
-use mathlib.Core.Path.{◌∙◌}
-use Rattle.key_bytes.proofs.LittleEndian.{leaf_lem}
-use Rattle.key_bytes.proofs.Putting.{put_as}
-use Rattle.key_bytes.proofs.numbers.put_leaf.Goals as goal
-
-pub returns : goal.returns
-returns c = put_as (c.to_le_bytes.ensures ∙ leaf_lem c.args.n) c.put.ensures

@@ -1,7 +1,0 @@
--- `put_tag` meets its contract: the only byte of a number below 256 is the number. Assumes nothing.
-use Rattle.key_bytes.proofs.LittleEndian.{tag_lem}
-use Rattle.key_bytes.proofs.Putting.{put_as}
-use Rattle.key_bytes.proofs.numbers.put_tag.Goals as goal
-
-pub returns : goal.returns
-returns c = put_as (tag_lem c.args.n c.ranges.n.fits) c.put.ensures

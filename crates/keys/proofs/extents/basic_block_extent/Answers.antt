@@ -1,7 +1,0 @@
--- `basic_block_extent` meets its contract: it is `lent_extent` at its sort. Assumes nothing.
-use Rattle.fragments.specs.Sorts.{sort_of}
-use Rattle.keys.proofs.extents.basic_block_extent.Goals as goal
-
-pub returns : goal.returns
-unfolding sort_of
-returns c = c.lent_extent.ensures

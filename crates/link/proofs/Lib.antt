@@ -1,3 +1,0 @@
--- What crosses stands for what the calls answer.
-mod Indexing
-mod Converting

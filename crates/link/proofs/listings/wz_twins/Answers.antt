@@ -1,5 +1,0 @@
--- `wz_twins` meets its contract: the answer's numbers stand for it. Assumes nothing.
-use Rattle.link.proofs.listings.wz_twins.Goals as goal
-
-pub returns : goal.returns
-returns c = rw c.of_listed.ensures c.twins.ensures

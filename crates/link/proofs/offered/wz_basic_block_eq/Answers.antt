@@ -1,8 +1,0 @@
--- `wz_basic_block_eq` meets its contract: the answer's numbers stand for it. Assumes nothing.
-use Rattle.fragments.specs.Ignoring.{ignore_of}
-use Rattle.link.specs.Codes.{ignoring}
-use Rattle.link.proofs.offered.wz_basic_block_eq.Goals as goal
-
-pub returns : goal.returns
-unfolding ignoring ignore_of
-returns c = rw c.of_verdict.ensures c.basic_block_eq.ensures

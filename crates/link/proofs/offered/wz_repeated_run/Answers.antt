@@ -1,8 +1,0 @@
--- `wz_repeated_run` meets its contract: the answer's numbers stand for it. Assumes nothing.
-use Rattle.fragments.specs.Ignoring.{ignore_of}
-use Rattle.link.specs.Codes.{ignoring}
-use Rattle.link.proofs.offered.wz_repeated_run.Goals as goal
-
-pub returns : goal.returns
-unfolding ignoring ignore_of
-returns c = rw c.of_run.ensures c.repeated_run.ensures.told

@@ -1,2 +1,0 @@
--- What a call on a lent buffer remembers, in words.
-pub mod Raw

@@ -1,2 +1,0 @@
--- What going back to a mark leaves.
-pub mod Returning

@@ -1,4 +1,0 @@
-// The call that goes back to a mark, on a lent buffer.
-#![tactic(auto)]
-
-pub mod going;

@@ -1,2 +1,0 @@
--- A tally in words, and what including a fragment leaves of it.
-pub mod Tally

@@ -1,0 +1,11 @@
+-- `wz_known_new_operation` meets its contract: the answer's numbers stand for it, and the parent for the two that are given. Assumes nothing.
+use native.Mathlib.Omega.{arith}
+use mathlib.Core.Path.{sym}
+use Rattle.undo_log.proofs.Lent.{lent_facts}
+use Rattle.warzhigo_c.proofs.known.wz_known_new_operation.Goals as goal
+
+pub array_mut-requires : goal.array_mut-requires
+array_mut-requires c = (omega arith, (lent_facts c.args.store.now c.requires).tables.sized)
+
+pub returns : goal.returns
+returns c = rw (c.of_made.ensures, sym c.parent.ensures, sym c.array_mut.ensures.value) c.new_operation.ensures

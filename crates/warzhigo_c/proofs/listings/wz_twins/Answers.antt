@@ -1,0 +1,5 @@
+-- `wz_twins` meets its contract: the answer's numbers stand for it. Assumes nothing.
+use Rattle.warzhigo_c.proofs.listings.wz_twins.Goals as goal
+
+pub returns : goal.returns
+returns c = rw c.of_listed.ensures c.twins.ensures

@@ -1,8 +1,0 @@
--- `window_sum` meets its contract: after each turn one hash more is added, times its power. Assumes nothing.
-use Rattle.std.proofs.Common.{◌≡◌, drop}
-use Rattle.rules.specs.Runs.{weighted}
-use Rattle.windows.proofs.Weights.{from_front}
-use Rattle.windows.proofs.sums.window_sum.Given as goal
-
-abbrev pub invariant-loop-i : goal.invariant-loop-i
-invariant-loop-i l = from_front l.sum (drop l.i l.hashes) ≡ weighted l.hashes
