@@ -1,7 +1,7 @@
 /* Warzhigo for C: structural equality, mapping, hash and key of IR operations, blocks and regions, proved.
  *
  * Link crates/warzhigo_c/out/libwarzhigo_c.a, which `rt lib` in crates/warzhigo_c writes. The functions allocate nothing, keep no pointer and end; they use
- * nothing but memcpy, memmove and memset.
+ * nothing but memcpy and memset.
  *
  * A lent buffer is a pointer and its length, in words of 32 bits or in bytes: memory of the caller's, of which what is written to overlaps
  * no other buffer of the same call. NULL and 0 lend an empty one, wherever a buffer is taken. A store has wz_store_words() words and is

@@ -26,7 +26,7 @@ use Rattle.mutation.proofs.Owners.{reachable}
 use Rattle.mutation.proofs.KeySlot.{slot_low}
 use Rattle.mutation.proofs.AttributeCauses.{owner_there, room_there}
 use Rattle.undo_log.specs.declared.entries.Entry.{Entry}
-use Rattle.undo_log.specs.EntryWrites.{entry_put, with_entry}
+use Rattle.undo_log.specs.EntryWrites.{words_put, with_words, with_entry}
 use Rattle.undo_log.specs.KeyRemoval.{removed, without_slot}
 use Rattle.undo_log.specs.CutWrites.{with_column, counts_taken, links_cut, ends_made, children_cut, ops_cut, blocks_cut, tables_cut}
 use Rattle.undo_log.proofs.Written.{first_length}
@@ -91,7 +91,7 @@ slot_shaped C w i sh l r =
 -- ---- the journal, and the rows of marks
 
 pub entry_shaped : (C : Cols) (e : Entry) → Shaped C → Shaped (with_entry C e)
-unfolding with_entry entry_put
+unfolding with_words words_put
 entry_shaped C e sh =
     write_shaped _ journal_counts 1 _
     (write_shaped _ journal_counts 0 _

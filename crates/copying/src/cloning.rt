@@ -31,7 +31,7 @@ fn copy_cause(original: &Original, parent: Option<u32>) -> Result<(), Cause>
     requires { parent_exists (store_in original.now.store.now) parent ≡ true }
     ensures { cause_of result ≡ first_failed (copy_tests (store_in original.now.store.now) original.now.n parent) }
 {
-    if !placed_outside(original, parent) {
+    if !placed_outside(original.store, original.n, parent) {
         return Err(Cause::PlacedInside);
     }
     if !in_time(original) {

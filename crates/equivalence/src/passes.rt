@@ -39,7 +39,8 @@ pub fn map_blocks(
                 count = block_eq_map(view, mapping, found, count)?;
             }
             (None, None) => return Ok(count),
-            (Some(_), None) | (None, Some(_)) => return Err(lists.lengths_neq(count)),
+            (Some(_), None) => return Err(lists.lengths_neq(count)),
+            (None, Some(_)) => return Err(lists.lengths_neq(count)),
         }
     }
 }
@@ -61,7 +62,10 @@ fn map_ops_in(view: &StoreView, mapping: &mut MappingWords, pair: Pair, paired: 
                 count = op_eq_map(view, mapping, found, count)?;
             }
             (None, None) => return Ok(count),
-            (Some(_), None) | (None, Some(_)) => {
+            (Some(_), None) => {
+                return Err(Unequal::FirstNEQBlocks(pair.lhs as u32, pair.rhs as u32, count));
+            }
+            (None, Some(_)) => {
                 return Err(Unequal::FirstNEQBlocks(pair.lhs as u32, pair.rhs as u32, count));
             }
         }

@@ -31,7 +31,7 @@ pub fn hash_regionless(view: &StoreView, n: usize) -> u64
     let end = row.value + row.values;
     let mut state = RunningHash::new();
     state.hash_head(at(view.store, OP_KIND, n), 0);
-    hash_row(view, row, &mut state);
+    hash_row(view.store, view.index, view.ignore, row, &mut state);
     hash_uses(
         operands_of(view.store, n),
         |v| own_name(row.value, end, v),

@@ -10,6 +10,7 @@ ghost use Rattle.layout.specs.Columns.{buffer_length, columns};
 ghost use Rattle.layout.specs.Reading.{op_count, block_count, store_in};
 ghost use Rattle.layout.specs.Soundness.{IsSound};
 ghost use Rattle.fragments.specs.Index.{list_in, IsIndex};
+ghost use Rattle.fragments.specs.Options.{options_of};
 ghost use Rattle.fragments.specs.View.{options_in, store_read};
 ghost use Rattle.fragments.specs.Rows.{RowFits, row_shell};
 ghost use Rattle.fragments.specs.Numbered.{DefinitionsFit};
@@ -45,15 +46,22 @@ fn hash_types(index: &[u32], types: &[u32], state: &mut RunningHash)
 }
 
 // Hash what operations and blocks have in common: location, attributes, and the present types of the values.
-pub fn hash_row(view: &StoreView, row: ShellRow, state: &mut RunningHash)
-    requires { RowFits (columns view.now.store.now) row }
-    ensures { state.new.word ≡ fnv_from state.old.word (shell_bytes uncounted (row_shell (columns view.now.store.now) (options_in view.now) row)) }
+pub fn hash_row(
+    store: &StoreWords,
+    index: &[u32],
+    ignore: Ignore,
+    row: ShellRow,
+    state: &mut RunningHash,
+)
+    requires index { IsIndex index.now }
+    requires row_fits { RowFits (columns store.now) row }
+    ensures { state.new.word ≡ fnv_from state.old.word (shell_bytes uncounted (row_shell (columns store.now) (options_of ignore index.now) row)) }
 {
-    location_hash(view.ignore, row.location, state);
+    location_hash(ignore, row.location, state);
     let end = row.slot + row.attributes;
-    attributes_hash(view.store, view.ignore, row.slot, end, state);
-    let own = words(view.store, VALUE_TYPE, row.value, row.value + row.values);
-    hash_types(view.index, own, state);
+    attributes_hash(store, ignore, row.slot, end, state);
+    let own = words(store, VALUE_TYPE, row.value, row.value + row.values);
+    hash_types(index, own, state);
 }
 
 // Hash what only an operation has: its kind, and how many regions it has.
@@ -72,7 +80,8 @@ pub fn feed_op_shell(view: &StoreView, n: usize, state: &mut RunningHash)
     ensures { state.new.word ≡ fnv_from state.old.word (owner_bytes (store_read view.now) (options_in view.now) (of_op n)) }
 {
     hash_head(view.store, n, state);
-    hash_row(view, op_row(view.store, n), state);
+    let row = op_row(view.store, n);
+    hash_row(view.store, view.index, view.ignore, row, state);
 }
 
 // What a block feeds of itself.
@@ -80,7 +89,8 @@ pub fn feed_block_shell(view: &StoreView, n: usize, state: &mut RunningHash)
     requires n_bound { n < block_count (columns view.now.store.now) }
     ensures { state.new.word ≡ fnv_from state.old.word (owner_bytes (store_read view.now) (options_in view.now) (of_block n)) }
 {
-    hash_row(view, block_row(view.store, n), state);
+    let row = block_row(view.store, n);
+    hash_row(view.store, view.index, view.ignore, row, state);
 }
 
 // Hash components of an operation that do not use or contain other things, and define its results.

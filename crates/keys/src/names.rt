@@ -2,14 +2,14 @@
 ghost use Rattle.std.specs.Prelude.{◌≡◌, ◌<◌};
 ghost use Rattle.rules.specs.Hash.{name_bytes};
 ghost use Rattle.layout.specs.Columns.{columns};
-ghost use Rattle.layout.specs.Reading.{op_count};
+ghost use Rattle.layout.specs.Reading.{op_count, store_in};
+ghost use Rattle.layout.specs.Soundness.{IsSound};
 ghost use Rattle.keys.specs.Put.{Put};
-ghost use Rattle.fragments.specs.View.{store_read};
 ghost use Rattle.keys.specs.Written.{NamesAllowed, PutNames, PutsNames};
 
 use crate::numbers::{put_count, put_store_number, put_walk_number};
-use fragments::view::StoreView;
 use fragments::words::{WalkNumbers, block_name, value_name};
+use layout::columns::StoreWords;
 use layout::slices::{operands_of, successors_of};
 use rules::types::Name;
 
@@ -37,13 +37,14 @@ pub fn put_uses<F: Fn(u32) -> Name>(key: &mut [u8], list: &[u32], name_of: F) ->
 }
 
 // What an operation uses: its operands, then its successors.
-pub fn put_names(view: &StoreView, numbers: &WalkNumbers, key: &mut [u8], n: usize) -> usize
-    requires { n < op_count (columns view.now.store.now) }
-    ensures { PutsNames (store_read view.now) n numbers.now key.old key.new result }
+pub fn put_names(store: &StoreWords, numbers: &WalkNumbers, key: &mut [u8], n: usize) -> usize
+    requires sound { IsSound store.now }
+    requires n_bound { n < op_count (columns store.now) }
+    ensures { PutsNames (store_in store.now) n numbers.now key.old key.new result }
 {
-    let operands = operands_of(view.store, n);
-    let at = put_uses(key, operands, |v| value_name(view.store, numbers, v));
+    let operands = operands_of(store, n);
+    let at = put_uses(key, operands, |v| value_name(store, numbers, v));
     let rest = at.min(key.len());
-    let successors = successors_of(view.store, n);
+    let successors = successors_of(store, n);
     at.saturating_add(put_uses(&mut key[rest..], successors, |b| block_name(numbers, b)))
 }

@@ -1,4 +1,5 @@
 // Shells: what a key holds of an operation or a block by itself.
+ghost use Rattle.fragments.specs.Options.{options_of};
 ghost use Rattle.fragments.specs.View.{options_in, store_read};
 ghost use Rattle.std.specs.Prelude.{map, ◌++◌, ◌≡◌, ◌<◌, length};
 ghost use Rattle.rules.specs.declared.types.Owner.TheVariants.{Op as of_op, Block as of_block};
@@ -66,14 +67,21 @@ fn put_place(store: &StoreWords, key: &mut [u8], ignore: Ignore, row: ShellRow) 
 }
 
 // What operations and blocks have in common: location, attributes, and the types of the values.
-pub fn put_row(view: &StoreView, key: &mut [u8], row: ShellRow) -> usize
-    requires { RowFits (columns view.now.store.now) row }
-    ensures { Put (shell_bytes count (row_shell (columns view.now.store.now) (options_in view.now) row)) key.old key.new result }
+pub fn put_row(
+    store: &StoreWords,
+    index: &[u32],
+    key: &mut [u8],
+    ignore: Ignore,
+    row: ShellRow,
+) -> usize
+    requires index { IsIndex index.now }
+    requires row_fits { RowFits (columns store.now) row }
+    ensures { Put (shell_bytes count (row_shell (columns store.now) (options_of ignore index.now) row)) key.old key.new result }
 {
-    let own = words(view.store, VALUE_TYPE, row.value, row.value + row.values);
-    let at = put_place(view.store, key, view.ignore, row);
+    let own = words(store, VALUE_TYPE, row.value, row.value + row.values);
+    let at = put_place(store, key, ignore, row);
     let rest = at.min(key.len());
-    at.saturating_add(put_types(view.index, &mut key[rest..], own))
+    at.saturating_add(put_types(index, &mut key[rest..], own))
 }
 
 // What only an operation has: its kind, and how many regions it has, or neither.
@@ -95,7 +103,9 @@ pub fn put_own_op(view: &StoreView, key: &mut [u8], n: usize) -> usize
 {
     let second = put_head(key, at(view.store, OP_KIND, n), op_regions(view.store, n));
     let rest = second.min(key.len());
-    second.saturating_add(put_row(view, &mut key[rest..], op_row(view.store, n)))
+    let row = op_row(view.store, n);
+    let key = &mut key[rest..];
+    second.saturating_add(put_row(view.store, view.index, key, view.ignore, row))
 }
 
 // What a block is.
@@ -103,5 +113,6 @@ pub fn put_own_block(view: &StoreView, key: &mut [u8], n: usize) -> usize
     requires n_bound { n < block_count (columns view.now.store.now) }
     ensures { Put (owner_bytes (store_read view.now) (options_in view.now) (of_block n)) key.old key.new result }
 {
-    put_row(view, key, block_row(view.store, n))
+    let row = block_row(view.store, n);
+    put_row(view.store, view.index, key, view.ignore, row)
 }

@@ -27,7 +27,7 @@ pub fn put_op_full(view: &StoreView, numbers: &mut WalkNumbers, key: &mut [u8], 
     requires definitions_fit { DefinitionsFit (store_read view.now) (full_steps (store_read view.now) n) numbers.old }
     ensures { Puts (store_read view.now) (options_in view.now) (full_steps (store_read view.now) n) (place numbers.old key.old) (place numbers.new key.new) result }
 {
-    let mut at = put_names(view, numbers, key, n);
+    let mut at = put_names(view.store, numbers, key, n);
     for r in number(view.store, OP_REGION_FIRST, n)..number(view.store, OP_REGION_END, n) {
         let rest = at.min(key.len());
         at = at.saturating_add(put_blocks_full(

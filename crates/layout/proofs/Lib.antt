@@ -6,6 +6,7 @@ pub mod Pasted
 pub mod Buffer
 pub mod Filled
 pub mod Copies
+pub mod Turns
 pub mod Ranges
 pub mod Types
 pub mod Nesting

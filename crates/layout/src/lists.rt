@@ -1,4 +1,5 @@
-// Tests of lists of words, and writing into one. Each is a line over the library's, under a promise in the rules' words that callers cite.
+// Tests of lists of words, and writing into one. Each but `copy_at` is a line over the library's, under a promise in the rules' words that
+// callers cite.
 ghost use Rattle.std.specs.Prelude.{◌≡◌, ◌∷◌, ◌+◌, ◌<◌, ◌≤◌, eqb, ltb, length, replicate, take, drop};
 ghost use Rattle.layout.specs.Columns.{pasted};
 ghost use Rattle.std.specs.List.{list_all};
@@ -17,12 +18,15 @@ pub fn all_below(list: &[u32], n: u32) -> bool
     list.iter().all(|x| *x < n)
 }
 
-// Writes a list over the words of another, from `from` on.
+// Writes a list over the words of another, from `from` on. (A loop: the library's `copy_from_slice` is `memmove` where the length isn't known,
+// which nothing else here asks of whoever links the archive.)
 pub fn copy_at(to: &mut [u32], from: usize, list: &[u32])
     requires { from + length list.now ≤ length to.old }
     ensures { to.new ≡ pasted to.old from list.now }
 {
-    to[from..from + list.len()].copy_from_slice(list);
+    for j in 0..list.len() {
+        to[from + j] = list[j];
+    }
 }
 
 // Writes the word `v` over `count` words, from `from` on.

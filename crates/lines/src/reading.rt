@@ -10,9 +10,16 @@ use crate::pieces::piece_end;
 use crate::texts::same_bytes;
 use std::marker::Model;
 
+// A line and a position in it: where `Fields` stands, to be kept and come back to.
+#[derive(Clone, Copy)]
+pub struct Reader<'a> {
+    pub line: &'a [u8],
+    pub at: usize,
+}
+
 // A line, and the position at which its next field begins: one past the line's end where the last field was read. A clause sees the list
 // of the fields that are not read yet.
-#[derive(Drop)]
+#[derive(Clone, Drop)]
 pub struct Fields<'a> {
     line: &'a [u8],
     at: usize,
@@ -37,6 +44,28 @@ impl<'a> Fields<'a> {
         ensures few { length result ≤ length line.now + 1 }
     {
         Fields { line, at: 0 }
+    }
+
+    // The fields from a position on: none behind the line's end.
+    pub fn from_reader(reader: &Reader<'a>) -> Fields<'a>
+        requires { reader.now.at ≤ length reader.now.line.now + 1 }
+        ensures { result ≡ fields_left reader.now.line.now reader.now.at }
+    {
+        Fields {
+            line: reader.line,
+            at: reader.at,
+        }
+    }
+
+    // Where the next field begins.
+    pub fn reader(&self) -> Reader<'a>
+        ensures left { fields_left result.line.now result.at ≡ self.now }
+        ensures within { result.at ≤ length result.line.now + 1 }
+    {
+        Reader {
+            line: self.line,
+            at: self.at,
+        }
     }
 
     // No field is left.

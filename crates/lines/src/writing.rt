@@ -1,6 +1,7 @@
 // Where lines of output go: bytes, texts and numbers are written into lent bytes, one behind the other.
-ghost use Rattle.std.specs.Prelude.{◌≡◌, [], ◌∷◌, ◌<◌, ◌≤◌, ◌↔◌, IsTrue, length};
+ghost use Rattle.std.specs.Prelude.{◌≡◌, [], ◌∷◌, ◌+◌, ◌<◌, ◌≤◌, ◌↔◌, IsTrue, length};
 ghost use Rattle.rules.specs.Bytes.{last_digits, digit_count, decimal, hexadecimal};
+ghost use Rattle.layout.specs.Columns.{pasted};
 ghost use Rattle.lines.specs.Room.{decimal_room, hexadecimal_room};
 
 // The lent bytes, and where the next one goes.
@@ -26,6 +27,16 @@ fn digit_count(n: u32) -> usize
     match n.checked_ilog10() {
         Some(k) => k as usize + 1,
         None => 1,
+    }
+}
+
+// Writes a text over the bytes of another, from `from` on. (A loop, as `layout::lists::copy_at` is, and for the same reason.)
+fn copy_bytes(to: &mut [u8], from: usize, list: &[u8])
+    requires { from + length list.now ≤ length to.old }
+    ensures { to.new ≡ pasted to.old from list.now }
+{
+    for j in 0..list.len() {
+        to[from + j] = list[j];
     }
 }
 
@@ -75,10 +86,8 @@ impl<'a> LineWriter<'a> {
         requires { HasRoom (length text.now) self.old }
         ensures { Writes (length text.now) text.now self.old self.new }
     {
-        let at = self.at;
-        let end = at + text.len();
-        self.lent[at..end].copy_from_slice(text);
-        self.at = end;
+        copy_bytes(self.lent, self.at, text);
+        self.at += text.len();
     }
 
     // The last `count` digits of a number; they are written from the last one back.

@@ -21,6 +21,7 @@ pub fn shell_hash(view: &StoreView, n: usize) -> u64
     let kind = at(view.store, OP_KIND, n);
     let mut state = RunningHash::new();
     state.hash_head(kind, op_regions(view.store, n) as u32);
-    hash_row(view, op_row(view.store, n), &mut state);
+    let row = op_row(view.store, n);
+    hash_row(view.store, view.index, view.ignore, row, &mut state);
     state.word
 }

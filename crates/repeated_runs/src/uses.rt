@@ -23,9 +23,7 @@ fn may_define(store: &StoreWords, ops: &[u32], two: TwoRuns, value: u32) -> bool
     ensures { result ≡ false → Memᴰ value (left_results (store_in store.now) ops.now two) → ⊥ }
 {
     let owner = at(store, VALUE_OWNER, value as usize);
-    let first = ops[two.left];
-    let last = ops[two.left + two.runs.n - 1];
-    owner % 2 == 0 && first <= owner / 2 && owner / 2 <= last
+    ops[two.left] <= owner / 2 && owner / 2 <= ops[two.left + two.runs.n - 1] && owner % 2 == 0
 }
 
 // The first operations' operands may agree: each left one is the right one, or may be a result of the left run. If not, the runs are not equal,

@@ -31,14 +31,14 @@ use Rattle.undo_log.specs.MarkedCalls.{PerformsMarked}
 use Rattle.undo_log.proofs.Tables.{TablesKept, store_kept, sound_kept}
 use Rattle.undo_log.proofs.Lent.{lent_facts}
 use Rattle.undo_log.proofs.Holding.{journal_set}
-use Rattle.undo_log.specs.EntryWrites.{replaced_count, entry_put, with_entry}
+use Rattle.undo_log.specs.EntryWrites.{replaced_count, words_put, with_words, with_entry}
 use Rattle.undo_log.proofs.LentJournal.{held_counted, journal_length}
 use Rattle.undo_log.proofs.CallKeeps.{Kept}
 use Rattle.undo_log.proofs.Done.{remembered_behind, journal_room, marked_work}
 use Rattle.undo_log.proofs.Unremembered.{behind_kept, behind_journal, behind_entries, behind_replaced}
 
 -- an entry is counted as the replacements that it is
-entry_counted : (e : Entry) → counts_as e ≡ replaced_in (entry_of e ∷ [])
+entry_counted : (e : Entry) → counts_as (words_of e).sort ≡ replaced_in (entry_of e ∷ [])
 unfolding counts_as entry_of words_of entry_from replaced_in is_replaced
 entry_counted (Entries.OperandWas operation index value) = refl
 entry_counted (Entries.AttributeWas owner key kind content) = refl
@@ -54,7 +54,7 @@ module _ (C : Cols) (e : Entry) where
   front k l j t = ne_eqb k j (λ q. omega (arith, leb-false j block_next t))
 
   entry_tables : Shaped C → TablesKept C X
-  unfolding with_entry entry_put write at
+  unfolding with_words words_put write at
   entry_tables sh = record { same = same; words = sh counts; counts_same = λ i l. refl }
     where
       same : (k : ℕ) → eqb k counts ≡ false → ltb k mark_number ≡ true → X k ≡ C k
@@ -64,7 +64,7 @@ module _ (C : Cols) (e : Entry) where
           refl
 
   entry_kept : (B : Cols) → Kept B C → Kept B X
-  unfolding with_entry entry_put write mark_count at
+  unfolding with_words words_put write mark_count at
   entry_kept B k =
       record {
         marks = k.marks;
@@ -81,16 +81,16 @@ module _ (C : Cols) (e : Entry) where
     n = entry_count C
 
     entries_grown : entry_count X ≡ n + 1
-    unfolding entry_count with_entry entry_put write at
+    unfolding entry_count with_words words_put write at
     entries_grown =
         get_or-set_other (set (C journal_counts) 0 _) 1 0 _ 0 (λ z. omega arith) ∙ get_or-set_same (C journal_counts) 0 _ 0 (omega (arith, sh journal_counts))
 
-    pub replaced_grown : replaced_count X ≡ replaced_count C + counts_as e
-    unfolding replaced_count with_entry entry_put write at
+    pub replaced_grown : replaced_count X ≡ replaced_count C + counts_as (words_of e).sort
+    unfolding replaced_count with_words words_put write at
     replaced_grown = get_or-set_same (set (C journal_counts) 0 _) 1 _ 0 (omega (arith, length-set (C journal_counts) 0 (entry_count C + 1), sh journal_counts))
 
     old_entry : (i : ℕ) → i < n → entry_at X i ≡ entry_at C i
-    unfolding entry_at with_entry entry_put write at
+    unfolding entry_at with_words words_put write at
     old_entry i m =
         λ z. entry_from
         (get_or-set_other (C journal_sort) n i (words_of e).sort 0 (λ q. omega arith) z)
@@ -100,7 +100,7 @@ module _ (C : Cols) (e : Entry) where
         (get_or-set_other (C journal_content) n i (words_of e).content 0 (λ q. omega arith) z)
 
     new_entry : entry_at X n ≡ entry_of e
-    unfolding entry_at entry_of with_entry entry_put write at
+    unfolding entry_at entry_of with_words words_put write at
     new_entry =
         λ z. entry_from
         (get_or-set_same (C journal_sort) n (words_of e).sort 0 (omega (arith, sh journal_sort)) z)
@@ -110,7 +110,7 @@ module _ (C : Cols) (e : Entry) where
         (get_or-set_same (C journal_content) n (words_of e).content 0 (omega (arith, sh journal_content)) z)
 
     pub journal_grown : 0 < mark_count C → journal_of X ≡ journal_of C ++ (entry_of e ∷ [])
-    unfolding with_entry entry_put write mark_count at
+    unfolding with_words words_put write mark_count at
     journal_grown m =
         journal_set X m
         ∙ ap (λ (k : ℕ). tabulate k (entry_at X)) (entries_grown ∙ add-one n)

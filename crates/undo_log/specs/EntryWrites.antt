@@ -6,6 +6,7 @@ use Rattle.layout.specs.Reading.{owner_code}
 use Rattle.layout.specs.MarkedReading.{entry_count}
 use Rattle.undo_log.specs.Entries.{words_of, counts_as}
 use Rattle.undo_log.specs.declared.entries.Entry.{Entry}
+use Rattle.undo_log.specs.declared.entries.EntryWords.{EntryWords}
 use Rattle.undo_log.specs.declared.entries.Entry.TheVariants as Entries
 
 -- ---- what is written
@@ -14,24 +15,28 @@ use Rattle.undo_log.specs.declared.entries.Entry.TheVariants as Entries
 unfoldable pub replaced_count : Cols → ℕ
 replaced_count C = at C journal_counts 1
 
-unfoldable pub entry_put : Cols → ℕ → Entry → Cols
-entry_put C n e =
+unfoldable pub words_put : Cols → ℕ → EntryWords → Cols
+words_put C n e =
     write
     (write
     (write
     (write
-    (write C journal_sort n (words_of e).sort)
-    journal_owner n (words_of e).owner)
-    journal_key n (words_of e).key)
-    journal_kind n (words_of e).kind)
-    journal_content n (words_of e).content
+    (write C journal_sort n e.sort)
+    journal_owner n e.owner)
+    journal_key n e.key)
+    journal_kind n e.kind)
+    journal_content n e.content
 
 -- at the journal's end, and counted
-unfoldable pub with_entry : Cols → Entry → Cols
-with_entry C e =
+unfoldable pub with_words : Cols → EntryWords → Cols
+with_words C e =
     write
-    (write (entry_put C (entry_count C) e) journal_counts 0 (entry_count C + 1))
-    journal_counts 1 (replaced_count C + counts_as e)
+    (write (words_put C (entry_count C) e) journal_counts 0 (entry_count C + 1))
+    journal_counts 1 (replaced_count C + counts_as e.sort)
+
+-- the same of an entry
+abbrev pub with_entry : Cols → Entry → Cols
+with_entry C e = with_words C (words_of e)
 
 -- ---- what is remembered
 

@@ -9,11 +9,39 @@ use layout::columns::{
 };
 
 // The words for the sorts of entries.
-const OPERAND_WAS: u32 = 0;
+pub const OPERAND_WAS: u32 = 0;
 
-const ATTRIBUTE_WAS: u32 = 1;
+pub const ATTRIBUTE_WAS: u32 = 1;
 
-const KEY_WAS_NONE: u32 = 2;
+pub const KEY_WAS_NONE: u32 = 2;
+
+// The five words of an entry in the journal: the sort, whom it tells of, and how that was. They may be any.
+#[derive(Clone, Copy, PartialEq, Eq, Debug)]
+pub struct EntryWords {
+    pub sort: u32,
+    pub owner: u32,
+    pub key: u32,
+    pub kind: u32,
+    pub content: u32,
+}
+
+impl EntryWords {
+    // In the order of the journal's columns.
+    #[tactic(auto, unfolding(crate::specs::Entries::listed))]
+    pub fn listed(self) -> [u32; 5]
+        ensures { result ≡ listed self }
+    {
+        [self.sort, self.owner, self.key, self.kind, self.content]
+    }
+
+    // How many replacements an entry of this sort is: one, or none where a key came new.
+    pub fn replacements(self) -> usize
+        ensures value { result ≡ counts_as self.sort }
+        ensures few { result ≤ 1 }
+    {
+        if self.sort < KEY_WAS_NONE { 1 } else { 0 }
+    }
+}
 
 // An entry of the journal: an operand as it was, an attribute as it was, or a key that was not there. An owner is told by its word:
 // twice its number, and one more for a block; the kind is the word of an attribute's slot, with the flag. So every entry can be written:
@@ -38,36 +66,42 @@ pub enum Entry {
 }
 
 impl Entry {
-    // Its words in the journal: the sort, whom it tells of, and how that was.
-    #[tactic(auto, unfolding(crate::specs::Entries::words_of, crate::specs::Entries::listed))]
-    pub fn words(self) -> [u32; 5]
-        ensures { result ≡ listed (words_of self) }
+    // Its words in the journal.
+    #[tactic(auto, unfolding(crate::specs::Entries::words_of))]
+    pub fn words(self) -> EntryWords
+        ensures { result ≡ words_of self }
     {
         match self {
             Entry::OperandWas {
                 operation,
                 index,
                 value,
-            } => [OPERAND_WAS, operation, index, value, 0],
+            } => EntryWords {
+                sort: OPERAND_WAS,
+                owner: operation,
+                key: index,
+                kind: value,
+                content: 0,
+            },
             Entry::AttributeWas {
                 owner,
                 key,
                 kind,
                 content,
-            } => [ATTRIBUTE_WAS, owner, key, kind, content],
-            Entry::KeyWasNone { owner, key } => [KEY_WAS_NONE, owner, key, 0, 0],
-        }
-    }
-
-    // How many replacements it is: one, or none where a key came new.
-    pub fn replacements(self) -> usize
-        ensures value { result ≡ counts_as self }
-        ensures few { result ≤ 1 }
-    {
-        match self {
-            Entry::OperandWas { .. } => 1,
-            Entry::AttributeWas { .. } => 1,
-            Entry::KeyWasNone { .. } => 0,
+            } => EntryWords {
+                sort: ATTRIBUTE_WAS,
+                owner,
+                key,
+                kind,
+                content,
+            },
+            Entry::KeyWasNone { owner, key } => EntryWords {
+                sort: KEY_WAS_NONE,
+                owner,
+                key,
+                kind: 0,
+                content: 0,
+            },
         }
     }
 }

@@ -13,18 +13,18 @@ use Rattle.copying.proofs.inside.placed_outside.Goals as goal
 pub block_inside-requires : goal.block_inside-requires
 unfolding parent_exists
 block_inside-requires c =
-    block_in_lem (columns c.args.original.now.store.now) c.in-Some.b
-    (subst (λ p. parent_exists (store_in c.args.original.now.store.now) p ≡ true) c.in-Some.is c.requires)
+    block_in_lem (columns c.args.store.now) c.in-Some.b
+    (subst (λ p. parent_exists (store_in c.args.store.now) p ≡ true) c.in-Some.is c.requires.parent_value)
 
 pub returns-in_default : goal.returns-in_default
 unfolding placed_outside
-returns-in_default c = sym (ap (λ p. placed_outside (store_in c.args.original.now.store.now) c.args.original.now.n p) c.in_default.is)
+returns-in_default c = sym (ap (λ p. placed_outside (store_in c.args.store.now) c.args.n p) c.in_default.is)
 
 pub invariant_of-whole : goal.invariant_of-whole
 invariant_of-whole c =
-    record { sound = c.args.original.now.sound; exists = is_there (columns c.args.original.now.store.now) op c.args.original.now.n c.args.original.now.exists }
+    record { sound = c.requires.sound; exists = is_there (columns c.args.store.now) op c.args.n c.requires.n_bound }
 
 pub returns : goal.returns
 unfolding placed_outside
 returns c =
-    ap not c.block_inside.ensures ∙ sym (ap (λ p. placed_outside (store_in c.args.original.now.store.now) c.args.original.now.n p) c.in-Some.is)
+    ap not c.block_inside.ensures ∙ sym (ap (λ p. placed_outside (store_in c.args.store.now) c.args.n p) c.in-Some.is)

@@ -23,7 +23,7 @@ use Rattle.equivalence.proofs.Telling.{named_neq}
 use Rattle.equivalence.proofs.Nexts.{none_next, some_next}
 use Rattle.equivalence.proofs.Zipped.{Zips, Turn, pairwise_zips, rest_begins, rest_fits, turn, turn_ends, turn_rest, pairwise_ends, uneven_ends}
 use Rattle.equivalence.proofs.passes.map_blocks.Goals as goal
-use Rattle.equivalence.proofs.passes.map_blocks.Goals.{In-Some-Some, in-Some+in-None-1, in-None+in-Some-1}
+use Rattle.equivalence.proofs.passes.map_blocks.Goals.{In-Some-Some}
 
 abbrev step : Store → Options → ℕ → ℕ → State → Walk
 step s o = pair_blocks (renamed_under o s) o.ignore
@@ -54,6 +54,9 @@ loop-lhs-init c =
 
 pub lengths_neq-requires : goal.lengths_neq-requires
 lengths_neq-requires c = bounded (columns c.args.view.now.store.now) (laid_facts _ c.args.view.now.readable.sound.laid) c.args.lists c.requires.lists_exist
+
+pub lengths_neq-requires-in-None-Some : goal.lengths_neq-requires-in-None-Some
+lengths_neq-requires-in-None-Some c = bounded (columns c.args.view.now.store.now) (laid_facts _ c.args.view.now.readable.sound.laid) c.args.lists c.requires.lists_exist
 
 pub block_eq_map-requires-clause-lhs_bound : goal.block_eq_map-requires-clause-lhs_bound
 block_eq_map-requires-clause-lhs_bound c = block_in_lem _ (left_of c.args.lists) _ c.requires.lists_exist.0 (pair_comes ((goal.at.block_eq_map-requires-clause-lhs_bound c).In-Some-Some)).l_in
@@ -88,13 +91,16 @@ pub returns-in-Some-None : goal.returns-in-Some-None
 returns-in-Some-None c =
     uneven_ends (step (store_in c.args.view.now.store.now) (options_in c.args.view.now)) (pair_of_lists c.args.lists) c.loop-lhs.invariant.2 _
     (ap (λ (u : Unequal). answer_of (Err u)) c.lengths_neq.ensures ∙ named_neq c.args.lists c.loop-lhs.count)
-    (elim c.in-Some-None-1.branch [
-      | in-Some+in-None-1 w ↦ inl (
-        some_next blocks_left c.loop-lhs.ls c.next.new.self _ c.next.ensures.steps (search rules),
-        none_next blocks_left c.loop-lhs.rs c.next-in-loop-lhs.new.self _ c.next-in-loop-lhs.ensures.steps (search rules),
-      )
-      | in-None+in-Some-1 w ↦ inr (
-        none_next blocks_left c.loop-lhs.ls c.next.new.self _ c.next.ensures.steps (search rules),
-        some_next blocks_left c.loop-lhs.rs c.next-in-loop-lhs.new.self _ c.next-in-loop-lhs.ensures.steps (search rules),
-      )
-    ])
+    (inl (
+      some_next blocks_left c.loop-lhs.ls c.next.new.self _ c.next.ensures.steps (search rules),
+      none_next blocks_left c.loop-lhs.rs c.next-in-loop-lhs.new.self _ c.next-in-loop-lhs.ensures.steps (search rules),
+    ))
+
+pub returns-in-None-Some : goal.returns-in-None-Some
+returns-in-None-Some c =
+    uneven_ends (step (store_in c.args.view.now.store.now) (options_in c.args.view.now)) (pair_of_lists c.args.lists) c.loop-lhs.invariant.2 _
+    (ap (λ (u : Unequal). answer_of (Err u)) c.lengths_neq-in-None-Some.ensures ∙ named_neq c.args.lists c.loop-lhs.count)
+    (inr (
+      none_next blocks_left c.loop-lhs.ls c.next.new.self _ c.next.ensures.steps (search rules),
+      some_next blocks_left c.loop-lhs.rs c.next-in-loop-lhs.new.self _ c.next-in-loop-lhs.ensures.steps (search rules),
+    ))

@@ -20,7 +20,7 @@ use Rattle.equivalence.specs.Walked.{pairs_walk}
 use Rattle.equivalence.proofs.Nexts.{none_next, some_next}
 use Rattle.equivalence.proofs.Zipped.{Zips, Turn, pairwise_zips, rest_fits, turn, turn_ends, turn_rest, pairwise_ends, uneven_ends}
 use Rattle.equivalence.proofs.passes.map_ops_in.Goals as goal
-use Rattle.equivalence.proofs.passes.map_ops_in.Goals.{In-Some-Some, in-Some+in-None-1, in-None+in-Some-1}
+use Rattle.equivalence.proofs.passes.map_ops_in.Goals.{In-Some-Some}
 
 abbrev step : Store → Options → ℕ → ℕ → State → Walk
 step s o = pair_ops (renamed_under o s) o.ignore
@@ -78,17 +78,30 @@ overflow_cast-result-in-Some-None c =
     let few = (laid_facts (columns c.args.view.now.store.now) c.args.view.now.readable.sound.laid).counts.blocks in
     record { fits = omega (arith, few, c.requires.rhs_bound) }
 
+pub overflow_cast-result-in-None-Some : goal.overflow_cast-result-in-None-Some
+overflow_cast-result-in-None-Some c =
+    let few = (laid_facts (columns c.args.view.now.store.now) c.args.view.now.readable.sound.laid).counts.blocks in
+    record { fits = omega (arith, few, c.requires.lhs_bound) }
+
+pub overflow_cast-result-in-None-Some-2 : goal.overflow_cast-result-in-None-Some-2
+overflow_cast-result-in-None-Some-2 c =
+    let few = (laid_facts (columns c.args.view.now.store.now) c.args.view.now.readable.sound.laid).counts.blocks in
+    record { fits = omega (arith, few, c.requires.rhs_bound) }
+
 pub returns-in-Some-None : goal.returns-in-Some-None
 unfolding answer_of
 returns-in-Some-None c =
     uneven_ends (step (store_in c.args.view.now.store.now) (options_in c.args.view.now)) (pair_of block c.args.pair.lhs c.args.pair.rhs) c.loop-lhs.invariant.2 _ refl
-    (elim c.in-Some-None-1.branch [
-      | in-Some+in-None-1 w ↦ inl (
-        some_next ops_left c.loop-lhs.ls c.next.new.self _ c.next.ensures.steps (search rules),
-        none_next ops_left c.loop-lhs.rs c.next-in-loop-lhs.new.self _ c.next-in-loop-lhs.ensures.steps (search rules),
-      )
-      | in-None+in-Some-1 w ↦ inr (
-        none_next ops_left c.loop-lhs.ls c.next.new.self _ c.next.ensures.steps (search rules),
-        some_next ops_left c.loop-lhs.rs c.next-in-loop-lhs.new.self _ c.next-in-loop-lhs.ensures.steps (search rules),
-      )
-    ])
+    (inl (
+      some_next ops_left c.loop-lhs.ls c.next.new.self _ c.next.ensures.steps (search rules),
+      none_next ops_left c.loop-lhs.rs c.next-in-loop-lhs.new.self _ c.next-in-loop-lhs.ensures.steps (search rules),
+    ))
+
+pub returns-in-None-Some : goal.returns-in-None-Some
+unfolding answer_of
+returns-in-None-Some c =
+    uneven_ends (step (store_in c.args.view.now.store.now) (options_in c.args.view.now)) (pair_of block c.args.pair.lhs c.args.pair.rhs) c.loop-lhs.invariant.2 _ refl
+    (inr (
+      none_next ops_left c.loop-lhs.ls c.next.new.self _ c.next.ensures.steps (search rules),
+      some_next ops_left c.loop-lhs.rs c.next-in-loop-lhs.new.self _ c.next-in-loop-lhs.ensures.steps (search rules),
+    ))

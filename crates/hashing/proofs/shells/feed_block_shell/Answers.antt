@@ -8,4 +8,4 @@ use Rattle.hashing.proofs.shells.feed_block_shell.Goals as goal
 pub returns : goal.returns
 unfolding head_bytes fnv_from
 returns c =
-    row_fed c.block_row.ensures (options_in c.args.view.now) c.args.state.now.word refl c.hash_row.ensures
+    row_fed c.block_row-row.ensures (options_in c.args.view.now) c.args.state.now.word refl c.hash_row.ensures

@@ -5,4 +5,4 @@ use Rattle.hashing.proofs.shells.feed_op_shell.Goals as goal
 
 pub returns : goal.returns
 returns c =
-    row_fed c.op_row.ensures (options_in c.args.view.now) c.args.state.now.word c.hash_head.ensures c.hash_row.ensures
+    row_fed c.op_row-row.ensures (options_in c.args.view.now) c.args.state.now.word c.hash_head.ensures c.hash_row.ensures

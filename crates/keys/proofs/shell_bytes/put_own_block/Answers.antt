@@ -9,4 +9,4 @@ pub returns : goal.returns
 unfolding head_bytes
 returns c =
     let a = c.args in
-    put_as (owner_bytes_lem c.block_row.ensures (options_in a.view.now)) c.put_row.ensures
+    put_as (owner_bytes_lem c.block_row-row.ensures (options_in a.view.now)) c.put_row.ensures

@@ -25,7 +25,7 @@ returns c =
     let a = c.args in
     let C = columns a.view.now.store.now in
     let o = options_in a.view.now in
-    let row = c.op_row in
+    let row = c.op_row-row in
     let shell = shell_bytes count (row_shell C o row.result) in
     let head = put_as (head_bytes_lem C o a.n c.requires.n_bound c.at.ensures c.op_regions.ensures) c.put_head-second.ensures in
     put_as (owner_bytes_lem row.ensures o)

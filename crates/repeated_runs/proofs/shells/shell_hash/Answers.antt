@@ -30,4 +30,4 @@ returns c =
     let start = c.hash_head.ensures ∙ ap (λ w. fnv_from w (leaf c.at-kind.result ++ count c.op_regions.result)) c.new-state.ensures in
     let fed = head_fed C n c.requires.n_bound fnv_start c.at-kind.ensures c.op_regions.ensures start in
     let o = options_in c.args.view.now in
-    row_fed c.op_row.ensures o fnv_start fed c.hash_row.ensures ∙ shell_fed (store_of C) o n
+    row_fed c.op_row-row.ensures o fnv_start fed c.hash_row.ensures ∙ shell_fed (store_of C) o n
