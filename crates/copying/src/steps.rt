@@ -28,9 +28,6 @@ pub enum Step {
 // 512 operations' shells and names, and 256 blocks' shells.
 pub const MOST_STEPS: usize = 1280;
 
-// What a walk's memory holds at first. (A constant: it is copied whole, and not made step by step.)
-const NO_STEPS: [Step; MOST_STEPS] = [Step::OpShell(0); MOST_STEPS];
-
 // The steps of a walk, the first step first.
 #[derive(Drop)]
 pub struct Walk {
@@ -52,7 +49,7 @@ impl Walk {
         ensures { result ≡ [] }
     {
         Walk {
-            steps: NO_STEPS,
+            steps: [Step::OpShell(0); MOST_STEPS],
             len: 0,
         }
     }
