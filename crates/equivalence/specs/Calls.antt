@@ -5,7 +5,6 @@ use Rattle.std.specs.Prelude.{ℕ, Bool, ◌&&◌, List, [], ◌∷◌, ◌≡�
 use Rattle.rules.specs.Store.{Store}
 use Rattle.rules.specs.Fragments.{exists}
 use Rattle.rules.specs.declared.types.Sort.{Sort}
-use Rattle.rules.specs.Shells as rules
 use Rattle.rules.specs.declared.types.Ignore.{Ignore}
 use Rattle.rules.specs.Answers.{Compared, refused, comparison}
 use Rattle.layout.specs.Reading.{store_in}

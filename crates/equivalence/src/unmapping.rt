@@ -114,15 +114,20 @@ fn first_op(store: &StoreWords, sort: Sort, l: usize, b: usize) -> usize {
     }
 }
 
-// The words of at most so many entries from number `first` on, of `count` that begin with word `base`.
+// The words of at most so many entries from number `first` on, of `count` that begin with word `base`. (Each end is `base` and more, by
+// branches: where `min` picks a number first, the search no longer knows that its words are of operations, and asks at each.)
 fn seen(base: usize, count: usize, first: usize, most: usize) -> Range<usize>
     requires count_bound { base + count ≤ 2816 }
     requires most_bound { most ≤ 2816 }
     ensures { SeenOf base count result.start result.end }
 {
-    let from = first.min(count);
-    let to = count.min(from + most);
-    base + from..base + to
+    if first >= count {
+        return base + count..base + count;
+    }
+    if first + most >= count {
+        return base + first..base + count;
+    }
+    base + first..base + first + most
 }
 
 // The search for what a comparison with this left fragment, which counts so many pairs, has made in an empty mapping.

@@ -11,7 +11,6 @@ use borrow.Author.Tests.{le-leb, lt-leb}
 use lib.ListN.{length, take, drop}
 use Rattle.rules.specs.Bytes.{line_feed, Pieces, cut_at}
 use Rattle.rules.specs.Building.{first_failed}
-use Rattle.rules.specs.Lines as rules
 use Rattle.rules.specs.Listings.{edition_of, header_tests, header_cause, listing_cause, behind_first, or_first, edition_in, edition, max_line, max_listing}
 use Rattle.rules.proofs.Listings.Headers.{edition_header, header_length}
 use Rattle.rules.specs.Causes.{cause_of}

@@ -11,23 +11,7 @@ use Rattle.rules.specs.Bytes.{is_digit, well_written, value_from, number_below}
 use Rattle.layout.proofs.Scans.{and_false}
 use Rattle.std.specs.Result.{OkIff, result_ok}
 use Rattle.std.proofs.lemmas.Result.{OkIff-at_ok, OkIff-at_err}
-use Rattle.lines.specs.Reading.{digit_of, starts_well}
-
--- ---- a digit
-
-no_digit_lem : (b : ℕ) → digit_of b ≡ None → is_digit b ≡ false
-no_digit_lem b h = go (is_digit b) refl h
-  where
-    go : (t : Bool) → is_digit b ≡ t → cond t (Some (b - 48)) None ≡ None → is_digit b ≡ false
-    go true e h = absurd (cc)
-    go false e h = e
-
-a_digit : (b d : ℕ) → digit_of b ≡ Some d → (is_digit b ≡ true) × (b - 48 ≡ d)
-a_digit b d h = go (is_digit b) refl h
-  where
-    go : (t : Bool) → is_digit b ≡ t → cond t (Some (b - 48)) None ≡ Some d → (is_digit b ≡ true) × (b - 48 ≡ d)
-    go true e h = (e, cc)
-    go false e h = absurd (cc)
+use Rattle.lines.specs.Reading.{starts_well}
 
 -- ---- well written: the first digit and all digits
 
@@ -137,20 +121,19 @@ module _ (ds : List ℕ) where
       digits_next : (t : Bool) → is_digit x ≡ t → list_all is_digit ds ≡ (t && list_all is_digit (drop (i + 1) ds))
       digits_next t e = inv.digits ∙ ap (list_all is_digit) next ∙ ap (λ (q : Bool). q && list_all is_digit (drop (i + 1) ds)) e
 
-      pub no_digit : digit_of x ≡ None → number_below limit ds ≡ None
-      no_digit h =
-          badly_written limit ds (well ds ∙ and_false (starts_well ds) _ (digits_next false (no_digit_lem x h)))
+      pub no_digit : is_digit x ≡ false → number_below limit ds ≡ None
+      no_digit h = badly_written limit ds (well ds ∙ and_false (starts_well ds) _ (digits_next false h))
 
-      module _ (d : ℕ) (h : digit_of x ≡ Some d) where
-        value_next : value_from 0 ds ≡ value_from (n * 10 + d) (drop (i + 1) ds)
+      module _ (h : is_digit x ≡ true) where
+        value_next : value_from 0 ds ≡ value_from (n * 10 + (x - 48)) (drop (i + 1) ds)
         unfolding value_from
-        value_next = inv.value ∙ ap (value_from n) next ∙ ap (λ (k : ℕ). value_from (n * 10 + k) (drop (i + 1) ds)) (a_digit x d h).1
+        value_next = inv.value ∙ ap (value_from n) next
 
-        pub over_limit : limit ≤ n * 10 + d → number_below limit ds ≡ None
+        pub over_limit : limit ≤ n * 10 + (x - 48) → number_below limit ds ≡ None
         over_limit m =
-            let grown = value_grows (n * 10 + d) (drop (i + 1) ds) in
+            let grown = value_grows (n * 10 + (x - 48)) (drop (i + 1) ds) in
             let z = value_next in
             too_large limit ds (omega arith)
 
-        pub reading_turn : n * 10 + d < 2 ^ 64 → Reading ds (n * 10 + d) (i + 1)
-        reading_turn s = record { small = s; digits = digits_next true (a_digit x d h).0; value = value_next }
+        pub reading_turn : n * 10 + (x - 48) < 2 ^ 64 → Reading ds (n * 10 + (x - 48)) (i + 1)
+        reading_turn s = record { small = s; digits = digits_next true h; value = value_next }

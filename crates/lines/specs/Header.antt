@@ -2,7 +2,6 @@
 use Rattle.std.specs.Prelude as std
 use Rattle.std.specs.Prelude.{ℕ, ◌≤◌, List, ◌≡◌, IfOk, length}
 use Rattle.rules.specs.Bytes.{line_feed, cut_at}
-use Rattle.rules.specs.Lines as rules
 use Rattle.rules.specs.Listings.{edition, listing_cause, behind_first, max_listing}
 use Rattle.rules.specs.Causes.{cause_of}
 use Rattle.rules.specs.declared.types.Cause.{Cause}

@@ -1,7 +1,6 @@
 -- What the code tells of the lines behind their letters, as what the rules make of them.
 use Rattle.std.specs.Prelude as std
 use Rattle.std.specs.Prelude.{ℕ, ◌≤◌, List, ◌≡◌, length, take, option_map, Option, true, false}
-use Rattle.rules.specs.Store as rules
 use Rattle.rules.specs.declared.types.Owner.{Owner}
 use Rattle.rules.specs.Building.{new_operation, new_block, set_attribute, set_operand}
 use Rattle.rules.specs.Lines.{Line, building, query, Reader, ◌>>=◌, giving, number, items, parent_block, owner, operation_line, block_line, attribute_line, operand_line, query_line, wholly}

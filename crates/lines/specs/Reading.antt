@@ -2,7 +2,6 @@
 use Rattle.std.specs.Prelude as std
 use Rattle.std.specs.Prelude.{ℕ, ◌-◌, ◌^◌, ◌≤◌, Bool, true, false, cond, not, List, [], ◌∷◌, ◌≡◌, eqb, length, take, option_map, Option, None, Some}
 use Rattle.rules.specs.Lists.{same_list}
-use Rattle.rules.specs.Bytes.{is_digit}
 use Rattle.rules.specs.Lines.{Reader, and_then, giving, items}
 
 -- no field is left
@@ -22,10 +21,6 @@ begins_with b [] = false
 begins_with b (f ∷ fs) = same_list eqb f (b ∷ [])
 
 -- ---- digits
-
--- what a digit stands for
-abbrev pub digit_of : ℕ → Option ℕ
-digit_of b = cond (is_digit b) (Some (b - 48)) None
 
 -- there are bytes, and the first of several is not `0`
 abbrev pub starts_well : List ℕ → Bool

@@ -157,7 +157,8 @@ pub fn block_line(fields: &mut Fields<'_>, types: &mut [u32], edition: Edition) 
     })
 }
 
-// `a` or `i`: o or b, number, key, kind, content. Which of the two letters it is says whether the attribute is inherent.
+// `a` or `i`: o or b, number, key, kind, content. Which of the two letters it is says whether the attribute is inherent. (By a branch: with
+// `then_some` the line is made, and moved word by word, where it is bad too.)
 #[tactic(auto, unfolding(rules::specs::Lines::attribute_line, rules::specs::Lines::wholly))]
 pub fn attribute_line(fields: &mut Fields<'_>, inherent: bool) -> Option<AttributeLine>
     ensures { wholly (attribute_line inherent fields.old) ≡ (option_map attribute_line_of result) }
@@ -172,9 +173,10 @@ pub fn attribute_line(fields: &mut Fields<'_>, inherent: bool) -> Option<Attribu
         content,
         inherent,
     };
-    fields
-        .is_empty()
-        .then_some(AttributeLine { owner, attribute })
+    if !fields.is_empty() {
+        return None;
+    }
+    Some(AttributeLine { owner, attribute })
 }
 
 // `s` operation, index, value.

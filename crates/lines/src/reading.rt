@@ -1,10 +1,10 @@
 // The fields of one line, which is its bytes before the line feed. A small record refers to the line and has the position of the next field.
 // Its methods are thin: `field_at` gives the field at a position, other functions what it stands for, and the record steps behind its comma.
 ghost use Rattle.std.specs.Prelude.{◌≡◌, ◌≢◌, ◌+◌, ◌^◌, ◌≤◌, [], ◌∷◌, length, drop, MatchOption, option_map};
-ghost use Rattle.rules.specs.Bytes.{number_below};
+ghost use Rattle.rules.specs.Bytes.{is_digit, number_below};
 ghost use Rattle.rules.specs.Lines.{fields_of, field, number, numbers, items, ignore_bits, parent_block, parent_meaning};
 ghost use Rattle.lines.specs.Fields.{fields_left, FieldRead};
-ghost use Rattle.lines.specs.Reading.{nothing_left, one_byte, digit_of, starts_well, read, passing, ReadItems};
+ghost use Rattle.lines.specs.Reading.{nothing_left, one_byte, starts_well, read, passing, ReadItems};
 
 use crate::pieces::piece_end;
 use crate::texts::same_bytes;
@@ -181,15 +181,12 @@ fn field_at(line: &[u8], at: usize) -> Option<&[u8]>
     Some(&line[at..end])
 }
 
-// What a digit stands for.
+// The byte is a decimal digit.
 #[tactic(auto, unfolding(rules::specs::Bytes::is_digit))]
-fn digit(b: u8) -> Option<u64>
-    ensures { digit_of b ≡ result }
+fn is_digit(b: u8) -> bool
+    ensures { result ≡ is_digit b }
 {
-    match b {
-        b'0'..=b'9' => Some((b - b'0') as u64),
-        _ => None,
-    }
+    matches!(b, b'0'..=b'9')
 }
 
 // The bytes may be a number, by how they start: there is at least one, and no leading `0`.
@@ -203,7 +200,8 @@ fn starts_well(digits: &[u8]) -> bool
     }
 }
 
-// The number within 64 bits that the bytes stand for.
+// The number within 64 bits that the bytes stand for. (A test and a difference: a digit as an `Option` is tested twice at each byte.)
+#[tactic(auto, unfolding(rules::specs::Bytes::is_digit))]
 fn parse_u64(digits: &[u8]) -> Option<u64>
     ensures { number_below (2 ^ 64) digits.now ≡ result }
 {
@@ -212,7 +210,10 @@ fn parse_u64(digits: &[u8]) -> Option<u64>
     }
     let mut n: u64 = 0;
     for b in digits {
-        let d = digit(*b)?;
+        if !is_digit(*b) {
+            return None;
+        }
+        let d = (*b - b'0') as u64;
         n = n.checked_mul(10)?.checked_add(d)?;
     }
     Some(n)

@@ -43,14 +43,19 @@ pub fn include(tally: &mut Tally, n: usize, found: bool)
     tally[n] = tally[n].after(found);
 }
 
-// The two counts.
+// The two counts, in one pass.
 pub fn counts(tally: &Tally) -> Counts
     ensures { Counted tally.now result }
 {
-    let equal = tally.iter().filter(|place| place.is_equal()).count();
-    let all = tally.iter().filter(|place| place.is_inside()).count();
-    Counts {
-        equal: equal as u32,
-        all: all as u32,
+    let mut equal = 0;
+    let mut all = 0;
+    for place in tally {
+        if place.is_equal() {
+            equal += 1;
+        }
+        if place.is_inside() {
+            all += 1;
+        }
     }
+    Counts { equal, all }
 }

@@ -1,6 +1,7 @@
 -- `attribute_line` meets its contract: its line is an owner, three numbers, and nothing more. Assumes nothing.
-use Rattle.std.proofs.Common.{refl}
+use Rattle.std.proofs.Common.{true, false, None, Some, refl, sym, ◌∙◌}
 use Rattle.rules.specs.Lines.{wholly}
+use Rattle.lines.specs.declared.parsing.AttributeLine.{AttributeLine}
 use Rattle.lines.specs.Parsing.{attribute_line_of}
 use Rattle.lines.proofs.Ended.{ended, attribute_parts}
 use Rattle.lines.proofs.parsing.attribute_line.Goals as goal
@@ -22,8 +23,16 @@ unfolding wholly
 returns-in_err-content c =
     rw (c.from_residual-in_err-content.ensures, attribute_parts, c.in_ok-owner.ensures, c.in_ok-key.ensures.reads, c.in_ok-kind.ensures.reads, c.in_err-content.ensures.reads) refl
 
+pub returns-then-not-is_empty : goal.returns-then-not-is_empty
+unfolding wholly
+returns-then-not-is_empty c =
+    let line : AttributeLine = record { owner = c.in_ok-owner.owner; attribute = record { key = c.in_ok-key.key; kind = c.in_ok-kind.kind; content = c.in_ok-content.content; inherent = c.args.inherent } } in
+    rw (attribute_parts, c.in_ok-owner.ensures, c.in_ok-key.ensures.reads, c.in_ok-kind.ensures.reads, c.in_ok-content.ensures.reads)
+    (ended attribute_line_of line _ false None (sym c.if-not-is_empty.true ∙ c.is_empty.ensures) refl)
+
 pub returns : goal.returns
 unfolding wholly
 returns c =
+    let line : AttributeLine = record { owner = c.in_ok-owner.owner; attribute = record { key = c.in_ok-key.key; kind = c.in_ok-kind.kind; content = c.in_ok-content.content; inherent = c.args.inherent } } in
     rw (attribute_parts, c.in_ok-owner.ensures, c.in_ok-key.ensures.reads, c.in_ok-kind.ensures.reads, c.in_ok-content.ensures.reads)
-    (ended attribute_line_of _ _ _ _ c.is_empty.ensures c.then_some.ensures)
+    (ended attribute_line_of line _ true (Some line) (sym c.if-not-is_empty.false ∙ c.is_empty.ensures) refl)

@@ -1,15 +1,21 @@
--- `piece_end` meets its contract: the byte that stands first is the one at which the rules cut. Assumes nothing.
-use Rattle.std.proofs.Common.{sym, arith}
-use Rattle.lines.proofs.Firsts.{ends_here, ends_with_all}
+-- `piece_end` meets its contract: the bytes that were passed are not the one at which a piece ends, and so belong to one. Assumes nothing.
+use Rattle.lines.proofs.Cutting.{passing_starts, passing_turn, ends_here, ends_with_all}
 use Rattle.lines.proofs.pieces.piece_end.Goals as goal
 
-pub overflow_add-result : goal.overflow_add-result
-overflow_add-result c =
-    let h = ends_here c.args.bytes.now c.args.from c.args.byte c.requires c.in-Some.n (sym c.in-Some.ensures) in
-    omega (arith, h.within)
+pub loop-e-init : goal.loop-e-init
+loop-e-init c = passing_starts c.args.bytes.now c.args.from c.args.byte
 
-pub returns-in-Some : goal.returns-in-Some
-returns-in-Some c = ends_here c.args.bytes.now c.args.from c.args.byte c.requires c.in-Some.n (sym c.in-Some.ensures)
+pub returns-then-bytes-e : goal.returns-then-bytes-e
+returns-then-bytes-e c =
+    let w = c.loop-e in
+    ends_here c.args.bytes.now c.args.from c.args.byte w.e w.auto.e w.invariant c.loop-e-test.true c.if-bytes-e.true
 
-pub returns-in-None : goal.returns-in-None
-returns-in-None c = ends_with_all c.args.bytes.now c.args.from c.args.byte c.requires (sym c.in-None.ensures)
+pub loop-e-preserved : goal.loop-e-preserved
+loop-e-preserved c =
+    let w = c.loop-e in
+    passing_turn c.args.bytes.now c.args.from c.args.byte w.e w.auto.e w.invariant c.loop-e-test.true c.if-bytes-e.false
+
+pub returns : goal.returns
+returns c =
+    let w = c.loop-e in
+    ends_with_all c.args.bytes.now c.args.from c.args.byte w.e w.auto.e w.invariant c.loop-e-test.false c.requires
