@@ -33,7 +33,7 @@ next_byte xs e l = drop-cons xs e 0 l ∙ ap (λ (n : ℕ). get_or xs e 0 ∷ dr
 without_more : (b x : ℕ) (xs : List ℕ) → Without b xs → (x ≡ b → ⊥) → Without b (xs ++ (x ∷ []))
 without_more b x xs h n = all_append (other_than b) xs (x ∷ []) h (rw (ne_eqb x b n) refl)
 
-slice_all : (xs : List ℕ) (a e : ℕ) → a ≤ e → length xs ≤ e → slice xs a e ≡ drop a xs
+pub slice_all : (xs : List ℕ) (a e : ℕ) → a ≤ e → length xs ≤ e → slice xs a e ≡ drop a xs
 unfolding slice
 slice_all xs a e l h = take_all (e - a) (drop a xs) (omega (arith, length-drop a xs))
 

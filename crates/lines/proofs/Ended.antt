@@ -18,6 +18,13 @@ all_or_none f v (g ∷ gs) = refl
 pub ended : {A B : Type 0} (f : B → A) (v : B) (gs : List (List ℕ)) (t : Bool) (r : Option B) → t ≡ nothing_left gs → r ≡ then_some t v → all_read (f v) gs ≡ option_map f r
 ended f v gs t r e h = all_or_none f v gs ∙ ap (λ s. option_map f (then_some s v)) (sym e) ∙ ap (option_map f) (sym h)
 
+-- by a branch: no field is left, or some are
+pub nothing_more : {A : Type 0} (v : A) (gs : List (List ℕ)) → nothing_left gs ≡ true → all_read v gs ≡ Some v
+nothing_more v gs h = ended (λ a. a) v gs true (Some v) (sym h) refl
+
+pub something_more : {A : Type 0} (v : A) (gs : List (List ℕ)) → nothing_left gs ≡ false → all_read v gs ≡ None
+something_more v gs h = ended (λ a. a) v gs false None (sym h) refl
+
 pub told_as_is : {A : Type 0} (r : Option A) → (option_map (λ a. a) r) ≡ r
 told_as_is None = refl
 told_as_is (Some a) = refl

@@ -1,14 +1,14 @@
 -- The fields of bytes are those before the first comma, and then the fields of what follows it. Assumes nothing.
-use Rattle.std.proofs.Common.{◌≡◌, ℕ, suc, ◌+◌, ◌-◌, ◌<◌, ◌≤◌, Bool, true, false, cond, List, [], ◌∷◌, ◌++◌, eqb, nat_lt, if◌then◌else◌, length, drop, refl, sym, ap, ◌∙◌, arith}
+use Rattle.std.proofs.Common.{◌≡◌, ℕ, suc, ◌+◌, ◌<◌, ◌≤◌, Bool, true, false, cond, List, [], ◌∷◌, ◌++◌, eqb, nat_lt, if◌then◌else◌, length, drop, refl, sym, ap, ◌∙◌, arith}
 use borrow.Author.Tests.{ltb-true, ltb-false, le-ltb, lt-ltb}
 use lib.Dec.{ltb}
-use lib.ListN.{length-append, length-drop, drop_of_length-le}
-use lib.Seq.{take_all}
+use lib.ListN.{length-append, drop_of_length-le}
 use Rattle.rules.specs.Bytes.{Pieces, comma, new_piece, longer_by, cut_at}
 use Rattle.rules.specs.Lines.{fields_of}
 use Rattle.layout.specs.Reading.{slice}
 use Rattle.layout.proofs.Scans.{slice_length}
 use Rattle.lines.specs.Pieces.{pieces_from, PieceEnd}
+use Rattle.lines.proofs.Cutting.{slice_all}
 use Rattle.lines.specs.Fields.{fields_left, FieldRead}
 use Rattle.lines.specs.Reading.{nothing_left}
 
@@ -65,10 +65,10 @@ module _ (line : List ℕ) (at e : ℕ) (h : PieceEnd line at comma e) where
   field_ended l = ap (λ (p : Pieces). p.whole ++ (p.rest ∷ [])) (h.ended l) ∙ ap (λ (fs : List (List ℕ)). slice line at e ∷ fs) (sym (left_within line (e + 1) (omega arith)))
 
   field_last : length line ≤ e → fields_of (drop at line) ≡ slice line at e ∷ fields_left line (e + 1)
-  unfolding fields_of pieces_from slice
+  unfolding fields_of pieces_from
   field_last l =
       ap (λ (p : Pieces). p.whole ++ (p.rest ∷ [])) (h.unended l)
-      ∙ (λ i. sym (take_all (e - at) (drop at line) (omega (arith, length-drop at line))) i ∷ sym (left_behind line (e + 1) (omega arith)) i)
+      ∙ (λ i. sym (slice_all line at e h.behind l) i ∷ sym (left_behind line (e + 1) (omega arith)) i)
 
   pub field_read : at ≤ length line → FieldRead line at (slice line at e)
   field_read l =

@@ -1,9 +1,7 @@
 -- `attribute_line` meets its contract: its line is an owner, three numbers, and nothing more. Assumes nothing.
-use Rattle.std.proofs.Common.{true, false, None, Some, refl, sym, ◌∙◌}
+use Rattle.std.proofs.Common.{refl, sym, ◌∙◌}
 use Rattle.rules.specs.Lines.{wholly}
-use Rattle.lines.specs.declared.parsing.AttributeLine.{AttributeLine}
-use Rattle.lines.specs.Parsing.{attribute_line_of}
-use Rattle.lines.proofs.Ended.{ended, attribute_parts}
+use Rattle.lines.proofs.Ended.{attribute_parts, nothing_more, something_more}
 use Rattle.lines.proofs.parsing.attribute_line.Goals as goal
 
 pub returns-in_err-owner : goal.returns-in_err-owner
@@ -26,13 +24,11 @@ returns-in_err-content c =
 pub returns-then-not-is_empty : goal.returns-then-not-is_empty
 unfolding wholly
 returns-then-not-is_empty c =
-    let line : AttributeLine = record { owner = c.in_ok-owner.owner; attribute = record { key = c.in_ok-key.key; kind = c.in_ok-kind.kind; content = c.in_ok-content.content; inherent = c.args.inherent } } in
     rw (attribute_parts, c.in_ok-owner.ensures, c.in_ok-key.ensures.reads, c.in_ok-kind.ensures.reads, c.in_ok-content.ensures.reads)
-    (ended attribute_line_of line _ false None (sym c.if-not-is_empty.true ∙ c.is_empty.ensures) refl)
+    (something_more _ _ (sym c.is_empty.ensures ∙ c.if-not-is_empty.true))
 
 pub returns : goal.returns
 unfolding wholly
 returns c =
-    let line : AttributeLine = record { owner = c.in_ok-owner.owner; attribute = record { key = c.in_ok-key.key; kind = c.in_ok-kind.kind; content = c.in_ok-content.content; inherent = c.args.inherent } } in
     rw (attribute_parts, c.in_ok-owner.ensures, c.in_ok-key.ensures.reads, c.in_ok-kind.ensures.reads, c.in_ok-content.ensures.reads)
-    (ended attribute_line_of line _ true (Some line) (sym c.if-not-is_empty.false ∙ c.is_empty.ensures) refl)
+    (nothing_more _ _ (sym c.is_empty.ensures ∙ c.if-not-is_empty.false))
